@@ -1,0 +1,66 @@
+"""What the measuring scripts share: inputs, the built program, and times of one run."""
+import hashlib
+import os
+import subprocess
+import sys
+import tempfile
+import time
+
+TOP = os.path.dirname(os.path.dirname(os.path.abspath(__file__)))
+PROGRAM = os.path.join(TOP, 'crates', 'fossil', 'out', 'fossil')
+
+
+def program():
+    """The built program; the wrapper builds it where it isn't there or is out of date."""
+    subprocess.run([os.path.join(TOP, 'fossil'), 'r', 'ingest'], stdin=subprocess.DEVNULL, check=True)
+    return PROGRAM
+
+
+def name_of(content):
+    return hashlib.sha1(content).hexdigest()
+
+
+def sealed(lines):
+    """The text of a structural artifact: its lines and their Z card."""
+    return lines + b'Z ' + hashlib.md5(lines).hexdigest().encode() + b'\n'
+
+
+def file_card(content):
+    return b'file %s %d\n' % (name_of(content).encode(), len(content)) + content + b'\n'
+
+
+class Room:
+    """A folder of its own, which is gone at the end."""
+
+    def __enter__(self):
+        self.folder = tempfile.TemporaryDirectory(prefix='fossil-bench-')
+        return self
+
+    def __exit__(self, *_):
+        self.folder.cleanup()
+
+    def path(self, name):
+        return os.path.join(self.folder.name, name)
+
+    def write(self, name, pieces):
+        with open(self.path(name), 'wb') as out:
+            for piece in pieces:
+                out.write(piece)
+        return self.path(name)
+
+
+def timed(words, stdin=None, check=True):
+    """The seconds that a command takes, and what it prints."""
+    source = open(stdin, 'rb') if stdin else subprocess.DEVNULL
+    begin = time.perf_counter()
+    done = subprocess.run(words, stdin=source, stdout=subprocess.PIPE, stderr=subprocess.PIPE)
+    seconds = time.perf_counter() - begin
+    if stdin:
+        source.close()
+    if check and done.returncode != 0:
+        sys.exit(f'{words[:3]} ended with status {done.returncode}: {done.stdout[:200]!r} {done.stderr[:200]!r}')
+    return seconds, done.stdout
+
+
+def row(what, seconds, beside, tool):
+    print(f'{what}: {seconds:.3f} s; {tool}: {beside:.3f} s; ratio {seconds / beside:.2f}')

@@ -1,0 +1,5 @@
+mod Examples
+pub mod ReadAgain
+pub mod ByteLists
+pub mod Reading
+pub mod OrderLemmas

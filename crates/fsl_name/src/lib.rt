@@ -1,0 +1,138 @@
+//! Names of artifacts. A name is the SHA-1 of an artifact's bytes, and is written as its 40 digits in lower case. It is read from these
+//! and from nothing else, and names are ordered by their bytes.
+#![tactic(auto)]
+
+ghost use Rattle.std.specs.Prelude.{◌≡◌, ℕ, length, List, not, position, IsTrue, IfOk, IfErr};
+ghost use Rattle.std.specs.List.{list_all};
+ghost use Rattle.fsl_name.specs.Name.{
+  name_of,
+  name_text,
+  name_read,
+  bytes_of_digits,
+  is_name_digit,
+  IsName,
+  IsNameText,
+  IsNameFault,
+};
+
+use sha1::Sha1;
+use std::marker::Model;
+
+/// The name of an artifact: 20 bytes, ordered by them.
+#[derive(Clone, Copy, Debug, PartialEq, Eq, PartialOrd, Ord, Hash)]
+pub struct Name {
+    bytes: [u8; 20],
+}
+
+impl Model for Name {
+    ghost use Rattle.std.specs.Prelude.{List, ℕ};
+
+    ghost Value = { List ℕ };
+
+    ghost use Rattle.fsl_name.specs.Name.{IsName};
+
+    ghost view = { λ n. n.bytes };
+
+    ghost invariant = { λ n. IsName n.bytes };
+
+    ghost inverse = { λ bytes. record { bytes = bytes } };
+}
+
+/// Why a text is no name.
+#[derive(Clone, Copy, Debug, PartialEq, Eq)]
+pub enum NameFault {
+    /// It has so many bytes, and not 40.
+    Length { found: u64 },
+    /// It has 40 bytes, and the one at this place, counted from 0, is the first that is no digit of `0` to `9` and `a` to `f`.
+    Digit { at: u64 },
+}
+
+impl Name {
+    /// The name of some bytes, which is their SHA-1.
+    pub fn of(bytes: &[u8]) -> Name
+        ensures value { result ≡ name_of bytes.now }
+        ensures named { IsName result }
+    {
+        Name {
+            bytes: Sha1::digest(bytes),
+        }
+    }
+
+    /// The name that has these bytes.
+    pub fn from_bytes(bytes: [u8; 20]) -> Name
+        ensures value { result ≡ bytes }
+        ensures named { IsName result }
+    {
+        Name { bytes }
+    }
+
+    /// Its bytes. By this call a caller learns that it has 20.
+    pub fn bytes(&self) -> [u8; 20]
+        ensures value { result ≡ self.now }
+        ensures named { IsName self.now }
+    {
+        self.bytes
+    }
+
+    /// Reads the name that a text is: 40 digits of `0` to `9` and `a` to `f`, two for each byte, the higher half of a byte first.
+    ///
+    /// # Errors
+    ///
+    /// `Length` where the text doesn't have 40 bytes, or else `Digit` at its first byte that is no such digit.
+    pub fn read(text: &[u8]) -> Result<Name, NameFault>
+        ensures value { result ≡ name_read text.now }
+        ensures named { IfOk result IsName }
+        ensures spelled { IfOk result (λ name. text.now ≡ name_text name) }
+        ensures only { (name : List ℕ) → IsNameText text.now name → result ≡ Ok name }
+        ensures fault { IfErr result (IsNameFault text.now) }
+    {
+        if text.len() != 40 {
+            return Err(NameFault::Length {
+                found: text.len() as u64,
+            });
+        }
+        match first_other(text) {
+            Some(at) => Err(NameFault::Digit { at: at as u64 }),
+            None => Ok(Name {
+                bytes: spelled(text),
+            }),
+        }
+    }
+
+    /// Its 40 digits, in lower case.
+    pub fn text(&self) -> [u8; 40]
+        ensures { result ≡ name_text self.now }
+    {
+        let mut text = [0u8; 40];
+        let _ = hex::encode_to_slice(&self.bytes, &mut text);
+        text
+    }
+}
+
+fn is_digit(byte: u8) -> bool
+    ensures { result ≡ is_name_digit byte }
+{
+    matches!(byte, b'0'..=b'9' | b'a'..=b'f')
+}
+
+/// The place of the first byte that is no digit.
+fn first_other(text: &[u8]) -> Option<usize>
+    ensures { result ≡ position (λ b. not (is_name_digit b)) text.now }
+{
+    text.iter().position(|byte| !is_digit(*byte))
+}
+
+/// The bytes that 40 digits spell.
+fn spelled(text: &[u8]) -> [u8; 20]
+    requires length { length text.now ≡ 40 }
+    requires digits { IsTrue (list_all is_name_digit text.now) }
+    ensures value { result ≡ bytes_of_digits text.now }
+    ensures named { IsNameText text.now result }
+{
+    let mut bytes = [0u8; 20];
+    let _ = hex::decode_to_slice(text, &mut bytes);
+    bytes
+}
+
+#[cfg(test)]
+mod tests;

@@ -1,0 +1,136 @@
+//! The adapters over std's readers and writers.
+ghost use Rattle.std.specs.Prelude.{◌≡◌, None, option_and_then};
+ghost use Rattle.std.specs.Io.{ReadsAtMost, WritesAtMost};
+ghost use Rattle.std.specs.Io.KnownBytes.{ReadConsumes, WriteAppends};
+
+use super::outside::{Failed, Sink, Source};
+use std::io;
+use std::io::{ErrorKind, Read, Write};
+
+/// A source over a reader of std, or one whose every call fails.
+#[derive(Drop)]
+pub struct StdSource<R: Read> {
+    inner: Option<R>,
+    faults: u64,
+}
+
+impl<R: Read> StdSource<R> {
+    /// A source that reads from `inner`.
+    pub fn new(inner: R) -> StdSource<R> {
+        StdSource {
+            inner: Some(inner),
+            faults: 0,
+        }
+    }
+
+    /// A source whose every call fails, as for a file that couldn't be opened.
+    pub fn none() -> StdSource<R> {
+        StdSource {
+            inner: None,
+            faults: 0,
+        }
+    }
+}
+
+impl<R: Read> Source for StdSource<R> {
+    ghost left = { λ s. option_and_then R.remaining s.inner };
+
+    ghost fault_count = { λ s. s.faults };
+
+    fn faults(&self) -> u64 {
+        self.faults
+    }
+
+    fn read(&mut self, into: &mut [u8]) -> Result<usize, Failed> {
+        if let Some(inner) = &mut self.inner {
+            if let Ok(count) = read_on(inner, into) {
+                return Ok(count);
+            }
+        }
+        self.faults = self.faults.saturating_add(1);
+        Err(Failed)
+    }
+}
+
+// Reads, again after each interruption.
+fn read_on<R: Read>(inner: &mut R, into: &mut [u8]) -> io::Result<usize>
+    ensures bound { ReadsAtMost result into.new }
+    ensures bytes { ReadConsumes (R.remaining inner.old) (R.remaining inner.new) result into.new }
+{
+    for _ in 0..u64::MAX {
+        match inner.read(into) {
+            Ok(count) => return Ok(count),
+            Err(fault) => {
+                if fault.kind() != ErrorKind::Interrupted {
+                    return Err(fault);
+                }
+            }
+        }
+    }
+    Err(io::Error::from(ErrorKind::Interrupted))
+}
+
+/// A sink over a writer of std, or one whose every call fails. A write that takes no byte of a piece with bytes has
+/// failed.
+#[derive(Drop)]
+pub struct StdSink<W: Write> {
+    inner: Option<W>,
+    faults: u64,
+}
+
+impl<W: Write> StdSink<W> {
+    /// A sink that writes to `inner`, which is to keep nothing back.
+    pub fn new(inner: W) -> StdSink<W> {
+        StdSink {
+            inner: Some(inner),
+            faults: 0,
+        }
+    }
+
+    /// A sink whose every call fails.
+    pub fn none() -> StdSink<W> {
+        StdSink {
+            inner: None,
+            faults: 0,
+        }
+    }
+}
+
+impl<W: Write> Sink for StdSink<W> {
+    ghost taken = { λ s. option_and_then W.contents s.inner };
+
+    ghost fault_count = { λ s. s.faults };
+
+    fn faults(&self) -> u64 {
+        self.faults
+    }
+
+    fn write(&mut self, piece: &[u8]) -> Result<usize, Failed> {
+        if let Some(inner) = &mut self.inner {
+            match write_on(inner, piece) {
+                Ok(count) if 0 < count || piece.is_empty() => return Ok(count),
+                _ => {}
+            }
+        }
+        self.faults = self.faults.saturating_add(1);
+        Err(Failed)
+    }
+}
+
+// Writes, again after each interruption.
+fn write_on<W: Write>(inner: &mut W, piece: &[u8]) -> io::Result<usize>
+    ensures bound { WritesAtMost result piece.now }
+    ensures bytes { WriteAppends (W.contents inner.old) (W.contents inner.new) result piece.now }
+{
+    for _ in 0..u64::MAX {
+        match inner.write(piece) {
+            Ok(count) => return Ok(count),
+            Err(fault) => {
+                if fault.kind() != ErrorKind::Interrupted {
+                    return Err(fault);
+                }
+            }
+        }
+    }
+    Err(io::Error::from(ErrorKind::Interrupted))
+}

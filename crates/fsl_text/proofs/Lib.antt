@@ -1,0 +1,5 @@
+pub mod Examples
+pub mod FirstLines
+pub mod Unescaping
+pub mod DecimalLemmas
+pub mod TokenLemmas

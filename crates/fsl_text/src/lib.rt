@@ -1,0 +1,26 @@
+//! Bytes, lists and texts that every crate above takes, and what is read from bytes and written into them
+//! before any format: escapes, the tokens of a line, decimal numbers and paths. Each reader answers exactly
+//! what its definition says of the bytes, whatever they are.
+#![tactic(auto)]
+
+mod decimals;
+mod escapes;
+mod fault;
+mod list;
+mod memory;
+mod path;
+mod steps;
+#[cfg(test)]
+mod tests;
+mod text;
+mod token;
+
+pub use decimals::decimal;
+pub use escapes::{escape, escape_into, unescape, unescapes_escaped};
+pub use fault::{DecimalFault, Span};
+pub use list::List;
+pub use memory::Memory;
+pub use path::path_ok;
+pub use steps::Steps;
+pub use text::Text;
+pub use token::{tokens, tokens_at_spans};
