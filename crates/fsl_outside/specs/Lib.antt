@@ -1,2 +1,3 @@
+pub mod Adapted
 pub mod Memory
 pub mod Whole

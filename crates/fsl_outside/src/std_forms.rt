@@ -1,11 +1,14 @@
 //! The adapters over std's readers and writers.
-ghost use Rattle.std.specs.Prelude.{◌≡◌, None, option_and_then};
+ghost use Rattle.std.specs.Prelude.{◌≡◌, ◌<◌, None, Some, length, IfOk, option_and_then};
 ghost use Rattle.std.specs.Io.{ReadsAtMost, WritesAtMost};
 ghost use Rattle.std.specs.Io.KnownBytes.{ReadConsumes, WriteAppends};
+ghost use Rattle.fsl_order.specs.Causes.{HasCause};
+ghost use Rattle.fsl_outside.specs.Adapted.{NeverServes};
 
 use super::outside::{Failed, Sink, Source};
 use std::io;
 use std::io::{ErrorKind, Read, Write};
+use std::marker::Model;
 
 /// A source over a reader of std, or one whose every call fails.
 #[derive(Drop)]
@@ -14,9 +17,19 @@ pub struct StdSource<R: Read> {
     faults: u64,
 }
 
+impl<R: Read> Model for StdSource<R> {
+    ghost use Rattle.fsl_outside.specs.Adapted.{Adapted};
+
+    ghost Value = { Adapted R };
+
+    ghost view = { λ s. record { inner = s.inner; faults = s.faults } };
+}
+
 impl<R: Read> StdSource<R> {
     /// A source that reads from `inner`.
-    pub fn new(inner: R) -> StdSource<R> {
+    pub fn new(inner: R) -> StdSource<R>
+        ensures { result ≡ record { inner = Some inner; faults = 0 } }
+    {
         StdSource {
             inner: Some(inner),
             faults: 0,
@@ -24,7 +37,9 @@ impl<R: Read> StdSource<R> {
     }
 
     /// A source whose every call fails, as for a file that couldn't be opened.
-    pub fn none() -> StdSource<R> {
+    pub fn none() -> StdSource<R>
+        ensures { result ≡ record { inner = None; faults = 0 } }
+    {
         StdSource {
             inner: None,
             faults: 0,
@@ -41,7 +56,13 @@ impl<R: Read> Source for StdSource<R> {
         self.faults
     }
 
-    fn read(&mut self, into: &mut [u8]) -> Result<usize, Failed> {
+    fn read(&mut self, into: &mut [u8]) -> Result<usize, Failed>
+        ensures bound { ReadsAtMost result into.new }
+        ensures bytes { ReadConsumes (option_and_then R.remaining self.old.inner)
+            (option_and_then R.remaining self.new.inner) result into.new }
+        ensures cause { HasCause self.old.faults self.new.faults result }
+        ensures none { NeverServes self.old self.new result }
+    {
         if let Some(inner) = &mut self.inner {
             if let Ok(count) = read_on(inner, into) {
                 return Ok(count);
@@ -78,9 +99,19 @@ pub struct StdSink<W: Write> {
     faults: u64,
 }
 
+impl<W: Write> Model for StdSink<W> {
+    ghost use Rattle.fsl_outside.specs.Adapted.{Adapted};
+
+    ghost Value = { Adapted W };
+
+    ghost view = { λ s. record { inner = s.inner; faults = s.faults } };
+}
+
 impl<W: Write> StdSink<W> {
     /// A sink that writes to `inner`, which is to keep nothing back.
-    pub fn new(inner: W) -> StdSink<W> {
+    pub fn new(inner: W) -> StdSink<W>
+        ensures { result ≡ record { inner = Some inner; faults = 0 } }
+    {
         StdSink {
             inner: Some(inner),
             faults: 0,
@@ -88,7 +119,9 @@ impl<W: Write> StdSink<W> {
     }
 
     /// A sink whose every call fails.
-    pub fn none() -> StdSink<W> {
+    pub fn none() -> StdSink<W>
+        ensures { result ≡ record { inner = None; faults = 0 } }
+    {
         StdSink {
             inner: None,
             faults: 0,
@@ -105,7 +138,14 @@ impl<W: Write> Sink for StdSink<W> {
         self.faults
     }
 
-    fn write(&mut self, piece: &[u8]) -> Result<usize, Failed> {
+    fn write(&mut self, piece: &[u8]) -> Result<usize, Failed>
+        ensures bound { WritesAtMost result piece.now }
+        ensures some { IfOk result (λ n. 0 < length piece.now → 0 < n) }
+        ensures bytes { WriteAppends (option_and_then W.contents self.old.inner)
+            (option_and_then W.contents self.new.inner) result piece.now }
+        ensures cause { HasCause self.old.faults self.new.faults result }
+        ensures none { NeverServes self.old self.new result }
+    {
         if let Some(inner) = &mut self.inner {
             match write_on(inner, piece) {
                 Ok(count) if 0 < count || piece.is_empty() => return Ok(count),

@@ -1,0 +1,27 @@
+//! Clusters: which names of held artifacts stand in no cluster, and which names are referred to and not held.
+//! `Clusters` is the table of both, and its answers are those of the definitions over the facts it was built from,
+//! in whatever order these stand.
+#![tactic(auto)]
+
+mod clusters;
+mod gather;
+mod name_set;
+#[cfg(test)]
+mod tests;
+
+pub use clusters::Clusters;
+use fsl_name::Name;
+use fsl_text::List;
+
+/// What the table sees of a held artifact.
+#[derive(Drop)]
+pub struct Fact {
+    /// Its name.
+    pub name: Name,
+    /// Whether it is private.
+    pub private: bool,
+    /// The names in its M cards where it is a cluster, else none.
+    pub members: List<Name>,
+    /// The names that it refers to.
+    pub refs: List<Name>,
+}

@@ -1,0 +1,64 @@
+//! Names, ascending, each once.
+ghost use Rattle.std.specs.Prelude.{◌≡◌, IfOk};
+ghost use Rattle.std.specs.List.Sorted.{IsStrictlySortedBy};
+ghost use Rattle.fsl_order.specs.Names.{bytes_cmp, has};
+ghost use Rattle.fsl_order.specs.Rows.{ascending};
+
+use fsl_name::Name;
+use fsl_text::{List, Memory};
+use std::alloc::Global;
+use std::marker::Model;
+
+/// A set of names, which contracts see as the ascending list of them.
+#[derive(Drop)]
+pub struct NameSet {
+    names: Vec<Name>,
+}
+
+impl Model for NameSet {
+    ghost use Rattle.std.specs.Prelude.{List, ℕ};
+    ghost use Rattle.std.specs.List.Sorted.{IsStrictlySortedBy};
+    ghost use Rattle.fsl_order.specs.Names.{bytes_cmp};
+
+    ghost Value = { List (List ℕ) };
+
+    ghost view = { λ s. s.names.items };
+
+    ghost invariant = { λ s. IsStrictlySortedBy bytes_cmp s.names.items };
+}
+
+/// Puts names in order, each once.
+fn sorted(mut names: Vec<Name>) -> Vec<Name>
+    ensures names { result.items ≡ ascending names.items }
+    ensures rising { IsStrictlySortedBy bytes_cmp result.items }
+{
+    names.sort_unstable();
+    names.dedup();
+    names
+}
+
+impl NameSet {
+    /// The names of a vector. Takes no memory.
+    pub fn of(names: Vec<Name>) -> NameSet
+        ensures { result ≡ ascending names.items }
+    {
+        NameSet {
+            names: sorted(names),
+        }
+    }
+
+    /// Whether the name is in the set.
+    pub fn contains(&self, name: &Name) -> bool
+        ensures { result ≡ has self.now name.now }
+    {
+        self.names.binary_search(name).is_ok()
+    }
+
+    /// A copy of the names.
+    pub fn to_list(&self, alloc: Global) -> Result<List<Name>, Memory>
+        ensures { IfOk result (λ names. names ≡ self.now) }
+    {
+        let names = self.names.as_slice().to_vec(alloc)?;
+        Ok(List::from_vec(names))
+    }
+}

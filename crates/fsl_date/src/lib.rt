@@ -1,0 +1,113 @@
+//! Moments in milliseconds, and the texts of their dates. A date is written as `YYYY-MM-DDTHH:MM:SS.SSS`, in the Gregorian calendar of
+//! the years 0000 to 9999 and without a zone. It is read in this form and in the one without milliseconds, and in no other.
+#![tactic(auto)]
+
+ghost use Rattle.std.specs.Prelude.{◌≡◌, ◌++◌, ◌+ℤ◌, ◌≤ℤ◌, ◌<ℤ◌, ◌↔◌, ◌⊎◌, ℕ, List, pos, neg_ℤ, IsSome, IsNone, IfSome, Some, codes, length};
+ghost use Rattle.fsl_date.specs.Moment.{date_in, IsMoment, IsPrinted, IsDateText};
+
+mod calendar;
+mod clock;
+mod digits;
+mod laws;
+
+use calendar::Day;
+use clock::Time;
+use digits::{four, has_date_shape, three, two};
+pub use laws::dates_have_one_text;
+use std::marker::Model;
+
+/// The milliseconds from the beginning of the year 0 to that of 1970.
+const MS_BEFORE_1970: i64 = 62_167_219_200_000;
+
+/// The last millisecond of the year 9999, from 1970.
+const LAST_MS: i64 = 253_402_300_799_999;
+
+/// The milliseconds of a day.
+const MS_OF_DAY: u64 = 86_400_000;
+
+/// A moment of the years 0 to 9999, seen as the milliseconds since 0000-01-01T00:00:00.000 in UTC.
+#[derive(Clone, Copy, Debug, PartialEq, Eq, PartialOrd, Ord)]
+pub struct Moment {
+    since_year_zero: u64,
+}
+
+impl Model for Moment {
+    ghost use Rattle.std.specs.Prelude.{ℕ};
+
+    ghost Value = { ℕ };
+
+    ghost use Rattle.fsl_date.specs.Moment.{IsMoment};
+
+    ghost view = { λ a. a.since_year_zero };
+
+    ghost invariant = { λ a. IsMoment a.since_year_zero };
+
+    ghost inverse = { λ v. record { since_year_zero = v } };
+}
+
+impl Moment {
+    /// The moment that stands so many milliseconds after 1970-01-01T00:00:00.000, or before it where they are negative. None where
+    /// that is outside the years 0 to 9999.
+    pub fn new(ms: i64) -> Option<Moment>
+        ensures some { IfSome result (λ m. (ms +ℤ pos 62_167_219_200_000) ≡ pos m) }
+        ensures inside { IsSome result ↔ ((neg_ℤ (pos 62_167_219_200_000) ≤ℤ ms) × (ms ≤ℤ pos 253_402_300_799_999)) }
+        ensures none { IsNone result ↔ ((ms <ℤ neg_ℤ (pos 62_167_219_200_000)) ⊎ (pos 253_402_300_799_999 <ℤ ms)) }
+        ensures moment { IfSome result IsMoment }
+    {
+        if ms < -MS_BEFORE_1970 || ms > LAST_MS {
+            return None;
+        }
+        Some(Moment {
+            since_year_zero: (ms + MS_BEFORE_1970) as u64,
+        })
+    }
+
+    /// The milliseconds since 1970-01-01T00:00:00.000.
+    pub fn ms(&self) -> i64
+        ensures value { result +ℤ pos 62_167_219_200_000 ≡ pos self.now }
+        ensures moment { IsMoment self.now }
+    {
+        self.since_year_zero as i64 - MS_BEFORE_1970
+    }
+
+    /// Reads a date in one of its two forms, `YYYY-MM-DDTHH:MM:SS` or `YYYY-MM-DDTHH:MM:SS.SSS`. None where the text has another form, or
+    /// the calendar doesn't have the day, or the clock the time.
+    pub fn read(text: &[u8]) -> Option<Moment>
+        ensures value { result ≡ date_in text.now }
+        ensures moment { IfSome result IsMoment }
+        ensures written { IfSome result (IsDateText text.now) }
+        ensures only { (ms : ℕ) → IsDateText text.now ms → result ≡ Some ms }
+        ensures seconds { length text.now ≡ 19 → result ≡ date_in (text.now ++ codes ".000") }
+    {
+        if !has_date_shape(text) {
+            return None;
+        }
+        let day = Day::read(text).number()?;
+        let time = Time::read(text).ms()?;
+        Some(Moment {
+            since_year_zero: day * MS_OF_DAY + time,
+        })
+    }
+
+    /// Prints the moment as `YYYY-MM-DDTHH:MM:SS.SSS`.
+    pub fn text(&self) -> [u8; 23]
+        ensures printed { IsPrinted self.now result }
+        ensures again { date_in result ≡ Some self.now }
+        ensures only { (other : List ℕ) → IsPrinted self.now other → other ≡ result }
+    {
+        let day = Day::of_number(self.since_year_zero / MS_OF_DAY);
+        let time = Time::of_ms(self.since_year_zero % MS_OF_DAY);
+        let mut text = *b"0000-00-00T00:00:00.000";
+        text[0..4].copy_from_slice(&four(day.year));
+        text[5..7].copy_from_slice(&two(day.month));
+        text[8..10].copy_from_slice(&two(day.day));
+        text[11..13].copy_from_slice(&two(time.hour));
+        text[14..16].copy_from_slice(&two(time.minute));
+        text[17..19].copy_from_slice(&two(time.second));
+        text[20..23].copy_from_slice(&three(time.milli));
+        text
+    }
+}
+
+#[cfg(test)]
+mod tests;
