@@ -1,0 +1,4 @@
+pub mod Cards
+pub mod Reading
+pub mod Writing
+pub mod Parts
