@@ -1,0 +1,4 @@
+pub mod Records
+pub mod Groups
+pub mod Reading
+pub mod Laws

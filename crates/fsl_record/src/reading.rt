@@ -1,0 +1,205 @@
+//! Reads a record at the front of bytes.
+ghost use Rattle.std.specs.Prelude.{◌≡◌, ◌<◌, ◌≤◌, ℕ, List, [], ◌∷◌, ◌++◌, length, true, false, IfOk, IfErr};
+ghost use Rattle.fsl_record.specs.declared.Record.{Record};
+ghost use Rattle.fsl_record.specs.Records.{AreFields};
+ghost use Rattle.fsl_record.specs.Reading.{IsRead, IsFieldRead, AreRead, IsPrivateRead, FieldFails, FieldsFail, PrivateFails, Fails};
+
+use crate::fields::{MOST_FIELDS, is_new_field};
+use crate::pieces::{split_bytes, split_count, split_length};
+use crate::{Config, Record, RecordFault};
+use fsl_name::Name;
+use fsl_text::{List, Text};
+use std::alloc::Global;
+
+/// The greatest number of bytes of a blob.
+const MOST_BYTES: u64 = 1 << 24;
+
+/// Reads a field and adds it: its length in one byte, and its bytes.
+fn read_field<'a>(
+    alloc: Global,
+    bytes: &'a [u8],
+    fields: &mut Vec<Text>,
+) -> Result<&'a [u8], RecordFault>
+    requires fit { AreFields fields.old.items }
+    requires room { length fields.old.items < 256 }
+    ensures field { IfOk result (λ rest. (field : List ℕ) × (fields.new.items ≡ fields.old.items ++ field ∷ []) × IsFieldRead fields.old.items bytes.now field rest.now) }
+    ensures fault { IfErr result (λ fault. FieldFails fields.old.items bytes.now fault) }
+{
+    let Some((length, bytes)) = bytes.split_first() else {
+        return Err(RecordFault::Short);
+    };
+    let Some((field, rest)) = split_bytes(bytes, *length as usize) else {
+        return Err(RecordFault::Short);
+    };
+    if !is_new_field(fields, field) {
+        return Err(RecordFault::Length {
+            found: u64::from(*length),
+        });
+    }
+    fields.push(Text::of(alloc, field)?)?;
+    Ok(rest)
+}
+
+/// Reads that many fields.
+fn read_fields<'a>(
+    alloc: Global,
+    bytes: &'a [u8],
+    count: usize,
+    fields: &mut Vec<Text>,
+) -> Result<&'a [u8], RecordFault>
+    requires few { count ≤ 256 }
+    requires none { fields.old.items ≡ [] }
+    ensures fields { IfOk result (λ rest. AreRead count bytes.now fields.new.items rest.now) }
+    ensures fault { IfErr result (λ fault. FieldsFail count bytes.now fault) }
+{
+    let mut rest = bytes;
+    'fields: while fields.len() < count {
+        rest = read_field(alloc, rest, fields)?;
+    }
+    Ok(rest)
+}
+
+/// Reads what stands behind the letter of a Config, and adds it.
+fn read_config<'a>(
+    alloc: Global,
+    bytes: &'a [u8],
+    records: &mut Vec<Record>,
+) -> Result<&'a [u8], RecordFault>
+    ensures record { IfOk result (λ rest. (read : Record) × (records.new.items ≡ records.old.items ++ read ∷ []) × IsRead true (67 ∷ bytes.now) read rest.now) }
+    ensures fault { IfErr result (λ fault. Fails true (67 ∷ bytes.now) fault) }
+{
+    let Some((project, bytes)) = bytes.split_first_chunk() else {
+        return Err(RecordFault::Short);
+    };
+    let Some((server, bytes)) = bytes.split_first_chunk() else {
+        return Err(RecordFault::Short);
+    };
+    let Some((count, bytes)) = split_count(bytes) else {
+        return Err(RecordFault::Short);
+    };
+    let count = count as usize;
+    if count > MOST_FIELDS {
+        return Err(RecordFault::Length {
+            found: count as u64,
+        });
+    }
+    let mut fields = Vec::new(alloc);
+    let rest = read_fields(alloc, bytes, count, &mut fields)?;
+    records.push(Record::Config(Config {
+        project: Name::from_bytes(*project),
+        server: Name::from_bytes(*server),
+        fields: List::from_vec(fields),
+    }))?;
+    Ok(rest)
+}
+
+/// Reads whether a blob is private.
+fn read_private(bytes: &[u8]) -> Result<(bool, &[u8]), RecordFault>
+    ensures private { IfOk result (λ read. IsPrivateRead bytes.now read.0 read.1.now) }
+    ensures fault { IfErr result (λ fault. PrivateFails bytes.now fault) }
+{
+    match bytes {
+        [] => Err(RecordFault::Short),
+        [0, rest @ ..] => Ok((false, rest)),
+        [1, rest @ ..] => Ok((true, rest)),
+        [found, ..] => Err(RecordFault::Kind { found: *found }),
+    }
+}
+
+/// Reads what stands behind the letter of a Blob, and adds it.
+fn read_blob<'a>(
+    alloc: Global,
+    bytes: &'a [u8],
+    records: &mut Vec<Record>,
+) -> Result<&'a [u8], RecordFault>
+    ensures record { IfOk result (λ rest. (read : Record) × (records.new.items ≡ records.old.items ++ read ∷ []) × IsRead false (66 ∷ bytes.now) read rest.now) }
+    ensures fault { IfErr result (λ fault. Fails false (66 ∷ bytes.now) fault) }
+{
+    let (private, bytes) = read_private(bytes)?;
+    let Some((name, bytes)) = bytes.split_first_chunk() else {
+        return Err(RecordFault::Short);
+    };
+    let Some((length, bytes)) = split_length(bytes) else {
+        return Err(RecordFault::Short);
+    };
+    if length > MOST_BYTES {
+        return Err(RecordFault::Length { found: length });
+    }
+    let Some((content, rest)) = split_bytes(bytes, length as usize) else {
+        return Err(RecordFault::Short);
+    };
+    let name = Name::from_bytes(*name);
+    let found = Name::of(content);
+    if name != found {
+        return Err(RecordFault::NameWrong { kept: name, found });
+    }
+    let bytes = Text::of(alloc, content)?;
+    records.push(Record::Blob {
+        private,
+        name,
+        bytes,
+    })?;
+    Ok(rest)
+}
+
+/// Reads the name of a Publish, and adds it.
+fn read_publish<'a>(bytes: &'a [u8], records: &mut Vec<Record>) -> Result<&'a [u8], RecordFault>
+    ensures record { IfOk result (λ rest. (read : Record) × (records.new.items ≡ records.old.items ++ read ∷ []) × IsRead false (80 ∷ bytes.now) read rest.now) }
+    ensures fault { IfErr result (λ fault. Fails false (80 ∷ bytes.now) fault) }
+{
+    let Some((name, rest)) = bytes.split_first_chunk() else {
+        return Err(RecordFault::Short);
+    };
+    records.push(Record::Publish {
+        name: Name::from_bytes(*name),
+    })?;
+    Ok(rest)
+}
+
+/// Reads the name of a Shun, and adds it.
+fn read_shun<'a>(bytes: &'a [u8], records: &mut Vec<Record>) -> Result<&'a [u8], RecordFault>
+    ensures record { IfOk result (λ rest. (read : Record) × (records.new.items ≡ records.old.items ++ read ∷ []) × IsRead false (83 ∷ bytes.now) read rest.now) }
+    ensures fault { IfErr result (λ fault. Fails false (83 ∷ bytes.now) fault) }
+{
+    let Some((name, rest)) = bytes.split_first_chunk() else {
+        return Err(RecordFault::Short);
+    };
+    records.push(Record::Shun {
+        name: Name::from_bytes(*name),
+    })?;
+    Ok(rest)
+}
+
+/// Reads a Config and adds it. Answers the bytes behind it.
+pub fn read_first<'a>(
+    alloc: Global,
+    bytes: &'a [u8],
+    records: &mut Vec<Record>,
+) -> Result<&'a [u8], RecordFault>
+    ensures record { IfOk result (λ rest. (read : Record) × (records.new.items ≡ records.old.items ++ read ∷ []) × IsRead true bytes.now read rest.now) }
+    ensures fault { IfErr result (λ fault. Fails true bytes.now fault) }
+{
+    match bytes {
+        [] => Err(RecordFault::Short),
+        [b'C', bytes @ ..] => read_config(alloc, bytes, records),
+        [found, ..] => Err(RecordFault::Kind { found: *found }),
+    }
+}
+
+/// Reads a record that is no Config and adds it. Answers the bytes behind it.
+pub fn read_next<'a>(
+    alloc: Global,
+    bytes: &'a [u8],
+    records: &mut Vec<Record>,
+) -> Result<&'a [u8], RecordFault>
+    ensures record { IfOk result (λ rest. (read : Record) × (records.new.items ≡ records.old.items ++ read ∷ []) × IsRead false bytes.now read rest.now) }
+    ensures fault { IfErr result (λ fault. Fails false bytes.now fault) }
+{
+    match bytes {
+        [] => Err(RecordFault::Short),
+        [b'B', bytes @ ..] => read_blob(alloc, bytes, records),
+        [b'P', bytes @ ..] => read_publish(bytes, records),
+        [b'S', bytes @ ..] => read_shun(bytes, records),
+        [found, ..] => Err(RecordFault::Kind { found: *found }),
+    }
+}

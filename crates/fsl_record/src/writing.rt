@@ -1,0 +1,115 @@
+//! Writes records.
+ghost use Rattle.std.specs.Prelude.{◌≡◌, ◌≤◌, ◌^◌, ◌++◌, ◌∷◌, length, take, flat_map, OnOk, OnErr};
+ghost use Rattle.fsl_record.specs.declared.Record.TheVariants.{Config as ConfigRecord, Blob};
+ghost use Rattle.fsl_record.specs.Records.{field_bytes, record_bytes, AreFields, IsWritable};
+
+use crate::{Config, Record};
+use fsl_name::Name;
+use fsl_text::{Memory, Text};
+
+/// Adds a letter and a name.
+fn add_named(letter: u8, name: &Name, into: &mut Text) -> Result<(), Memory>
+    ensures ok { OnOk result (into.new ≡ into.old ++ letter ∷ name.now) }
+    ensures err { OnErr result (take (length into.old) into.new ≡ into.old) }
+{
+    into.append(&[letter])?;
+    into.append(&name.bytes())
+}
+
+/// Adds a field behind its length.
+fn add_field(field: &[u8], into: &mut Text) -> Result<(), Memory>
+    requires { length field.now ≤ 64 }
+    ensures ok { OnOk result (into.new ≡ into.old ++ field_bytes field.now) }
+    ensures err { OnErr result (take (length into.old) into.new ≡ into.old) }
+{
+    into.append(&[field.len() as u8])?;
+    into.append(field)
+}
+
+/// Adds each field behind its length.
+fn add_fields(fields: &[Text], into: &mut Text) -> Result<(), Memory>
+    requires { AreFields fields.now }
+    ensures ok { OnOk result (into.new ≡ into.old ++ flat_map field_bytes fields.now) }
+    ensures err { OnErr result (take (length into.old) into.new ≡ into.old) }
+{
+    for field in fields {
+        add_field(field.bytes(), into)?;
+    }
+    Ok(())
+}
+
+/// Adds a Config's bytes.
+fn add_config(config: &Config, into: &mut Text) -> Result<(), Memory>
+    requires { AreFields config.now.fields }
+    ensures ok { OnOk result (into.new ≡ into.old ++ record_bytes (ConfigRecord config.now)) }
+    ensures err { OnErr result (take (length into.old) into.new ≡ into.old) }
+{
+    let fields = config.fields.items();
+    add_named(b'C', &config.project, into)?;
+    into.append(&config.server.bytes())?;
+    into.append(&(fields.len() as u16).to_be_bytes())?;
+    add_fields(fields, into)
+}
+
+/// Adds a Blob's bytes.
+fn add_blob(private: bool, name: &Name, bytes: &[u8], into: &mut Text) -> Result<(), Memory>
+    requires { length bytes.now ≤ 2 ^ 24 }
+    ensures ok { OnOk result (into.new ≡ into.old ++ record_bytes (Blob private name.now bytes.now)) }
+    ensures err { OnErr result (take (length into.old) into.new ≡ into.old) }
+{
+    into.append(&[b'B', u8::from(private)])?;
+    into.append(&name.bytes())?;
+    into.append(&(bytes.len() as u64).to_be_bytes())?;
+    into.append(bytes)
+}
+
+/// Adds a record's bytes, all of them or some.
+fn add_record(entry: &Record, into: &mut Text) -> Result<(), Memory>
+    requires { IsWritable entry.now }
+    ensures ok { OnOk result (into.new ≡ into.old ++ record_bytes entry.now) }
+    ensures err { OnErr result (take (length into.old) into.new ≡ into.old) }
+{
+    match entry {
+        Record::Config(config) => add_config(config, into),
+        Record::Blob {
+            private,
+            name,
+            bytes,
+        } => add_blob(*private, name, bytes.bytes(), into),
+        Record::Publish { name } => add_named(b'P', name, into),
+        Record::Shun { name } => add_named(b'S', name, into),
+    }
+}
+
+/// Adds the bytes of a Config's record at the end of a text. Its fields are in their form (`are_fields`).
+///
+/// Errors: want of memory, and then the text stays as it was.
+pub fn write_config(config: &Config, into: &mut Text) -> Result<(), Memory>
+    requires { AreFields config.now.fields }
+    ensures ok { OnOk result (into.new ≡ into.old ++ record_bytes (ConfigRecord config.now)) }
+    ensures err { OnErr result (into.new ≡ into.old) }
+{
+    let length = into.bytes().len();
+    let written = add_config(config, into);
+    if written.is_err() {
+        into.truncate(length);
+    }
+    written
+}
+
+/// Adds the bytes of a record at the end of a text. The fields of a Config are in their form (`are_fields`), and a Blob
+/// has at most 2^24 bytes, of which its name is the name.
+///
+/// Errors: want of memory, and then the text stays as it was.
+pub fn write(entry: &Record, into: &mut Text) -> Result<(), Memory>
+    requires { IsWritable entry.now }
+    ensures ok { OnOk result (into.new ≡ into.old ++ record_bytes entry.now) }
+    ensures err { OnErr result (into.new ≡ into.old) }
+{
+    let length = into.bytes().len();
+    let written = add_record(entry, into);
+    if written.is_err() {
+        into.truncate(length);
+    }
+    written
+}
