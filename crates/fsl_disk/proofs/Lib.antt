@@ -1,0 +1,5 @@
+pub mod Moments
+pub mod Pieces
+mod Recording
+mod Places
+mod Stopping

@@ -1,0 +1,7 @@
+pub mod Change
+pub mod Disk
+pub mod File
+pub mod Fuse
+pub mod History
+pub mod Images
+pub mod Memory
