@@ -1,0 +1,42 @@
+//! What is printed of a set of artifacts.
+ghost use Rattle.std.specs.Prelude.{◌≡◌, ◌++◌, map, flat_map, OnOk, IfOk, codes};
+ghost use Rattle.fsl_order.specs.Rows.{AreDistinct};
+ghost use Rattle.fossil.specs.Sets.{name_line, report};
+
+use fsl_cluster::{Clusters, Fact};
+use fsl_name::Name;
+use fsl_text::{Memory, Text};
+use std::alloc::Global;
+
+/// Puts a line of a word and a name at the end.
+fn add_line(text: &mut Text, word: &[u8], name: &Name) -> Result<(), Memory>
+    ensures { OnOk result (text.new ≡ text.old ++ name_line word.now name.now) }
+{
+    text.append(word)?;
+    text.append(b" ")?;
+    text.append(name.text().as_slice())?;
+    text.append(b"\n")
+}
+
+fn add_lines(text: &mut Text, word: &[u8], names: &[Name]) -> Result<(), Memory>
+    ensures { OnOk result (text.new ≡ text.old ++ flat_map (name_line word.now) names.now) }
+{
+    for name in names {
+        add_line(text, word, name)?;
+    }
+    Ok(())
+}
+
+/// The unclustered names of the facts, and then the wanted ones, both ascending, each on a line.
+pub fn report_of(alloc: Global, facts: &[Fact]) -> Result<Text, Memory>
+    requires { AreDistinct (map (λ f. f.name) facts.now) }
+    ensures { IfOk result (λ text. text ≡ report facts.now) }
+{
+    let clusters = Clusters::build(alloc, facts)?;
+    let unclustered = clusters.unclustered(alloc)?;
+    let missing = clusters.missing(alloc)?;
+    let mut text = Text::empty(alloc);
+    add_lines(&mut text, b"unclustered", unclustered.items())?;
+    add_lines(&mut text, b"wanted", missing.items())?;
+    Ok(text)
+}

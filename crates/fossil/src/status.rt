@@ -1,0 +1,14 @@
+//! The statuses with which the program ends.
+
+/// The report was printed.
+pub const DONE: u8 = 0;
+/// The words are outside the grammar.
+pub const USAGE: u8 = 1;
+/// The input was refused.
+pub const REFUSED: u8 = 3;
+/// The input couldn't be read.
+pub const INPUT_FAULT: u8 = 5;
+/// The report couldn't be written whole.
+pub const OUTPUT_FAULT: u8 = 6;
+/// There was no memory.
+pub const NO_MEMORY: u8 = 9;

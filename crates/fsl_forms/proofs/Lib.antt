@@ -1,0 +1,14 @@
+pub mod OrderLemmas
+pub mod SpellingLemmas
+pub mod SealingLemmas
+pub mod DecimalLemmas
+pub mod BlockLemmas
+pub mod NameOrder
+pub mod ClusterAgain
+pub mod ControlAgain
+pub mod WikiAgain
+pub mod TicketAgain
+pub mod AttachmentAgain
+pub mod TechnoteAgain
+pub mod ForumAgain
+pub mod NameLists

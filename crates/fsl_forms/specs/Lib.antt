@@ -1,0 +1,4 @@
+pub mod Kinds
+pub mod Parts
+pub mod WellFormed
+pub mod Writing

@@ -1,0 +1,35 @@
+-- Fields that are read, or tested, together.
+use Rattle.std.specs.Prelude.{◌&&◌, ◌||◌, ℕ, Bool, true, not, is_some, List, [], ◌∷◌, IsTrue}
+use Rattle.std.specs.List.{list_all}
+use Rattle.fsl_order.specs.Names.{is_before}
+use Rattle.fsl_card.specs.declared.types.Card.{Card}
+use Rattle.fsl_grammar.specs.declared.TagCard.{TagCard}
+use Rattle.fsl_grammar.specs.Forms.{HasAtMostOne, HasEach, hash_form, tag_form, text_form}
+use Rattle.fsl_forms.specs.declared.forum.Place.{Place}
+use Rattle.fsl_forms.specs.Kinds.{is_own_tag, names_target}
+
+-- a name stands before the first of others, where there is one
+abbrev pub is_before_first : List ℕ → List (List ℕ) → Bool
+is_before_first name [] = true
+is_before_first name (other ∷ others) = is_before name other
+
+-- the tags of the T cards, each of which names its target
+pub record HasTargetedTags (cards : List Card) (found : List TagCard) : Type 0 where
+  pub tags : HasEach cards 84 tag_form found
+  pub targets : IsTrue (list_all names_target found)
+
+-- the tags of the T cards, each of which is a `+` on the artifact itself
+pub record HasOwnTags (cards : List Card) (found : List TagCard) : Type 0 where
+  pub tags : HasEach cards 84 tag_form found
+  pub own : IsTrue (list_all is_own_tag found)
+
+-- a post has a title and answers nothing, or it has a root and answers a post, and no title
+abbrev pub is_place : Bool → Bool → Bool → Bool
+is_place has_root has_title has_reply = (has_title && not has_reply) || (not has_title && has_root && has_reply)
+
+-- where the G, H and I cards put a post
+pub record HasPlace (cards : List Card) (place : Place) : Type 0 where
+  pub root : HasAtMostOne cards 71 hash_form place.root
+  pub title : HasAtMostOne cards 72 text_form place.title
+  pub reply : HasAtMostOne cards 73 hash_form place.reply
+  pub together : IsTrue (is_place (is_some place.root) (is_some place.title) (is_some place.reply))

@@ -1,0 +1,157 @@
+//! Files that are attached to pages, tickets and technotes.
+ghost use Rattle.std.specs.Prelude.{◌≡◌, ◌++◌, List, ℕ, IfOk, IsTrue, OnOk};
+ghost use Rattle.fsl_card.specs.Cards.{IsReading, IsTextOf, card_text, text_of};
+ghost use Rattle.fsl_date.specs.Moment.{IsPrinted};
+ghost use Rattle.fsl_forms.specs.Kinds.{IsAttachment, attached_form};
+ghost use Rattle.fsl_forms.specs.WellFormed.{is_attachment_well_formed};
+ghost use Rattle.fsl_forms.specs.Writing.{IsAttachmentText, attached_card, attachment_cards};
+
+use fsl_card::{Card, Cards, finish};
+use fsl_date::Moment;
+use fsl_grammar::{
+    DateForm, Form, TextForm, UserForm, at_most_one, begin_card, end_card, has_attachment_letters,
+    is_filled, know_name, one, read_hash, write_card, write_optional_name,
+    write_optional_text_card, write_text,
+};
+use fsl_name::Name;
+use fsl_text::{Memory, Text, unescape};
+use std::alloc::Global;
+
+/// A file that is attached to a page, a ticket or a technote. Without a source it is deleted.
+#[derive(Debug, Drop)]
+pub struct Attachment {
+    pub file: Text,
+    pub target: Text,
+    pub source: Option<Name>,
+    pub comment: Option<Text>,
+    pub date: Moment,
+    pub mime: Option<Text>,
+    pub user: Option<Text>,
+}
+
+/// What an A card says: the file, what it is attached to, and its content.
+#[derive(Drop)]
+struct Attached {
+    file: Text,
+    target: Text,
+    source: Option<Name>,
+}
+
+impl Attachment {
+    /// The attachment that cards are, or None where they are none: where their letters aren't those of one, or an argument hasn't its
+    /// form. `Memory` is the only error.
+    pub fn read(alloc: Global, cards: &Cards) -> Result<Option<Attachment>, Memory>
+        ensures { IfOk result (IsReading IsAttachment cards.now) }
+    {
+        read_cards(alloc, cards.items())
+    }
+
+    /// Whether the attachment can be written: the file, the target, and the comment, the type and the user where they are there have a
+    /// byte. It takes no memory.
+    pub fn well_formed(&self) -> bool
+        ensures { result ≡ is_attachment_well_formed self.now }
+    {
+        !self.file.bytes().is_empty()
+            && !self.target.bytes().is_empty()
+            && is_filled(&self.comment)
+            && is_filled(&self.mime)
+            && is_filled(&self.user)
+    }
+
+    /// The text of the attachment, its Z card included, which reads back as the value. `Memory` is the only error.
+    pub fn write(&self, alloc: Global) -> Result<Text, Memory>
+        requires { IsTrue (is_attachment_well_formed self.now) }
+        ensures written { IfOk result (λ text. IsAttachmentText text self.now) }
+        ensures read { IfOk result (λ text. IsTextOf IsAttachment text self.now) }
+    {
+        know_name(&self.source);
+        let mut lines = Text::empty(alloc);
+        self.write_cards(&mut lines)?;
+        finish(&mut lines)?;
+        Ok(lines)
+    }
+
+    /// Puts all cards but the Z card at the end of a text.
+    fn write_cards(&self, into: &mut Text) -> Result<(), Memory>
+        ensures { OnOk result ((date : List ℕ) × IsPrinted self.now.date date × (into.new ≡ into.old ++ text_of (attachment_cards date self.now))) }
+    {
+        self.write_attached(into)?;
+        write_optional_text_card(into, b'C', &self.comment)?;
+        write_card(into, b'D', &self.date.text())?;
+        write_optional_text_card(into, b'N', &self.mime)?;
+        write_optional_text_card(into, b'U', &self.user)
+    }
+
+    /// The A card.
+    fn write_attached(&self, into: &mut Text) -> Result<(), Memory>
+        ensures { OnOk result (into.new ≡ into.old ++ card_text (attached_card self.now)) }
+    {
+        begin_card(into, b'A')?;
+        write_text(into, self.file.bytes())?;
+        write_text(into, self.target.bytes())?;
+        write_optional_name(into, &self.source)?;
+        end_card(into)
+    }
+}
+
+fn read_cards(alloc: Global, cards: &[Card]) -> Result<Option<Attachment>, Memory>
+    ensures { IfOk result (IsReading IsAttachment cards.now) }
+{
+    if !has_attachment_letters(cards) {
+        return Ok(None);
+    }
+    let Some(attached) = one::<AttachedForm>(alloc, cards, b'A')? else {
+        return Ok(None);
+    };
+    let Some(comment) = at_most_one::<TextForm>(alloc, cards, b'C')? else {
+        return Ok(None);
+    };
+    let Some(date) = one::<DateForm>(alloc, cards, b'D')? else {
+        return Ok(None);
+    };
+    let Some(mime) = at_most_one::<TextForm>(alloc, cards, b'N')? else {
+        return Ok(None);
+    };
+    let Some(user) = at_most_one::<UserForm>(alloc, cards, b'U')? else {
+        return Ok(None);
+    };
+    Ok(Some(Attachment {
+        file: attached.file,
+        target: attached.target,
+        source: attached.source,
+        comment,
+        date,
+        mime,
+        user,
+    }))
+}
+
+/// A file, a target and behind them a hash, which may be missing.
+struct AttachedForm;
+
+impl Form for AttachedForm {
+    type Value = Attached;
+
+    ghost form = { attached_form };
+
+    fn read(alloc: Global, args: &[Text]) -> Result<Option<Attached>, Memory> {
+        match args {
+            [file, target] => Ok(Some(Attached {
+                file: unescape(alloc, file.bytes())?,
+                target: unescape(alloc, target.bytes())?,
+                source: None,
+            })),
+            [file, target, source] => {
+                let Some(source) = read_hash(source.bytes()) else {
+                    return Ok(None);
+                };
+                Ok(Some(Attached {
+                    file: unescape(alloc, file.bytes())?,
+                    target: unescape(alloc, target.bytes())?,
+                    source: Some(source),
+                }))
+            }
+            _ => Ok(None),
+        }
+    }
+}

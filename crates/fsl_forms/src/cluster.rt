@@ -1,0 +1,97 @@
+//! Clusters, which list artifacts that are known.
+ghost use Rattle.std.specs.Prelude.{◌≡◌, ◌++◌, IfOk, IsTrue, OnOk};
+ghost use Rattle.fsl_card.specs.Cards.{IsReading, IsTextOf, text_of};
+ghost use Rattle.fsl_forms.specs.Kinds.{IsCluster};
+ghost use Rattle.fsl_forms.specs.WellFormed.{is_cluster_well_formed};
+ghost use Rattle.fsl_forms.specs.Writing.{IsClusterText, cluster_cards};
+ghost use Rattle.fsl_forms.specs.Parts.{is_before_first};
+ghost use Rattle.fsl_order.specs.Rows.{rises};
+
+use fsl_card::{Card, Cards, finish};
+use fsl_grammar::{HashForm, each, has_cluster_letters, know_names, write_name_card};
+use fsl_name::Name;
+use fsl_text::{List, Memory, Text};
+use std::alloc::Global;
+
+/// A list of artifacts that are known: the names of its M cards.
+#[derive(Debug, Drop)]
+pub struct Cluster {
+    pub members: List<Name>,
+}
+
+impl Cluster {
+    /// The cluster that cards are, or None where they are none: where their letters aren't those of a cluster, one M card or more and
+    /// the Z card, or an M card has another argument than one name. `Memory` is the only error.
+    pub fn read(alloc: Global, cards: &Cards) -> Result<Option<Cluster>, Memory>
+        ensures { IfOk result (IsReading IsCluster cards.now) }
+    {
+        read_cards(alloc, cards.items())
+    }
+
+    /// Whether the cluster can be written: there are members, and they rise by their bytes. It takes no memory.
+    pub fn well_formed(&self) -> bool
+        ensures { result ≡ is_cluster_well_formed self.now }
+    {
+        let members = self.members.items();
+        !members.is_empty() && rise(members)
+    }
+
+    /// The text of the cluster, its Z card included, which reads back as the cluster. `Memory` is the only error.
+    pub fn write(&self, alloc: Global) -> Result<Text, Memory>
+        requires { IsTrue (is_cluster_well_formed self.now) }
+        ensures written { IfOk result (λ text. IsClusterText text self.now) }
+        ensures read { IfOk result (λ text. IsTextOf IsCluster text self.now) }
+    {
+        know_names(self.members.items());
+        let mut lines = Text::empty(alloc);
+        self.write_cards(&mut lines)?;
+        finish(&mut lines)?;
+        Ok(lines)
+    }
+
+    /// Puts all cards but the Z card at the end of a text.
+    fn write_cards(&self, into: &mut Text) -> Result<(), Memory>
+        ensures { OnOk result (into.new ≡ into.old ++ text_of (cluster_cards self.now)) }
+    {
+        for member in self.members.items() {
+            write_name_card(into, b'M', member)?;
+        }
+        Ok(())
+    }
+}
+
+fn read_cards(alloc: Global, cards: &[Card]) -> Result<Option<Cluster>, Memory>
+    ensures { IfOk result (IsReading IsCluster cards.now) }
+{
+    if !has_cluster_letters(cards) {
+        return Ok(None);
+    }
+    let Some(members) = each::<HashForm>(alloc, cards, b'M')? else {
+        return Ok(None);
+    };
+    Ok(Some(Cluster { members }))
+}
+
+/// Whether names rise by their bytes.
+fn rise(names: &[Name]) -> bool
+    ensures { result ≡ rises names.now }
+{
+    let mut rest = names;
+    while let Some((first, others)) = rest.split_first() {
+        if !is_before_first(first, others) {
+            return false;
+        }
+        rest = others;
+    }
+    true
+}
+
+/// Whether a name stands before the first of others, if there is one.
+fn is_before_first(name: &Name, others: &[Name]) -> bool
+    ensures { result ≡ is_before_first name.now others.now }
+{
+    match others.first() {
+        Some(other) => name.cmp(other).is_lt(),
+        None => true,
+    }
+}

@@ -1,0 +1,116 @@
+//! Control artifacts, which assert tags of other artifacts.
+ghost use Rattle.std.specs.Prelude.{◌≡◌, ◌++◌, List, ℕ, IfOk, IsTrue, OnOk};
+ghost use Rattle.std.specs.List.{list_all};
+ghost use Rattle.fsl_card.specs.Cards.{IsReading, IsTextOf, text_of};
+ghost use Rattle.fsl_date.specs.Moment.{IsPrinted};
+ghost use Rattle.fsl_forms.specs.Kinds.{IsControl, names_target};
+ghost use Rattle.fsl_forms.specs.Parts.{HasTargetedTags};
+ghost use Rattle.fsl_forms.specs.WellFormed.{is_control_well_formed};
+ghost use Rattle.fsl_forms.specs.Writing.{IsControlText, control_cards};
+ghost use Rattle.fsl_grammar.specs.Forms.{is_tag_written};
+
+use fsl_card::{Card, Cards, finish};
+use fsl_date::Moment;
+use fsl_grammar::{
+    DateForm, TagCard, TagForm, UserForm, each, has_control_letters, is_tag_written, know_tags,
+    one, write_card, write_tags, write_text_card,
+};
+use fsl_text::{List, Memory, Text};
+use std::alloc::Global;
+
+/// Tags on other artifacts, each of which names its target.
+#[derive(Debug, Drop)]
+pub struct Control {
+    pub date: Moment,
+    pub tags: List<TagCard>,
+    pub user: Text,
+}
+
+impl Control {
+    /// The control artifact that cards are, or None where they are none: where their letters aren't those of one, an argument hasn't its
+    /// form, or the target of a tag is `*`. `Memory` is the only error.
+    pub fn read(alloc: Global, cards: &Cards) -> Result<Option<Control>, Memory>
+        ensures { IfOk result (IsReading IsControl cards.now) }
+    {
+        read_cards(alloc, cards.items())
+    }
+
+    /// Whether the control artifact can be written: there are tags, each with a name and a target, and where it has a value with a byte in
+    /// it, and the user has a byte. It takes no memory.
+    pub fn well_formed(&self) -> bool
+        ensures { result ≡ is_control_well_formed self.now }
+    {
+        let tags = self.tags.items();
+        !tags.is_empty()
+            && all_tags_written(tags)
+            && all_targeted(tags)
+            && !self.user.bytes().is_empty()
+    }
+
+    /// The text of the control artifact, its Z card included, which reads back as the value. `Memory` is the only error.
+    pub fn write(&self, alloc: Global) -> Result<Text, Memory>
+        requires { IsTrue (is_control_well_formed self.now) }
+        ensures written { IfOk result (λ text. IsControlText text self.now) }
+        ensures read { IfOk result (λ text. IsTextOf IsControl text self.now) }
+    {
+        know_tags(self.tags.items());
+        let mut lines = Text::empty(alloc);
+        self.write_cards(&mut lines)?;
+        finish(&mut lines)?;
+        Ok(lines)
+    }
+
+    /// Puts all cards but the Z card at the end of a text.
+    fn write_cards(&self, into: &mut Text) -> Result<(), Memory>
+        ensures { OnOk result ((date : List ℕ) × IsPrinted self.now.date date × (into.new ≡ into.old ++ text_of (control_cards date self.now))) }
+    {
+        write_card(into, b'D', &self.date.text())?;
+        write_tags(into, self.tags.items())?;
+        write_text_card(into, b'U', self.user.bytes())
+    }
+}
+
+fn read_cards(alloc: Global, cards: &[Card]) -> Result<Option<Control>, Memory>
+    ensures { IfOk result (IsReading IsControl cards.now) }
+{
+    if !has_control_letters(cards) {
+        return Ok(None);
+    }
+    let Some(date) = one::<DateForm>(alloc, cards, b'D')? else {
+        return Ok(None);
+    };
+    let Some(tags) = read_tags(alloc, cards)? else {
+        return Ok(None);
+    };
+    let Some(user) = one::<UserForm>(alloc, cards, b'U')? else {
+        return Ok(None);
+    };
+    Ok(Some(Control { date, tags, user }))
+}
+
+/// The tags of the T cards, or None where one hasn't its form or doesn't name its target.
+fn read_tags(alloc: Global, cards: &[Card]) -> Result<Option<List<TagCard>>, Memory>
+    ensures { IfOk result (IsReading HasTargetedTags cards.now) }
+{
+    let Some(tags) = each::<TagForm>(alloc, cards, b'T')? else {
+        return Ok(None);
+    };
+    if all_targeted(tags.items()) {
+        Ok(Some(tags))
+    } else {
+        Ok(None)
+    }
+}
+
+fn all_targeted(tags: &[TagCard]) -> bool
+    ensures { result ≡ list_all names_target tags.now }
+{
+    tags.iter().all(|tag| tag.target.is_some())
+}
+
+/// Whether each tag can be written.
+pub(crate) fn all_tags_written(tags: &[TagCard]) -> bool
+    ensures { result ≡ list_all is_tag_written tags.now }
+{
+    tags.iter().all(|tag| is_tag_written(tag))
+}

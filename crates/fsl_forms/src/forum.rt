@@ -1,0 +1,163 @@
+//! Posts in forums.
+ghost use Rattle.std.specs.Prelude.{◌≡◌, ◌++◌, List, ℕ, IfOk, IsTrue, OnOk, is_some};
+ghost use Rattle.fsl_card.specs.Cards.{IsReading, IsTextOf, text_of};
+ghost use Rattle.fsl_date.specs.Moment.{IsPrinted};
+ghost use Rattle.fsl_forms.specs.Kinds.{IsForum};
+ghost use Rattle.fsl_forms.specs.Parts.{HasPlace, is_place};
+ghost use Rattle.fsl_forms.specs.WellFormed.{is_forum_well_formed};
+ghost use Rattle.fsl_forms.specs.Writing.{IsForumText, forum_cards};
+
+use super::known::know_length;
+use fsl_card::{Card, Cards, finish};
+use fsl_date::Moment;
+use fsl_grammar::{
+    DateForm, HashForm, TextForm, UserForm, at_most_one, body, has_forum_letters, is_filled,
+    know_name, one, write_body, write_card, write_optional_name_card, write_optional_text_card,
+    write_text_card,
+};
+use fsl_name::Name;
+use fsl_text::{Memory, Text};
+use std::alloc::Global;
+
+/// A post in a forum. It has a title and begins a thread, or it has a root and answers another post. Only its text may be empty.
+#[derive(Debug, Drop)]
+pub struct Forum {
+    pub date: Moment,
+    pub root: Option<Name>,
+    pub title: Option<Text>,
+    pub reply: Option<Name>,
+    pub mime: Option<Text>,
+    pub prior: Option<Name>,
+    pub user: Text,
+    pub text: Text,
+}
+
+/// Where a post stands: the root of its thread, its title, and the post that it answers.
+#[derive(Drop)]
+struct Place {
+    root: Option<Name>,
+    title: Option<Text>,
+    reply: Option<Name>,
+}
+
+impl Forum {
+    /// The forum post that cards are, or None where they are none: where their letters aren't those of one, an argument hasn't its form,
+    /// or it has neither a title without a post that it answers, nor a root with one and without a title. `Memory` is the only error.
+    pub fn read(alloc: Global, cards: &Cards) -> Result<Option<Forum>, Memory>
+        ensures { IfOk result (IsReading IsForum cards.now) }
+    {
+        read_cards(alloc, cards.items())
+    }
+
+    /// Whether the post can be written: the user, and the title and the type where they are there have a byte, and it has a title and
+    /// answers nothing, or it has a root, answers a post and has no title. It takes no memory.
+    pub fn well_formed(&self) -> bool
+        ensures { result ≡ is_forum_well_formed self.now }
+    {
+        is_filled(&self.title)
+            && is_filled(&self.mime)
+            && !self.user.bytes().is_empty()
+            && is_place(
+                self.root.is_some(),
+                self.title.is_some(),
+                self.reply.is_some(),
+            )
+    }
+
+    /// The text of the post, its Z card included, which reads back as the value. `Memory` is the only error.
+    pub fn write(&self, alloc: Global) -> Result<Text, Memory>
+        requires { IsTrue (is_forum_well_formed self.now) }
+        ensures written { IfOk result (λ text. IsForumText text self.now) }
+        ensures read { IfOk result (λ text. IsTextOf IsForum text self.now) }
+    {
+        know_name(&self.root);
+        know_name(&self.reply);
+        know_name(&self.prior);
+        know_length(&self.text);
+        let mut lines = Text::empty(alloc);
+        self.write_cards(alloc, &mut lines)?;
+        finish(&mut lines)?;
+        Ok(lines)
+    }
+
+    /// Puts all cards but the Z card at the end of a text.
+    fn write_cards(&self, alloc: Global, into: &mut Text) -> Result<(), Memory>
+        ensures { OnOk result ((date : List ℕ) × IsPrinted self.now.date date × (into.new ≡ into.old ++ text_of (forum_cards date self.now))) }
+    {
+        write_card(into, b'D', &self.date.text())?;
+        write_optional_name_card(into, b'G', &self.root)?;
+        write_optional_text_card(into, b'H', &self.title)?;
+        write_optional_name_card(into, b'I', &self.reply)?;
+        write_optional_text_card(into, b'N', &self.mime)?;
+        write_optional_name_card(into, b'P', &self.prior)?;
+        write_text_card(into, b'U', self.user.bytes())?;
+        write_body(alloc, into, self.text.bytes())
+    }
+}
+
+fn read_cards(alloc: Global, cards: &[Card]) -> Result<Option<Forum>, Memory>
+    ensures { IfOk result (IsReading IsForum cards.now) }
+{
+    if !has_forum_letters(cards) {
+        return Ok(None);
+    }
+    let Some(date) = one::<DateForm>(alloc, cards, b'D')? else {
+        return Ok(None);
+    };
+    let Some(place) = read_place(alloc, cards)? else {
+        return Ok(None);
+    };
+    let Some(mime) = at_most_one::<TextForm>(alloc, cards, b'N')? else {
+        return Ok(None);
+    };
+    let Some(prior) = at_most_one::<HashForm>(alloc, cards, b'P')? else {
+        return Ok(None);
+    };
+    let Some(user) = one::<UserForm>(alloc, cards, b'U')? else {
+        return Ok(None);
+    };
+    let Some(text) = body(alloc, cards)? else {
+        return Ok(None);
+    };
+    Ok(Some(Forum {
+        date,
+        root: place.root,
+        title: place.title,
+        reply: place.reply,
+        mime,
+        prior,
+        user,
+        text,
+    }))
+}
+
+/// Where the G, H and I cards put a post, or None where one of them hasn't its form, or they don't stand together.
+fn read_place(alloc: Global, cards: &[Card]) -> Result<Option<Place>, Memory>
+    ensures { IfOk result (IsReading HasPlace cards.now) }
+{
+    let Some(root) = at_most_one::<HashForm>(alloc, cards, b'G')? else {
+        return Ok(None);
+    };
+    let Some(title) = at_most_one::<TextForm>(alloc, cards, b'H')? else {
+        return Ok(None);
+    };
+    let Some(reply) = at_most_one::<HashForm>(alloc, cards, b'I')? else {
+        return Ok(None);
+    };
+    if is_place(root.is_some(), title.is_some(), reply.is_some()) {
+        Ok(Some(Place { root, title, reply }))
+    } else {
+        Ok(None)
+    }
+}
+
+/// Whether a post has a title and answers nothing, or has a root and answers a post, and no title.
+fn is_place(has_root: bool, has_title: bool, has_reply: bool) -> bool
+    ensures { result ≡ is_place has_root has_title has_reply }
+{
+    if has_title {
+        !has_reply
+    } else {
+        has_root && has_reply
+    }
+}

@@ -1,0 +1,202 @@
+//! Notes at moments.
+ghost use Rattle.std.specs.Prelude.{◌≡◌, ◌++◌, List, ℕ, IfOk, IsTrue, OnOk};
+ghost use Rattle.std.specs.List.{list_all};
+ghost use Rattle.fsl_card.specs.Cards.{IsReading, IsTextOf, card_text, text_of};
+ghost use Rattle.fsl_date.specs.Moment.{IsPrinted};
+ghost use Rattle.fsl_forms.specs.Kinds.{IsTechnote, event_form, event_in, is_own_tag};
+ghost use Rattle.fsl_forms.specs.Parts.{HasOwnTags};
+ghost use Rattle.fsl_forms.specs.WellFormed.{is_technote_well_formed};
+ghost use Rattle.fsl_forms.specs.Writing.{IsTechnoteText, event_card, technote_cards};
+
+use super::control::all_tags_written;
+use super::known::know_length;
+use fsl_card::{Card, Cards, finish};
+use fsl_date::Moment;
+use fsl_grammar::{
+    DateForm, Form, Prefix, TagCard, TagForm, TextForm, UserForm, all_differ, at_most_one,
+    begin_card, body, each, end_card, has_technote_letters, is_filled, know_names, know_tags, one,
+    parents, read_hash, write_argument, write_body, write_card, write_name,
+    write_optional_text_card, write_parents, write_tags,
+};
+use fsl_name::Name;
+use fsl_text::{List, Memory, Text};
+use std::alloc::Global;
+
+/// A note at a moment, which is its `time`; the date is that of the artifact. Only its text may be empty.
+#[derive(Debug, Drop)]
+pub struct Technote {
+    pub comment: Option<Text>,
+    pub date: Moment,
+    pub time: Moment,
+    pub id: Name,
+    pub mime: Option<Text>,
+    pub parents: List<Name>,
+    pub tags: List<TagCard>,
+    pub user: Option<Text>,
+    pub text: Text,
+}
+
+/// What an E card says: the time of a technote, and its id.
+#[derive(Drop)]
+struct Event {
+    time: Moment,
+    id: Name,
+}
+
+impl Technote {
+    /// The technote that cards are, or None where they are none: where their letters aren't those of one, an argument hasn't its form,
+    /// two parents are the same, or a tag has another prefix than `+` or another target than `*`. `Memory` is the only error.
+    pub fn read(alloc: Global, cards: &Cards) -> Result<Option<Technote>, Memory>
+        ensures { IfOk result (IsReading IsTechnote cards.now) }
+    {
+        read_cards(alloc, cards.items())
+    }
+
+    /// Whether the technote can be written: the comment, the type and the user where they are there have a byte, the parents differ, and
+    /// each tag is `+` on the note itself, has a name, and where it has a value with a byte in it. It takes no memory, and compares each
+    /// parent with each one behind it.
+    pub fn well_formed(&self) -> bool
+        ensures { result ≡ is_technote_well_formed self.now }
+    {
+        is_filled(&self.comment)
+            && is_filled(&self.mime)
+            && all_differ(self.parents.items())
+            && all_tags_written(self.tags.items())
+            && all_own(self.tags.items())
+            && is_filled(&self.user)
+    }
+
+    /// The text of the technote, its Z card included, which reads back as the value. `Memory` is the only error.
+    pub fn write(&self, alloc: Global) -> Result<Text, Memory>
+        requires { IsTrue (is_technote_well_formed self.now) }
+        ensures written { IfOk result (λ text. IsTechnoteText text self.now) }
+        ensures read { IfOk result (λ text. IsTextOf IsTechnote text self.now) }
+    {
+        let _ = self.id.bytes();
+        know_names(self.parents.items());
+        know_tags(self.tags.items());
+        know_length(&self.text);
+        let mut lines = Text::empty(alloc);
+        self.write_cards(alloc, &mut lines)?;
+        finish(&mut lines)?;
+        Ok(lines)
+    }
+
+    /// Puts all cards but the Z card at the end of a text.
+    fn write_cards(&self, alloc: Global, into: &mut Text) -> Result<(), Memory>
+        ensures { OnOk result ((date : List ℕ) × (time : List ℕ) × IsPrinted self.now.date date × IsPrinted self.now.time time × (into.new ≡ into.old ++ text_of (technote_cards date time self.now))) }
+    {
+        write_optional_text_card(into, b'C', &self.comment)?;
+        write_card(into, b'D', &self.date.text())?;
+        write_event(into, &self.time.text(), &self.id)?;
+        write_optional_text_card(into, b'N', &self.mime)?;
+        write_parents(into, self.parents.items())?;
+        write_tags(into, self.tags.items())?;
+        write_optional_text_card(into, b'U', &self.user)?;
+        write_body(alloc, into, self.text.bytes())
+    }
+}
+
+fn read_cards(alloc: Global, cards: &[Card]) -> Result<Option<Technote>, Memory>
+    ensures { IfOk result (IsReading IsTechnote cards.now) }
+{
+    if !has_technote_letters(cards) {
+        return Ok(None);
+    }
+    let Some(comment) = at_most_one::<TextForm>(alloc, cards, b'C')? else {
+        return Ok(None);
+    };
+    let Some(date) = one::<DateForm>(alloc, cards, b'D')? else {
+        return Ok(None);
+    };
+    let Some(event) = one::<EventForm>(alloc, cards, b'E')? else {
+        return Ok(None);
+    };
+    let Some(mime) = at_most_one::<TextForm>(alloc, cards, b'N')? else {
+        return Ok(None);
+    };
+    let Some(parents) = parents(alloc, cards)? else {
+        return Ok(None);
+    };
+    let Some(tags) = read_tags(alloc, cards)? else {
+        return Ok(None);
+    };
+    let Some(user) = at_most_one::<UserForm>(alloc, cards, b'U')? else {
+        return Ok(None);
+    };
+    let Some(text) = body(alloc, cards)? else {
+        return Ok(None);
+    };
+    Ok(Some(Technote {
+        comment,
+        date,
+        time: event.time,
+        id: event.id,
+        mime,
+        parents,
+        tags,
+        user,
+        text,
+    }))
+}
+
+/// The tags of the T cards, or None where one hasn't its form or isn't `+` on the note itself.
+fn read_tags(alloc: Global, cards: &[Card]) -> Result<Option<List<TagCard>>, Memory>
+    ensures { IfOk result (IsReading HasOwnTags cards.now) }
+{
+    let Some(tags) = each::<TagForm>(alloc, cards, b'T')? else {
+        return Ok(None);
+    };
+    if all_own(tags.items()) {
+        Ok(Some(tags))
+    } else {
+        Ok(None)
+    }
+}
+
+fn all_own(tags: &[TagCard]) -> bool
+    ensures { result ≡ list_all is_own_tag tags.now }
+{
+    tags.iter().all(|tag| is_own_tag(tag))
+}
+
+/// Whether a tag is `+` on the artifact itself.
+fn is_own_tag(tag: &TagCard) -> bool
+    ensures { result ≡ is_own_tag tag.now }
+{
+    matches!(tag.prefix, Prefix::Once) && tag.target.is_none()
+}
+
+/// A date and a hash.
+struct EventForm;
+
+impl Form for EventForm {
+    type Value = Event;
+
+    ghost form = { event_form };
+
+    fn read(_alloc: Global, args: &[Text]) -> Result<Option<Event>, Memory> {
+        match args {
+            [date, hash] => Ok(read_event(date.bytes(), hash.bytes())),
+            _ => Ok(None),
+        }
+    }
+}
+
+fn read_event(date: &[u8], hash: &[u8]) -> Option<Event>
+    ensures { result ≡ event_in date.now hash.now }
+{
+    let time = Moment::read(date)?;
+    let id = read_hash(hash)?;
+    Some(Event { time, id })
+}
+
+/// The E card.
+fn write_event(into: &mut Text, time: &[u8], id: &Name) -> Result<(), Memory>
+    ensures { OnOk result (into.new ≡ into.old ++ card_text (event_card time.now id.now)) }
+{
+    begin_card(into, b'E')?;
+    write_argument(into, time)?;
+    write_name(into, id)?;
+    end_card(into)
+}

@@ -1,0 +1,192 @@
+//! Changes of tickets.
+ghost use Rattle.std.specs.Prelude.{◌≡◌, ◌++◌, List, ℕ, map, IfOk, IsTrue, OnOk};
+ghost use Rattle.std.specs.List.{list_all};
+ghost use Rattle.fsl_card.specs.Cards.{IsReading, IsTextOf, card_text, text_of};
+ghost use Rattle.fsl_date.specs.Moment.{IsPrinted};
+ghost use Rattle.fsl_forms.specs.Kinds.{IsTicket, change_form, change_in};
+ghost use Rattle.fsl_forms.specs.WellFormed.{is_change_written, is_ticket_well_formed};
+ghost use Rattle.fsl_forms.specs.Writing.{IsTicketText, change_card, ticket_cards};
+ghost use Rattle.fsl_text.specs.Escapes.{unescape};
+
+use fsl_card::{Card, Cards, finish};
+use fsl_date::Moment;
+use fsl_grammar::{
+    DateForm, Form, HashForm, UserForm, begin_card, each, end_card, has_ticket_letters, one,
+    write_card, write_name_card, write_optional_text, write_signed_text, write_text,
+    write_text_card,
+};
+use fsl_name::Name;
+use fsl_text::{List, Memory, Text, unescape};
+use std::alloc::Global;
+
+/// A field of a ticket that is replaced, or appended to. A field that is replaced doesn't begin with `+`; a value that is there may be
+/// empty.
+#[derive(Debug, Drop)]
+pub struct TicketChange {
+    pub append: bool,
+    pub field: Text,
+    pub value: Option<Text>,
+}
+
+/// A change of a ticket: its fields in the order of the J cards.
+#[derive(Debug, Drop)]
+pub struct Ticket {
+    pub date: Moment,
+    pub changes: List<TicketChange>,
+    pub id: Name,
+    pub user: Text,
+}
+
+impl Ticket {
+    /// The ticket change that cards are, or None where they are none: where their letters aren't those of one, or an argument hasn't its
+    /// form. `Memory` is the only error.
+    pub fn read(alloc: Global, cards: &Cards) -> Result<Option<Ticket>, Memory>
+        ensures { IfOk result (IsReading IsTicket cards.now) }
+    {
+        read_cards(alloc, cards.items())
+    }
+
+    /// Whether the ticket change can be written: there are changes, each of a field with a byte, which doesn't begin with `+` where it is
+    /// replaced, and the user has a byte. It takes no memory.
+    pub fn well_formed(&self) -> bool
+        ensures { result ≡ is_ticket_well_formed self.now }
+    {
+        !self.changes.items().is_empty()
+            && all_changes_written(self.changes.items())
+            && !self.user.bytes().is_empty()
+    }
+
+    /// The text of the ticket change, its Z card included, which reads back as the value. `Memory` is the only error.
+    pub fn write(&self, alloc: Global) -> Result<Text, Memory>
+        requires { IsTrue (is_ticket_well_formed self.now) }
+        ensures written { IfOk result (λ text. IsTicketText text self.now) }
+        ensures read { IfOk result (λ text. IsTextOf IsTicket text self.now) }
+    {
+        let _ = self.id.bytes();
+        let mut lines = Text::empty(alloc);
+        self.write_cards(&mut lines)?;
+        finish(&mut lines)?;
+        Ok(lines)
+    }
+
+    /// Puts all cards but the Z card at the end of a text.
+    fn write_cards(&self, into: &mut Text) -> Result<(), Memory>
+        ensures { OnOk result ((date : List ℕ) × IsPrinted self.now.date date × (into.new ≡ into.old ++ text_of (ticket_cards date self.now))) }
+    {
+        write_card(into, b'D', &self.date.text())?;
+        write_changes(into, self.changes.items())?;
+        write_name_card(into, b'K', &self.id)?;
+        write_text_card(into, b'U', self.user.bytes())
+    }
+}
+
+fn read_cards(alloc: Global, cards: &[Card]) -> Result<Option<Ticket>, Memory>
+    ensures { IfOk result (IsReading IsTicket cards.now) }
+{
+    if !has_ticket_letters(cards) {
+        return Ok(None);
+    }
+    let Some(date) = one::<DateForm>(alloc, cards, b'D')? else {
+        return Ok(None);
+    };
+    let Some(changes) = each::<ChangeForm>(alloc, cards, b'J')? else {
+        return Ok(None);
+    };
+    let Some(id) = one::<HashForm>(alloc, cards, b'K')? else {
+        return Ok(None);
+    };
+    let Some(user) = one::<UserForm>(alloc, cards, b'U')? else {
+        return Ok(None);
+    };
+    Ok(Some(Ticket {
+        date,
+        changes,
+        id,
+        user,
+    }))
+}
+
+/// A field, with `+` before it where it is appended to, and behind it the value, which may be missing.
+struct ChangeForm;
+
+impl Form for ChangeForm {
+    type Value = TicketChange;
+
+    ghost form = { change_form };
+
+    fn read(alloc: Global, args: &[Text]) -> Result<Option<TicketChange>, Memory> {
+        match args {
+            [name] => read_change(alloc, name.bytes(), None),
+            [name, value] => {
+                let value = unescape(alloc, value.bytes())?;
+                read_change(alloc, name.bytes(), Some(value))
+            }
+            _ => Ok(None),
+        }
+    }
+}
+
+fn read_change(
+    alloc: Global,
+    name: &[u8],
+    value: Option<Text>,
+) -> Result<Option<TicketChange>, Memory>
+    ensures { IfOk result (λ change. change ≡ change_in (unescape name.now) value) }
+{
+    let name = unescape(alloc, name)?;
+    let Some((first, rest)) = name.bytes().split_first() else {
+        return Ok(None);
+    };
+    if *first != b'+' {
+        return Ok(Some(TicketChange {
+            append: false,
+            field: name,
+            value,
+        }));
+    }
+    if rest.is_empty() {
+        return Ok(None);
+    }
+    Ok(Some(TicketChange {
+        append: true,
+        field: Text::of(alloc, rest)?,
+        value,
+    }))
+}
+
+fn all_changes_written(changes: &[TicketChange]) -> bool
+    ensures { result ≡ list_all is_change_written changes.now }
+{
+    changes.iter().all(|change| is_change_written(change))
+}
+
+fn is_change_written(change: &TicketChange) -> bool
+    ensures { result ≡ is_change_written change.now }
+{
+    match change.field.bytes().first() {
+        Some(first) => change.append || *first != b'+',
+        None => false,
+    }
+}
+
+fn write_changes(into: &mut Text, changes: &[TicketChange]) -> Result<(), Memory>
+    ensures { OnOk result (into.new ≡ into.old ++ text_of (map change_card changes.now)) }
+{
+    for change in changes {
+        write_change(into, change)?;
+    }
+    Ok(())
+}
+
+fn write_change(into: &mut Text, change: &TicketChange) -> Result<(), Memory>
+    ensures { OnOk result (into.new ≡ into.old ++ card_text (change_card change.now)) }
+{
+    begin_card(into, b'J')?;
+    if change.append {
+        write_signed_text(into, b'+', change.field.bytes())?;
+    } else {
+        write_text(into, change.field.bytes())?;
+    }
+    write_optional_text(into, &change.value)?;
+    end_card(into)
+}

@@ -1,0 +1,118 @@
+//! Versions of wiki pages.
+ghost use Rattle.std.specs.Prelude.{◌≡◌, ◌++◌, List, ℕ, IfOk, IsTrue, OnOk};
+ghost use Rattle.fsl_card.specs.Cards.{IsReading, IsTextOf, text_of};
+ghost use Rattle.fsl_date.specs.Moment.{IsPrinted};
+ghost use Rattle.fsl_forms.specs.Kinds.{IsWiki};
+ghost use Rattle.fsl_forms.specs.WellFormed.{is_wiki_well_formed};
+ghost use Rattle.fsl_forms.specs.Writing.{IsWikiText, wiki_cards};
+
+use super::known::know_length;
+use fsl_card::{Card, Cards, finish};
+use fsl_date::Moment;
+use fsl_grammar::{
+    DateForm, TextForm, UserForm, all_differ, at_most_one, body, has_wiki_letters, is_filled,
+    know_names, one, parents, write_body, write_card, write_optional_text_card, write_parents,
+    write_text_card,
+};
+use fsl_name::Name;
+use fsl_text::{List, Memory, Text};
+use std::alloc::Global;
+
+/// A version of a wiki page. Only its text may be empty.
+#[derive(Debug, Drop)]
+pub struct Wiki {
+    pub comment: Option<Text>,
+    pub date: Moment,
+    pub title: Text,
+    pub mime: Option<Text>,
+    pub parents: List<Name>,
+    pub user: Text,
+    pub text: Text,
+}
+
+impl Wiki {
+    /// The wiki page that cards are, or None where they are none: where their letters aren't those of a page, an argument hasn't its
+    /// form, or two parents are the same. `Memory` is the only error.
+    pub fn read(alloc: Global, cards: &Cards) -> Result<Option<Wiki>, Memory>
+        ensures { IfOk result (IsReading IsWiki cards.now) }
+    {
+        read_cards(alloc, cards.items())
+    }
+
+    /// Whether the page can be written: the title, the user, and the comment and the type where they are there have a byte, and the
+    /// parents differ. It takes no memory, and compares each parent with each one behind it.
+    pub fn well_formed(&self) -> bool
+        ensures { result ≡ is_wiki_well_formed self.now }
+    {
+        is_filled(&self.comment)
+            && !self.title.bytes().is_empty()
+            && is_filled(&self.mime)
+            && all_differ(self.parents.items())
+            && !self.user.bytes().is_empty()
+    }
+
+    /// The text of the page, its Z card included, which reads back as the page. `Memory` is the only error.
+    pub fn write(&self, alloc: Global) -> Result<Text, Memory>
+        requires { IsTrue (is_wiki_well_formed self.now) }
+        ensures written { IfOk result (λ text. IsWikiText text self.now) }
+        ensures read { IfOk result (λ text. IsTextOf IsWiki text self.now) }
+    {
+        know_names(self.parents.items());
+        know_length(&self.text);
+        let mut lines = Text::empty(alloc);
+        self.write_cards(alloc, &mut lines)?;
+        finish(&mut lines)?;
+        Ok(lines)
+    }
+
+    /// Puts all cards but the Z card at the end of a text.
+    fn write_cards(&self, alloc: Global, into: &mut Text) -> Result<(), Memory>
+        ensures { OnOk result ((date : List ℕ) × IsPrinted self.now.date date × (into.new ≡ into.old ++ text_of (wiki_cards date self.now))) }
+    {
+        write_optional_text_card(into, b'C', &self.comment)?;
+        write_card(into, b'D', &self.date.text())?;
+        write_text_card(into, b'L', self.title.bytes())?;
+        write_optional_text_card(into, b'N', &self.mime)?;
+        write_parents(into, self.parents.items())?;
+        write_text_card(into, b'U', self.user.bytes())?;
+        write_body(alloc, into, self.text.bytes())
+    }
+}
+
+fn read_cards(alloc: Global, cards: &[Card]) -> Result<Option<Wiki>, Memory>
+    ensures { IfOk result (IsReading IsWiki cards.now) }
+{
+    if !has_wiki_letters(cards) {
+        return Ok(None);
+    }
+    let Some(comment) = at_most_one::<TextForm>(alloc, cards, b'C')? else {
+        return Ok(None);
+    };
+    let Some(date) = one::<DateForm>(alloc, cards, b'D')? else {
+        return Ok(None);
+    };
+    let Some(title) = one::<TextForm>(alloc, cards, b'L')? else {
+        return Ok(None);
+    };
+    let Some(mime) = at_most_one::<TextForm>(alloc, cards, b'N')? else {
+        return Ok(None);
+    };
+    let Some(parents) = parents(alloc, cards)? else {
+        return Ok(None);
+    };
+    let Some(user) = one::<UserForm>(alloc, cards, b'U')? else {
+        return Ok(None);
+    };
+    let Some(text) = body(alloc, cards)? else {
+        return Ok(None);
+    };
+    Ok(Some(Wiki {
+        comment,
+        date,
+        title,
+        mime,
+        parents,
+        user,
+        text,
+    }))
+}

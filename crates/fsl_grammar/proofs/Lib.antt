@@ -1,0 +1,10 @@
+pub mod Apart
+pub mod Determined
+pub mod Deciding
+pub mod ReadingLemmas
+pub mod DifferLemmas
+pub mod FormLemmas
+pub mod WritingLemmas
+pub mod WrittenArguments
+pub mod Blocks
+pub mod FormsAgain

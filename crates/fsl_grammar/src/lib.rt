@@ -1,0 +1,52 @@
+//! What the kinds of structural artifacts share: which letters their cards have, the forms of the arguments, tags, and how values become cards.
+#![tactic(auto)]
+
+mod digits;
+mod forms;
+mod known;
+mod letters;
+mod reading;
+mod writing;
+mod written;
+
+pub use forms::{
+    ChecksumForm, DateForm, Form, HashForm, TagForm, TextForm, UserForm, read_hash,
+    read_optional_hash,
+};
+use fsl_name::Name;
+use fsl_text::Text;
+pub use known::{know_name, know_names, know_tags};
+pub use letters::{
+    has_attachment_letters, has_cluster_letters, has_control_letters, has_forum_letters,
+    has_manifest_letters, has_technote_letters, has_ticket_letters, has_wiki_letters,
+};
+pub use reading::{at_most_one, body, each, one, parents};
+pub use writing::{
+    begin_card, end_card, write_argument, write_body, write_card, write_name, write_name_card,
+    write_optional_name, write_optional_name_card, write_optional_text, write_optional_text_card,
+    write_parents, write_signed_text, write_tag, write_tags, write_text, write_text_card,
+};
+pub use written::{all_differ, is_filled, is_tag_written};
+
+/// How an assertion of a tag acts.
+#[derive(Clone, Copy, Debug, PartialEq, Eq)]
+pub enum Prefix {
+    /// `+`
+    Once,
+    /// `-`
+    Cancel,
+    /// `*`
+    Propagate,
+}
+
+/// A T card. No target stands for the artifact itself.
+#[derive(Debug, Drop)]
+pub struct TagCard {
+    pub prefix: Prefix,
+    pub tag: Text,
+    pub target: Option<Name>,
+    pub value: Option<Text>,
+}
+
+#[cfg(test)]
+mod tests;

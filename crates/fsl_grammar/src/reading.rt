@@ -1,0 +1,143 @@
+//! The values that the cards of one letter give.
+ghost use Rattle.std.specs.Prelude.{◌≡◌, ◌++◌, IfOk, IsTrue, flat_map, is_some, map};
+ghost use Rattle.std.specs.List.{list_all};
+ghost use Rattle.fsl_card.specs.Cards.{IsReading};
+ghost use Rattle.fsl_grammar.specs.Forms.{HasOne, HasAtMostOne, HasEach, HasParents, HasBody, all_differ, arguments};
+ghost use Rattle.fsl_name.specs.Name.{name_in};
+
+use super::forms::{Form, read_hash};
+use fsl_card::Card;
+use fsl_name::Name;
+use fsl_text::{List, Memory, Text};
+use std::alloc::Global;
+
+/// The values of all cards of a letter, in order, or None where one of them hasn't the form.
+pub fn each<F: Form>(
+    alloc: Global,
+    cards: &[Card],
+    letter: u8,
+) -> Result<Option<List<F::Value>>, Memory>
+    ensures { IfOk result (IsReading (λ cards xs. HasEach cards letter F.form xs) cards.now) }
+{
+    let mut values = List::new(alloc);
+    for card in cards {
+        if card.letter == letter {
+            match F::read(alloc, card.args.items())? {
+                Some(value) => {
+                    if values.push(value).is_err() {
+                        return Err(Memory);
+                    }
+                }
+                None => return Ok(None),
+            }
+        }
+    }
+    Ok(Some(values))
+}
+
+/// The value of the card of a letter, where there is one, or None where there are several, or it hasn't the form.
+pub fn at_most_one<F: Form>(
+    alloc: Global,
+    cards: &[Card],
+    letter: u8,
+) -> Result<Option<Option<F::Value>>, Memory>
+    ensures { IfOk result (IsReading (λ cards o. HasAtMostOne cards letter F.form o) cards.now) }
+{
+    let mut found = None;
+    for card in cards {
+        if card.letter == letter {
+            if found.is_some() {
+                return Ok(None);
+            }
+            match F::read(alloc, card.args.items())? {
+                Some(value) => found = Some(value),
+                None => return Ok(None),
+            }
+        }
+    }
+    Ok(Some(found))
+}
+
+/// The value of the one card of a letter, or None where there isn't one, or it hasn't the form.
+pub fn one<F: Form>(alloc: Global, cards: &[Card], letter: u8) -> Result<Option<F::Value>, Memory>
+    ensures { IfOk result (IsReading (λ cards x. HasOne cards letter F.form x) cards.now) }
+{
+    let Some(found) = at_most_one::<F>(alloc, cards, letter)? else {
+        return Ok(None);
+    };
+    Ok(found)
+}
+
+/// The names of the P card, or none where there is no such card. None where one of the arguments is no name, or two of them are the same.
+pub fn parents(alloc: Global, cards: &[Card]) -> Result<Option<List<Name>>, Memory>
+    ensures { IfOk result (IsReading HasParents cards.now) }
+{
+    let Some(names) = parent_names(alloc, cards)? else {
+        return Ok(None);
+    };
+    if names_differ(alloc, names.items())? {
+        Ok(Some(names))
+    } else {
+        Ok(None)
+    }
+}
+
+/// The names of the P cards, or None where one of the arguments is no name.
+fn parent_names(alloc: Global, cards: &[Card]) -> Result<Option<List<Name>>, Memory>
+    ensures { IfOk result (IsReading (λ cards names. map name_in (flat_map (λ args. args) (arguments cards 80)) ≡ map Some names) cards.now) }
+{
+    let mut names = List::new(alloc);
+    for card in cards {
+        if card.letter == b'P' && !push_names(&mut names, card.args.items())? {
+            return Ok(None);
+        }
+    }
+    Ok(Some(names))
+}
+
+/// Puts the names that arguments are at the end of others, and says whether all of them are names.
+fn push_names(names: &mut List<Name>, args: &[Text]) -> Result<bool, Memory>
+    ensures all { IfOk result (λ all. all ≡ list_all (λ arg. is_some (name_in arg)) args.now) }
+    ensures names { IfOk result (λ all. IsTrue all → map Some names.old ++ map name_in args.now ≡ map Some names.new) }
+{
+    for arg in args {
+        match read_hash(arg.bytes()) {
+            Some(name) => {
+                if names.push(name).is_err() {
+                    return Err(Memory);
+                }
+            }
+            None => return Ok(false),
+        }
+    }
+    Ok(true)
+}
+
+/// Whether all names differ.
+fn names_differ(alloc: Global, names: &[Name]) -> Result<bool, Memory>
+    ensures { IfOk result (λ differ. differ ≡ all_differ names.now) }
+{
+    let mut sorted = names.to_vec(alloc)?;
+    sorted.sort_unstable();
+    sorted.dedup();
+    Ok(sorted.len() == names.len())
+}
+
+/// The body of the one card that has one, or None where there isn't one.
+pub fn body(alloc: Global, cards: &[Card]) -> Result<Option<Text>, Memory>
+    ensures { IfOk result (IsReading HasBody cards.now) }
+{
+    let mut found = None;
+    for card in cards {
+        if let Some(body) = &card.body {
+            if found.is_some() {
+                return Ok(None);
+            }
+            found = Some(body);
+        }
+    }
+    match found {
+        Some(body) => Ok(Some(Text::of(alloc, body.bytes())?)),
+        None => Ok(None),
+    }
+}

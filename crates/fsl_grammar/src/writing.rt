@@ -1,0 +1,208 @@
+//! How values become cards, at the end of a text. Where memory is wanting the text may be longer than it was, and is of no use.
+ghost use Rattle.std.specs.Prelude.{◌≡◌, ◌++◌, ◌∷◌, [], OnOk, decimal, flat_map, length, map};
+ghost use Rattle.fsl_card.specs.Cards.{card_text, text_of};
+ghost use Rattle.fsl_grammar.specs.Writing.{body_card, card, card_if, parents_card, sign_of, tag_card, target_text, written_if};
+ghost use Rattle.fsl_name.specs.Name.{name_text};
+ghost use Rattle.fsl_text.specs.Escapes.{escape};
+
+use crate::{Prefix, TagCard};
+use fsl_name::Name;
+use fsl_text::{Memory, Text, escape_into};
+use std::alloc::Global;
+
+/// Begins a card with its letter.
+pub fn begin_card(into: &mut Text, letter: u8) -> Result<(), Memory>
+    ensures { OnOk result (into.new ≡ into.old ++ letter ∷ []) }
+{
+    into.append(&[letter])
+}
+
+/// Ends the line of a card.
+pub fn end_card(into: &mut Text) -> Result<(), Memory>
+    ensures { OnOk result (into.new ≡ into.old ++ 10 ∷ []) }
+{
+    into.append(b"\n")
+}
+
+/// An argument, as it is.
+pub fn write_argument(into: &mut Text, argument: &[u8]) -> Result<(), Memory>
+    ensures { OnOk result (into.new ≡ into.old ++ 32 ∷ argument.now) }
+{
+    into.append(b" ")?;
+    into.append(argument)
+}
+
+/// A text as an argument, escaped.
+pub fn write_text(into: &mut Text, text: &[u8]) -> Result<(), Memory>
+    ensures { OnOk result (into.new ≡ into.old ++ 32 ∷ escape text.now) }
+{
+    into.append(b" ")?;
+    escape_into(into, text)
+}
+
+/// A name as an argument, in its 40 digits.
+pub fn write_name(into: &mut Text, name: &Name) -> Result<(), Memory>
+    ensures { OnOk result (into.new ≡ into.old ++ 32 ∷ name_text name.now) }
+{
+    write_argument(into, &name.text())
+}
+
+/// A sign and a text behind it as one argument.
+pub fn write_signed_text(into: &mut Text, sign: u8, text: &[u8]) -> Result<(), Memory>
+    ensures { OnOk result (into.new ≡ into.old ++ 32 ∷ sign ∷ escape text.now) }
+{
+    into.append(&[b' ', sign])?;
+    escape_into(into, text)
+}
+
+/// A text as an argument, where there is one.
+pub fn write_optional_text(into: &mut Text, text: &Option<Text>) -> Result<(), Memory>
+    ensures { OnOk result (into.new ≡ into.old ++ flat_map (λ arg. 32 ∷ arg) (written_if escape text.now)) }
+{
+    match text {
+        Some(text) => write_text(into, text.bytes()),
+        None => Ok(()),
+    }
+}
+
+/// A name as an argument, where there is one.
+pub fn write_optional_name(into: &mut Text, name: &Option<Name>) -> Result<(), Memory>
+    ensures { OnOk result (into.new ≡ into.old ++ flat_map (λ arg. 32 ∷ arg) (written_if name_text name.now)) }
+{
+    match name {
+        Some(name) => write_name(into, name),
+        None => Ok(()),
+    }
+}
+
+/// A card with one argument, as it is.
+pub fn write_card(into: &mut Text, letter: u8, argument: &[u8]) -> Result<(), Memory>
+    ensures { OnOk result (into.new ≡ into.old ++ card_text (card letter (argument.now ∷ []))) }
+{
+    begin_card(into, letter)?;
+    write_argument(into, argument)?;
+    end_card(into)
+}
+
+/// A card with a text, escaped.
+pub fn write_text_card(into: &mut Text, letter: u8, text: &[u8]) -> Result<(), Memory>
+    ensures { OnOk result (into.new ≡ into.old ++ card_text (card letter (escape text.now ∷ []))) }
+{
+    begin_card(into, letter)?;
+    write_text(into, text)?;
+    end_card(into)
+}
+
+/// A card with a name.
+pub fn write_name_card(into: &mut Text, letter: u8, name: &Name) -> Result<(), Memory>
+    ensures { OnOk result (into.new ≡ into.old ++ card_text (card letter (name_text name.now ∷ []))) }
+{
+    write_card(into, letter, &name.text())
+}
+
+/// A card with a text, where there is one.
+pub fn write_optional_text_card(
+    into: &mut Text,
+    letter: u8,
+    text: &Option<Text>,
+) -> Result<(), Memory>
+    ensures { OnOk result (into.new ≡ into.old ++ text_of (card_if letter escape text.now)) }
+{
+    match text {
+        Some(text) => write_text_card(into, letter, text.bytes()),
+        None => Ok(()),
+    }
+}
+
+/// A card with a name, where there is one.
+pub fn write_optional_name_card(
+    into: &mut Text,
+    letter: u8,
+    name: &Option<Name>,
+) -> Result<(), Memory>
+    ensures { OnOk result (into.new ≡ into.old ++ text_of (card_if letter name_text name.now)) }
+{
+    match name {
+        Some(name) => write_name_card(into, letter, name),
+        None => Ok(()),
+    }
+}
+
+/// The P card of some parents. Without parents there is none.
+pub fn write_parents(into: &mut Text, parents: &[Name]) -> Result<(), Memory>
+    ensures { OnOk result (into.new ≡ into.old ++ text_of (parents_card parents.now)) }
+{
+    if parents.is_empty() {
+        return Ok(());
+    }
+    begin_card(into, b'P')?;
+    write_names(into, parents)?;
+    end_card(into)
+}
+
+fn write_names(into: &mut Text, names: &[Name]) -> Result<(), Memory>
+    ensures { OnOk result (into.new ≡ into.old ++ flat_map (λ name. 32 ∷ name_text name) names.now) }
+{
+    for name in names {
+        write_name(into, name)?;
+    }
+    Ok(())
+}
+
+/// The T cards of some tags, in their order.
+pub fn write_tags(into: &mut Text, tags: &[TagCard]) -> Result<(), Memory>
+    ensures { OnOk result (into.new ≡ into.old ++ text_of (map tag_card tags.now)) }
+{
+    for tag in tags {
+        write_tag(into, tag)?;
+    }
+    Ok(())
+}
+
+/// The T card of a tag.
+pub fn write_tag(into: &mut Text, tag: &TagCard) -> Result<(), Memory>
+    ensures { OnOk result (into.new ≡ into.old ++ card_text (tag_card tag.now)) }
+{
+    begin_card(into, b'T')?;
+    write_signed_text(into, sign_of(tag.prefix), tag.tag.bytes())?;
+    write_target(into, &tag.target)?;
+    write_optional_text(into, &tag.value)?;
+    end_card(into)
+}
+
+fn sign_of(prefix: Prefix) -> u8
+    ensures { result ≡ sign_of prefix }
+{
+    match prefix {
+        Prefix::Once => b'+',
+        Prefix::Cancel => b'-',
+        Prefix::Propagate => b'*',
+    }
+}
+
+fn write_target(into: &mut Text, target: &Option<Name>) -> Result<(), Memory>
+    ensures { OnOk result (into.new ≡ into.old ++ 32 ∷ target_text target.now) }
+{
+    match target {
+        Some(name) => write_name(into, name),
+        None => write_argument(into, b"*"),
+    }
+}
+
+/// The W card of a text: the text stands behind its size in bytes.
+pub fn write_body(alloc: Global, into: &mut Text, text: &[u8]) -> Result<(), Memory>
+    ensures { OnOk result (into.new ≡ into.old ++ card_text (body_card text.now)) }
+{
+    begin_card(into, b'W')?;
+    write_size(alloc, into, text.len())?;
+    end_card(into)?;
+    into.append(text)?;
+    end_card(into)
+}
+
+fn write_size(alloc: Global, into: &mut Text, size: usize) -> Result<(), Memory>
+    ensures { OnOk result (into.new ≡ into.old ++ 32 ∷ decimal size) }
+{
+    let digits = format!(in alloc; "{size}")?;
+    write_argument(into, digits.as_bytes())
+}

@@ -1,0 +1,126 @@
+-- What a disk may leave while a journal is opened.
+use Rattle.std.proofs.Common.{◌≡◌, inr, ℕ, ◌+◌, List, [], ◌∷◌, ◌++◌, length, take, drop, sym, ◌∙◌, ap, subst, arith, append_assoc, length-append, take-append-drop, IsTrue, Some, None}
+use Rattle.std.proofs.lemmas.List.{take_all, take_at}
+use Rattle.fsl_disk.specs.Disk.{DiskState, IsModelled, Told, Begins, Keeps, Calls, CutShort, Same, Quiet, Only, LeavesOnly}
+use Rattle.fsl_disk.proofs.Moments.{goes_on, keeps_on, quiet_call, quiet_on, quiet_moments, told_before, told_contents, modelled_before}
+use Rattle.fsl_disk.proofs.Pieces.{cut_whole}
+use Rattle.fsl_record.specs.declared.Record.{Record}
+use Rattle.fsl_journal.specs.declared.LoadFault.{LoadFault}
+use Rattle.fsl_journal.specs.declared.LoadFault.TheVariants as load_fault
+use Rattle.fsl_journal.specs.File.{header, IsFileOf, FailsAt}
+use Rattle.fsl_journal.specs.Journal.{Belongs, LoadFailed}
+use Rattle.fsl_journal.specs.Reading.{FileFailed}
+use Rattle.fsl_journal.specs.Log.{Log, IsLog, IsBetween, StandsBetween}
+use Rattle.fsl_journal.proofs.Files.{laid, is_log, groups_bytes}
+use Rattle.fsl_journal.proofs.Gate.{some_same}
+use Rattle.fsl_journal.proofs.Unique.{one_file}
+
+module _ (records : List Record) (place : ℕ) (held : List ℕ) (is : IsLog records place held) where
+  gate_last : take (place + 1) held ≡ header ++ groups_bytes (laid records place held is).groups ++ (laid records place held is).gate ∷ []
+  gate_last =
+      let log = laid records place held is in
+      ap (λ (l : List ℕ). take (place + 1) l) (log.split ∙ sym (append_assoc (header ++ groups_bytes log.groups) (log.gate ∷ []) log.rest))
+      ∙ take_at (header ++ groups_bytes log.groups ++ log.gate ∷ []) log.rest (place + 1) (omega (arith, log.at, length-append (header ++ groups_bytes log.groups) (log.gate ∷ [])))
+
+  pub last_size : length (take (place + 1) held) ≡ place + 1
+  last_size = let log = laid records place held is in omega (arith, ap length gate_last, log.at, length-append (header ++ groups_bytes log.groups) (log.gate ∷ []))
+
+  -- any cut behind the closed gate
+  pub cut_log : (c : List ℕ) → CutShort (place + 1) held c → IsLog records place c
+  cut_log c cut =
+      let log = laid records place held is in
+      is_log records place c (record {
+        groups = log.groups;
+        gate = log.gate;
+        rest = drop (place + 1) c;
+        split =
+            sym (take-append-drop (place + 1) c)
+            ∙ ap (λ (l : List ℕ). l ++ drop (place + 1) c) (cut.front ∙ gate_last)
+            ∙ append_assoc (header ++ groups_bytes log.groups) (log.gate ∷ []) (drop (place + 1) c);
+        at = log.at;
+        shut = log.shut;
+        whole = log.whole;
+        all = log.all;
+        fit = log.fit;
+      })
+
+-- what a journal has of the records that it loaded
+abbrev pub resumed_log : List Record → ℕ → Log
+resumed_log records place = record { records = records; stable = length records; stopped = None; place = place }
+
+-- a sync, a read of everything, and a cut
+pub record LoadRun (s0 s1 s2 s3 : DiskState) (file : List ℕ) (records : List Record) (place : ℕ) : Type 0 where
+  pub sync : Calls Same s0 s1
+  pub same : s1.contents ≡ s0.contents
+  pub durable : IsTrue s0.is_model → Told s0 (λ held. Only held s1.images)
+  pub quiet : Quiet s1 s2
+  pub read : Told s1 (λ held. file ≡ held)
+  pub log : IsLog records place file
+  pub cut : Calls (CutShort (place + 1)) s2 s3
+
+module _ (s0 s1 s2 s3 : DiskState) (file : List ℕ) (records : List Record) (place : ℕ) (run : LoadRun s0 s1 s2 s3 file records place) where
+  so_far : Quiet s0 s2
+  so_far = quiet_on s0 s1 s2 (quiet_call s0 s1 run.sync run.same) run.quiet
+
+  all_keeps : Keeps s0 s3
+  all_keeps = keeps_on s0 s2 s3 so_far.keeps run.cut.keeps
+
+  file_told : (held : List ℕ) → s0.contents ≡ Some held → file ≡ held
+  file_told held told = run.read held (run.same ∙ told)
+
+  pub log_told : (held : List ℕ) → s0.contents ≡ Some held → IsLog records place held
+  log_told held told = subst (IsLog records place) (file_told held told) run.log
+
+  -- what the cut leaves
+  after_cut : IsTrue s0.is_model → (held : List ℕ) → s0.contents ≡ Some held → (c : List ℕ) → s3.images c → CutShort (place + 1) held c
+  after_cut model held told c left =
+      let from = (run.cut.crash (so_far.keeps.model ∙ model)).follows c left in
+      let is_held = run.durable model held told from.0 (run.quiet.images (run.sync.keeps.model ∙ model) from.0 from.1) in
+      subst (λ (d : List ℕ). CutShort (place + 1) d c) is_held from.2
+
+  pub loaded_durable : IsModelled s0 → (c : List ℕ) → s3.images c → IsFileOf c records
+  loaded_durable modelled c left =
+      let told = told_contents s0 modelled in
+      (cut_log records place told.0 (log_told told.0 told.1) c (after_cut modelled.model told.0 told.1 c left)).file
+
+  pub records_between : IsModelled s0 → ((held : List ℕ) → s0.contents ≡ Some held → s0.images held) → (low high : List Record) → ((c : List ℕ) → s0.images c → StandsBetween low high c) → IsBetween low high records
+  records_between modelled reads_as_image low high between =
+      let told = told_contents s0 modelled in
+      let first = between told.0 (reads_as_image told.0 told.1) in
+      subst (IsBetween low high) (one_file told.0 first.0 records first.1 (log_told told.0 told.1).file) first.2
+
+  pub load_moments : IsModelled s0 → ((held : List ℕ) → s0.contents ≡ Some held → s0.images held) → ((c : List ℕ) → s0.since s0.moment c → s0.images c) → (low high : List Record)
+      → ((c : List ℕ) → s0.images c → StandsBetween low high c) → LeavesOnly s0 s3 (StandsBetween low high)
+  load_moments modelled reads_as_image no_other low high between =
+      goes_on s0 s2 s3 (StandsBetween low high) (CutShort (place + 1)) (quiet_moments s0 s2 (StandsBetween low high) so_far modelled.model no_other between) (run.cut.crash (so_far.keeps.model ∙ modelled.model))
+      (λ c left. (records, loaded_durable modelled c left, records_between modelled reads_as_image low high between))
+
+  pub belongs_loaded : (log : Log) → log ≡ resumed_log records place → Told s2 (λ held. s3.contents ≡ Some (take (place + 1) held)) → Belongs log s3
+  belongs_loaded log is cut = subst (λ (l : Log). Belongs l s3) (sym is) (record {
+    counts = omega arith;
+    reads = λ _ now told.
+        let before = told_before s0 s3 now all_keeps told in
+        let now_is = now_held now told before.0 before.1 in
+        let here = cut_log records place before.0 (log_told before.0 before.1) (take (place + 1) before.0) (cut_whole (place + 1) before.0) in (
+          subst (λ (h : List ℕ). IsLog (take (length records) records) place h) (sym now_is)
+              (subst (λ (all : List Record). IsLog all place (take (place + 1) before.0)) (sym (take_all (length records) records (omega arith))) here),
+          ap length now_is ∙ last_size records place before.0 (log_told before.0 before.1),
+        );
+    images = λ _ model now told c left.
+        let before = told_before s0 s3 now all_keeps told in
+        let now_is = now_held now told before.0 before.1 in
+        let old_model = sym so_far.keeps.model ∙ sym run.cut.keeps.model ∙ model in
+        let size = last_size records place before.0 (log_told before.0 before.1) in
+        subst (λ (h : List ℕ). Begins h c) (sym now_is)
+        (subst (λ (n : ℕ). take n c ≡ take (place + 1) before.0) (sym size) (after_cut old_model before.0 before.1 c left).front);
+    stands = λ modelled c left. inr (loaded_durable (modelled_before s0 s3 all_keeps modelled) c left);
+  })
+    where
+      now_held : (now : List ℕ) → s3.contents ≡ Some now → (held : List ℕ) → s0.contents ≡ Some held → now ≡ take (place + 1) held
+      now_held now told held before = some_same (sym told ∙ cut held (so_far.contents ∙ before))
+
+-- a file that doesn't read
+pub load_failed : (fault : LoadFault) (s0 s2 : DiskState) (file : List ℕ) → s2.contents ≡ s0.contents → s2.faults ≡ s0.faults → Told s0 (λ held. file ≡ held) → FileFailed file fault → LoadFailed fault s0 s2
+load_failed load_fault.Disk s0 s2 file contents faults told fails = absurd fails
+load_failed (load_fault.NotRepository at) s0 s2 file contents faults told fails = (record { contents = contents; faults = faults }, λ held is. subst (λ (f : List ℕ). FailsAt f at) (told held is) fails)
+load_failed load_fault.Memory s0 s2 file contents faults told fails = record { contents = contents; faults = faults }

@@ -1,0 +1,25 @@
+-- What a crash leaves while a group is written behind a closed gate and the gate is opened.
+use Rattle.std.specs.Prelude.{◌≡◌, ◌⊎◌, ℕ, ◌+◌, List, [], ◌∷◌, ◌++◌, length, take, IsTrue}
+use Rattle.std.specs.Int.{to_be_bytes, w64}
+use Rattle.fsl_disk.specs.Disk.{DiskState, Told, Begins}
+
+-- a number in 8 bytes, the greatest first
+unfoldable pub eight : ℕ → List ℕ
+eight n = to_be_bytes w64 n
+
+-- what is written behind the closed gate: a length, the bytes of records, and a new closed gate
+abbrev pub body_of : List ℕ → List ℕ
+body_of bytes = eight (length bytes) ++ bytes ++ 0x43 ∷ []
+
+-- the contents with the byte at the place changed, and a body behind it
+abbrev pub gated : List ℕ → ℕ → ℕ → List ℕ → List ℕ
+gated held place gate body = take place held ++ gate ∷ body
+
+-- what was held and anything behind it; or the body whole behind its gate, whatever the gate's byte
+abbrev pub HeldOrGated : List ℕ → ℕ → List ℕ → List ℕ → Type 0
+HeldOrGated held place body c = Begins held c ⊎ ((gate : ℕ) × (c ≡ gated held place gate body))
+
+-- the last byte of the contents stands at this place, and each image begins with the contents
+pub record EndsAt (place : ℕ) (disk : DiskState) : Type 0 where
+  pub last : Told disk (λ held. length held ≡ place + 1)
+  pub images : IsTrue disk.is_model → Told disk (λ held. (c : List ℕ) → disk.images c → Begins held c)

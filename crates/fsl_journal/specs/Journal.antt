@@ -1,0 +1,65 @@
+-- When a disk belongs to a journal, and what the answers of its calls say.
+use Rattle.std.specs.Prelude.{◌≡◌, ◌⊎◌, ℕ, ◌+◌, ◌≤◌, ◌<◌, None, Some, List, [], ◌∷◌, length, IsTrue}
+use Rattle.fsl_disk.specs.Disk.{DiskState, IsModelled, Told, Begins}
+use Rattle.fsl_order.specs.Causes.{Rose}
+use Rattle.fsl_record.specs.declared.Config.{Config}
+use Rattle.fsl_record.specs.declared.Record.TheVariants as record_of
+use Rattle.fsl_journal.specs.File.{IsFileOf, FailsAt}
+use Rattle.fsl_journal.specs.Log.{Log, committed, BeforeOrAll, IsLog, IsNoFile}
+use Rattle.fsl_journal.specs.declared.CommitFault.{CommitFault}
+use Rattle.fsl_journal.specs.declared.CommitFault.TheVariants as commit_fault
+use Rattle.fsl_journal.specs.declared.CreateFault.{CreateFault}
+use Rattle.fsl_journal.specs.declared.CreateFault.TheVariants as create_fault
+use Rattle.fsl_journal.specs.declared.LoadFault.{LoadFault}
+use Rattle.fsl_journal.specs.declared.LoadFault.TheVariants as load_fault
+
+-- the disk belongs to the journal
+pub record Belongs (log : Log) (disk : DiskState) : Type 0 where
+  pub counts : log.stable ≤ length log.records
+  -- while it runs, the file stands for the committed records, and its last byte is the closed gate
+  pub reads : log.stopped ≡ None → Told disk (λ held. IsLog (committed log) log.place held × (length held ≡ log.place + 1))
+  -- and each image begins with what the file reads as
+  pub images : log.stopped ≡ None → IsTrue disk.is_model → Told disk (λ held. (c : List ℕ) → disk.images c → Begins held c)
+  -- each image stands for the committed records, or after a commit that failed for all
+  pub stands : IsModelled disk → (c : List ℕ) → disk.images c → BeforeOrAll log c
+
+-- a commit that answers Ok: the journal ran and goes on, and each record is committed
+pub record Committed (answer : ℕ) (old new : Log) (before after : DiskState) : Type 0 where
+  pub runs : old.stopped ≡ None
+  pub all : answer ≡ length old.records
+  pub records : new.records ≡ old.records
+  pub stable : new.stable ≡ length old.records
+  pub goes_on : new.stopped ≡ None
+  pub faults : after.faults ≡ before.faults
+
+-- a commit that answers a fault: it was stopped, or the disk's count rose and now it is
+abbrev pub CommitFailed : CommitFault → Log → Log → DiskState → DiskState → Type 0
+CommitFailed (commit_fault.Stopped faults) old new before after = (old.stopped ≡ Some faults) × (new ≡ old)
+CommitFailed commit_fault.Disk old new before after = (old.stopped ≡ None) × (new ≡ record old { stopped = Some after.faults }) × Rose before.faults after.faults
+
+-- what a call that only read leaves
+pub record IsLeft (before after : DiskState) : Type 0 where
+  pub contents : after.contents ≡ before.contents
+  pub faults : after.faults ≡ before.faults
+
+-- an opening that answers a fault
+abbrev pub LoadFailed : LoadFault → DiskState → DiskState → Type 0
+LoadFailed load_fault.Disk before after = Rose before.faults after.faults
+LoadFailed (load_fault.NotRepository at) before after = IsLeft before after × Told before (λ held. FailsAt held at)
+LoadFailed load_fault.Memory before after = IsLeft before after
+
+-- a file that is no repository, or one with this Config alone
+abbrev pub NothingOr : Config → List ℕ → Type 0
+NothingOr config bytes = IsNoFile bytes ⊎ IsFileOf bytes (record_of.Config config ∷ [])
+
+-- the making of a file that answers a fault
+abbrev pub CreateFailed : CreateFault → DiskState → DiskState → Type 0
+CreateFailed (create_fault.NotEmpty len) before after = IsLeft before after × (0 < len) × Told before (λ held. len ≡ length held)
+CreateFailed create_fault.Disk before after = Rose before.faults after.faults
+CreateFailed create_fault.Memory before after = IsLeft before after × Told before (λ held. held ≡ [])
+
+-- the making of a file that answers Ok: it was empty, and stands for this Config alone
+pub record IsMade (config : Config) (before after : DiskState) : Type 0 where
+  pub faults : after.faults ≡ before.faults
+  pub was : Told before (λ held. held ≡ [])
+  pub file : Told before (λ _. (held : List ℕ) × (after.contents ≡ Some held) × IsFileOf held (record_of.Config config ∷ []))

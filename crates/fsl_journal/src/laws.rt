@@ -1,0 +1,17 @@
+//! What is known of files, for proofs above. The calls do nothing when the program runs.
+ghost use Rattle.fsl_journal.specs.Laws.{FailsOnce, IsOneFile, IsNoFileThere};
+
+/// Bytes stand for one list of records at most.
+pub fn is_one_file()
+    ensures { IsOneFile }
+{}
+
+/// Bytes fail to be a file at one place at most.
+pub fn fails_once()
+    ensures { FailsOnce }
+{}
+
+/// Bytes that fail to be a file stand for no records.
+pub fn is_no_file()
+    ensures { IsNoFileThere }
+{}

@@ -1,0 +1,102 @@
+//! The repository file: groups of records, each group whole or not there after a crash.
+//!
+//! The file is the bytes of `fossil-blobs-1` and a newline, and then groups. A group is a gate byte, a length of
+//! 8 bytes with the greatest first, and as many bytes of records. An open gate is 0x4F, every other byte is closed,
+//! and 0x43 is written. The file stands for the records of its open groups up to the first closed gate.
+//!
+//! A commit writes a group and a closed gate behind the last gate, which is closed, and makes them stable. Then it
+//! opens that gate and makes this stable too. So whatever moment a crash comes at, what it leaves stands for the
+//! records that were committed before or for all of them, and after the answer for all.
+#![tactic(auto)]
+
+mod commit;
+mod creating;
+mod journal;
+mod laws;
+mod loading;
+mod names;
+mod reading;
+
+ghost use Rattle.std.specs.Prelude.{◌≡◌};
+ghost use Rattle.fsl_journal.specs.declared.CreateFault.TheVariants as create_fault;
+ghost use Rattle.fsl_journal.specs.declared.LoadFault.TheVariants as load_fault;
+
+pub use creating::create;
+use fsl_outside::Failed;
+use fsl_text::Memory;
+pub use journal::Journal;
+pub use laws::{fails_once, is_no_file, is_one_file};
+use std::alloc::AllocError;
+use thiserror::Error;
+
+/// Why no file was made.
+#[derive(Clone, Copy, PartialEq, Eq, Debug, Drop, Error)]
+pub enum CreateFault {
+    /// The disk already holds this many bytes.
+    #[error("the disk holds {len} bytes")]
+    NotEmpty { len: u64 },
+    /// A call of the disk failed.
+    #[error("the disk failed")]
+    Disk,
+    /// There was no memory. Nothing was written.
+    #[error("out of memory")]
+    Memory,
+}
+
+/// Why a journal wasn't opened.
+#[derive(Clone, Copy, PartialEq, Eq, Debug, Drop, Error)]
+pub enum LoadFault {
+    /// A call of the disk failed.
+    #[error("the disk failed")]
+    Disk,
+    /// The file stands for no records. The place is 0 where it has another header; 15 where no group is open; else
+    /// that of the gate of the first open group that doesn't read or has no byte after it.
+    #[error("no repository at byte {at}")]
+    NotRepository { at: u64 },
+    /// There was no memory.
+    #[error("out of memory")]
+    Memory,
+}
+
+/// Why a commit failed.
+#[derive(Clone, Copy, PartialEq, Eq, Debug, Drop, Error)]
+pub enum CommitFault {
+    /// An earlier commit failed, with the disk's count of faults at this.
+    #[error("stopped by an earlier fault, the disk's {faults}")]
+    Stopped { faults: u64 },
+    /// A call of the disk failed.
+    #[error("the disk failed")]
+    Disk,
+}
+
+impl From<Memory> for CreateFault {
+    ghost from_gives = { λ _ fault. fault ≡ create_fault.Memory };
+
+    fn from(_: Memory) -> Self {
+        CreateFault::Memory
+    }
+}
+
+impl From<Failed> for CreateFault {
+    ghost from_gives = { λ _ fault. fault ≡ create_fault.Disk };
+
+    fn from(_: Failed) -> Self {
+        CreateFault::Disk
+    }
+}
+
+impl From<AllocError> for LoadFault {
+    ghost from_gives = { λ _ fault. fault ≡ load_fault.Memory };
+
+    fn from(_: AllocError) -> Self {
+        LoadFault::Memory
+    }
+}
+
+impl From<Failed> for LoadFault {
+    ghost from_gives = { λ _ fault. fault ≡ load_fault.Disk };
+
+    fn from(_: Failed) -> Self {
+        LoadFault::Disk
+    }
+}

@@ -1,0 +1,86 @@
+//! Opens a journal: reads the file, and cuts what stands behind its closed gate.
+ghost use Rattle.std.specs.Prelude.{◌≡◌, ◌+◌, ◌<◌, ◌≤◌, ◌^◌, ℕ, List, length, take, None, Some, IsTrue, IfOk, OnOk, IfErr};
+ghost use Rattle.fsl_order.specs.Causes.{HasCause};
+ghost use Rattle.fsl_disk.specs.Disk.{DiskState, IsModelled, Told, Keeps, Calls, CutShort, Quiet, Only, LeavesOnly};
+ghost use Rattle.fsl_journal.specs.File.{IsFileOf};
+ghost use Rattle.fsl_record.specs.declared.Record.{Record};
+ghost use Rattle.fsl_journal.specs.Log.{Log, IsBetween, StandsBetween, IsLoaded};
+ghost use Rattle.fsl_journal.specs.Journal.{Belongs, LoadFailed};
+ghost use Rattle.fsl_journal.specs.Reading.{ReadFailed};
+ghost use Rattle.fsl_journal.specs.declared.LoadFault.TheVariants as load_fault;
+
+use crate::reading::read_file;
+use crate::{Journal, LoadFault};
+use fsl_disk::Disk;
+use fsl_outside::Failed;
+use fsl_record::Record;
+use std::alloc::Global;
+
+/// The whole contents, in one read.
+fn read_all<D: Disk>(alloc: Global, disk: &mut D) -> Result<Vec<u8>, LoadFault>
+    ensures file { IfOk result (λ file. (length file.items < 2 ^ 63) × Told (D.state disk.old) (λ held. file.items ≡ held)) }
+    ensures quiet { Quiet (D.state disk.old) (D.state disk.new) }
+    ensures count { OnOk result ((D.state disk.new).faults ≡ (D.state disk.old).faults) }
+    ensures later { (D.state disk.old).faults ≤ (D.state disk.new).faults }
+    ensures fault { IfErr result (λ fault. ReadFailed fault (D.state disk.old) (D.state disk.new)) }
+{
+    let len = disk.len()?;
+    let mut file = vec![in alloc; 0; len as usize]?;
+    disk.read_at(0, &mut file)?;
+    Ok(file)
+}
+
+/// Cuts what stands behind this place, where anything does.
+fn cut_behind<D: Disk>(disk: &mut D, place: u64, len: u64) -> Result<(), Failed>
+    requires len { len < 2 ^ 63 }
+    requires held { Told (D.state disk.old) (λ held. length held ≡ len) }
+    requires inside { place < len }
+    ensures cut { OnOk result (Told (D.state disk.old) (λ held. (D.state disk.new).contents ≡ Some (take (place + 1) held))) }
+    ensures call { Calls (CutShort (place + 1)) (D.state disk.old) (D.state disk.new) }
+    ensures cause { HasCause (D.state disk.old).faults (D.state disk.new).faults result }
+{
+    if place + 1 == len {
+        return Ok(());
+    }
+    disk.cut(place + 1)
+}
+
+impl Journal {
+    /// Opens the journal of a disk, and answers its records. It makes what the disk holds stable, reads the file, and
+    /// cuts what stands behind the closed gate. It may be stopped at any moment.
+    ///
+    /// Errors: `Disk` where a call of the disk failed; `NotRepository` with the place at which the file fails to stand
+    /// for records; `Memory`.
+    pub fn load<D: Disk>(
+        alloc: Global,
+        disk: &mut D,
+    ) -> Result<(Journal, fsl_text::List<Record>), LoadFault>
+        ensures loaded { IfOk result (λ loaded. IsLoaded loaded.0 loaded.1) }
+        ensures stands { IfOk result (λ loaded. Told (D.state disk.old) (λ held. IsFileOf held loaded.1)) }
+        ensures cut { IfOk result (λ loaded. Told (D.state disk.old) (λ held. (D.state disk.new).contents ≡ Some (take (loaded.0.place + 1) held))) }
+        ensures belongs { IfOk result (λ loaded. Belongs loaded.0 (D.state disk.new)) }
+        ensures count { OnOk result ((D.state disk.new).faults ≡ (D.state disk.old).faults) }
+        ensures fault { IfErr result (λ fault. LoadFailed fault (D.state disk.old) (D.state disk.new)) }
+        ensures keeps { Keeps (D.state disk.old) (D.state disk.new) }
+
+        // Where each image stands for records between two lists, each does so at each moment, and so do the records.
+        ensures any_moment { IsModelled (D.state disk.old) → (low high : List Record) → ((c : List ℕ) → (D.state disk.old).images c → StandsBetween low high c)
+            → LeavesOnly (D.state disk.old) (D.state disk.new) (StandsBetween low high) }
+        ensures between { IfOk result (λ loaded. IsModelled (D.state disk.old) → (low high : List Record) → ((c : List ℕ) → (D.state disk.old).images c → StandsBetween low high c) → IsBetween low high loaded.1) }
+        // And each image then stands for exactly these records.
+        ensures durable { IfOk result (λ loaded. IsModelled (D.state disk.old) → (c : List ℕ) → (D.state disk.new).images c → IsFileOf c loaded.1) }
+        // It isn't `NotRepository` then.
+        ensures stays { IfErr result (λ fault. (at : ℕ) → fault ≡ load_fault.NotRepository at → IsModelled (D.state disk.old) → (low high : List Record) → ((c : List ℕ) → (D.state disk.old).images c → StandsBetween low high c) → ⊥) }
+    {
+        disk.sync()?;
+        let file = read_all(alloc, disk)?;
+        match read_file(alloc, &file) {
+            Err(fault) => Err(fault),
+            Ok((records, place)) => {
+                let journal = Journal::resumed(alloc, &records, place as u64)?;
+                cut_behind(disk, place as u64, file.len() as u64)?;
+                Ok((journal, fsl_text::List::from_vec(records)))
+            }
+        }
+    }
+}

@@ -1,0 +1,333 @@
+-- Where some cards are a manifest, the manifest can be written.
+use Rattle.std.proofs.Common.{◌≡◌, ℕ, ◌<◌, ◌≤◌, Bool, true, false, not, cond, eqb, List, [], ◌∷◌, ◌++◌, map, filter, Option, Some, None, refl, sym, ap, subst, ◌∙◌, inl, inr, arith}
+use Rattle.std.specs.Prelude.{◌&&◌, ◌||◌, ◌==◌, nat_lt, is_some, option_map, option_to_list, codes}
+use Rattle.std.specs.List.{list_all, AllByRecursion}
+use Rattle.std.specs.Str.{bytes_eq}
+use Rattle.std.proofs.lemmas.Bool.{cases_lt, eq-eqb, eqb-true, false≢true, ne_eqb}
+use borrow.Author.Tests.{ltb-true}
+use Rattle.fsl_order.specs.Names.{is_before}
+use Rattle.fsl_text.specs.Bytes.{is_empty}
+use Rattle.fsl_text.specs.Escapes.{unescape, byte_meant}
+use Rattle.fsl_text.specs.Paths.{path_ok}
+use Rattle.fsl_name.specs.Name.{name_in}
+use Rattle.fsl_card.specs.declared.types.Card.{Card}
+use Rattle.fsl_card.specs.Cards.{IsCard, IsCards, IsTextOf, are_arguments, in_order, is_argument, may_follow, may_repeat, first_of, first_argument}
+use Rattle.fsl_card.specs.Writing.{sealed_text}
+use Rattle.fsl_date.proofs.EachMoment.{always_printed}
+use Rattle.fsl_grammar.specs.declared.TagCard.{TagCard}
+use Rattle.fsl_grammar.specs.Forms.{◌>>=◌, all_differ, arguments, given, is_filled, is_tag_written, optional, prefix_in, tag_form, tag_in, target_in, text_form, user_form}
+use Rattle.fsl_grammar.proofs.Apart.{first_holds, second_holds}
+use Rattle.fsl_grammar.proofs.WrittenArguments.{both_hold}
+use Rattle.fsl_manifest.specs.declared.Perm.{Perm}
+use Rattle.fsl_manifest.specs.declared.Perm.TheVariants.{Plain, Writable, Exec, Symlink}
+use Rattle.fsl_manifest.specs.declared.FileCard.{FileCard}
+use Rattle.fsl_manifest.specs.declared.Manifest.{Manifest}
+use Rattle.fsl_manifest.specs.Manifests.{IsManifest, file_form, file_in, files_rise, has_hashes, is_file_written, is_perm_placed, is_well_formed, path_in, perm_in, perm_or_plain}
+use Rattle.fsl_manifest.specs.Writing.{IsWrittenExactly, manifest_cards}
+use Rattle.fsl_manifest.proofs.ReadBack.{is_read_back}
+
+-- ---- arguments
+
+-- the arguments of one card
+abbrev AreFit : List (List ℕ) → Type 0
+AreFit args = list_all is_argument args ≡ true
+
+-- an argument stands for a text that has a byte
+unescape_filled : (arg : List ℕ) → is_argument arg ≡ true → not (is_empty (unescape arg)) ≡ true
+unescape_filled [] h = absurd cc
+unescape_filled (b ∷ []) h = refl
+unescape_filled (b ∷ c ∷ rest) h = by (b == 92)
+  where
+    by : (t : Bool) → not (is_empty (cond t (byte_meant c ∷ unescape rest) (b ∷ unescape (c ∷ rest)))) ≡ true
+    by true = refl
+    by false = refl
+
+-- the cards of a letter that isn't J have arguments that are fit
+fit_arguments : (cards : List Card) (letter : ℕ) → eqb letter 74 ≡ false → AllByRecursion IsCard cards → AllByRecursion AreFit (arguments cards letter)
+fit_arguments [] letter other h = tt
+fit_arguments (c ∷ cards) letter other h = by (eqb c.letter letter) refl (fit_arguments cards letter other h.1)
+  where
+    by : (t : Bool) → eqb c.letter letter ≡ t → AllByRecursion AreFit (arguments cards letter) → AllByRecursion AreFit (map (λ card. card.args) (cond t (c ∷ filter (λ card. eqb card.letter letter) cards) (filter (λ card. eqb card.letter letter) cards)))
+    by true e more =
+        let other_letter : eqb c.letter 74 ≡ false = ap (λ (l : ℕ). eqb l 74) (eqb-true c.letter letter e) ∙ other in
+        (rw other_letter at h.0.arguments, more)
+    by false e more = more
+
+-- what a form gives of fit arguments
+module _ {X : Type 0} (form : List (List ℕ) → Option X) (P : X → Type 0) (gives : (args : List (List ℕ)) (x : X) → AreFit args → form args ≡ Some x → P x) where
+  abbrev some_all : List X → List (Option X)
+  some_all xs = map Some xs
+
+  each_given : (found : List (List (List ℕ))) (xs : List X) → AllByRecursion AreFit found → map form found ≡ some_all xs → AllByRecursion P xs
+  each_given [] [] h e = tt
+  each_given [] (x ∷ xs) h e = absurd cc
+  each_given (args ∷ found) [] h e = absurd cc
+  each_given (args ∷ found) (x ∷ xs) h e = (gives args x h.0 (first e), each_given found xs h.1 (rest e))
+    where
+      first : form args ∷ map form found ≡ Some x ∷ some_all xs → form args ≡ Some x
+      first f = cc
+
+      rest : form args ∷ map form found ≡ Some x ∷ some_all xs → map form found ≡ some_all xs
+      rest f = cc
+
+-- ---- forms
+
+abbrev filled : List ℕ → Type 0
+filled text = not (is_empty text) ≡ true
+
+text_filled : (args : List (List ℕ)) (text : List ℕ) → AreFit args → text_form args ≡ Some text → filled text
+text_filled [] text h e = absurd cc
+text_filled (arg ∷ []) text h e = subst filled (inside e) (unescape_filled arg (first_holds _ true h))
+  where
+    inside : Some (unescape arg) ≡ Some text → unescape arg ≡ text
+    inside f = cc
+text_filled (a ∷ b ∷ args) text h e = absurd cc
+
+user_filled : (args : List (List ℕ)) (text : List ℕ) → AreFit args → user_form args ≡ Some text → filled text
+user_filled [] text h e = subst filled (inside e) refl
+  where
+    inside : Some (codes "anonymous") ≡ Some text → codes "anonymous" ≡ text
+    inside f = cc
+user_filled (a ∷ args) text h e = text_filled (a ∷ args) text h e
+
+-- a step that gives a value had one to go on with
+module _ {A B : Type 0} where
+  step : (o : Option A) (f : A → Option B) (b : B) → (o >>= f) ≡ Some b → (a : A) × (o ≡ Some a) × (f a ≡ Some b)
+  step None f b e = absurd cc
+  step (Some a) f b e = (a, refl, e)
+
+given_is : {A : Type 0} (t : Bool) (x y : A) → given t x ≡ Some y → (t ≡ true) × (x ≡ y)
+given_is true x y e = (refl, cc)
+given_is false x y e = absurd cc
+
+-- ---- files
+
+optional_some : {X : Type 0} (form : List ℕ → Option X) (arg : Option (List ℕ)) (o : Option X) → optional form arg ≡ Some o → is_some o ≡ is_some arg
+optional_some {X = X} form None o e = ap is_some (sym (inside e))
+  where
+    inside : ◌≡◌ {A = Option (Option X)} (Some None) (Some o) → ◌≡◌ {A = Option X} None o
+    inside f = cc
+optional_some {X = X} form (Some arg) o e = by (form arg) e
+  where
+    by : (found : Option X) → option_map Some found ≡ Some o → is_some o ≡ true
+    by None f = absurd cc
+    by (Some x) f = ap is_some (sym (inside f))
+      where
+        inside : ◌≡◌ {A = Option (Option X)} (Some (Some x)) (Some o) → ◌≡◌ {A = Option X} (Some x) o
+        inside g = cc
+
+path_of : (arg path : List ℕ) → path_in arg ≡ Some path → (path_ok path ≡ true) × (path ≡ unescape arg)
+path_of arg path e =
+    let g = given_is (path_ok (unescape arg)) (unescape arg) path e in
+    (ap path_ok (sym g.1) ∙ g.0, sym g.1)
+
+former_ok : (arg : Option (List ℕ)) (former : Option (List ℕ)) → optional path_in arg ≡ Some former → list_all path_ok (option_to_list former) ≡ true
+former_ok arg None e = refl
+former_ok None (Some path) e = absurd cc
+former_ok (Some arg) (Some path) e = by (path_in arg) refl e
+  where
+    by : (found : Option (List ℕ)) → path_in arg ≡ found → option_map Some found ≡ Some (Some path) → list_all path_ok (path ∷ []) ≡ true
+    by None k f = absurd cc
+    by (Some x) k f = both_hold _ _ (path_of arg path (k ∙ inside f)).0 refl
+      where
+        inside : ◌≡◌ {A = Option (Option (List ℕ))} (Some (Some x)) (Some (Some path)) → ◌≡◌ {A = Option (List ℕ)} (Some x) (Some path)
+        inside g = cc
+
+perm_needs : (arg : List ℕ) (perm : Perm) (hash former : Bool) → perm_in arg ≡ Some perm → is_perm_placed perm hash former ≡ hash
+perm_needs arg Plain hash former e = absurd (by (bytes_eq arg (120 ∷ [])) (bytes_eq arg (108 ∷ [])) (bytes_eq arg (119 ∷ [])) e)
+  where
+    by : (a b c : Bool) → cond a (Some Exec) (cond b (Some Symlink) (cond c (Some Writable) None)) ≡ Some Plain → ⊥
+    by true b c f = cc
+    by false true c f = cc
+    by false false true f = cc
+    by false false false f = cc
+perm_needs arg Exec hash former e = refl
+perm_needs arg Symlink hash former e = refl
+perm_needs arg Writable hash former e = refl
+
+perm_placed : (arg : Option (List ℕ)) (perm : Option Perm) (hash former : Bool) → optional perm_in arg ≡ Some perm → (is_some arg ≡ true → hash ≡ true) → (is_some arg ≡ false → former ≡ false) → is_perm_placed (perm_or_plain perm) hash former ≡ true
+perm_placed None None hash former e needs none = rw (none refl) refl
+perm_placed None (Some perm) hash former e needs none = absurd cc
+perm_placed (Some arg) None hash former e needs none = absurd (by (perm_in arg) e)
+  where
+    by : (found : Option Perm) → ◌≡◌ {A = Option (Option Perm)} (option_map Some found) (Some None) → ⊥
+    by None f = cc
+    by (Some x) f = cc
+perm_placed (Some arg) (Some perm) hash former e needs none = by (perm_in arg) refl e
+  where
+    by : (found : Option Perm) → perm_in arg ≡ found → option_map Some found ≡ Some (Some perm) → is_perm_placed perm hash former ≡ true
+    by None k f = absurd cc
+    by (Some x) k f = perm_needs arg perm hash former (k ∙ inside f) ∙ needs refl
+      where
+        inside : ◌≡◌ {A = Option (Option Perm)} (Some (Some x)) (Some (Some perm)) → ◌≡◌ {A = Option Perm} (Some x) (Some perm)
+        inside g = cc
+
+-- what a file that is read is
+record IsFileOf (path : List ℕ) (f : FileCard) : Type 0 where
+  written : is_file_written f ≡ true
+  path_is : f.path ≡ unescape path
+
+file_of : (path : List ℕ) (hash perm former : Option (List ℕ)) (f : FileCard) → (is_some perm ≡ true → is_some hash ≡ true) → (is_some perm ≡ false → is_some former ≡ false) → file_in path hash perm former ≡ Some f → IsFileOf path f
+file_of path hash perm former f needs none e =
+    let p = step (path_in path) _ f e in
+    let h = step (optional name_in hash) _ f p.2 in
+    let m = step (optional perm_in perm) _ f h.2 in
+    let o = step (optional path_in former) _ f m.2 in
+    let ok = path_of path p.0 p.1 in
+    let is : ◌≡◌ {A = FileCard} (record { path = p.0; hash = h.0; perm = perm_or_plain m.0; former = o.0 }) f = inside p.0 h.0 (perm_or_plain m.0) o.0 o.2 in
+    let hashed = optional_some name_in hash h.0 h.1 in
+    let renamed = optional_some path_in former o.0 o.1 in
+    subst (IsFileOf path) is (record {
+      written = both_hold _ _ (both_hold _ _ ok.0 (former_ok former o.0 o.1)) (perm_placed perm m.0 (is_some h.0) (is_some o.0) m.1 (λ k. hashed ∙ needs k) (λ k. renamed ∙ none k));
+      path_is = ok.1;
+    })
+  where
+    inside : (p : List ℕ) (h : Option (List ℕ)) (m : Perm) (o : Option (List ℕ)) → Some (record { path = p; hash = h; perm = m; former = o }) ≡ Some f → ◌≡◌ {A = FileCard} (record { path = p; hash = h; perm = m; former = o }) f
+    inside p h m o g = cc
+
+file_read : (args : List (List ℕ)) (f : FileCard) → file_form args ≡ Some f → IsFileOf (first_of args) f
+file_read [] f e = absurd cc
+file_read (path ∷ []) f e = file_of path None None None f (λ k. k) (λ k. k) e
+file_read (path ∷ hash ∷ []) f e = file_of path (Some hash) None None f (λ k. absurd cc) (λ k. k) e
+file_read (path ∷ hash ∷ perm ∷ []) f e = file_of path (Some hash) (Some perm) None f (λ k. k) (λ k. refl) e
+file_read (path ∷ hash ∷ perm ∷ former ∷ []) f e = file_of path (Some hash) (Some perm) (Some former) f (λ k. k) (λ k. absurd cc) e
+file_read (a ∷ b ∷ c ∷ d ∷ x ∷ args) f e = absurd cc
+
+-- ---- tags
+
+tag_of : (bytes target : List ℕ) (value : Option (List ℕ)) (t : TagCard) → is_filled value ≡ true → tag_in bytes target value ≡ Some t → is_tag_written t ≡ true
+tag_of [] target value t h e = absurd cc
+tag_of (sign ∷ tag) target value t h e =
+    let p = step (prefix_in sign) _ t e in
+    let to = step (target_in target) _ t p.2 in
+    let g = given_is (not (is_empty tag)) (record { prefix = p.0; tag = tag; target = to.0; value = value }) t to.2 in
+    subst (λ (t : TagCard). is_tag_written t ≡ true) g.1 (both_hold _ _ g.0 h)
+
+tag_read : (args : List (List ℕ)) (t : TagCard) → AreFit args → tag_form args ≡ Some t → is_tag_written t ≡ true
+tag_read [] t h e = absurd cc
+tag_read (tag ∷ []) t h e = absurd cc
+tag_read (tag ∷ target ∷ []) t h e = tag_of (unescape tag) target None t refl e
+tag_read (tag ∷ target ∷ value ∷ []) t h e =
+    tag_of (unescape tag) target (Some (unescape value)) t
+    (unescape_filled value (first_holds _ true (second_holds (is_argument target) _ (second_holds (is_argument tag) _ h)))) e
+tag_read (a ∷ b ∷ c ∷ d ∷ args) t h e = absurd cc
+
+-- ---- the order of files
+
+letters_grow : (a b : Card) → may_follow a b ≡ true → a.letter ≤ b.letter
+letters_grow a b h = by (nat_lt a.letter b.letter) (eqb a.letter b.letter) refl refl h
+  where
+    by : (s t : Bool) → nat_lt a.letter b.letter ≡ s → eqb a.letter b.letter ≡ t → (s || (t && may_repeat a.letter a b)) ≡ true → a.letter ≤ b.letter
+    by true t less same k = let lt : a.letter < b.letter = ltb-true a.letter b.letter less in omega arith
+    by false true less same k = let e : a.letter ≡ b.letter = eqb-true a.letter b.letter same in omega arith
+    by false false less same k = absurd cc
+
+rest_in_order : (a : Card) (cards : List Card) → in_order (a ∷ cards) ≡ true → in_order cards ≡ true
+rest_in_order a [] h = refl
+rest_in_order a (b ∷ cards) h = second_holds (may_follow a b) _ h
+
+module _ (letter : ℕ) where
+  -- the cards of the letter
+  abbrev of_it : List Card → List Card
+  of_it cards = filter (λ card. eqb card.letter letter) cards
+
+  none_above : (a : Card) (cards : List Card) → letter < a.letter → in_order (a ∷ cards) ≡ true → of_it (a ∷ cards) ≡ []
+  none_above a [] above h = rw (ne_eqb a.letter letter (λ e. absurd (omega arith))) refl
+  none_above a (b ∷ cards) above h =
+      let next : a.letter ≤ b.letter = letters_grow a b (first_holds _ (in_order (b ∷ cards)) h) in
+      let higher : letter < b.letter = omega arith in
+      rw (ne_eqb a.letter letter (λ e. absurd (omega arith))) (none_above b cards higher (second_holds (may_follow a b) _ h))
+
+  kept_behind : (a : Card) (cards : List Card) → a.letter ≡ letter → in_order (a ∷ cards) ≡ true → in_order (a ∷ of_it cards) ≡ true
+  kept_behind a [] same h = refl
+  kept_behind a (b ∷ cards) same h = by (eqb b.letter letter) refl (kept_behind b cards)
+    where
+      by : (t : Bool) → eqb b.letter letter ≡ t → (b.letter ≡ letter → in_order (b ∷ cards) ≡ true → in_order (b ∷ of_it cards) ≡ true) → in_order (a ∷ cond t (b ∷ of_it cards) (of_it cards)) ≡ true
+      by true e more = both_hold _ _ (first_holds _ (in_order (b ∷ cards)) h) (more (eqb-true b.letter letter e) (second_holds (may_follow a b) _ h))
+      by false e more =
+          let next : a.letter ≤ b.letter = letters_grow a b (first_holds _ (in_order (b ∷ cards)) h) in
+          let other : b.letter ≡ letter → ⊥ = λ k. false≢true (sym e ∙ eq-eqb b.letter letter k) in
+          let none : of_it (b ∷ cards) ≡ [] = none_above b cards (above (b.letter) next other) (second_holds (may_follow a b) _ h) in
+          let none_here : of_it cards ≡ [] = (rw e at none) in
+          rw none_here refl
+        where
+          above : (n : ℕ) → a.letter ≤ n → (n ≡ letter → ⊥) → letter < n
+          above n le ne = elim (cases_lt letter n) [
+            | inl lt ↦ lt
+            | inr ge ↦ absurd (ne (omega (arith, same, le, ge)))
+          ]
+
+  kept_in_order : (cards : List Card) → in_order cards ≡ true → in_order (of_it cards) ≡ true
+  kept_in_order [] h = refl
+  kept_in_order (c ∷ cards) h = by (eqb c.letter letter) refl (kept_in_order cards (rest_in_order c cards h))
+    where
+      by : (t : Bool) → eqb c.letter letter ≡ t → in_order (of_it cards) ≡ true → in_order (cond t (c ∷ of_it cards) (of_it cards)) ≡ true
+      by true e more = kept_behind c cards (eqb-true c.letter letter e) h
+      by false e more = more
+
+  all_of_it : (cards : List Card) → AllByRecursion (λ card. card.letter ≡ letter) (of_it cards)
+  all_of_it [] = tt
+  all_of_it (c ∷ cards) = by (eqb c.letter letter) refl (all_of_it cards)
+    where
+      by : (t : Bool) → eqb c.letter letter ≡ t → AllByRecursion (λ card. card.letter ≡ letter) (of_it cards) → AllByRecursion (λ card. card.letter ≡ letter) (cond t (c ∷ of_it cards) (of_it cards))
+      by true e more = (eqb-true c.letter letter e, more)
+      by false e more = more
+
+path_before : (a b : Card) → a.letter ≡ 70 → b.letter ≡ 70 → may_follow a b ≡ true → is_before (unescape (first_argument a)) (unescape (first_argument b)) ≡ true
+path_before a b ea eb h = by (a.letter) (b.letter) ea eb h
+  where
+    by : (m n : ℕ) → m ≡ 70 → n ≡ 70 → (nat_lt m n || ((m == n) && may_repeat m a b)) ≡ true → is_before (unescape (first_argument a)) (unescape (first_argument b)) ≡ true
+    by m n em en k = rw (em, en) at k
+
+abbrev some_files : List FileCard → List (Option FileCard)
+some_files files = map Some files
+
+rise_from : (cards : List Card) (files : List FileCard) → AllByRecursion (λ card. card.letter ≡ 70) cards → in_order cards ≡ true → map file_form (map (λ card. card.args) cards) ≡ some_files files → files_rise files ≡ true
+rise_from cards [] letters h e = refl
+rise_from cards (f ∷ []) letters h e = refl
+rise_from [] (f ∷ g ∷ files) letters h e = absurd cc
+rise_from (a ∷ []) (f ∷ g ∷ files) letters h e = absurd cc
+rise_from (a ∷ b ∷ cards) (f ∷ g ∷ files) letters h e =
+    let first = file_read a.args f (one e) in
+    let second = file_read b.args g (two e) in
+    both_hold _ _ (rw (first.path_is, second.path_is) (path_before a b letters.0 letters.1.0 (first_holds _ (in_order (b ∷ cards)) h)))
+    (rise_from (b ∷ cards) (g ∷ files) letters.1 (second_holds (may_follow a b) _ h) (rest e))
+  where
+    one : file_form a.args ∷ file_form b.args ∷ map file_form (map (λ card. card.args) cards) ≡ Some f ∷ Some g ∷ some_files files → file_form a.args ≡ Some f
+    one k = cc
+
+    two : file_form a.args ∷ file_form b.args ∷ map file_form (map (λ card. card.args) cards) ≡ Some f ∷ Some g ∷ some_files files → file_form b.args ≡ Some g
+    two k = cc
+
+    rest : file_form a.args ∷ file_form b.args ∷ map file_form (map (λ card. card.args) cards) ≡ Some f ∷ Some g ∷ some_files files → file_form b.args ∷ map file_form (map (λ card. card.args) cards) ≡ Some g ∷ some_files files
+    rest k = cc
+
+-- ---- the whole
+
+all_true : {X : Type 0} (p : X → Bool) (xs : List X) → AllByRecursion (λ x. p x ≡ true) xs → list_all p xs ≡ true
+all_true p [] h = refl
+all_true p (x ∷ xs) h = both_hold _ _ h.0 (all_true p xs h.1)
+
+optional_filled : (o : Option (List ℕ)) → AllByRecursion filled (option_to_list o) → is_filled o ≡ true
+optional_filled None h = refl
+optional_filled (Some text) h = h.0
+
+pub well_formed_from : (text : List ℕ) (cards : List Card) (m : Manifest) → IsCards text cards → IsManifest cards m → is_well_formed m ≡ true
+well_formed_from text cards m is h =
+    let comment = each_given text_form filled text_filled (arguments cards 67) (m.comment ∷ []) (fit_arguments cards 67 refl is.each) h.comment in
+    let user = each_given user_form filled user_filled (arguments cards 85) (m.user ∷ []) (fit_arguments cards 85 refl is.each) h.user in
+    let mime = each_given text_form filled text_filled (arguments cards 78) (option_to_list m.mime) (fit_arguments cards 78 refl is.each) h.mime in
+    let files = each_given file_form (λ f. is_file_written f ≡ true) (λ args f fit e. (file_read args f e).written) (arguments cards 70) m.files (fit_arguments cards 70 refl is.each) h.files in
+    let tags = each_given tag_form (λ t. is_tag_written t ≡ true) tag_read (arguments cards 84) m.tags (fit_arguments cards 84 refl is.each) h.tags in
+    let rise = rise_from (of_it 70 cards) m.files (all_of_it 70 cards) (kept_in_order 70 cards is.ordered) h.files in
+    both_hold _ _ (both_hold _ _ (both_hold _ _ (both_hold _ _ (both_hold _ _ (both_hold _ _ (both_hold _ _
+      comment.0 user.0) (optional_filled m.mime mime)) (all_true is_file_written m.files files)) rise) h.hashes) h.parents.differ) (all_true is_tag_written m.tags tags)
+
+-- a manifest can be written exactly where some text is it
+pub is_exact : IsWrittenExactly
+is_exact m typed moment =
+    (λ w.
+      let date = always_printed m.date moment in
+      let text = sealed_text (manifest_cards date.0 m) in
+      (text, is_read_back m text typed w (date.0, date.1, refl)),
+    λ t. well_formed_from t.0 t.1.0 m t.1.1 t.1.2)
