@@ -10,19 +10,23 @@ use Rattle.fossil.specs.Sets.{Sent}
 use Rattle.fossil.specs.declared.line.Line.{Line}
 use Rattle.fossil.specs.declared.line.Line.TheVariants.{Blank, File, Other}
 
+-- the line of a file, by its name and the digits of its size, which is below 2^64
 abbrev pub sized_line : Option (List ℕ) → List ℕ → Line
 sized_line None size = Other
 sized_line (Some name) size =
     if is_decimal_text size && nat_lt (decimal_value size) (2 ^ 64) then File name (decimal_value size) else Other
 
+-- a line of a file has the operator `file` and two arguments, and no other is read
 abbrev pub operator_line : List ℕ → List (List ℕ) → Line
 operator_line operator (name ∷ size ∷ []) = if bytes_eq operator (codes "file") then sized_line (name_in name) size else Other
 operator_line operator args = Other
 
+-- a line has no meaning where it has no token, or where its first token begins with `#`
 abbrev pub line_of_tokens : List (List ℕ) → Line
 line_of_tokens [] = Blank
 line_of_tokens (operator ∷ args) = if slice_index operator 0 == 35 then Blank else operator_line operator args
 
+-- what a line says
 abbrev pub line_of : List ℕ → Line
 line_of bytes = line_of_tokens (tokens_of bytes)
 
@@ -31,9 +35,11 @@ pub record Part : Type 0 where
   pub line : List ℕ
   pub content : List ℕ
 
+-- lines with their newlines and their contents, one after another
 abbrev pub parts_bytes : List Part → List ℕ
 parts_bytes parts = flat_map (λ p. p.line ++ 10 ∷ p.content) parts
 
+-- behind a line without meaning there is no content, and behind that of a file as many bytes as it says
 abbrev pub ContentFits : Line → List ℕ → Type 0
 ContentFits Blank content = content ≡ []
 ContentFits (File name size) content = length content ≡ size

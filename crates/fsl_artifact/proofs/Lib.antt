@@ -1,5 +1,4 @@
 pub mod NameLemmas
-pub mod OneCluster
 pub mod OneKind
 pub mod PlainRows
 pub mod Rows

@@ -10,13 +10,13 @@ use Rattle.fsl_grammar.proofs.Determined.{one_is, at_most_one_is, each_is, paren
 use Rattle.fsl_manifest.specs.Manifests.{IsManifest, file_form, pick_form}
 use Rattle.fsl_manifest.specs.declared.Manifest as manifests
 use Rattle.fsl_forms.specs.Kinds.{IsCluster, IsControl, IsWiki, IsTicket, IsAttachment, IsTechnote, IsForum, attached_form, event_form, change_form}
-use Rattle.fsl_forms.specs.declared.Cluster as cluster_types
-use Rattle.fsl_forms.specs.declared.Control as control_types
-use Rattle.fsl_forms.specs.declared.Wiki as wiki_types
-use Rattle.fsl_forms.specs.declared.Ticket as ticket_types
-use Rattle.fsl_forms.specs.declared.Attachment as attachment_types
-use Rattle.fsl_forms.specs.declared.Technote as technote_types
-use Rattle.fsl_forms.specs.declared.Forum as forum_types
+use Rattle.fsl_forms.specs.declared.cluster.Cluster as cluster_types
+use Rattle.fsl_forms.specs.declared.control.Control as control_types
+use Rattle.fsl_forms.specs.declared.wiki.Wiki as wiki_types
+use Rattle.fsl_forms.specs.declared.ticket.Ticket as ticket_types
+use Rattle.fsl_forms.specs.declared.attachment.Attachment as attachment_types
+use Rattle.fsl_forms.specs.declared.technote.Technote as technote_types
+use Rattle.fsl_forms.specs.declared.forum.Forum as forum_types
 use Rattle.fsl_artifact.specs.declared.Artifact.{Artifact}
 use Rattle.fsl_artifact.specs.declared.Artifact.TheVariants.{Plain, Manifest, Cluster, Control, Wiki, Ticket, Attachment, Technote, Forum}
 use Rattle.fsl_artifact.specs.Kind.{IsOfKind, AreOfKind, IsOfOneKind, IsOneArtifact}

@@ -12,13 +12,13 @@ use Rattle.fsl_grammar.proofs.Deciding.{decide_one, decide_most, decide_each, de
 use Rattle.fsl_manifest.specs.Manifests.{IsManifest, file_form, pick_form, has_hashes}
 use Rattle.fsl_manifest.specs.declared.Manifest as manifests
 use Rattle.fsl_forms.specs.Kinds.{IsCluster, IsControl, IsWiki, IsTicket, IsAttachment, IsTechnote, IsForum, attached_form, event_form, change_form, names_target, is_own_tag, begins_or_replies}
-use Rattle.fsl_forms.specs.declared.Cluster as cluster_types
-use Rattle.fsl_forms.specs.declared.Control as control_types
-use Rattle.fsl_forms.specs.declared.Wiki as wiki_types
-use Rattle.fsl_forms.specs.declared.Ticket as ticket_types
-use Rattle.fsl_forms.specs.declared.Attachment as attachment_types
-use Rattle.fsl_forms.specs.declared.Technote as technote_types
-use Rattle.fsl_forms.specs.declared.Forum as forum_types
+use Rattle.fsl_forms.specs.declared.cluster.Cluster as cluster_types
+use Rattle.fsl_forms.specs.declared.control.Control as control_types
+use Rattle.fsl_forms.specs.declared.wiki.Wiki as wiki_types
+use Rattle.fsl_forms.specs.declared.ticket.Ticket as ticket_types
+use Rattle.fsl_forms.specs.declared.attachment.Attachment as attachment_types
+use Rattle.fsl_forms.specs.declared.technote.Technote as technote_types
+use Rattle.fsl_forms.specs.declared.forum.Forum as forum_types
 use Rattle.fsl_artifact.specs.declared.Artifact.{Artifact}
 use Rattle.fsl_artifact.specs.declared.Artifact.TheVariants.{Plain, Manifest, Cluster, Control, Wiki, Ticket, Attachment, Technote, Forum}
 use Rattle.fsl_artifact.specs.Kind.{IsKind, IsOfKind, AreOfKind, IsSomeArtifact}
@@ -51,7 +51,7 @@ manifest_value cards =
     let tags_same = each_is cards 84 tag_form h.0.tags tags.0 h.1.tags tags.1 in
     let user_same = one_is cards 85 user_form h.0.user user.0 h.1.user user.1 in
     let same : h.0 ≡ m = λ i. record { baseline = baseline_same i; comment = comment_same i; date = date_same i; files = files_same i; mime = mime_same i; parents = parents_same i; picks = picks_same i; checksum = checksum_same i; tags = tags_same i; user = user_same i } in
-    n (subst (λ (x : manifests.Manifest). IsTrue (has_hashes x)) same h.1.hashes)))
+    n (subst (λ (x : manifests.Manifest). IsTrue (has_hashes x)) {x = h.0} same h.1.hashes)))
     (λ n h. n (h.0.user, h.1.user)))
     (λ n h. n (h.0.tags, h.1.tags)))
     (λ n h. n (h.0.checksum, h.1.checksum)))
@@ -86,7 +86,7 @@ control_value cards =
     let tags_same = each_is cards 84 tag_form h.0.tags tags.0 h.1.tags tags.1 in
     let user_same = one_is cards 85 user_form h.0.user user.0 h.1.user user.1 in
     let same : h.0 ≡ m = λ i. record { date = date_same i; tags = tags_same i; user = user_same i } in
-    n (subst (λ (x : control_types.Control). IsTrue (list_all names_target x.tags)) same h.1.targets)))
+    n (subst (λ (x : control_types.Control). IsTrue (list_all names_target x.tags)) {x = h.0} same h.1.targets)))
     (λ n h. n (h.0.user, h.1.user)))
     (λ n h. n (h.0.tags, h.1.tags)))
     (λ n h. n (h.0.date, h.1.date)))
@@ -168,7 +168,7 @@ technote_value cards =
     let user_same = at_most_one_is cards 85 user_form h.0.user user.0 h.1.user user.1 in
     let text_same = body_is cards h.0.text text.0 h.1.text text.1 in
     let same : h.0 ≡ m = λ i. record { comment = comment_same i; date = date_same i; time = (event_same i).time; id = (event_same i).id; mime = mime_same i; parents = parents_same i; tags = tags_same i; user = user_same i; text = text_same i } in
-    n (subst (λ (x : technote_types.Technote). IsTrue (list_all is_own_tag x.tags)) same h.1.own)))
+    n (subst (λ (x : technote_types.Technote). IsTrue (list_all is_own_tag x.tags)) {x = h.0} same h.1.own)))
     (λ n h. n (h.0.text, h.1.text)))
     (λ n h. n (h.0.user, h.1.user)))
     (λ n h. n (h.0.tags, h.1.tags)))
@@ -202,7 +202,7 @@ forum_value cards =
     let user_same = one_is cards 85 user_form h.0.user user.0 h.1.user user.1 in
     let text_same = body_is cards h.0.text text.0 h.1.text text.1 in
     let same : h.0 ≡ m = λ i. record { date = date_same i; root = root_same i; title = title_same i; reply = reply_same i; mime = mime_same i; prior = prior_same i; user = user_same i; text = text_same i } in
-    n (subst (λ (x : forum_types.Forum). IsTrue (begins_or_replies x)) same h.1.place)))
+    n (subst (λ (x : forum_types.Forum). IsTrue (begins_or_replies x)) {x = h.0} same h.1.place)))
     (λ n h. n (h.0.text, h.1.text)))
     (λ n h. n (h.0.user, h.1.user)))
     (λ n h. n (h.0.prior, h.1.prior)))

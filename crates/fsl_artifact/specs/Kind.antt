@@ -4,7 +4,6 @@ use Rattle.fsl_card.specs.Cards.{IsCards}
 use Rattle.fsl_card.specs.declared.types.Card.{Card}
 use Rattle.fsl_manifest.specs.Manifests.{IsManifest}
 use Rattle.fsl_forms.specs.Kinds.{IsCluster, IsControl, IsWiki, IsTicket, IsAttachment, IsTechnote, IsForum}
-use Rattle.fsl_forms.specs.declared.Cluster as clusters
 use Rattle.fsl_artifact.specs.declared.Artifact.{Artifact}
 use Rattle.fsl_artifact.specs.declared.Artifact.TheVariants.{Plain, Manifest, Cluster, Control, Wiki, Ticket, Attachment, Technote, Forum}
 
@@ -28,12 +27,6 @@ IsOfKind text a = (cards : List Card) × IsCards text cards × AreOfKind cards a
 abbrev pub IsKind : List ℕ → Artifact → Type 0
 IsKind text Plain = (a : Artifact) → IsOfKind text a → ⊥
 IsKind text a = IsOfKind text a
-
--- the same as long as clusters alone are read: a cluster, or else plain content
-abbrev pub IsClusterOrPlain : List ℕ → Artifact → Type 0
-IsClusterOrPlain text Plain = (c : clusters.Cluster) → IsOfKind text (Cluster c) → ⊥
-IsClusterOrPlain text (Cluster c) = IsOfKind text (Cluster c)
-IsClusterOrPlain text _ = ⊥
 
 -- ---- laws
 

@@ -61,7 +61,7 @@ const TEXTS: [Row; 21] = [
     ),
     // a day that the calendar lacks
     (
-        b"C first\nD 2024-02-30\nU ann\nZ 8f9f51d84cdaaff91ffa5e52c0a37f8f\n",
+        b"C first\nD 2024-02-30T00:00:00\nU ann\nZ 1a72726f282ddcb4246d8b99f7543392\n",
         "plain",
         &[],
     ),
@@ -136,7 +136,7 @@ const TEXTS: [Row; 21] = [
     ),
     // a technote
     (
-        b"D 2024-01-03T00:00:00\nE 2024-01-02 9999999999999999999999999999999999999999\nP 5555555555555555555555555555555555555555\nT +k *\nU ann\nW 1\nx\nZ 6a372bfdd6e4abf7aef4ac18c105fd0c\n",
+        b"D 2024-01-03T00:00:00\nE 2024-01-02T00:00:00 9999999999999999999999999999999999999999\nP 5555555555555555555555555555555555555555\nT +k *\nU ann\nW 1\nx\nZ eee76d1fdad3ddf2b651f9b9675dd6e1\n",
         "technote",
         &[b"5555555555555555555555555555555555555555"],
     ),
