@@ -12,3 +12,6 @@ pub mod AttachmentAgain
 pub mod TechnoteAgain
 pub mod ForumAgain
 pub mod NameLists
+pub mod ReadLemmas
+pub mod KeptOrder
+pub mod Exact

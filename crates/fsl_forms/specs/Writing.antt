@@ -6,10 +6,10 @@ use Rattle.fsl_grammar.specs.declared.TagCard.{TagCard}
 use Rattle.fsl_card.specs.Cards.{IsTextOf}
 use Rattle.fsl_forms.specs.Kinds.{IsCluster, IsControl, IsWiki, IsTicket, IsAttachment, IsTechnote, IsForum}
 use Rattle.fsl_forms.specs.WellFormed.{is_cluster_well_formed, is_control_well_formed, is_wiki_well_formed, is_ticket_well_formed, is_attachment_well_formed, is_technote_well_formed, is_forum_well_formed}
-use Rattle.std.specs.Prelude.{◌≡◌, ℕ, ◌<◌, ◌^◌, List, [], ◌∷◌, ◌++◌, length, map, if◌then◌else◌}
+use Rattle.std.specs.Prelude.{◌≡◌, ◌↔◌, ℕ, ◌<◌, ◌^◌, List, [], ◌∷◌, ◌++◌, length, map, if◌then◌else◌}
 use Rattle.fsl_text.specs.Escapes.{escape}
 use Rattle.fsl_name.specs.Name.{name_text}
-use Rattle.fsl_date.specs.Moment.{IsPrinted}
+use Rattle.fsl_date.specs.Moment.{IsMoment, IsPrinted}
 use Rattle.fsl_card.specs.declared.types.Card.{Card}
 use Rattle.fsl_forms.specs.declared.cluster.Cluster.{Cluster}
 use Rattle.fsl_forms.specs.declared.control.Control.{Control}
@@ -105,3 +105,15 @@ pub record AreReadBack : Type 0 where
   pub attachment : (a : Attachment) (text : List ℕ) → AreNames (option_to_list a.source) → IsTrue (is_attachment_well_formed a) → IsAttachmentText text a → IsTextOf IsAttachment text a
   pub technote : (n : Technote) (text : List ℕ) → AreNames (n.id ∷ n.parents ++ targets n.tags) → length n.text < 2 ^ 64 → IsTrue (is_technote_well_formed n) → IsTechnoteText text n → IsTextOf IsTechnote text n
   pub forum : (f : Forum) (text : List ℕ) → AreNames (option_to_list f.root ++ option_to_list f.reply ++ option_to_list f.prior) → length f.text < 2 ^ 64 → IsTrue (is_forum_well_formed f) → IsForumText text f → IsTextOf IsForum text f
+
+-- each value can be written exactly where some text is it
+pub record AreWrittenExactly : Type 0 where
+  pub cluster : (c : Cluster) → AreNames c.members → IsTrue (is_cluster_well_formed c) ↔ ((text : List ℕ) × IsTextOf IsCluster text c)
+  pub control : (c : Control) → AreNames (targets c.tags) → IsMoment c.date → IsTrue (is_control_well_formed c) ↔ ((text : List ℕ) × IsTextOf IsControl text c)
+  pub wiki : (w : Wiki) → AreNames w.parents → IsMoment w.date → length w.text < 2 ^ 64 → IsTrue (is_wiki_well_formed w) ↔ ((text : List ℕ) × IsTextOf IsWiki text w)
+  pub ticket : (t : Ticket) → IsName t.id → IsMoment t.date → IsTrue (is_ticket_well_formed t) ↔ ((text : List ℕ) × IsTextOf IsTicket text t)
+  pub attachment : (a : Attachment) → AreNames (option_to_list a.source) → IsMoment a.date → IsTrue (is_attachment_well_formed a) ↔ ((text : List ℕ) × IsTextOf IsAttachment text a)
+  pub technote : (n : Technote) → AreNames (n.id ∷ n.parents ++ targets n.tags) → IsMoment n.date → IsMoment n.time → length n.text < 2 ^ 64
+      → IsTrue (is_technote_well_formed n) ↔ ((text : List ℕ) × IsTextOf IsTechnote text n)
+  pub forum : (f : Forum) → AreNames (option_to_list f.root ++ option_to_list f.reply ++ option_to_list f.prior) → IsMoment f.date → length f.text < 2 ^ 64
+      → IsTrue (is_forum_well_formed f) ↔ ((text : List ℕ) × IsTextOf IsForum text f)

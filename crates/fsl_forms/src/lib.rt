@@ -16,7 +16,10 @@ pub use attachment::Attachment;
 pub use cluster::Cluster;
 pub use control::Control;
 pub use forum::Forum;
-pub use laws::written_texts_read_back;
+pub use laws::{well_formed_have_a_text, written_texts_read_back};
 pub use technote::Technote;
 pub use ticket::{Ticket, TicketChange};
 pub use wiki::Wiki;
+
+#[cfg(test)]
+mod tests;

@@ -321,13 +321,14 @@ well_formed_from text cards m is h =
     let tags = each_given tag_form (λ t. is_tag_written t ≡ true) tag_read (arguments cards 84) m.tags (fit_arguments cards 84 refl is.each) h.tags in
     let rise = rise_from (of_it 70 cards) m.files (all_of_it 70 cards) (kept_in_order 70 cards is.ordered) h.files in
     both_hold _ _ (both_hold _ _ (both_hold _ _ (both_hold _ _ (both_hold _ _ (both_hold _ _ (both_hold _ _
-      comment.0 user.0) (optional_filled m.mime mime)) (all_true is_file_written m.files files)) rise) h.hashes) h.parents.differ) (all_true is_tag_written m.tags tags)
+    comment.0 user.0) (optional_filled m.mime mime)) (all_true is_file_written m.files files)) rise) h.hashes) h.parents.differ) (all_true is_tag_written m.tags tags)
 
 -- a manifest can be written exactly where some text is it
 pub is_exact : IsWrittenExactly
-is_exact m typed moment =
-    (λ w.
+is_exact m typed moment = (
+  λ w.
       let date = always_printed m.date moment in
       let text = sealed_text (manifest_cards date.0 m) in
       (text, is_read_back m text typed w (date.0, date.1, refl)),
-    λ t. well_formed_from t.0 t.1.0 m t.1.1 t.1.2)
+  λ t. well_formed_from t.0 t.1.0 m t.1.1 t.1.2,
+)

@@ -1,0 +1,39 @@
+use Rattle.std.proofs.Common.{◌≡◌, ◌++◌, ◌∷◌, [], sym, subst}
+use Rattle.std.specs.FinSet as set
+use Rattle.fsl_order.specs.Names.{bytes_cmp}
+use Rattle.fsl_record.specs.declared.Record.{Record}
+use Rattle.fsl_blobs.specs.Fold.{contents}
+use Rattle.fsl_blobs.specs.Held.{still_new}
+use Rattle.fsl_blobs.specs.Kept.{IsKept}
+use Rattle.fsl_blobs.proofs.KeptLemmas.{left-from, kept-blob, announced-blob, kept-publish, announced-publish, kept-shun, announced-shun}
+use Rattle.fsl_blobs.proofs.changes.change.Goals as goal
+
+pub returns-in_ok-add-in-Blob-clause-kept : goal.returns-in_ok-add-in-Blob-clause-kept
+returns-in_ok-add-in-Blob-clause-kept c = λ records found kept last.
+    subst (λ (r : Record). IsKept (records ++ r ∷ []) found c.add.new.held.entries c.args.shunned.now.keys c.remove.new.self.keys) (sym c.in-Blob.is)
+    (kept-blob records found _ _ _ kept c.in-Blob.private c.in-Blob.name c.in-Blob.bytes c.args.place last _ _ c.in_ok-add-in-Blob.ensures.held (left-from c.in-Blob.name _ _ c.remove.ensures.updates.0))
+
+pub returns-in_ok-add-in-Blob-clause-announced : goal.returns-in_ok-add-in-Blob-clause-announced
+returns-in_ok-add-in-Blob-clause-announced c = λ records found kept.
+    subst (λ (r : Record). set.from_list {R = bytes_cmp} c.remove.new.self.keys ≡ still_new (contents (records ++ r ∷ [])) (set.from_list c.args.announced.now.keys)) (sym c.in-Blob.is)
+    (announced-blob records found _ _ _ kept c.in-Blob.private c.in-Blob.name c.in-Blob.bytes _ (left-from c.in-Blob.name _ _ c.remove.ensures.updates.0))
+
+pub returns-in-Publish-clause-kept : goal.returns-in-Publish-clause-kept
+returns-in-Publish-clause-kept c = λ records found kept _.
+    subst (λ (r : Record). IsKept (records ++ r ∷ []) found c.publish.new.held.entries c.args.shunned.now.keys c.args.announced.now.keys) (sym c.in-Publish.is)
+    (kept-publish records found _ _ _ kept c.in-Publish.name _ c.publish.ensures)
+
+pub returns-in-Publish-clause-announced : goal.returns-in-Publish-clause-announced
+returns-in-Publish-clause-announced c = λ records found kept.
+    subst (λ (r : Record). set.from_list {R = bytes_cmp} c.args.announced.now.keys ≡ still_new (contents (records ++ r ∷ [])) (set.from_list c.args.announced.now.keys)) (sym c.in-Publish.is)
+    (announced-publish records found _ _ _ kept c.in-Publish.name)
+
+pub returns-in_ok-shun-in-Shun-clause-kept : goal.returns-in_ok-shun-in-Shun-clause-kept
+returns-in_ok-shun-in-Shun-clause-kept c = λ records found kept _.
+    subst (λ (r : Record). IsKept (records ++ r ∷ []) found c.shun.new.held.entries c.shun.new.shunned.keys c.remove-in-Shun.new.self.keys) (sym c.in-Shun.is)
+    (kept-shun records found _ _ _ kept c.in-Shun.name _ _ _ c.in_ok-shun-in-Shun.ensures.held c.in_ok-shun-in-Shun.ensures.shunned (left-from c.in-Shun.name _ _ c.remove-in-Shun.ensures.updates.0))
+
+pub returns-in_ok-shun-in-Shun-clause-announced : goal.returns-in_ok-shun-in-Shun-clause-announced
+returns-in_ok-shun-in-Shun-clause-announced c = λ records found kept.
+    subst (λ (r : Record). set.from_list {R = bytes_cmp} c.remove-in-Shun.new.self.keys ≡ still_new (contents (records ++ r ∷ [])) (set.from_list c.args.announced.now.keys)) (sym c.in-Shun.is)
+    (announced-shun records found _ _ _ kept c.in-Shun.name _ (left-from c.in-Shun.name _ _ c.remove-in-Shun.ensures.updates.0))

@@ -1,0 +1,6 @@
+pub mod Fold
+pub mod Held
+pub mod Seen
+pub mod Kept
+pub mod Listing
+pub mod Laws

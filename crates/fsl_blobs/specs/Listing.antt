@@ -1,0 +1,18 @@
+-- How held names are looked through.
+use Rattle.std.specs.Prelude.{ℕ, List, Bool, take, length}
+use Rattle.std.specs.Str.{bytes_eq}
+use Rattle.fsl_name.specs.Name.{name_text}
+use Rattle.fsl_blobs.specs.declared.Placed.{Placed}
+use Rattle.fsl_blobs.specs.declared.blobs.HeldArtifact.{HeldArtifact}
+
+-- whether a name's digits begin with the prefix
+abbrev pub begins : List ℕ → List ℕ → Bool
+begins prefix name = bytes_eq (take (length prefix) (name_text name)) prefix
+
+-- a place with its name
+abbrev pub pair_of : Placed → ℕ × List ℕ
+pair_of p = (p.place, p.name)
+
+-- the place of a held artifact, with its name
+abbrev pub place_of : List ℕ × HeldArtifact → ℕ × List ℕ
+place_of e = (e.1.place, e.0)

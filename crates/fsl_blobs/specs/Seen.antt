@@ -1,0 +1,29 @@
+-- What clauses see of the held artifacts, and what an announcement meets.
+use Rattle.std.specs.Prelude.{ℕ, List, nat_le, if◌then◌else◌, ◌^◌}
+use Rattle.std.specs.FinMap as map_of
+use Rattle.std.specs.FinSet as set
+use Rattle.std.specs.FinSet.{FinSet}
+use Rattle.fsl_order.specs.Names.{bytes_cmp}
+use Rattle.fsl_record.specs.declared.Record.{Record}
+use Rattle.fsl_blobs.specs.Fold.{contents}
+use Rattle.fsl_blobs.specs.declared.Known.{Known}
+use Rattle.fsl_blobs.specs.declared.Known.TheVariants as known
+
+-- all records that were read, in order, and the announced names
+pub record Seen : Type 0 where
+  pub records : List Record
+  pub announced : FinSet bytes_cmp
+
+-- what an announcement of the name meets: the first of these that is so
+abbrev pub known_of : Seen → List ℕ → Known
+known_of b name =
+    if map_of.contains_key (contents b.records).held name then known.Held
+    else if set.contains (contents b.records).shunned name then known.Shunned
+    else if set.contains b.announced name then known.Again
+    else if nat_le 65536 (set.len b.announced) then known.Full
+    else known.New
+
+-- what is left by that answer: a new name is announced, and nothing else changes
+abbrev pub announced_after : Seen → List ℕ → Known → Seen
+announced_after b name known.New = record b { announced = set.insert b.announced name }
+announced_after b name _ = b

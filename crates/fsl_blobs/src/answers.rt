@@ -1,0 +1,91 @@
+//! What the held artifacts answer.
+ghost use Rattle.std.specs.Prelude.{◌≡◌, ◌↔◌, Some, None, IfOk, map};
+ghost use Rattle.std.specs.Option.{option_map};
+ghost use Rattle.std.specs.FinMap as map_of;
+ghost use Rattle.fsl_blobs.specs.Fold.{contents, held_from};
+ghost use Rattle.fsl_blobs.specs.Held.{state_of, matching, found};
+ghost use Rattle.fsl_blobs.specs.declared.BlobFault.TheVariants.{Absent as AbsentFault};
+
+use crate::listing::{only_match, placed_from};
+use crate::{BlobFault, BlobState, Blobs, Found, Placed};
+use fsl_disk::Disk;
+use fsl_name::Name;
+use fsl_record::Config;
+use fsl_text::{List, Memory, Text};
+use std::alloc::Global;
+
+impl Blobs {
+    /// The codes of the repository, and its configured ticket fields. A second Config changes nothing.
+    pub fn config(&self) -> &Config
+        ensures { (contents self.now.records).config ≡ Some result.now }
+    {
+        &self.config
+    }
+
+    /// What a name is: held and public, held and private, shunned, or none of these. Takes no memory.
+    pub fn state(&self, name: Name) -> BlobState
+        ensures { result ≡ state_of (contents self.now.records) name }
+    {
+        match self.held.get(&name) {
+            Some(artifact) => {
+                let size = artifact.bytes.bytes().len() as u64;
+                if artifact.private {
+                    BlobState::Private { size }
+                } else {
+                    BlobState::Public { size }
+                }
+            }
+            None if self.shunned.contains(&name) => BlobState::Shunned,
+            None => BlobState::Absent,
+        }
+    }
+
+    /// The bytes of a held artifact, public or private; none where the name isn't held. Takes no memory.
+    pub fn bytes_of(&self, name: Name) -> Option<&[u8]>
+        ensures { option_map (λ bytes. bytes.now) result ≡ option_map (λ a. a.bytes) (map_of.get (contents self.now.records).held name) }
+    {
+        match self.held.get(&name) {
+            Some(artifact) => Some(artifact.bytes.bytes()),
+            None => None,
+        }
+    }
+
+    /// A copy of the bytes of a held artifact, public or private. For now they are in memory, and the disk isn't called.
+    ///
+    /// Errors: `Absent` where the name isn't held; `Memory` for want of memory.
+    pub fn content<D: Disk>(
+        &mut self,
+        alloc: Global,
+        disk: &mut D,
+        name: Name,
+    ) -> Result<Text, BlobFault>
+        ensures bytes { IfOk result (λ text. option_map (λ a. a.bytes) (map_of.get (contents self.old.records).held name) ≡ Some text) }
+        ensures absent { (result ≡ Err AbsentFault) ↔ (map_of.get (contents self.old.records).held name ≡ None) }
+        ensures same { self.new ≡ self.old }
+        ensures disk { disk.new ≡ disk.old }
+    {
+        let _ = disk;
+        match self.bytes_of(name) {
+            Some(bytes) => Ok(Text::of(alloc, bytes)?),
+            None => Err(BlobFault::Absent),
+        }
+    }
+
+    /// Which held name begins with these digits. The prefix may be any bytes, and an empty one begins each name. Takes no
+    /// memory.
+    pub fn find(&self, prefix: &[u8]) -> Found
+        ensures { result ≡ found (matching (contents self.now.records).held prefix.now) }
+    {
+        only_match(&self.held, prefix)
+    }
+
+    /// The held names whose place is at least this, by place. A place is that of the record that added the artifact,
+    /// counted from 1. `Memory` is the only error.
+    pub fn held(&self, alloc: Global, from: u64) -> Result<List<Placed>, Memory>
+        ensures { IfOk result (λ names. map (λ p. (p.place, p.name)) names ≡ held_from self.now.records from) }
+    {
+        let mut names = placed_from(alloc, &self.held, from)?;
+        names.sort_unstable_by_key(|placed| placed.place);
+        Ok(List::from_vec(names))
+    }
+}

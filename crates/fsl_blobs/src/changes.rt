@@ -1,0 +1,102 @@
+//! What one record does to the held artifacts, the shunned and the announced names.
+ghost use Rattle.std.specs.Prelude.{◌≡◌, ℕ, ◌+◌, ◌++◌, ◌∷◌, [], List, length, None, Some, false, not, ◌&&◌, ◌||◌, if◌then◌else◌, OnOk, OnErr};
+ghost use Rattle.std.specs.Option.{option_map};
+ghost use Rattle.std.specs.FinSet as set;
+ghost use Rattle.fsl_record.specs.declared.Config as config_of;
+ghost use Rattle.fsl_record.specs.declared.Record as record_of;
+ghost use Rattle.fsl_record.specs.Records.{is_config};
+ghost use Rattle.fsl_blobs.specs.Fold.{contents};
+ghost use Rattle.fsl_blobs.specs.Held.{still_new};
+ghost use Rattle.fsl_blobs.specs.Kept.{is_same, is_kept, held_at, stands, published, IsKept};
+
+use crate::blobs::HeldArtifact;
+use fsl_name::Name;
+use fsl_record::Record;
+use fsl_text::Memory;
+use std::collections::{BTreeMap, BTreeSet};
+
+/// Adds an artifact, unless its name is held or shunned.
+fn add(
+    held: &mut BTreeMap<Name, HeldArtifact>,
+    shunned: &BTreeSet<Name>,
+    name: Name,
+    artifact: HeldArtifact,
+) -> Result<(), Memory>
+    ensures held { OnOk result ((q : List ℕ) → held_at held.new.entries q ≡ (if is_same name q && not (is_kept held.old.entries shunned.now.keys name) then Some artifact else held_at held.old.entries q)) }
+    ensures err { OnErr result (held.new.entries ≡ held.old.entries) }
+{
+    if held.contains_key(&name) || shunned.contains(&name) {
+        return Ok(());
+    }
+    held.insert(name, artifact)?;
+    Ok(())
+}
+
+/// Makes an artifact public where the name is held.
+fn publish(held: &mut BTreeMap<Name, HeldArtifact>, name: &Name)
+    ensures { (q : List ℕ) → held_at held.new.entries q ≡ option_map (published name.now q) (held_at held.old.entries q) }
+{
+    if let Some(artifact) = held.get_mut(name) {
+        artifact.private = false;
+    }
+}
+
+/// Takes an artifact out and lists its name.
+fn shun(
+    held: &mut BTreeMap<Name, HeldArtifact>,
+    shunned: &mut BTreeSet<Name>,
+    name: Name,
+) -> Result<(), Memory>
+    ensures held { OnOk result ((q : List ℕ) → held_at held.new.entries q ≡ (if is_same name q then None else held_at held.old.entries q)) }
+    ensures shunned { OnOk result ((q : List ℕ) → stands shunned.new.keys q ≡ (is_same name q || stands shunned.old.keys q)) }
+    ensures held_err { OnErr result (held.new.entries ≡ held.old.entries) }
+    ensures shunned_err { OnErr result (shunned.new.keys ≡ shunned.old.keys) }
+{
+    shunned.insert(name)?;
+    held.remove(&name);
+    Ok(())
+}
+
+/// Reads a record, which is no Config and comes at this place, counted from 1. A name that is held or shunned isn't
+/// announced.
+pub(crate) fn change(
+    held: &mut BTreeMap<Name, HeldArtifact>,
+    shunned: &mut BTreeSet<Name>,
+    announced: &mut BTreeSet<Name>,
+    place: u64,
+    entry: Record,
+) -> Result<(), Memory>
+    requires { is_config entry ≡ false }
+    ensures kept { OnOk result ((records : List record_of.Record) (found : config_of.Config) → IsKept records found held.old.entries shunned.old.keys announced.old.keys → place ≡ length records + 1 → IsKept (records ++ entry ∷ []) found held.new.entries shunned.new.keys announced.new.keys) }
+    ensures announced { OnOk result ((records : List record_of.Record) (found : config_of.Config) → IsKept records found held.old.entries shunned.old.keys announced.old.keys → set.from_list announced.new.keys ≡ still_new (contents (records ++ entry ∷ [])) (set.from_list announced.old.keys)) }
+    ensures held_err { OnErr result (held.new.entries ≡ held.old.entries) }
+    ensures shunned_err { OnErr result (shunned.new.keys ≡ shunned.old.keys) }
+    ensures announced_err { OnErr result (announced.new.keys ≡ announced.old.keys) }
+{
+    match entry {
+        Record::Config(_) => unreachable!(),
+        Record::Blob {
+            private,
+            name,
+            bytes,
+        } => {
+            let artifact = HeldArtifact {
+                place,
+                private,
+                bytes,
+            };
+            add(held, shunned, name, artifact)?;
+            announced.remove(&name);
+            Ok(())
+        }
+        Record::Publish { name } => {
+            publish(held, &name);
+            Ok(())
+        }
+        Record::Shun { name } => {
+            shun(held, shunned, name)?;
+            announced.remove(&name);
+            Ok(())
+        }
+    }
+}

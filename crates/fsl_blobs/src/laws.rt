@@ -1,0 +1,7 @@
+//! What holds of the artifacts that any records leave.
+ghost use Rattle.fsl_blobs.specs.Laws.{HeldAreNamed};
+
+/// Each held artifact has the name of its bytes.
+pub fn held_are_named()
+    ensures { HeldAreNamed }
+{}

@@ -1,0 +1,151 @@
+-- Members in the order of the cards.
+use Rattle.std.proofs.Common.{◌≡◌, ℕ, ◌<◌, ◌≤◌, Bool, true, false, cond, eqb, List, [], ◌∷◌, map, filter, Option, Some, refl, sym, ap, ◌∙◌, inl, inr, arith}
+use Rattle.std.specs.Prelude.{◌&&◌, ◌||◌, ◌==◌, nat_lt}
+use Rattle.std.specs.List.{AllByRecursion}
+use Rattle.std.specs.declared.cmp.Ordering.{Ordering}
+use Rattle.std.specs.declared.cmp.Ordering.TheVariants.{Less, Equal, Greater}
+use Rattle.std.specs.Ordering.{is_lt, ordering_reverse}
+use Rattle.std.proofs.lemmas.Bool.{cases_lt, eq-eqb, eqb-true, false≢true, ltb-true, ne_eqb}
+use Rattle.fsl_order.specs.Names.{bytes_cmp, is_before}
+use Rattle.fsl_order.specs.Rows.{rises}
+use Rattle.fsl_order.proofs.Orders.{bytes_cmp-IsAntisymmetric, bytes_cmp-IsTotalOrder}
+use Rattle.fsl_name.specs.Name.{IsName, name_text}
+use Rattle.fsl_name.proofs.ReadAgain.{name_from_text}
+use Rattle.fsl_card.specs.declared.types.Card.{Card}
+use Rattle.fsl_card.specs.Cards.{first_argument, first_of, in_order, may_follow, may_repeat}
+use Rattle.fsl_grammar.specs.Forms.{hash_form}
+use Rattle.fsl_grammar.proofs.Apart.{first_holds, second_holds}
+use Rattle.fsl_grammar.proofs.WrittenArguments.{both_hold}
+use Rattle.fsl_forms.proofs.NameOrder.{digits_before}
+
+-- ---- names by their digits
+
+-- a name whose digits stand before those of another stands before it
+names_before : (a b : List ℕ) → IsName a → IsName b → is_before (name_text a) (name_text b) ≡ true → is_before a b ≡ true
+names_before a b p q h = by (bytes_cmp a b) refl
+  where
+    by : (o : Ordering) → bytes_cmp a b ≡ o → is_before a b ≡ true
+    by Less e = rw e refl
+    by Equal e = absurd (false≢true (sym same ∙ h))
+      where
+        itself : (o : Ordering) → o ≡ ordering_reverse o → is_lt o ≡ false
+        itself Less f = cc
+        itself Equal f = refl
+        itself Greater f = refl
+
+        same : is_before (name_text a) (name_text b) ≡ false
+        same =
+            ap (λ (n : List ℕ). is_before (name_text a) (name_text n)) (sym (bytes_cmp-IsAntisymmetric a b e))
+            ∙ itself (bytes_cmp (name_text a) (name_text a)) (bytes_cmp-IsTotalOrder.antisymm (name_text a) (name_text a))
+    by Greater e = absurd (false≢true (sym other ∙ h))
+      where
+        flipped : bytes_cmp b a ≡ Less
+        flipped = bytes_cmp-IsTotalOrder.antisymm b a ∙ ap ordering_reverse e
+
+        after : (o : Ordering) → is_lt o ≡ true → is_lt (ordering_reverse o) ≡ false
+        after Less f = refl
+        after Equal f = absurd cc
+        after Greater f = absurd cc
+
+        other : is_before (name_text a) (name_text b) ≡ false
+        other =
+            ap is_lt (bytes_cmp-IsTotalOrder.antisymm (name_text a) (name_text b))
+            ∙ after (bytes_cmp (name_text b) (name_text a)) (digits_before b a q.1 p.1 (ap is_lt flipped))
+
+-- ---- cards of a letter
+
+letters_grow : (a b : Card) → may_follow a b ≡ true → a.letter ≤ b.letter
+letters_grow a b h = by (nat_lt a.letter b.letter) (eqb a.letter b.letter) refl refl h
+  where
+    by : (s t : Bool) → nat_lt a.letter b.letter ≡ s → eqb a.letter b.letter ≡ t → (s || (t && may_repeat a.letter a b)) ≡ true → a.letter ≤ b.letter
+    by true t less same k = let lt : a.letter < b.letter = ltb-true a.letter b.letter less in omega arith
+    by false true less same k = let e : a.letter ≡ b.letter = eqb-true a.letter b.letter same in omega arith
+    by false false less same k = absurd cc
+
+rest_in_order : (a : Card) (cards : List Card) → in_order (a ∷ cards) ≡ true → in_order cards ≡ true
+rest_in_order a [] h = refl
+rest_in_order a (b ∷ cards) h = second_holds (may_follow a b) _ h
+
+module _ (letter : ℕ) where
+  -- the cards of the letter
+  abbrev pub of_it : List Card → List Card
+  of_it cards = filter (λ card. eqb card.letter letter) cards
+
+  none_above : (a : Card) (cards : List Card) → letter < a.letter → in_order (a ∷ cards) ≡ true → of_it (a ∷ cards) ≡ []
+  none_above a [] above h = rw (ne_eqb a.letter letter (λ e. absurd (omega arith))) refl
+  none_above a (b ∷ cards) above h =
+      let next : a.letter ≤ b.letter = letters_grow a b (first_holds _ (in_order (b ∷ cards)) h) in
+      let higher : letter < b.letter = omega arith in
+      rw (ne_eqb a.letter letter (λ e. absurd (omega arith))) (none_above b cards higher (second_holds (may_follow a b) _ h))
+
+  kept_behind : (a : Card) (cards : List Card) → a.letter ≡ letter → in_order (a ∷ cards) ≡ true → in_order (a ∷ of_it cards) ≡ true
+  kept_behind a [] same h = refl
+  kept_behind a (b ∷ cards) same h = by (eqb b.letter letter) refl (kept_behind b cards)
+    where
+      by : (t : Bool) → eqb b.letter letter ≡ t → (b.letter ≡ letter → in_order (b ∷ cards) ≡ true → in_order (b ∷ of_it cards) ≡ true) → in_order (a ∷ cond t (b ∷ of_it cards) (of_it cards)) ≡ true
+      by true e more = both_hold _ _ (first_holds _ (in_order (b ∷ cards)) h) (more (eqb-true b.letter letter e) (second_holds (may_follow a b) _ h))
+      by false e more =
+          let next : a.letter ≤ b.letter = letters_grow a b (first_holds _ (in_order (b ∷ cards)) h) in
+          let other : b.letter ≡ letter → ⊥ = λ k. false≢true (sym e ∙ eq-eqb b.letter letter k) in
+          let none : of_it (b ∷ cards) ≡ [] = none_above b cards (above (b.letter) next other) (second_holds (may_follow a b) _ h) in
+          let none_here : of_it cards ≡ [] = (rw e at none) in
+          rw none_here refl
+        where
+          above : (n : ℕ) → a.letter ≤ n → (n ≡ letter → ⊥) → letter < n
+          above n le ne = elim (cases_lt letter n) [
+            | inl lt ↦ lt
+            | inr ge ↦ absurd (ne (omega (arith, same, le, ge)))
+          ]
+
+  pub kept_in_order : (cards : List Card) → in_order cards ≡ true → in_order (of_it cards) ≡ true
+  kept_in_order [] h = refl
+  kept_in_order (c ∷ cards) h = by (eqb c.letter letter) refl (kept_in_order cards (rest_in_order c cards h))
+    where
+      by : (t : Bool) → eqb c.letter letter ≡ t → in_order (of_it cards) ≡ true → in_order (cond t (c ∷ of_it cards) (of_it cards)) ≡ true
+      by true e more = kept_behind c cards (eqb-true c.letter letter e) h
+      by false e more = more
+
+  pub all_of_it : (cards : List Card) → AllByRecursion (λ card. card.letter ≡ letter) (of_it cards)
+  all_of_it [] = tt
+  all_of_it (c ∷ cards) = by (eqb c.letter letter) refl (all_of_it cards)
+    where
+      by : (t : Bool) → eqb c.letter letter ≡ t → AllByRecursion (λ card. card.letter ≡ letter) (of_it cards) → AllByRecursion (λ card. card.letter ≡ letter) (cond t (c ∷ of_it cards) (of_it cards))
+      by true e more = (eqb-true c.letter letter e, more)
+      by false e more = more
+
+-- ---- members
+
+arguments_before : (a b : Card) → a.letter ≡ 77 → b.letter ≡ 77 → may_follow a b ≡ true → is_before (first_argument a) (first_argument b) ≡ true
+arguments_before a b ea eb h = by (a.letter) (b.letter) ea eb h
+  where
+    by : (m n : ℕ) → m ≡ 77 → n ≡ 77 → (nat_lt m n || ((m == n) && may_repeat m a b)) ≡ true → is_before (first_argument a) (first_argument b) ≡ true
+    by m n em en k = rw (em, en) at k
+
+-- what one argument that is a name is
+hash_read : (args : List (List ℕ)) (name : List ℕ) → hash_form args ≡ Some name → IsName name × (first_of args ≡ name_text name)
+hash_read [] name e = absurd cc
+hash_read (arg ∷ []) name e = name_from_text arg name e
+hash_read (a ∷ b ∷ args) name e = absurd cc
+
+abbrev some_names : List (List ℕ) → List (Option (List ℕ))
+some_names names = map Some names
+
+pub rises_from : (cards : List Card) (names : List (List ℕ)) → AllByRecursion (λ card. card.letter ≡ 77) cards → in_order cards ≡ true → map hash_form (map (λ card. card.args) cards) ≡ some_names names → rises names ≡ true
+rises_from cards [] letters h e = refl
+rises_from cards (x ∷ []) letters h e = refl
+rises_from [] (x ∷ y ∷ names) letters h e = absurd cc
+rises_from (a ∷ []) (x ∷ y ∷ names) letters h e = absurd cc
+rises_from (a ∷ b ∷ cards) (x ∷ y ∷ names) letters h e =
+    let first = hash_read a.args x (one e) in
+    let second = hash_read b.args y (two e) in
+    let digits : is_before (name_text x) (name_text y) ≡ true = rw (first.1, second.1) at (arguments_before a b letters.0 letters.1.0 (first_holds _ (in_order (b ∷ cards)) h)) in
+    both_hold _ _ (names_before x y first.0 second.0 digits) (rises_from (b ∷ cards) (y ∷ names) letters.1 (second_holds (may_follow a b) _ h) (rest e))
+  where
+    one : hash_form a.args ∷ hash_form b.args ∷ map hash_form (map (λ card. card.args) cards) ≡ Some x ∷ Some y ∷ some_names names → hash_form a.args ≡ Some x
+    one k = cc
+
+    two : hash_form a.args ∷ hash_form b.args ∷ map hash_form (map (λ card. card.args) cards) ≡ Some x ∷ Some y ∷ some_names names → hash_form b.args ≡ Some y
+    two k = cc
+
+    rest : hash_form a.args ∷ hash_form b.args ∷ map hash_form (map (λ card. card.args) cards) ≡ Some x ∷ Some y ∷ some_names names → hash_form b.args ∷ map hash_form (map (λ card. card.args) cards) ≡ Some y ∷ some_names names
+    rest k = cc

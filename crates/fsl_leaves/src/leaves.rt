@@ -1,0 +1,54 @@
+//! The table of leaves.
+ghost use Rattle.std.specs.Prelude.{◌≡◌, [], IfOk, map};
+ghost use Rattle.fsl_order.specs.Rows.{by_name, AreDistinct};
+ghost use Rattle.fsl_leaves.specs.Leaves as table;
+
+use super::{Fact, continued, copy};
+use fsl_name::Name;
+use fsl_rows::Rows;
+use fsl_text::{List, Memory};
+use std::alloc::Global;
+use std::marker::Model;
+
+/// The leaves among check-ins. Contracts see it as the facts by name.
+#[derive(Drop)]
+pub struct Leaves {
+    rows: Rows<Fact>,
+    /// The names of the leaves, ascending.
+    names: List<Name>,
+}
+
+impl Model for Leaves {
+    ghost use Rattle.std.specs.Prelude.{◌≡◌, []};
+    ghost use Rattle.fsl_order.specs.Held.{Held};
+    ghost use Rattle.fsl_leaves.specs.declared.Fact.{Fact};
+    ghost use Rattle.fsl_leaves.specs.Leaves as table;
+
+    ghost Value = { Held Fact };
+
+    ghost view = { λ l. record { facts = l.rows; spare = [] } };
+
+    ghost invariant = { λ l. l.names ≡ table.leaves l.rows };
+}
+
+impl Leaves {
+    /// The table of some facts, of which no two have one name. It is the same in whatever order they stand. `Memory`
+    /// is the only error.
+    pub fn build(alloc: Global, facts: &[Fact]) -> Result<Leaves, Memory>
+        requires { AreDistinct (map (λ f. f.name) facts.now) }
+        ensures facts { IfOk result (λ t. t.facts ≡ by_name (λ f. f.name) facts.now) }
+        ensures spare { IfOk result (λ t. t.spare ≡ []) }
+    {
+        let rows = Rows::build(alloc, facts)?;
+        let continued = continued::continued(alloc, &rows)?;
+        let names = continued::without(alloc, &rows, &continued)?;
+        Ok(Leaves { rows, names })
+    }
+
+    /// The check-ins without a child in their own branch, ascending. `Memory` is the only error.
+    pub fn leaves(&self, alloc: Global) -> Result<List<Name>, Memory>
+        ensures { IfOk result (λ names. names ≡ table.leaves self.now.facts) }
+    {
+        copy(alloc, self.names.items())
+    }
+}

@@ -1,0 +1,50 @@
+//! Leaves: check-ins without a child in their own branch. `Leaves` is the table of them, and its answer is that of the
+//! definition over the facts it was built from, in whatever order these stand.
+#![tactic(auto)]
+
+ghost use Rattle.std.specs.Prelude.{◌≡◌, IfOk};
+
+mod continued;
+mod leaves;
+#[cfg(test)]
+mod tests;
+
+use fsl_name::Name;
+use fsl_rows::Named;
+use fsl_text::{List, Memory, Text};
+pub use leaves::Leaves;
+use std::alloc::Global;
+
+/// A check-in with the names of its P card and its branch.
+#[derive(Drop)]
+pub struct Fact {
+    /// Its name.
+    pub name: Name,
+    /// The names of its P card. They need not be there.
+    pub parents: List<Name>,
+    /// The name of its branch.
+    pub branch: Text,
+}
+
+impl Named for Fact {
+    ghost name = { λ fact. fact.name };
+
+    fn name(&self) -> Name {
+        self.name
+    }
+
+    fn copied(&self, alloc: Global) -> Result<Fact, Memory> {
+        Ok(Fact {
+            name: self.name,
+            parents: copy(alloc, self.parents.items())?,
+            branch: Text::of(alloc, self.branch.bytes())?,
+        })
+    }
+}
+
+/// A list of some names.
+fn copy(alloc: Global, names: &[Name]) -> Result<List<Name>, Memory>
+    ensures { IfOk result (λ list. list ≡ names.now) }
+{
+    Ok(List::from_vec(names.to_vec(alloc)?))
+}

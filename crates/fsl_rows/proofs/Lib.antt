@@ -1,0 +1,4 @@
+pub mod Keeping
+pub mod Built
+pub mod Rising
+pub mod Fronts

@@ -1,0 +1,11 @@
+//! Rows by name, which several tables share: rows that each have a name of their own, sorted by these names and looked up
+//! by them. `Rows` is the list that the definition `by_name` makes of the rows that were put in, in whatever order they came.
+#![tactic(auto)]
+
+mod named;
+mod rows;
+#[cfg(test)]
+mod tests;
+
+pub use named::Named;
+pub use rows::Rows;
