@@ -1,9 +1,7 @@
 -- What an announcement meets.
-use Rattle.std.proofs.Common.{◌≡◌, ℕ, ◌+◌, ◌≤◌, Bool, true, false, cond, not, List, [], ◌∷◌, length, Result, Ok, Err, refl, sym, ap, ◌∙◌, subst, arith}
-use Rattle.std.specs.Prelude.{◌||◌, ◌&&◌, if◌then◌else◌, is_some, nat_le, OnErr}
-use Rattle.std.specs.List.{list_any, All}
+use Rattle.std.proofs.Common.{◌≡◌, ℕ, ◌+◌, Bool, true, false, cond, not, List, [], ◌∷◌, length, Result, Ok, Err, refl, sym, ap, ◌∙◌, subst, arith}
+use Rattle.std.specs.Prelude.{◌||◌, if◌then◌else◌, is_some, nat_le, OnErr}
 use Rattle.std.specs.List.Sorted.{IsStrictlySortedBy}
-use Rattle.std.specs.declared.cmp.Ordering.{Ordering}
 use Rattle.std.specs.declared.cmp.Ordering.TheVariants.{Less}
 use Rattle.std.specs.Ordering.{is_eq}
 use Rattle.std.specs.FinMap as map_of
@@ -20,7 +18,7 @@ use Rattle.fsl_blobs.specs.declared.Known.{Known}
 use Rattle.fsl_blobs.specs.declared.Known.TheVariants as known
 use Rattle.fsl_blobs.specs.Fold.{contents, is_new}
 use Rattle.fsl_blobs.specs.Seen.{Seen, known_of}
-use Rattle.fsl_blobs.specs.Kept.{is_same, held_at, stands, is_kept, IsKept}
+use Rattle.fsl_blobs.specs.Kept.{is_same, held_at, stands, IsKept}
 use Rattle.fsl_blobs.proofs.KeptLemmas.{is_same-means, turned, is_some-held, kept-new}
 
 -- ---- how many names are announced

@@ -1,10 +1,9 @@
 -- The held names in their order, and by their places.
-use Rattle.std.proofs.Common.{◌≡◌, ℕ, ◌+◌, ◌-◌, ◌<◌, ◌≤◌, zero, suc, get_or, eqb, Bool, true, false, cond, List, [], ◌∷◌, ◌++◌, length, take, map, filter, Option, Some, None, refl, sym, ap, ◌∙◌, subst, arith}
+use Rattle.std.proofs.Common.{◌≡◌, ℕ, ◌-◌, ◌<◌, ◌≤◌, zero, suc, get_or, eqb, Bool, true, false, cond, List, [], ◌∷◌, ◌++◌, length, take, map, filter, Option, Some, None, refl, sym, ap, ◌∙◌, subst, arith}
 use Rattle.std.specs.Prelude.{◌&&◌, is_some, nat_le, filter_map, IfSome, T, slice_get, All}
 use Rattle.std.specs.Option.{option_map, option_map_or, option_to_list}
 use Rattle.std.specs.List.{AllByRecursion, IsDistinct, range_with_len, cons_option}
 use Rattle.std.specs.List.Sorted.{IsStrictlySortedBy, IsNonDecreasing, IsNonDecreasingBy, IsPermutation}
-use Rattle.std.specs.Str.{bytes_eq}
 use Rattle.std.specs.Cmp.{nat_cmp_total, unsigned_tied, tied_itself, nat_eq_equiv}
 use Rattle.std.specs.Cmp.Lexicographic.{bytes_decides}
 use Rattle.std.specs.declared.cmp.Ordering.{Ordering}
@@ -23,17 +22,15 @@ use Rattle.fsl_order.specs.Rows.{greater, greatest, in_order}
 use Rattle.fsl_order.proofs.SortedLemmas.{in_order-from_sort}
 use Rattle.fsl_order.specs.Names.{bytes_cmp}
 use Rattle.fsl_order.proofs.Orders.{bytes_cmp-IsTotalOrder, bytes_cmp-IsAntisymmetric}
-use Rattle.fsl_record.specs.declared.Config.{Config}
 use Rattle.fsl_record.specs.declared.Record.{Record}
-use Rattle.fsl_blobs.specs.declared.Found.{Found}
 use Rattle.fsl_blobs.specs.declared.Found.TheVariants.{Several}
 use Rattle.fsl_blobs.specs.declared.Placed.{Placed}
 use Rattle.fsl_blobs.specs.declared.blobs.HeldArtifact.{HeldArtifact}
 use Rattle.fsl_record.specs.declared.Record.TheVariants as record_of
-use Rattle.fsl_blobs.specs.Fold.{Held, HeldSet, contents, is_new, is_blob_of, adds, place, held_from}
+use Rattle.fsl_blobs.specs.Fold.{Held, contents, is_new, is_blob_of, adds, place, held_from}
 use Rattle.fsl_blobs.specs.Held.{matching, found}
 use Rattle.fsl_blobs.specs.Seen.{Seen}
-use Rattle.fsl_blobs.specs.Kept.{is_same, held_at, artifact_of, IsKept}
+use Rattle.fsl_blobs.specs.Kept.{is_same, held_at, artifact_of}
 use Rattle.fsl_blobs.specs.Listing.{begins, pair_of, place_of}
 
 -- ---- several names that pass a test

@@ -10,7 +10,7 @@ use Rattle.fsl_order.specs.Names.{bytes_cmp}
 use Rattle.fsl_record.specs.declared.Record.{Record}
 use Rattle.fsl_record.specs.declared.Record.TheVariants as record_of
 use Rattle.fsl_record.specs.Records.{IsFit}
-use Rattle.fsl_blobs.specs.Fold.{Held, Contents, AreNamed, contents, nothing, after, is_new}
+use Rattle.fsl_blobs.specs.Fold.{Held, Contents, AreNamed, nothing, after, is_new}
 use Rattle.fsl_blobs.specs.Kept.{is_same}
 use Rattle.fsl_blobs.specs.Laws.{HeldAreNamed}
 use Rattle.fsl_blobs.proofs.KeptLemmas.{is_same-means, shown, blob-get, publish-get, shun-get}

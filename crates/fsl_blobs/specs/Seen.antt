@@ -1,5 +1,5 @@
 -- What clauses see of the held artifacts, and what an announcement meets.
-use Rattle.std.specs.Prelude.{ℕ, List, nat_le, if◌then◌else◌, ◌^◌}
+use Rattle.std.specs.Prelude.{ℕ, List, nat_le, if◌then◌else◌}
 use Rattle.std.specs.FinMap as map_of
 use Rattle.std.specs.FinSet as set
 use Rattle.std.specs.FinSet.{FinSet}

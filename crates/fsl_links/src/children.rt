@@ -25,7 +25,7 @@ fn ends_with(names: &[Name], name: &Name) -> bool
     }
 }
 
-/// Puts a name at the end of a list, where it isn't there already.
+/// Puts a name at the end of a list, unless it is the last already.
 fn append_once(list: &mut List<Name>, name: Name) -> Result<(), Memory>
     ensures { OnOk result (list.new ≡ noted list.old name) }
 {

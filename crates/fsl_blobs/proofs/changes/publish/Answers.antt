@@ -1,4 +1,4 @@
-use Rattle.std.proofs.Common.{◌≡◌, rules, false, ap}
+use Rattle.std.proofs.Common.{rules, false, ap}
 use Rattle.fsl_blobs.proofs.KeptLemmas.{published_here, published_nowhere}
 use Rattle.fsl_blobs.proofs.changes.publish.Goals as goal
 

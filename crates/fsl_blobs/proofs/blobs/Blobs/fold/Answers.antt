@@ -1,4 +1,3 @@
-use Rattle.std.proofs.Common.{rules}
 use Rattle.fsl_blobs.proofs.Folding.{folded-more}
 use Rattle.fsl_blobs.proofs.blobs.Blobs.fold.Goals as goal
 
