@@ -1,5 +1,7 @@
+ghost use Rattle.std.specs.Prelude.{Some};
+
 use crate::run::{one_outcome, run};
-use fsl_outside::{MemorySink, MemorySource};
+use fsl_outside::{Failed, MemorySink, MemorySource, Source};
 use std::alloc::Global;
 use std::test::Fail;
 
@@ -222,5 +224,44 @@ fn tells_faults(rt: HostRuntime) -> Result<(), Fail> {
         assert_eq!(rt; found, status, "{source_fails} {sink_fails}");
         assert_eq!(rt; sink.taken(), text.as_bytes());
     }
+    Ok(())
+}
+
+// A source that gives one byte a read.
+#[derive(Drop)]
+struct Dripping {
+    inner: MemorySource,
+}
+
+impl Source for Dripping {
+    ghost left = { λ s. Some s.inner.left };
+
+    ghost fault_count = { λ s. s.inner.faults };
+
+    fn faults(&self) -> u64 {
+        self.inner.faults()
+    }
+
+    fn read(&mut self, into: &mut [u8]) -> Result<usize, Failed> {
+        let count = into.len().min(1);
+        self.inner.read(&mut into[..count])
+    }
+}
+
+#[test]
+fn reads_one_byte_at_a_time(rt: HostRuntime) -> Result<(), Fail> {
+    let message = b"file a9993e364706816aba3e25717850c26c9cd0d89d 3\nabc\n";
+    let bytes = message.as_slice().to_vec(rt.alloc())?;
+    let mut source = Dripping {
+        inner: MemorySource::new(bytes, Vec::new(rt.alloc())),
+    };
+    let mut sink = MemorySink::new(rt.alloc(), Vec::new(rt.alloc()));
+    let words = vec![in rt.alloc(); "r".to_string(rt.alloc())?, "ingest".to_string(rt.alloc())?]?;
+    assert_eq!(rt;
+        run(rt.alloc(), words.as_slice(), &mut source, &mut sink),
+        0
+    );
+    let text = b"unclustered a9993e364706816aba3e25717850c26c9cd0d89d\n";
+    assert_eq!(rt; sink.taken(), text.as_slice());
     Ok(())
 }
