@@ -21,6 +21,7 @@ use fsl_outside::{StdSink, StdSource};
 use run::run;
 use status::NO_MEMORY;
 use std::io;
+use std::io::ErrorKind;
 use std::process::ExitCode;
 
 fn main(rt: HostRuntime) -> ExitCode {
@@ -28,12 +29,17 @@ fn main(rt: HostRuntime) -> ExitCode {
     let mut words = Vec::new(alloc);
     let mut input = StdSource::new(rt.stdin());
     let mut out = StdSink::new(io::writer(&rt));
-    if let Ok(args) = std::env::args(&rt) {
-        for word in args.skip(1) {
-            if words.push(word).is_err() {
-                return ExitCode::from(NO_MEMORY);
+    match std::env::args(&rt) {
+        Ok(args) => {
+            for word in args.skip(1) {
+                if words.push(word).is_err() {
+                    return ExitCode::from(NO_MEMORY);
+                }
             }
         }
+        Err(fault) if fault.kind() == ErrorKind::OutOfMemory => return ExitCode::from(NO_MEMORY),
+        // a word that isn't UTF-8 is outside the grammar, as no words are
+        Err(_) => {}
     }
     ExitCode::from(run(alloc, words.as_slice(), &mut input, &mut out))
 }
