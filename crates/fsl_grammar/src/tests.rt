@@ -2,7 +2,7 @@
 use super::*;
 use fsl_card::{Cards, cards, finish};
 use fsl_name::Name;
-use fsl_text::{List, Text};
+use fsl_text::Text;
 use std::test::Fail;
 
 const ONE: &[u8] = b"da39a3ee5e6b4b0d3255bfef95601890afd80709";
@@ -28,28 +28,26 @@ fn cards_of(rt: &HostRuntime, lines: &[u8]) -> Result<Cards, Fail> {
 }
 
 #[test]
-fn reads_fields(rt: HostRuntime) -> Result<(), Fail> {
+fn reads_texts_and_users(rt: HostRuntime) -> Result<(), Fail> {
     let found = cards_of(&rt, MANIFEST)?;
-    let cards = found.items();
-    assert!(rt; has_manifest_letters(cards));
-    assert!(rt; !has_control_letters(cards));
-    let baseline = at_most_one::<HashForm>(rt.alloc(), cards, b'B')?.ok_or("B")?;
-    assert_eq!(rt; baseline, read_hash(ONE));
-    let comment = one::<TextForm>(rt.alloc(), cards, b'C')?.ok_or("C")?;
+    assert!(rt; has_manifest_letters(found.items()));
+    let comment = one::<TextForm>(rt.alloc(), found.items(), b'C')?.ok_or("C")?;
     assert_eq!(rt; comment.bytes(), b"a comment".as_slice());
-    let date = one::<DateForm>(rt.alloc(), cards, b'D')?.ok_or("D")?;
-    assert_eq!(rt; date.ms(), 1_709_208_000_000);
-    let checksum = one::<ChecksumForm>(rt.alloc(), cards, b'R')?.ok_or("R")?;
-    assert_eq!(rt; checksum[1], 0x1d);
-    let user = one::<UserForm>(rt.alloc(), cards, b'U')?.ok_or("U")?;
+    let user = one::<UserForm>(rt.alloc(), found.items(), b'U')?.ok_or("U")?;
     assert_eq!(rt; user.bytes(), b"anonymous".as_slice());
-    let parents = parents(rt.alloc(), cards)?.ok_or("P")?;
-    assert_eq!(rt; Some(parents.items()[0]), read_hash(TWO));
-    let tags = each::<TagForm>(rt.alloc(), cards, b'T')?.ok_or("T")?;
-    assert_eq!(rt; tags.items().len(), 2);
-    assert_eq!(rt; tags.items()[1].tag.bytes(), b"sym-trunk".as_slice());
-    assert!(rt; tags.items()[1].value.is_none());
-    assert!(rt; body(rt.alloc(), cards)?.is_none());
+    assert!(rt; body(rt.alloc(), found.items())?.is_none());
+    Ok(())
+}
+
+#[test]
+fn reads_names_dates_and_checksums(rt: HostRuntime) -> Result<(), Fail> {
+    let found = cards_of(&rt, MANIFEST)?;
+    let baseline = at_most_one::<HashForm>(rt.alloc(), found.items(), b'B')?.ok_or("B")?;
+    assert_eq!(rt; baseline, read_hash(ONE));
+    let date = one::<DateForm>(rt.alloc(), found.items(), b'D')?.ok_or("D")?;
+    assert_eq!(rt; date.ms(), 1_709_208_000_000);
+    let checksum = one::<ChecksumForm>(rt.alloc(), found.items(), b'R')?.ok_or("R")?;
+    assert_eq!(rt; checksum[1], 0x1d);
     Ok(())
 }
 
@@ -211,47 +209,76 @@ fn tells_what_can_be_written(rt: HostRuntime) -> Result<(), Fail> {
 }
 
 #[test]
-fn writes_cards(rt: HostRuntime) -> Result<(), Fail> {
-    let (one, two) = (Name::of(b""), Name::of(b"abc"));
-    let text = Some(Text::of(rt.alloc(), b"a b")?);
+fn writes_cards_of_one_value(rt: HostRuntime) -> Result<(), Fail> {
     let mut into = Text::empty(rt.alloc());
-    write_optional_text_card(&mut into, b'C', &text)?;
-    write_optional_text_card(&mut into, b'C', &None)?;
     write_card(&mut into, b'D', b"2024-02-29T12:00:00.000")?;
-    write_name_card(&mut into, b'G', &one)?;
-    write_optional_name_card(&mut into, b'I', &Some(two))?;
+    write_name_card(&mut into, b'G', &Name::of(b""))?;
     write_text_card(&mut into, b'L', b"a\\b")?;
-    write_parents(&mut into, &[])?;
-    write_parents(&mut into, &[two, one])?;
-    write_tags(&mut into, &[tag_of(&rt, b"a", text)?])?;
-    write_tag(&mut into, &tag_of(&rt, b"b", None)?)?;
-    begin_card(&mut into, b'X')?;
-    write_argument(&mut into, b"+")?;
-    write_text(&mut into, b"a\tb")?;
-    write_signed_text(&mut into, b'*', b" ")?;
-    write_name(&mut into, &one)?;
-    write_optional_name(&mut into, &None)?;
-    write_optional_text(&mut into, &None)?;
-    end_card(&mut into)?;
     write_body(rt.alloc(), &mut into, b"a\nbcdefghij")?;
-    know_name(&Some(one));
-    know_names(&[one]);
-    know_tags(&[]);
-    assert_eq!(rt; into.bytes(), WRITTEN);
-    Ok(())
-}
-
-/// The cards that `writes_cards` writes.
-const WRITTEN: &[u8] = b"C a\\sb
-D 2024-02-29T12:00:00.000
+    let want = b"D 2024-02-29T12:00:00.000
 G da39a3ee5e6b4b0d3255bfef95601890afd80709
-I a9993e364706816aba3e25717850c26c9cd0d89d
 L a\\\\b
-P a9993e364706816aba3e25717850c26c9cd0d89d da39a3ee5e6b4b0d3255bfef95601890afd80709
-T -a * a\\sb
-T -b *
-X + a\\tb *\\s da39a3ee5e6b4b0d3255bfef95601890afd80709
 W 11
 a
 bcdefghij
 ";
+    assert_eq!(rt; into.bytes(), want.as_slice());
+    Ok(())
+}
+
+#[test]
+fn writes_cards_of_missing_values(rt: HostRuntime) -> Result<(), Fail> {
+    let mut into = Text::empty(rt.alloc());
+    let text = Some(Text::of(rt.alloc(), b"a b")?);
+    write_optional_text_card(&mut into, b'C', &text)?;
+    write_optional_text_card(&mut into, b'C', &None)?;
+    write_optional_name_card(&mut into, b'I', &Some(Name::of(b"abc")))?;
+    let want = b"C a\\sb\nI a9993e364706816aba3e25717850c26c9cd0d89d\n";
+    assert_eq!(rt; into.bytes(), want.as_slice());
+    Ok(())
+}
+
+#[test]
+fn writes_parents_and_tags(rt: HostRuntime) -> Result<(), Fail> {
+    let mut into = Text::empty(rt.alloc());
+    let names = [Name::of(b"abc"), Name::of(b"")];
+    know_names(&names);
+    write_parents(&mut into, &[])?;
+    write_parents(&mut into, &names)?;
+    let value = Some(Text::of(rt.alloc(), b"a b")?);
+    let tags = [tag_of(&rt, b"a", value)?];
+    know_tags(&tags);
+    write_tags(&mut into, &tags)?;
+    let want = b"P a9993e364706816aba3e25717850c26c9cd0d89d da39a3ee5e6b4b0d3255bfef95601890afd80709
+T -a * a\\sb
+";
+    assert_eq!(rt; into.bytes(), want.as_slice());
+    Ok(())
+}
+
+#[test]
+fn writes_a_card_by_pieces(rt: HostRuntime) -> Result<(), Fail> {
+    let mut into = Text::empty(rt.alloc());
+    begin_card(&mut into, b'X')?;
+    write_text(&mut into, b"a\tb")?;
+    write_signed_text(&mut into, b'*', b" ")?;
+    write_optional_name(&mut into, &Some(Name::of(b"")))?;
+    write_optional_text(&mut into, &None)?;
+    end_card(&mut into)?;
+    let want = b"X a\\tb *\\s da39a3ee5e6b4b0d3255bfef95601890afd80709\n";
+    assert_eq!(rt; into.bytes(), want.as_slice());
+    Ok(())
+}
+
+#[test]
+fn writes_arguments_and_a_tag(rt: HostRuntime) -> Result<(), Fail> {
+    let mut into = Text::empty(rt.alloc());
+    let name = Name::of(b"abc");
+    know_name(&Some(name));
+    write_argument(&mut into, b"+")?;
+    write_name(&mut into, &name)?;
+    write_tag(&mut into, &tag_of(&rt, b"b", None)?)?;
+    let want = b" + a9993e364706816aba3e25717850c26c9cd0d89dT -b *\n";
+    assert_eq!(rt; into.bytes(), want.as_slice());
+    Ok(())
+}

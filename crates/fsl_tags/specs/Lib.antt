@@ -1,0 +1,4 @@
+pub mod Tags
+pub mod Conditions
+pub mod Passing
+pub mod Gathered

@@ -1,0 +1,117 @@
+//! Tags of artifacts, and what check-ins take over from their primary ancestors. `Tags` is the table of them, and its answers are
+//! those of the definitions over the facts it was built from, in whatever order these stand.
+//!
+//! The table keeps the facts by name and no index. To look for the assertions of one tag on one name costs a scan of all assertions;
+//! `effective` does so once for each primary ancestor of the name, `in_force` asks `effective` for each tag that is asserted, and
+//! `holders` for each name that is there or has an assertion.
+#![tactic(auto)]
+
+ghost use Rattle.std.specs.Prelude.{◌≡◌, IfOk};
+ghost use Rattle.fsl_tags.specs.Tags.{EffectiveByParent};
+
+mod direct;
+mod gathered;
+mod order;
+mod tags;
+#[cfg(test)]
+mod tests;
+
+use fsl_date::Moment;
+use fsl_name::Name;
+use fsl_rows::Named;
+use fsl_text::{List, Memory, Text};
+use std::alloc::Global;
+pub use tags::Tags;
+
+/// How a tag is set.
+#[derive(Clone, Copy, PartialEq, Eq, Debug)]
+pub enum Prefix {
+    /// `+`: on the target alone.
+    Once,
+    /// `-`: it takes the tag away.
+    Cancel,
+    /// `*`: on the target, and on those that descend from it along primary parents.
+    Propagate,
+}
+
+/// What one T card says.
+#[derive(Drop)]
+pub struct Assertion {
+    /// The date of the artifact that has the card.
+    pub date: Moment,
+    /// The name of that artifact.
+    pub source: Name,
+    /// The place of the card among the T cards of the artifact.
+    pub place: u64,
+    /// How the tag is set.
+    pub prefix: Prefix,
+    /// The tag.
+    pub tag: Text,
+    /// Its value, empty where there is none.
+    pub value: Text,
+    /// The name of the artifact that the tag is set on. It need not be there.
+    pub target: Name,
+}
+
+/// An artifact with its T cards, and the primary parent of a check-in.
+#[derive(Drop)]
+pub struct Fact {
+    /// Its name.
+    pub name: Name,
+    /// Whether it is a check-in.
+    pub checkin: bool,
+    /// The primary parent of a check-in, where that is there.
+    pub parent: Option<Name>,
+    /// What its T cards say, in their order.
+    pub tags: List<Assertion>,
+}
+
+impl Named for Fact {
+    ghost name = { λ fact. fact.name };
+
+    fn name(&self) -> Name {
+        self.name
+    }
+
+    fn copied(&self, alloc: Global) -> Result<Fact, Memory> {
+        Ok(Fact {
+            name: self.name,
+            checkin: self.checkin,
+            parent: self.parent,
+            tags: copy_all(alloc, self.tags.items())?,
+        })
+    }
+}
+
+/// An assertion with the same content. `Memory` is the only error.
+fn copy(alloc: Global, assertion: &Assertion) -> Result<Assertion, Memory>
+    ensures { IfOk result (λ copy. copy ≡ assertion.now) }
+{
+    Ok(Assertion {
+        date: assertion.date,
+        source: assertion.source,
+        place: assertion.place,
+        prefix: assertion.prefix,
+        tag: Text::of(alloc, assertion.tag.bytes())?,
+        value: Text::of(alloc, assertion.value.bytes())?,
+        target: assertion.target,
+    })
+}
+
+/// A list of copies of some assertions. `Memory` is the only error.
+fn copy_all(alloc: Global, assertions: &[Assertion]) -> Result<List<Assertion>, Memory>
+    ensures { IfOk result (λ list. list ≡ assertions.now) }
+{
+    let mut list = List::new(alloc);
+    for assertion in assertions {
+        if list.push(copy(alloc, assertion)?).is_err() {
+            return Err(Memory);
+        }
+    }
+    Ok(list)
+}
+
+/// The effective assertion is the newer of the direct one and the parent's, where that propagates.
+pub fn effective_by_parent()
+    ensures { EffectiveByParent }
+{}

@@ -1,0 +1,4 @@
+mod WorkedRows
+pub mod Filtered
+pub mod Dated
+pub mod Answers
