@@ -1,0 +1,182 @@
+-- What stands in an index doesn't depend on the order of the facts.
+use Rattle.std.specs.Prelude.{◌≡◌, ◌&&◌, ℕ, List, [], ◌∷◌, Bool, true, false, cond, Option, Some, None, map, filter, filter_map, Contains, IsPermutation}
+use Rattle.std.proofs.Common.{refl, sym, ap, ◌∙◌, subst, arith}
+use Rattle.std.specs.declared.cmp.Ordering.{Ordering}
+use Rattle.std.specs.declared.cmp.Ordering.TheVariants.{Less, Equal, Greater}
+use Rattle.std.specs.Cmp.{on_total}
+use Rattle.std.specs.Ordering.{eq_by_cmp, is_eq, ordering_then, nat_cmp, on}
+use Rattle.std.specs.List.{IsDistinct, AllByRecursion, cons_option}
+use Rattle.std.specs.Map.{lookup, keys_of}
+use Rattle.std.specs.BTreeMap.{BTreeMap}
+use Rattle.std.specs.Str.{bytes_eq}
+use Rattle.std.specs.Cmp.Lexicographic.{texts_ties, nat_list_eq_equiv}
+use Rattle.std.proofs.lemmas.List.{length-map, get_or-map}
+use Rattle.std.proofs.lemmas.List.Sorted.{Contains-permutation, IsPermutation-sym}
+use Rattle.std.proofs.lemmas.Map.Views.{lookup-from_Contains}
+use Rattle.fsl_order.specs.Names.{bytes_cmp, dated_cmp}
+use Rattle.fsl_order.specs.Rows.{keyed, by_name, greatest, AreDistinct}
+use Rattle.fsl_order.proofs.Orders.{bytes_cmp-IsTotalOrder, dated_cmp-IsTotalOrder, dated_cmp-IsAntisymmetric}
+use Rattle.fsl_order.proofs.RowLemmas.{pairs, keyed-permutation}
+use Rattle.fsl_order.proofs.MovedLemmas.{IsPermutation-by_name}
+use Rattle.fsl_order.proofs.GreatestLemmas.{greatest-alike}
+use Rattle.fsl_wiki.specs.declared.Fact.{Fact}
+use Rattle.fsl_wiki.specs.declared.Fact.TheVariants as fact
+use Rattle.fsl_wiki.specs.declared.Page.{Page}
+use Rattle.fsl_wiki.specs.declared.Note.{Note}
+use Rattle.fsl_wiki.specs.declared.Attached.{Attached}
+use Rattle.fsl_wiki.specs.Pages.{name_of, as_page, as_note, as_attached, current_note, current}
+use Rattle.fsl_wiki.specs.Kept.{placed, IsIndexOf}
+use Rattle.fsl_wiki.proofs.Gathered.{in_order-filter_map}
+
+-- ---- items with dates and distinct names
+
+module _ {Y : Type 0} (date : Y → ℕ) (name : Y → List ℕ) where
+  abbrev place : Y → ℕ × List ℕ
+  place y = (date y, name y)
+
+  apart : (y : Y) (ys : List Y) → AllByRecursion (λ q. bytes_eq (name y) q ≡ false) (map name ys) → AllByRecursion (λ p. eq_by_cmp dated_cmp (place y) p ≡ false) (map place ys)
+  apart y [] all = tt
+  apart y (z ∷ ys) all = (later (nat_cmp (date y) (date z)) (bytes_cmp (name y) (name z)) (sym (texts_ties (name y) (name z)) ∙ all.0), apart y ys all.1)
+    where
+      later : (o p : Ordering) → is_eq p ≡ false → is_eq (ordering_then o p) ≡ false
+      later Less p h = refl
+      later Equal p h = h
+      later Greater p h = refl
+
+  distinct-places : (ys : List Y) → AreDistinct (map name ys) → IsDistinct (eq_by_cmp dated_cmp) (map place ys)
+  unfolding IsDistinct
+  distinct-places [] d = tt
+  distinct-places (y ∷ ys) d = (apart y ys d.0, distinct-places ys d.1)
+
+  names-pairs : (ys : List Y) → keys_of (pairs name ys) ≡ map name ys
+  names-pairs [] = refl
+  names-pairs (y ∷ ys) = ap (λ names. name y ∷ names) (names-pairs ys)
+
+  found : (ys : List Y) (y : Y) → AreDistinct (map name ys) → Contains ys y → lookup (bytes_eq (name y)) (pairs name ys) ≡ Some y
+  found ys y d c =
+      lookup-from_Contains nat_list_eq_equiv (name y) y (pairs name ys) (subst AreDistinct (sym (names-pairs ys)) d)
+      (c.0, omega (arith, c.1, length-map {B = List ℕ × Y} ys (λ y. (name y, y))), get_or-map {Y = List ℕ × Y} (λ y. (name y, y)) ys c.0 y (name y, y) c.1 ∙ ap {B = List ℕ × Y} (λ y. (name y, y)) c.2)
+
+  -- of two items with one name each is the other
+  same_item : (ys : List Y) (y z : Y) → AreDistinct (map name ys) → Contains ys y → Contains ys z → name y ≡ name z → y ≡ z
+  same_item ys y z d cy cz e = inside (sym (found ys y d cy) ∙ ap (λ n. lookup (bytes_eq n) (pairs name ys)) e ∙ found ys z d cz)
+    where
+      inside : Some y ≡ Some z → y ≡ z
+      inside h = cc
+
+  ties : (ys : List Y) (y z : Y) → AreDistinct (map name ys) → Contains ys y → Contains ys z → dated_cmp (place y) (place z) ≡ Equal → y ≡ z
+  ties ys y z d cy cz e = same_item ys y z d cy cz (ap (λ p. p.1) (dated_cmp-IsAntisymmetric (place y) (place z) e))
+
+  module _ (ys zs : List Y) (d : AreDistinct (map name ys)) (moved : IsPermutation ys zs) where
+    keyed-moved : keyed dated_cmp place ys ≡ keyed dated_cmp place zs
+    keyed-moved = keyed-permutation dated_cmp-IsTotalOrder place dated_cmp-IsAntisymmetric ys zs (distinct-places ys d) moved
+
+    greatest-moved : greatest (on place dated_cmp) ys ≡ greatest (on place dated_cmp) zs
+    greatest-moved =
+        greatest-alike (on place dated_cmp) (on_total place dated_cmp-IsTotalOrder) ys zs (λ y z cy cz e. ties ys y z d cy cz e)
+        (λ y c. Contains-permutation ys zs y moved c) (λ y c. Contains-permutation zs ys y (IsPermutation-sym ys zs moved) c)
+
+-- ---- what facts give, by name
+
+module _ {Y : Type 0} (give : Fact → Option Y) (name : Y → List ℕ) (same : (f : Fact) (y : Y) → give f ≡ Some y → name y ≡ name_of f) where
+  away : (q : List ℕ) (facts : List Fact) → AllByRecursion (λ n. bytes_eq q n ≡ false) (map name_of facts) → AllByRecursion (λ n. bytes_eq q n ≡ false) (map name (filter_map give facts))
+  away q [] a = tt
+  away q (f ∷ facts) a =
+      elim (give f) as (λ p. give f ≡ p → AllByRecursion (λ n. bytes_eq q n ≡ false) (map name (cons_option p (filter_map give facts)))) [
+        | None ↦ λ _. away q facts a.1
+        | Some y ↦ λ e. (ap (bytes_eq q) (same f y e) ∙ a.0, away q facts a.1)
+      ] refl
+
+  distinct-given : (facts : List Fact) → AreDistinct (map name_of facts) → AreDistinct (map name (filter_map give facts))
+  unfolding IsDistinct
+  distinct-given [] d = tt
+  distinct-given (f ∷ facts) d =
+      elim (give f) as (λ p. give f ≡ p → AreDistinct (map name (cons_option p (filter_map give facts)))) [
+        | None ↦ λ _. distinct-given facts d.1
+        | Some y ↦ λ e. (subst (λ n. AllByRecursion (λ q. bytes_eq n q ≡ false) (map name (filter_map give facts))) (sym (same f y e)) (away (name_of f) facts d.0), distinct-given facts d.1)
+      ] refl
+
+  moved-given : (facts : List Fact) → AreDistinct (map name_of facts) → IsPermutation (filter_map give facts) (filter_map give (by_name name_of facts))
+  moved-given facts d =
+      let tied : bytes_eq ≡ eq_by_cmp bytes_cmp = λ i x y. texts_ties x y i in
+      subst (IsPermutation (filter_map give facts)) (in_order-filter_map bytes_cmp bytes_cmp-IsTotalOrder give name_of name same facts (subst (λ e. IsDistinct e (map name_of facts)) tied d))
+      (IsPermutation-by_name name (filter_map give facts) (distinct-given facts d))
+
+-- ---- the items of one kind that pass a test
+
+module _ {Y : Type 0} (kind : Fact → Option Y) (test : Y → Bool) where
+  abbrev only : Option Y → Option Y
+  only None = None
+  only (Some y) = cond (test y) (Some y) None
+
+  filter-is : (facts : List Fact) → filter test (filter_map kind facts) ≡ filter_map (λ f. only (kind f)) facts
+  filter-is [] = refl
+  filter-is (f ∷ facts) =
+      elim (kind f) as (λ p. filter test (cons_option p (filter_map kind facts)) ≡ cons_option (only p) (filter_map (λ f. only (kind f)) facts)) [
+        | None ↦ filter-is facts
+        | Some y ↦ elim (test y) as (λ b. cond b (y ∷ filter test (filter_map kind facts)) (filter test (filter_map kind facts)) ≡ cons_option (cond b (Some y) None) (filter_map (λ f. only (kind f)) facts)) [
+          | true ↦ ap (λ l. y ∷ l) (filter-is facts)
+          | false ↦ filter-is facts
+        ]
+      ]
+
+  module _ (date : Y → ℕ) (name : Y → List ℕ) (same : (f : Fact) (y : Y) → kind f ≡ Some y → name y ≡ name_of f) (facts : List Fact) (d : AreDistinct (map name_of facts)) where
+    same-only : (f : Fact) (y : Y) → only (kind f) ≡ Some y → name y ≡ name_of f
+    same-only f y e =
+        same f y (elim (kind f) as (λ p. only p ≡ Some y → p ≡ Some y) [
+          | None ↦ λ h. h
+          | Some z ↦ elim (test z) as (λ b. cond b (Some z) None ≡ Some y → Some z ≡ Some y) [ true ↦ λ h. h | false ↦ λ h. cc ]
+        ] e)
+
+    abbrev items : List Fact → List Y
+    items facts = filter test (filter_map kind facts)
+
+    distinct-items : AreDistinct (map name (items facts))
+    distinct-items = subst (λ l. AreDistinct (map name l)) (sym (filter-is facts)) (distinct-given (λ f. only (kind f)) name same-only facts d)
+
+    moved-items : IsPermutation (items facts) (items (by_name name_of facts))
+    moved-items =
+        subst (λ l. IsPermutation l (items (by_name name_of facts))) (sym (filter-is facts))
+        (subst (IsPermutation (filter_map (λ f. only (kind f)) facts)) (sym (filter-is (by_name name_of facts))) (moved-given (λ f. only (kind f)) name same-only facts d))
+
+    keyed-items : keyed dated_cmp (λ y. (date y, name y)) (items facts) ≡ keyed dated_cmp (λ y. (date y, name y)) (items (by_name name_of facts))
+    keyed-items = keyed-moved date name (items facts) (items (by_name name_of facts)) distinct-items moved-items
+
+    greatest-items : greatest (on (λ y. (date y, name y)) dated_cmp) (items facts) ≡ greatest (on (λ y. (date y, name y)) dated_cmp) (items (by_name name_of facts))
+    greatest-items = greatest-moved date name (items facts) (items (by_name name_of facts)) distinct-items moved-items
+
+-- ---- pages, technotes and attachments
+
+page_name : (f : Fact) (p : Page) → as_page f ≡ Some p → p.name ≡ name_of f
+page_name (fact.Page q) p e = let same : q ≡ p = cc in ap (λ p. p.name) (sym same)
+page_name (fact.Note n) p e = cc
+page_name (fact.Attached a) p e = cc
+
+note_name : (f : Fact) (n : Note) → as_note f ≡ Some n → n.name ≡ name_of f
+note_name (fact.Page p) n e = cc
+note_name (fact.Note m) n e = let same : m ≡ n = cc in ap (λ n. n.name) (sym same)
+note_name (fact.Attached a) n e = cc
+
+attached_name : (f : Fact) (a : Attached) → as_attached f ≡ Some a → a.name ≡ name_of f
+attached_name (fact.Page p) a e = cc
+attached_name (fact.Note n) a e = cc
+attached_name (fact.Attached b) a e = let same : b ≡ a = cc in ap (λ a. a.name) (sym same)
+
+module _ (facts : List Fact) (d : AreDistinct (map name_of facts)) where
+  placed-by_name : (title : List ℕ) → placed facts title ≡ placed (by_name name_of facts) title
+  placed-by_name title = keyed-items as_page (λ p. bytes_eq p.title title) (λ p. p.date) (λ p. p.name) page_name facts d
+
+  note-by_name : (id : List ℕ) → current_note facts id ≡ current_note (by_name name_of facts) id
+  note-by_name id = greatest-items as_note (λ n. bytes_eq n.id id) (λ n. n.date) (λ n. n.name) note_name facts d
+
+  current-by_name : (target file : List ℕ) → current facts target file ≡ current (by_name name_of facts) target file
+  current-by_name target file = greatest-items as_attached (λ a. bytes_eq a.target target && bytes_eq a.file file) (λ a. a.date) (λ a. a.name) attached_name facts d
+
+  -- an index of facts is one of the facts by name
+  pub index-by_name : (titles : List (List ℕ × BTreeMap (ℕ × List ℕ) Page)) (notes : List (List ℕ × Note)) (targets : List (List ℕ × BTreeMap (List ℕ) Attached))
+      → IsIndexOf facts titles notes targets → IsIndexOf (by_name name_of facts) titles notes targets
+  index-by_name titles notes targets is = record {
+    titles_are = λ title. is.titles_are title ∙ placed-by_name title;
+    notes_are = λ id. is.notes_are id ∙ note-by_name id;
+    targets_are = λ target file. is.targets_are target file ∙ current-by_name target file;
+  }

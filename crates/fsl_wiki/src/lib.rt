@@ -1,0 +1,114 @@
+//! Wiki pages, technotes and attachments. `Pages` is the table of them, and its answers are those of the definitions over the facts it
+//! was built from, in whatever order these stand.
+#![tactic(auto)]
+
+ghost use Rattle.std.specs.Prelude.{◌≡◌, IfOk};
+ghost use Rattle.fsl_wiki.specs.Pages.{name_of};
+
+mod attachments;
+mod index;
+mod notes;
+mod pages;
+#[cfg(test)]
+mod tests;
+mod versions;
+
+use fsl_date::Moment;
+use fsl_name::Name;
+use fsl_text::{Memory, Text};
+pub use pages::Pages;
+use std::alloc::Global;
+
+/// A version of a wiki page.
+#[derive(Drop)]
+pub struct Page {
+    /// The name of its artifact.
+    pub name: Name,
+    /// When it was made.
+    pub date: Moment,
+    /// The title of the page.
+    pub title: Text,
+    /// Who made it.
+    pub user: Text,
+}
+
+impl Page {
+    /// A version with the same content. `Memory` is the only error.
+    pub fn copied(&self, alloc: Global) -> Result<Page, Memory>
+        ensures { IfOk result (λ page. page ≡ self.now) }
+    {
+        Ok(Page {
+            name: self.name,
+            date: self.date,
+            title: Text::of(alloc, self.title.bytes())?,
+            user: Text::of(alloc, self.user.bytes())?,
+        })
+    }
+}
+
+/// A version of a technote.
+#[derive(Clone, Copy)]
+pub struct Note {
+    /// The name of its artifact.
+    pub name: Name,
+    /// When it was made.
+    pub date: Moment,
+    /// The time that it is about.
+    pub time: Moment,
+    /// The id of the technote.
+    pub id: Name,
+}
+
+/// An attachment of a file; without a source, it deletes the file's attachment.
+#[derive(Drop)]
+pub struct Attached {
+    /// The name of its artifact.
+    pub name: Name,
+    /// When it was made.
+    pub date: Moment,
+    /// What the file is attached to: the title of a page, or the id of a ticket or a technote in 40 digits.
+    pub target: Text,
+    /// The name of the file.
+    pub file: Text,
+    /// The name of the file's content.
+    pub source: Option<Name>,
+}
+
+impl Attached {
+    /// An attachment with the same content. `Memory` is the only error.
+    pub fn copied(&self, alloc: Global) -> Result<Attached, Memory>
+        ensures { IfOk result (λ attached. attached ≡ self.now) }
+    {
+        Ok(Attached {
+            name: self.name,
+            date: self.date,
+            target: Text::of(alloc, self.target.bytes())?,
+            file: Text::of(alloc, self.file.bytes())?,
+            source: self.source,
+        })
+    }
+}
+
+/// One artifact of these.
+#[derive(Drop)]
+pub enum Fact {
+    /// A version of a page.
+    Page(Page),
+    /// A version of a technote.
+    Note(Note),
+    /// An attachment.
+    Attached(Attached),
+}
+
+impl Fact {
+    /// The name of the artifact.
+    pub fn name(&self) -> Name
+        ensures { result ≡ name_of self.now }
+    {
+        match self {
+            Fact::Page(page) => page.name,
+            Fact::Note(note) => note.name,
+            Fact::Attached(attached) => attached.name,
+        }
+    }
+}

@@ -1,0 +1,76 @@
+-- Worked rows: words inside and outside the grammar.
+use Rattle.std.specs.Prelude.{◌≡◌, ℕ, List, [], ◌∷◌, Option, Some, None, replicate, refl, codes}
+use Rattle.fsl_words.specs.declared.Question.TheVariants.{Cat, Timeline, Leaves, Tip, Ticket}
+use Rattle.fsl_words.specs.declared.Command.{Command}
+use Rattle.fsl_words.specs.declared.Command.TheVariants.{Init, Put, Ask}
+use Rattle.fsl_words.specs.declared.Words.{Words}
+use Rattle.fsl_words.specs.Grammar.{words_in}
+
+abbrev r : List ℕ
+r = codes "r"
+
+abbrev read : Command → Option Words
+read command = Some (record { repository = r; command = command })
+
+abbrev ones : List ℕ
+ones = replicate 40 49
+
+abbrev twos : List ℕ
+twos = replicate 40 50
+
+no_word : words_in [] ≡ None
+no_word = refl
+
+no_command : words_in (r ∷ []) ≡ None
+no_command = refl
+
+no_row : words_in (r ∷ codes "timeline" ∷ codes "0" ∷ []) ≡ None
+no_row = refl
+
+dash_word : words_in (r ∷ codes "cat" ∷ codes "-x" ∷ []) ≡ None
+dash_word = refl
+
+short_prefix : words_in (r ∷ codes "cat" ∷ codes "abc" ∷ []) ≡ None
+short_prefix = refl
+
+short_name : words_in (r ∷ codes "ticket" ∷ codes "abcd" ∷ []) ≡ None
+short_name = refl
+
+more_words : words_in (r ∷ codes "put" ∷ codes "x" ∷ []) ≡ None
+more_words = refl
+
+empty_word : words_in (r ∷ codes "wiki" ∷ [] ∷ []) ≡ None
+empty_word = refl
+
+same_field : words_in (r ∷ codes "init" ∷ ones ∷ twos ∷ codes "status" ∷ codes "status" ∷ []) ≡ None
+same_field = refl
+
+wrong_field : words_in (r ∷ codes "init" ∷ ones ∷ twos ∷ codes "Status" ∷ []) ≡ None
+wrong_field = refl
+
+two_fields : words_in (r ∷ codes "init" ∷ ones ∷ twos ∷ codes "comment" ∷ codes "status" ∷ []) ≡ read (Init (replicate 20 17) (replicate 20 34) (codes "comment" ∷ codes "status" ∷ []))
+two_fields = refl
+
+cat : words_in (r ∷ codes "cat" ∷ codes "a999" ∷ []) ≡ read (Ask (Cat (codes "a999")))
+cat = refl
+
+leading_zeros : words_in (r ∷ codes "timeline" ∷ codes "005" ∷ []) ≡ read (Ask (Timeline 5))
+leading_zeros = refl
+
+most_rows : words_in (r ∷ codes "timeline" ∷ codes "1000001" ∷ []) ≡ None
+most_rows = refl
+
+dash_alone : words_in (codes "-" ∷ codes "tip" ∷ codes "-" ∷ []) ≡ Some (record { repository = codes "-"; command = Ask (Tip (codes "-")) })
+dash_alone = refl
+
+put : words_in (r ∷ codes "put" ∷ []) ≡ read Put
+put = refl
+
+shun : words_in (r ∷ codes "shun" ∷ ones ∷ []) ≡ None
+shun = refl
+
+leaves : words_in (r ∷ codes "leaves" ∷ []) ≡ read (Ask Leaves)
+leaves = refl
+
+id : words_in (r ∷ codes "ticket" ∷ ones ∷ []) ≡ read (Ask (Ticket (replicate 20 17)))
+id = refl

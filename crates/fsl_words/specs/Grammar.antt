@@ -1,0 +1,92 @@
+-- The grammar of the words after the program's name.
+use Rattle.std.specs.Prelude.{ℕ, ◌==◌, ◌&&◌, ◌||◌, nat_le, Bool, true, not, List, [], ◌∷◌, length, Option, Some, None, option_map, option_and_then, if◌then◌else◌, codes, slice_index}
+use Rattle.std.specs.List.{list_all}
+use Rattle.std.specs.Str.{bytes_eq}
+use Rattle.fsl_order.specs.Names.{has}
+use Rattle.fsl_text.specs.Bytes.{is_empty}
+use Rattle.fsl_text.specs.Decimals.{is_decimal_text, decimal_value}
+use Rattle.fsl_name.specs.Name.{name_in, is_name_digit}
+use Rattle.fsl_record.specs.Records.{is_field}
+use Rattle.fsl_words.specs.declared.Question.{Question}
+use Rattle.fsl_words.specs.declared.Question.TheVariants.{Cat, Timeline, Leaves, Tags, Tip, Files, Wiki, Ticket, Thread}
+use Rattle.fsl_words.specs.declared.Command.{Command}
+use Rattle.fsl_words.specs.declared.Command.TheVariants.{Init, Ingest, Put, Ask}
+use Rattle.fsl_words.specs.declared.Words.{Words}
+
+-- a word has a byte, and doesn't begin with `-` unless it is `-` alone
+abbrev pub is_word : List ℕ → Bool
+is_word word = not (is_empty word) && (bytes_eq word (45 ∷ []) || not (slice_index word 0 == 45))
+
+-- 4 to 40 digits of a name
+abbrev pub is_prefix : List ℕ → Bool
+is_prefix word = nat_le 4 (length word) && nat_le (length word) 40 && list_all is_name_digit word
+
+-- the word, where it is such digits
+abbrev pub prefix_in : List ℕ → Option (List ℕ)
+prefix_in word = if is_prefix word then Some word else None
+
+-- a decimal number from 1 to 1,000,000
+abbrev pub is_count : List ℕ → Bool
+is_count word = is_decimal_text word && nat_le 1 (decimal_value word) && nat_le (decimal_value word) 1000000
+
+-- how many rows: the number, where the word is such a number
+abbrev pub count_in : List ℕ → Option ℕ
+count_in word = if is_count word then Some (decimal_value word) else None
+
+-- whether the words differ
+abbrev pub all_differ : List (List ℕ) → Bool
+all_differ [] = true
+all_differ (word ∷ words) = not (has words word) && all_differ words
+
+-- configured fields: each in its form, all different, at most 256
+abbrev pub are_fields : List (List ℕ) → Bool
+are_fields fields = list_all is_field fields && all_differ fields && nat_le (length fields) 256
+
+-- the words, where they are configured fields
+abbrev pub fields_in : List (List ℕ) → Option (List (List ℕ))
+fields_in words = if are_fields words then Some words else None
+
+-- init PROJECT SERVER [FIELD ...]
+abbrev pub init_command : List (List ℕ) → Option Command
+init_command (project ∷ server ∷ fields) = option_and_then (λ p. option_and_then (λ s. option_map (Init p s) (fields_in fields)) (name_in server)) (name_in project)
+init_command words = None
+
+-- a command without words
+abbrev pub bare_command : List ℕ → Option Command
+bare_command command =
+    if bytes_eq command (codes "ingest") then Some Ingest
+    else if bytes_eq command (codes "put") then Some Put
+    else if bytes_eq command (codes "leaves") then Some (Ask Leaves)
+    else None
+
+-- a report command with one word
+abbrev pub question_in : List ℕ → List ℕ → Option Question
+question_in command word =
+    if bytes_eq command (codes "cat") then option_map Cat (prefix_in word)
+    else if bytes_eq command (codes "timeline") then option_map Timeline (count_in word)
+    else if bytes_eq command (codes "tags") then option_map Tags (prefix_in word)
+    else if bytes_eq command (codes "tip") then Some (Tip word)
+    else if bytes_eq command (codes "files") then option_map Files (prefix_in word)
+    else if bytes_eq command (codes "wiki") then Some (Wiki word)
+    else if bytes_eq command (codes "ticket") then option_map Ticket (name_in word)
+    else if bytes_eq command (codes "thread") then option_map Thread (name_in word)
+    else None
+
+-- a command by its first word and the words behind it
+abbrev pub plain_command : List ℕ → List (List ℕ) → Option Command
+plain_command command [] = bare_command command
+plain_command command (word ∷ []) = option_map Ask (question_in command word)
+plain_command command words = None
+
+-- `init`, or another command
+abbrev pub command_in : List ℕ → List (List ℕ) → Option Command
+command_in command words = if bytes_eq command (codes "init") then init_command words else plain_command command words
+
+-- a repository and a command
+abbrev pub parts_in : List (List ℕ) → Option Words
+parts_in (repository ∷ command ∷ words) = option_map (λ c. record { repository = repository; command = c }) (command_in command words)
+parts_in words = None
+
+-- what the words are; none where they are outside the grammar
+abbrev pub words_in : List (List ℕ) → Option Words
+words_in words = if list_all is_word words then parts_in words else None

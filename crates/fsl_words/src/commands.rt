@@ -1,0 +1,79 @@
+//! Commands with their words.
+ghost use Rattle.std.specs.Prelude.{◌≡◌, map, string_bytes};
+ghost use Rattle.fsl_words.specs.Grammar.{init_command, bare_command, question_in, command_in};
+ghost use Rattle.fsl_words.specs.Answers.{IsAnswer};
+
+use crate::fields::fields;
+use crate::forms::{count, name, prefix};
+use crate::{Command, Question, WordsFault};
+use fsl_text::Text;
+use std::alloc::Global;
+
+/// `init` with its words.
+fn init_command(alloc: Global, words: &[String]) -> Result<Command, WordsFault>
+    ensures { IsAnswer (init_command (map string_bytes words.now)) result }
+{
+    let [project, server, rest @ ..] = words else {
+        return Err(WordsFault::Usage);
+    };
+    Ok(Command::Init {
+        project: name(project.as_bytes())?,
+        server: name(server.as_bytes())?,
+        fields: fields(alloc, rest)?,
+    })
+}
+
+/// A command without words.
+fn bare_command(command: &str) -> Result<Command, WordsFault>
+    ensures { IsAnswer (bare_command command.now) result }
+{
+    match command {
+        "ingest" => Ok(Command::Ingest),
+        "put" => Ok(Command::Put),
+        "leaves" => Ok(Command::Ask(Question::Leaves)),
+        _ => Err(WordsFault::Usage),
+    }
+}
+
+/// A report command with one word.
+fn question(alloc: Global, command: &str, word: &[u8]) -> Result<Question, WordsFault>
+    ensures { IsAnswer (question_in command.now word.now) result }
+{
+    Ok(match command {
+        "cat" => Question::Cat {
+            prefix: prefix(alloc, word)?,
+        },
+        "timeline" => Question::Timeline {
+            count: count(word)?,
+        },
+        "tags" => Question::Tags {
+            prefix: prefix(alloc, word)?,
+        },
+        "tip" => Question::Tip {
+            symbol: Text::of(alloc, word)?,
+        },
+        "files" => Question::Files {
+            prefix: prefix(alloc, word)?,
+        },
+        "wiki" => Question::Wiki {
+            title: Text::of(alloc, word)?,
+        },
+        "ticket" => Question::Ticket { id: name(word)? },
+        "thread" => Question::Thread { name: name(word)? },
+        _ => return Err(WordsFault::Usage),
+    })
+}
+
+/// A command by its first word and the words behind it.
+pub fn command(alloc: Global, command: &str, words: &[String]) -> Result<Command, WordsFault>
+    ensures { IsAnswer (command_in command.now (map string_bytes words.now)) result }
+{
+    if command == "init" {
+        return init_command(alloc, words);
+    }
+    match words {
+        [] => bare_command(command),
+        [word] => Ok(Command::Ask(question(alloc, command, word.as_bytes())?)),
+        _ => Err(WordsFault::Usage),
+    }
+}

@@ -1,0 +1,73 @@
+//! The forms of single words.
+ghost use Rattle.std.specs.Prelude.{◌≡◌};
+ghost use Rattle.std.specs.List.{list_all};
+ghost use Rattle.fsl_name.specs.Name.{is_name_digit, name_in};
+ghost use Rattle.fsl_words.specs.Grammar.{is_word, is_prefix, prefix_in, count_in};
+ghost use Rattle.fsl_words.specs.Answers.{IsAnswer};
+
+use crate::WordsFault;
+use fsl_name::Name;
+use fsl_text::{Text, decimal};
+use std::alloc::Global;
+
+/// The greatest number of rows that may be asked for.
+const MOST_ROWS: u64 = 1_000_000;
+
+/// Whether a word has a byte, and doesn't begin with `-` unless it is `-` alone.
+pub fn is_word(word: &[u8]) -> bool
+    ensures { result ≡ is_word word.now }
+{
+    match word {
+        [] => false,
+        [first, rest @ ..] => *first != b'-' || rest.is_empty(),
+    }
+}
+
+fn is_digit(byte: u8) -> bool
+    ensures { result ≡ is_name_digit byte }
+{
+    matches!(byte, b'0'..=b'9' | b'a'..=b'f')
+}
+
+fn are_digits(word: &[u8]) -> bool
+    ensures { result ≡ list_all is_name_digit word.now }
+{
+    word.iter().all(|byte| is_digit(*byte))
+}
+
+/// Whether a word is 4 to 40 digits of a name.
+fn is_prefix(word: &[u8]) -> bool
+    ensures { result ≡ is_prefix word.now }
+{
+    (4..=40).contains(&word.len()) && are_digits(word)
+}
+
+/// The digits of a name that a word is.
+pub fn prefix(alloc: Global, word: &[u8]) -> Result<Text, WordsFault>
+    ensures { IsAnswer (prefix_in word.now) result }
+{
+    if !is_prefix(word) {
+        return Err(WordsFault::Usage);
+    }
+    Ok(Text::of(alloc, word)?)
+}
+
+/// The name that a word is.
+pub fn name(word: &[u8]) -> Result<Name, WordsFault>
+    ensures { IsAnswer (name_in word.now) result }
+{
+    match Name::read(word) {
+        Ok(name) => Ok(name),
+        Err(_) => Err(WordsFault::Usage),
+    }
+}
+
+/// The number of rows that a word is: 1 to 1,000,000, in decimal.
+pub fn count(word: &[u8]) -> Result<u64, WordsFault>
+    ensures { IsAnswer (count_in word.now) result }
+{
+    match decimal(word) {
+        Ok(count) if (1..=MOST_ROWS).contains(&count) => Ok(count),
+        _ => Err(WordsFault::Usage),
+    }
+}

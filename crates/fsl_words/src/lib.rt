@@ -1,0 +1,75 @@
+//! The words on the command line: which words are a repository and a command, and which ones are outside the grammar.
+//! `read` answers the command exactly where the words are inside.
+#![tactic(auto)]
+
+mod commands;
+mod faults;
+mod fields;
+mod forms;
+mod reading;
+#[cfg(test)]
+mod tests;
+
+use fsl_name::Name;
+use fsl_text::{List, Text};
+pub use reading::read;
+use thiserror::Error;
+
+/// What a report command asks. A prefix is 4 to 40 digits of a name, in lower case.
+#[derive(Debug, Drop)]
+pub enum Question {
+    /// `cat PREFIX`: the content of the artifact.
+    Cat { prefix: Text },
+    /// `timeline N`: the first rows of the timeline, 1 to 1,000,000.
+    Timeline { count: u64 },
+    /// `leaves`: the check-ins without a child in their own branch.
+    Leaves,
+    /// `tags PREFIX`: the tags in force on an artifact.
+    Tags { prefix: Text },
+    /// `tip SYMBOL`: the latest check-in that has a symbolic name.
+    Tip { symbol: Text },
+    /// `files PREFIX`: the files of a check-in.
+    Files { prefix: Text },
+    /// `wiki TITLE`: the versions of a page.
+    Wiki { title: Text },
+    /// `ticket ID`: the fields of a ticket.
+    Ticket { id: Name },
+    /// `thread NAME`: the posts of a thread.
+    Thread { name: Name },
+}
+
+/// A command with its words.
+#[derive(Debug, Drop)]
+pub enum Command {
+    /// `init PROJECT SERVER [FIELD ...]`: a new repository with these two codes and configured ticket fields. A field is 1
+    /// to 64 bytes of `a` to `z`, digits and `_` that begin with a letter; they differ and are at most 256.
+    Init {
+        project: Name,
+        server: Name,
+        fields: List<Text>,
+    },
+    /// `ingest`: the files of a message, without a repository.
+    Ingest,
+    /// `put`: the files of a message, into the repository.
+    Put,
+    /// A report.
+    Ask(Question),
+}
+
+/// A repository's path and a command.
+#[derive(Debug, Drop)]
+pub struct Words {
+    pub repository: Text,
+    pub command: Command,
+}
+
+/// Why words are no command.
+#[derive(Clone, Copy, PartialEq, Eq, Debug, Drop, Error)]
+pub enum WordsFault {
+    /// They are outside the grammar.
+    #[error("the words are no command")]
+    Usage,
+    /// There was no memory.
+    #[error("out of memory")]
+    Memory,
+}
