@@ -15,8 +15,11 @@ use Rattle.fsl_order.proofs.SortedLemmas.{ascending-from}
 use Rattle.fsl_rows.proofs.Rising.{rising-filter}
 use Rattle.fsl_tags.specs.declared.Fact.{Fact}
 use Rattle.fsl_tags.specs.declared.Assertion.{Assertion}
-use Rattle.fsl_tags.specs.Tags.{cancels, assertions, effective, holders, force, only}
-use Rattle.fsl_tags.specs.Gathered.{in_set, asserted, subjects, shown, is_shown}
+use Rattle.fsl_tags.specs.Tags.{cancels, assertions, effective, holders, force, only, AreTagFacts}
+use Rattle.fsl_tags.specs.Gathered.{in_set, asserted, subjects, is_shown}
+use Rattle.fsl_tags.specs.declared.row.Row.{Row}
+use Rattle.fsl_tags.specs.Kept.{listed, IsTable}
+use Rattle.fsl_tags.proofs.Chosen.{none_outside}
 
 -- one more is put in, of those that are left
 pub put-next : (now next : Bool) (key q : List ℕ) (rest : List (List ℕ)) → next ≡ cond (is_at (bytes_cmp key) q) true now → (next || has rest q) ≡ (now || has (key ∷ rest) q)
@@ -70,16 +73,13 @@ subjects-next now mid next f rest q one all =
 pub keys-ascending : (set : BTreeSet (List ℕ)) (xs : List (List ℕ)) → ((q : List ℕ) → in_set set q ≡ has xs q) → IsStrictlySortedBy bytes_cmp set.keys → set.keys ≡ ascending xs
 keys-ascending set xs same rise = ascending-from xs set.keys rise (λ q. (λ i. list_any (λ k. texts_ties q k i) set.keys) ∙ same q)
 
--- those in force, of some tags
-abbrev pub shown_of : List Fact → List ℕ → List (List ℕ) → List Assertion
-shown_of facts name some = filter (λ a. not (cancels a.prefix)) (filter_map (effective facts name) some)
-
-pub shown_of-next : (facts : List Fact) (name tag : List ℕ) (some : List (List ℕ)) → shown_of facts name (tag ∷ some) ≡ shown (effective facts name tag) ++ shown_of facts name some
-shown_of-next facts name tag some = by (effective facts name tag)
+-- the effective assertions of some tags
+pub given-next : (facts : List Fact) (name tag : List ℕ) (some : List (List ℕ)) → filter_map (effective facts name) (tag ∷ some) ≡ listed (effective facts name tag) ++ filter_map (effective facts name) some
+given-next facts name tag some = by (effective facts name tag)
   where
-    by : (o : Option Assertion) → filter (λ a. not (cancels a.prefix)) (cons_option o (filter_map (effective facts name) some)) ≡ shown o ++ shown_of facts name some
+    by : (o : Option Assertion) → cons_option o (filter_map (effective facts name) some) ≡ listed o ++ filter_map (effective facts name) some
     by None = refl
-    by (Some a) = elim (not (cancels a.prefix)) as (λ b. cond b (a ∷ shown_of facts name some) (shown_of facts name some) ≡ cond b (a ∷ []) [] ++ shown_of facts name some) [ true ↦ refl | false ↦ refl ]
+    by (Some a) = refl
 
 -- whether a tag is in force on a name
 abbrev pub holds : List Fact → List ℕ → List ℕ → Bool
@@ -118,10 +118,45 @@ has-filtered p (x ∷ xs) q =
     and-false true = refl
     and-false false = refl
 
-pub holders-gathered : (facts : List Fact) (tag : List ℕ) (set : BTreeSet (List ℕ)) → ((q : List ℕ) → in_set set q ≡ has (subjects facts) q) → IsStrictlySortedBy bytes_cmp set.keys
-    → filter (holds facts tag) set.keys ≡ holders facts tag
-holders-gathered facts tag set same rise =
+-- no tag is held outside
+none_holds : (facts : List Fact) → AreTagFacts facts → (tag q : List ℕ) → has (subjects facts) q ≡ false → holds facts tag q ≡ false
+none_holds facts fit tag q none = ap (λ o. is_some (only (λ a. not (cancels a.prefix)) o)) (none_outside facts fit q tag none)
+
+-- the names of rows that hold the tag are its holders
+pub holders-kept : (facts : List Fact) (rows : List Row) (tag : List ℕ) → IsTable facts rows → IsStrictlySortedBy bytes_cmp (map (λ r. r.name) rows) → filter (holds facts tag) (map (λ r. r.name) rows) ≡ holders facts tag
+holders-kept facts rows tag table rise =
     let p = holds facts tag in
-    ascending-from (filter p (subjects facts)) (filter p set.keys)
-    (subst (IsStrictlySortedBy bytes_cmp) (same_names (filter p set.keys)) (rising-filter (λ name. name) p set.keys (subst (IsStrictlySortedBy bytes_cmp) (sym (same_names set.keys)) rise)))
-    (λ q. has-filtered p set.keys q ∙ ap (λ b. b && p q) ((λ i. list_any (λ k. texts_ties q k i) set.keys) ∙ same q) ∙ sym (has-filtered p (subjects facts) q))
+    let names = map (λ r. r.name) rows in
+    ascending-from (filter p (subjects facts)) (filter p names)
+    (subst (IsStrictlySortedBy bytes_cmp) (same_names (filter p names)) (rising-filter (λ name. name) p names (subst (IsStrictlySortedBy bytes_cmp) (sym (same_names names)) rise)))
+    (λ q. has-filtered p names q ∙ same q ∙ sym (has-filtered p (subjects facts) q))
+  where
+    and-false : (b : Bool) → (b && false) ≡ false
+    and-false true = refl
+    and-false false = refl
+
+    same : (q : List ℕ) → (has (map (λ r. r.name) rows) q && holds facts tag q) ≡ (has (subjects facts) q && holds facts tag q)
+    same q = elim (has (subjects facts) q) as (λ b. has (subjects facts) q ≡ b → (has (map (λ r. r.name) rows) q && holds facts tag q) ≡ (b && holds facts tag q)) [
+      | true ↦ λ h. ap (λ b. b && holds facts tag q) (table.all q h)
+      | false ↦ λ h. ap (λ b. has (map (λ r. r.name) rows) q && b) (none_holds facts table.fit tag q h) ∙ and-false (has (map (λ r. r.name) rows) q)
+    ] refl
+
+-- ---- names that get rows
+
+-- a set has the names that a list has
+pub in_keys : (set : BTreeSet (List ℕ)) (xs : List (List ℕ)) → ((q : List ℕ) → in_set set q ≡ has xs q) → (q : List ℕ) → has set.keys q ≡ has xs q
+in_keys set xs same q = (λ i. list_any (λ k. texts_ties q k i) set.keys) ∙ same q
+
+pub or-true : (b : Bool) → (b || true) ≡ true
+or-true true = refl
+or-true false = refl
+
+pub or-false : (b : Bool) → (b || false) ≡ b
+or-false true = refl
+or-false false = refl
+
+-- one name more has its row
+pub settled-next : (before after own rest : Bool) → (before || (own || rest)) ≡ true → (before ≡ true → after ≡ true) → (own ≡ true → after ≡ true) → (after || rest) ≡ true
+settled-next true after own rest h stay settled = ap (λ b. b || rest) (stay refl)
+settled-next false after true rest h stay settled = ap (λ b. b || rest) (settled refl)
+settled-next false after false rest h stay settled = ap (λ b. after || b) h ∙ or-true after

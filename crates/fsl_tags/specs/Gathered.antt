@@ -1,5 +1,5 @@
 -- Sets of tags and of names, and what is kept of a tag.
-use Rattle.std.specs.Prelude.{ℕ, List, [], ◌∷◌, ◌++◌, Bool, false, not, cond, Option, Some, None, map}
+use Rattle.std.specs.Prelude.{ℕ, List, ◌++◌, Bool, false, not, Option, map}
 use Rattle.std.specs.Option.{option_map_or}
 use Rattle.std.specs.BTreeSet.{BTreeSet, contains_by}
 use Rattle.fsl_order.specs.Names.{bytes_cmp}
@@ -19,10 +19,9 @@ asserted facts = map (λ a. a.tag) (assertions facts)
 abbrev pub subjects : List Fact → List (List ℕ)
 subjects facts = map (λ f. f.name) facts ++ map (λ a. a.target) (assertions facts)
 
--- the effective assertion, where there is one that doesn't cancel
-abbrev pub shown : Option Assertion → List Assertion
-shown None = []
-shown (Some a) = cond (not (cancels a.prefix)) (a ∷ []) []
+-- whether it doesn't take the tag away
+abbrev pub puts : Assertion → Bool
+puts a = not (cancels a.prefix)
 
 -- whether there is one that doesn't cancel
 abbrev pub is_shown : Option Assertion → Bool

@@ -1,11 +1,12 @@
 //! The tags that are asserted and the names that can have tags, ascending, and what is in force.
-ghost use Rattle.std.specs.Prelude.{◌≡◌, ◌||◌, ◌++◌, ◌∷◌, [], ℕ, List, OnOk, IfOk, cond, map, true};
+ghost use Rattle.std.specs.Prelude.{◌≡◌, ◌||◌, ◌++◌, ◌∷◌, [], ℕ, List, OnOk, IfOk, cond, filter, map, true};
 ghost use Rattle.std.specs.BTreeMap.{is_at};
 ghost use Rattle.std.specs.Option.{option_copied};
 ghost use Rattle.fsl_order.specs.Names.{has, bytes_cmp};
-ghost use Rattle.fsl_tags.specs.Gathered.{in_set, asserted, subjects, shown, is_shown};
+ghost use Rattle.fsl_tags.specs.Gathered.{in_set, asserted, subjects, puts, is_shown};
 
 use super::order::cancels;
+use super::shared::Shared;
 use super::{Assertion, Fact, copy};
 use fsl_name::Name;
 use fsl_rows::Rows;
@@ -83,21 +84,32 @@ pub fn is_shown(found: Option<&Assertion>) -> bool
     }
 }
 
-/// Puts a copy of an assertion at the end of a list, where there is one and it doesn't take the tag away.
-pub fn append_shown(
+/// Puts a copy of an assertion at the end of a list, where it doesn't take the tag away.
+fn append_shown(
     alloc: Global,
     list: &mut List<Assertion>,
-    found: Option<&Assertion>,
+    assertion: &Assertion,
 ) -> Result<(), Memory>
-    ensures { OnOk result (list.new ≡ list.old ++ shown (option_copied found.entry)) }
+    ensures { OnOk result (list.new ≡ list.old ++ cond (puts assertion.now) (assertion.now ∷ []) []) }
 {
-    match found {
-        Some(assertion) if !cancels(assertion.prefix) => match list.push(copy(alloc, assertion)?) {
-            Ok(()) => Ok(()),
-            Err(_) => Err(Memory),
-        },
-        _ => Ok(()),
+    if cancels(assertion.prefix) {
+        return Ok(());
     }
+    match list.push(copy(alloc, assertion)?) {
+        Ok(()) => Ok(()),
+        Err(_) => Err(Memory),
+    }
+}
+
+/// Copies of those assertions of a row that don't take their tag away. `Memory` is the only error.
+pub fn in_force(alloc: Global, row: &[Shared]) -> Result<List<Assertion>, Memory>
+    ensures { IfOk result (λ list. list ≡ filter puts row.now) }
+{
+    let mut list = List::new(alloc);
+    for shared in row {
+        append_shown(alloc, &mut list, shared.get())?;
+    }
+    Ok(list)
 }
 
 /// Puts a name at the end of a list, where it is wanted.

@@ -2,31 +2,56 @@
 ghost use Rattle.std.specs.Prelude.{◌≡◌, [], IfOk};
 ghost use Rattle.std.specs.Option.{option_copied};
 ghost use Rattle.fsl_order.specs.Rows.{by_name};
+ghost use Rattle.fsl_tags.specs.Kept.{IsTable};
 ghost use Rattle.fsl_tags.specs.Tags as table;
 
-use super::direct::{checkins, direct, parent};
-use super::order::{newer, passed_on};
+use super::direct::checkins;
+use super::index::Index;
+use super::row::Row;
+use super::settle::settle;
 use super::{Assertion, Fact, gathered};
 use fsl_name::Name;
 use fsl_rows::Rows;
 use fsl_text::{List, Memory};
 use std::alloc::Global;
 use std::marker::Model;
+use std::snapshot::Snapshot;
 
 /// The tags of artifacts. Contracts see it as the facts by name.
 #[derive(Drop)]
 pub struct Tags {
-    rows: Rows<Fact>,
+    /// The effective assertions on each name that can have tags.
+    rows: Rows<Row>,
+    /// What the table was built from. It takes no memory.
+    facts: Snapshot<Rows<Fact>>,
 }
 
 impl Model for Tags {
     ghost use Rattle.std.specs.Prelude.{[]};
     ghost use Rattle.fsl_order.specs.Held.{Held};
+    ghost use Rattle.fsl_tags.specs.Kept.{IsTable};
     ghost use Rattle.fsl_tags.specs.declared.Fact.{Fact};
 
     ghost Value = { Held Fact };
 
-    ghost view = { λ t. record { facts = t.rows; spare = [] } };
+    ghost view = { λ t. record { facts = t.facts.value; spare = [] } };
+
+    ghost invariant = { λ t. IsTable t.facts.value t.rows };
+}
+
+/// The rows of the names that can have tags. `Memory` is the only error.
+fn rows_of(alloc: Global, facts: &Rows<Fact>) -> Result<Rows<Row>, Memory>
+    requires { table.AreTagFacts facts.now }
+    ensures { IfOk result (λ rows. IsTable facts.now rows) }
+{
+    let index = Index::build(alloc, facts)?;
+    let most = checkins(facts);
+    let names = gathered::subjects(alloc, facts)?;
+    let mut rows = Rows::new(alloc);
+    for name in names.iter() {
+        settle(alloc, facts, &index, &mut rows, *name, most)?;
+    }
+    Ok(rows)
 }
 
 impl Tags {
@@ -37,8 +62,11 @@ impl Tags {
         ensures facts { IfOk result (λ t. t.facts ≡ by_name (λ f. f.name) facts.now) }
         ensures spare { IfOk result (λ t. t.spare ≡ []) }
     {
+        let facts = Rows::build(alloc, facts)?;
+        let rows = rows_of(alloc, &facts)?;
         Ok(Tags {
-            rows: Rows::build(alloc, facts)?,
+            rows,
+            facts: Snapshot::of(&facts),
         })
     }
 
@@ -48,22 +76,10 @@ impl Tags {
     pub fn effective(&self, name: Name, tag: &[u8]) -> Option<&Assertion>
         ensures { option_copied result ≡ table.effective self.now.facts name tag.now }
     {
-        let own = direct(&self.rows, name, tag);
-        let mut best = own;
-        let mut newest = own;
-        let mut at = name;
-        let mut left = checkins(&self.rows);
-        while left > 0 {
-            let Some(up) = parent(&self.rows, at) else {
-                return best;
-            };
-            let above = direct(&self.rows, up, tag);
-            best = passed_on(best, newest, above);
-            newest = newer(newest, above);
-            at = up;
-            left -= 1;
+        match self.rows.get(name) {
+            Some(row) => row.get(tag),
+            None => None,
         }
-        best
     }
 
     /// The assertions that put tags in force on a name, by rising tag: the effective ones, without those that take the tag away.
@@ -71,23 +87,20 @@ impl Tags {
     pub fn in_force(&self, alloc: Global, name: Name) -> Result<List<Assertion>, Memory>
         ensures { IfOk result (λ list. list ≡ table.in_force self.now.facts name) }
     {
-        let tags = gathered::asserted(alloc, &self.rows)?;
-        let mut list = List::new(alloc);
-        for tag in tags.iter() {
-            gathered::append_shown(alloc, &mut list, self.effective(name, tag.bytes()))?;
+        match self.rows.get(name) {
+            Some(row) => gathered::in_force(alloc, row.assertions.items()),
+            None => Ok(List::new(alloc)),
         }
-        Ok(list)
     }
 
     /// The names on which a tag is in force, ascending. `Memory` is the only error.
     pub fn holders(&self, alloc: Global, tag: &[u8]) -> Result<List<Name>, Memory>
         ensures { IfOk result (λ names. names ≡ table.holders self.now.facts tag.now) }
     {
-        let names = gathered::subjects(alloc, &self.rows)?;
         let mut list = List::new(alloc);
-        for name in names.iter() {
-            let wanted = gathered::is_shown(self.effective(*name, tag));
-            gathered::append_if(wanted, &mut list, *name)?;
+        for row in self.rows.iter() {
+            let wanted = gathered::is_shown(row.get(tag));
+            gathered::append_if(wanted, &mut list, row.name)?;
         }
         Ok(list)
     }

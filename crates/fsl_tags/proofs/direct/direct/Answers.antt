@@ -2,7 +2,8 @@ use Rattle.std.proofs.Common.{◌∙◌, sym, ap}
 use Rattle.std.specs.Option.{option_copied}
 use Rattle.fsl_order.specs.Rows.{greater}
 use Rattle.fsl_tags.specs.Tags.{newer_cmp, direct}
-use Rattle.fsl_tags.proofs.Scans.{newest_on, direct-next}
+use Rattle.fsl_tags.specs.Kept.{newest_on}
+use Rattle.fsl_tags.proofs.Scans.{direct-next}
 use Rattle.fsl_tags.proofs.direct.direct.Goals as goal
 
 pub loop-fact-preserved : goal.loop-fact-preserved

@@ -3,7 +3,8 @@ use Rattle.std.proofs.lemmas.List.{drop_more}
 use Rattle.std.specs.Option.{option_copied}
 use Rattle.fsl_order.specs.Rows.{greater}
 use Rattle.fsl_tags.specs.Tags.{newer_cmp}
-use Rattle.fsl_tags.proofs.Scans.{newest_on, newest_on-next, newest_on-other}
+use Rattle.fsl_tags.specs.Kept.{newest_on}
+use Rattle.fsl_tags.proofs.Scans.{newest_on-next, newest_on-other}
 use Rattle.fsl_tags.proofs.direct.newest_among.Goals.{then-is_on, else-is_on}
 use Rattle.fsl_tags.proofs.direct.newest_among.Goals as goal
 

@@ -2,7 +2,7 @@ use Rattle.std.proofs.Common.{◌≡◌, drop}
 use Rattle.std.specs.Option.{option_copied}
 use Rattle.fsl_order.specs.Rows.{greater}
 use Rattle.fsl_tags.specs.Tags.{newer_cmp}
-use Rattle.fsl_tags.proofs.Scans.{newest_on}
+use Rattle.fsl_tags.specs.Kept.{newest_on}
 use Rattle.fsl_tags.proofs.direct.newest_among.Given as goal
 
 -- with what is left, it is the whole

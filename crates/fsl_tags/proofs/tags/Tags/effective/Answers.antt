@@ -1,22 +1,24 @@
 use Rattle.std.proofs.Common.{◌∙◌, sym, ap}
-use Rattle.std.specs.Option.{option_copied}
-use Rattle.fsl_tags.specs.Tags.{direct, parent, checkins}
-use Rattle.fsl_tags.proofs.Climb.{start, next}
+use Rattle.fsl_tags.specs.Tags.{effective}
+use Rattle.fsl_tags.proofs.RowsOf.{of_tag, tags_row-finds}
+use Rattle.fsl_tags.proofs.Inheriting.{found_row, found_rises}
+use Rattle.fsl_tags.proofs.Reading.{none_there}
 use Rattle.fsl_tags.proofs.tags.Tags.effective.Goals as goal
 
-pub loop-left-init : goal.loop-left-init
-loop-left-init c =
-    let facts = ap (λ h. h.facts) c.self.view_is in
-    start c.args.self.now.facts c.args.tag.now c.args.name (option_copied c.direct-own.result) c.checkins-left.result
-    (c.direct-own.ensures ∙ ap (λ rows. direct rows c.args.name c.args.tag.now) facts) (c.checkins-left.ensures ∙ ap checkins facts)
+pub get-requires-in-Some : goal.get-requires-in-Some
+get-requires-in-Some c = found_rises c.self.inside.facts.value c.self.inside.rows c.self.invariant.right c.args.name c.in-Some.row.now (sym c.in-Some.ensures)
 
-pub loop-left-preserved : goal.loop-left-preserved
-loop-left-preserved c =
-    let facts = ap (λ h. h.facts) c.self.view_is in
-    let up = c.in-Some.up in
-    next c.args.self.now.facts c.args.tag.now c.loop-left.at up c.loop-left.left (option_copied c.loop-left.best) (option_copied c.loop-left.newest) (option_copied c.direct-above.result) (option_copied c.passed_on-best.result) (option_copied c.newer-newest.result)
-    c.loop-left-test.true
-    (ap (λ rows. parent rows c.loop-left.at) (sym facts) ∙ sym c.in-Some.ensures)
-    (c.direct-above.ensures ∙ ap (λ rows. direct rows up c.args.tag.now) facts)
-    c.passed_on-best.ensures c.newer-newest.ensures
-    ∙ c.loop-left.invariant
+pub returns-in-Some : goal.returns-in-Some
+returns-in-Some c =
+    let facts = c.self.inside.facts.value in
+    let name = c.args.name in
+    let tag = c.args.tag.now in
+    c.get-in-Some.ensures
+    ∙ ap (λ row. of_tag row tag) (found_row facts c.self.inside.rows c.self.invariant.right name c.in-Some.row.now (sym c.in-Some.ensures))
+    ∙ tags_row-finds facts name tag
+    ∙ ap (λ h. effective h.facts name tag) c.self.view_is
+
+pub returns-in-None : goal.returns-in-None
+returns-in-None c =
+    sym (none_there c.self.inside.facts.value c.self.inside.rows c.self.invariant c.args.name (sym c.in-None.ensures) c.args.tag.now)
+    ∙ ap (λ h. effective h.facts c.args.name c.args.tag.now) c.self.view_is

@@ -1,10 +1,11 @@
-use Rattle.std.proofs.Common.{◌≡◌, ◌++◌, filter}
+use Rattle.std.proofs.Common.{◌≡◌, ◌++◌, map, filter}
+use Rattle.fsl_tags.specs.Kept.{AreRows}
 use Rattle.fsl_tags.specs.Tags.{holders}
 use Rattle.fsl_tags.proofs.Gathering.{holds}
 use Rattle.fsl_tags.proofs.tags.Tags.holders.Given as goal
 
--- with what is left, it is the whole
-abbrev pub invariant-loop-name : goal.invariant-loop-name
-invariant-loop-name l =
-    (goal.iterator-loop-name).can_next l.name-iterator × (goal.iterator-loop-name).is_finite l.name-iterator
-    × (l.list ++ filter (holds l.self.facts l.tag) l.name-iterator ≡ holders l.self.facts l.tag)
+-- with what is left, it is the whole, and the rows that are left are right
+abbrev pub invariant-loop-row : goal.invariant-loop-row
+invariant-loop-row l =
+    (goal.iterator-loop-row).can_next l.row-iterator × (goal.iterator-loop-row).is_finite l.row-iterator
+    × ((l.list ++ filter (holds l.self.facts l.tag) (map (λ r. r.name) l.row-iterator) ≡ holders l.self.facts l.tag) × AreRows l.self.facts l.row-iterator)
