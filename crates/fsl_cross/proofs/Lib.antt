@@ -1,0 +1,6 @@
+mod WorkedRows
+pub mod Laws
+pub mod Mapped
+pub mod Moved
+pub mod FactLemmas
+pub mod TipLemmas

@@ -1,0 +1,12 @@
+use Rattle.std.proofs.Common.{◌++◌, ◌∷◌, [], sym, ◌∙◌}
+use Rattle.fsl_cross.proofs.FactLemmas.{assertions-next}
+use Rattle.fsl_cross.proofs.facts.tags.assertions_of.Goals as goal
+
+pub loop-place-preserved : goal.loop-place-preserved
+loop-place-preserved c =
+    let date = c.args.date in
+    let source = c.args.source in
+    let i = c.loop-place.place in
+    let card = c.index-cards-place.result in
+    c.in_ok-push.ensures ∙ (λ j. c.loop-place.invariant j ++ c.in_ok-assertion_of.ensures j ∷ [])
+    ∙ sym (assertions-next date source c.args.cards.now i card c.loop-place-test.true c.index-cards-place.is)

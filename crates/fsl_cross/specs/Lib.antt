@@ -1,0 +1,4 @@
+pub mod Facts
+pub mod Checkins
+pub mod Tables
+pub mod Inside

@@ -1,0 +1,36 @@
+//! The facts of parentage: the check-ins with the names of their P cards.
+ghost use Rattle.std.specs.Prelude.{◌≡◌, IfOk};
+ghost use Rattle.fsl_cross.specs.Facts.{links_fact};
+ghost use Rattle.fsl_cross.specs.Checkins.{links_facts};
+
+use super::append;
+use crate::Item;
+use crate::checkin::{copied, manifest};
+use crate::items::Items;
+use fsl_links::Fact;
+use fsl_text::Memory;
+use std::alloc::Global;
+
+/// The fact that an artifact gives, where it is a check-in.
+fn fact_of(alloc: Global, item: &Item) -> Result<Option<Fact>, Memory>
+    ensures { IfOk result (λ fact. fact ≡ links_fact item.now) }
+{
+    let Some(manifest) = manifest(&item.artifact) else {
+        return Ok(None);
+    };
+    Ok(Some(Fact {
+        name: item.name,
+        parents: copied(alloc, manifest.parents.items())?,
+    }))
+}
+
+/// The facts that artifacts give. `Memory` is the only error.
+pub(crate) fn of_items(alloc: Global, items: &Items) -> Result<Vec<Fact>, Memory>
+    ensures { IfOk result (λ facts. facts.items ≡ links_facts items.now) }
+{
+    let mut facts = Vec::new(alloc);
+    for item in items.iter() {
+        append(&mut facts, fact_of(alloc, item)?)?;
+    }
+    Ok(facts)
+}

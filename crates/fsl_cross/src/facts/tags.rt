@@ -1,0 +1,127 @@
+//! The facts of tags: what the T cards of check-ins, control artifacts and technotes say.
+ghost use Rattle.std.specs.Prelude.{◌≡◌, ◌++◌, ◌∷◌, [], IfOk, OnOk, map, filter_map, option_map, unwrap_or};
+ghost use Rattle.std.specs.List.{enumerate_from};
+ghost use Rattle.fsl_cross.specs.Facts.{assertion, tag_cards, tag_prefix_of};
+ghost use Rattle.fsl_cross.specs.Inside.{tags_fact_over};
+
+use super::append;
+use crate::Item;
+use crate::checkin::manifest;
+use crate::items::Items;
+use fsl_artifact::Artifact;
+use fsl_date::Moment;
+use fsl_grammar as grammar;
+use fsl_grammar::TagCard;
+use fsl_links::Links;
+use fsl_name::Name;
+use fsl_tags::{Assertion, Fact, Prefix};
+use fsl_text::{List, Memory, Text};
+use std::alloc::Global;
+
+/// The date and the T cards of an artifact that may have some.
+fn cards(artifact: &Artifact) -> Option<(Moment, &[TagCard])>
+    ensures { option_map (λ c. (c.0, c.1.now)) result ≡ tag_cards artifact.now }
+{
+    match artifact {
+        Artifact::Manifest(manifest) => Some((manifest.date, manifest.tags.items())),
+        Artifact::Control(control) => Some((control.date, control.tags.items())),
+        Artifact::Technote(note) => Some((note.date, note.tags.items())),
+        _ => None,
+    }
+}
+
+/// How a T card sets its tag, as the table has it.
+fn prefix_of(prefix: grammar::Prefix) -> Prefix
+    ensures { result ≡ tag_prefix_of prefix }
+{
+    match prefix {
+        grammar::Prefix::Once => Prefix::Once,
+        grammar::Prefix::Cancel => Prefix::Cancel,
+        grammar::Prefix::Propagate => Prefix::Propagate,
+    }
+}
+
+/// A value, empty where there is none.
+fn value_of(alloc: Global, value: &Option<Text>) -> Result<Text, Memory>
+    ensures { IfOk result (λ text. text ≡ unwrap_or value.now []) }
+{
+    match value {
+        Some(text) => Text::of(alloc, text.bytes()),
+        None => Ok(Text::empty(alloc)),
+    }
+}
+
+/// What the T card at a place of an artifact says. A card without a target is on the artifact itself.
+fn assertion_of(
+    alloc: Global,
+    date: Moment,
+    source: Name,
+    place: u64,
+    card: &TagCard,
+) -> Result<Assertion, Memory>
+    ensures { IfOk result (λ a. a ≡ assertion date source (place, card.now)) }
+{
+    Ok(Assertion {
+        date,
+        source,
+        place,
+        prefix: prefix_of(card.prefix),
+        tag: Text::of(alloc, card.tag.bytes())?,
+        value: value_of(alloc, &card.value)?,
+        target: card.target.unwrap_or(source),
+    })
+}
+
+fn push(list: &mut List<Assertion>, assertion: Assertion) -> Result<(), Memory>
+    ensures { OnOk result (list.new ≡ list.old ++ assertion ∷ []) }
+{
+    match list.push(assertion) {
+        Ok(()) => Ok(()),
+        Err(_) => Err(Memory),
+    }
+}
+
+/// What the T cards of an artifact say, in their order.
+fn assertions_of(
+    alloc: Global,
+    date: Moment,
+    source: Name,
+    cards: &[TagCard],
+) -> Result<List<Assertion>, Memory>
+    ensures { IfOk result (λ list. list ≡ map (assertion date source) (enumerate_from 0 cards.now)) }
+{
+    let mut list = List::new(alloc);
+    for (place, card) in cards.iter().enumerate() {
+        push(
+            &mut list,
+            assertion_of(alloc, date, source, place as u64, card)?,
+        )?;
+    }
+    Ok(list)
+}
+
+/// The fact that an artifact gives, where it may have T cards.
+fn fact_of(alloc: Global, links: &Links, item: &Item) -> Result<Option<Fact>, Memory>
+    ensures { IfOk result (λ fact. fact ≡ tags_fact_over links.now.facts item.now) }
+{
+    let Some((date, cards)) = cards(&item.artifact) else {
+        return Ok(None);
+    };
+    Ok(Some(Fact {
+        name: item.name,
+        checkin: manifest(&item.artifact).is_some(),
+        parent: links.primary(item.name),
+        tags: assertions_of(alloc, date, item.name, cards)?,
+    }))
+}
+
+/// The facts that artifacts give over the table of their parentage. `Memory` is the only error.
+pub(crate) fn of_items(alloc: Global, links: &Links, items: &Items) -> Result<Vec<Fact>, Memory>
+    ensures { IfOk result (λ facts. facts.items ≡ filter_map (tags_fact_over links.now.facts) items.now) }
+{
+    let mut facts = Vec::new(alloc);
+    for item in items.iter() {
+        append(&mut facts, fact_of(alloc, links, item)?)?;
+    }
+    Ok(facts)
+}

@@ -1,0 +1,87 @@
+//! The artifacts of a set, by name.
+ghost use Rattle.std.specs.Prelude.{◌≡◌, ◌∷◌, [], map, OnOk, IfOk};
+ghost use Rattle.std.specs.Option.{option_copied};
+ghost use Rattle.std.specs.Map.Iter.{ShowsInOrder, deref};
+ghost use Rattle.std.specs.List.Sorted.{IsStrictlySortedBy};
+ghost use Rattle.fsl_order.specs.Names.{bytes_cmp};
+ghost use Rattle.fsl_order.specs.Rows.{by_name, named, AreDistinct};
+
+use super::Item;
+use fsl_name::Name;
+use fsl_text::{List, Memory};
+use std::alloc::Global;
+use std::collections::BTreeMap;
+use std::collections::btree_map::Values;
+use std::marker::Model;
+
+/// Artifacts by rising name, one for each name. Contracts see their list.
+#[derive(Drop)]
+pub(crate) struct Items {
+    tree: BTreeMap<Name, Item>,
+}
+
+impl Model for Items {
+    ghost use Rattle.std.specs.Prelude.{List};
+    ghost use Rattle.std.specs.Map.{values_of};
+    ghost use Rattle.fsl_rows.specs.Kept.{IsKept};
+    ghost use Rattle.fsl_cross.specs.declared.Item.{Item};
+
+    ghost Value = { List Item };
+
+    ghost view = { λ s. values_of s.tree.entries };
+
+    ghost invariant = { λ s. IsKept (λ item. item.name) s.tree.entries };
+}
+
+/// Lets a value go.
+fn discard<T: Drop>(_value: T) {}
+
+impl Items {
+    /// No artifacts. Takes no memory.
+    fn new(alloc: Global) -> Items
+        ensures { result ≡ [] }
+    {
+        Items {
+            tree: BTreeMap::new(alloc),
+        }
+    }
+
+    /// Puts an artifact in; it takes the place of the one of its name, where there is one. `Memory` is the only error.
+    fn put(&mut self, item: Item) -> Result<(), Memory>
+        ensures items { OnOk result (self.new ≡ by_name (λ i. i.name) (item ∷ self.old)) }
+        ensures rising { OnOk result (IsStrictlySortedBy bytes_cmp (map (λ i. i.name) self.new)) }
+    {
+        let old = self.tree.insert(item.name, item)?;
+        discard(old);
+        Ok(())
+    }
+
+    /// Some artifacts, of which no two have one name. They are moved. `Memory` is the only error.
+    pub(crate) fn of(alloc: Global, items: List<Item>) -> Result<Items, Memory>
+        requires { AreDistinct (map (λ i. i.name) items) }
+        ensures items { IfOk result (λ set. set ≡ by_name (λ i. i.name) items) }
+        ensures rising { IfOk result (λ set. IsStrictlySortedBy bytes_cmp (map (λ i. i.name) set)) }
+    {
+        let mut left = items.into_vec();
+        let mut set = Items::new(alloc);
+        while let Some(item) = left.pop() {
+            set.put(item)?;
+        }
+        Ok(set)
+    }
+
+    /// The artifacts by rising name.
+    pub(crate) fn iter(&self) -> Values<'_, Name, Item>
+        ensures rest { result ≡ self.now }
+        ensures runs { ShowsInOrder (deref {X = Item}) }
+    {
+        self.tree.values()
+    }
+
+    /// The artifact of a name. None where the set doesn't have it.
+    pub(crate) fn get(&self, name: Name) -> Option<&Item>
+        ensures { option_copied result ≡ named (λ i. i.name) self.now name }
+    {
+        self.tree.get(&name)
+    }
+}

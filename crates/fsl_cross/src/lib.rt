@@ -1,0 +1,48 @@
+//! The derived tables of a set of artifacts. `Tables` builds them from the artifacts, in whatever order these come, and
+//! its answers are those of the definitions over the set.
+#![tactic(auto)]
+
+ghost use Rattle.fsl_cross.specs.Tables.{SameInAnyOrder};
+
+mod checkin;
+mod facts;
+mod items;
+mod tables;
+#[cfg(test)]
+mod tests;
+mod tip;
+
+use fsl_artifact::Artifact;
+use fsl_date::Moment;
+use fsl_name::Name;
+use fsl_text::Text;
+pub use tables::Tables;
+
+/// An artifact of the set.
+#[derive(Drop)]
+pub struct Item {
+    /// Its name.
+    pub name: Name,
+    /// Whether it is private.
+    pub private: bool,
+    /// What its bytes are.
+    pub artifact: Artifact,
+}
+
+/// The values of a check-in: those of its tags where these are in force, else those of its cards.
+#[derive(Drop)]
+pub struct Values {
+    /// The comment.
+    pub comment: Text,
+    /// The user.
+    pub user: Text,
+    /// The date.
+    pub date: Moment,
+    /// The branch, `trunk` where no tag sets it.
+    pub branch: Text,
+}
+
+/// The tables are the same in whatever order the artifacts come.
+pub fn same_in_any_order()
+    ensures { SameInAnyOrder }
+{}

@@ -1,0 +1,126 @@
+//! All tables of a set of artifacts.
+ghost use Rattle.std.specs.Prelude.{◌≡◌, [], All, IfOk, map};
+ghost use Rattle.fsl_order.specs.Rows.{AreDistinct};
+ghost use Rattle.fsl_cross.specs.Checkins as checkins;
+ghost use Rattle.fsl_cross.specs.Tables.{IsItem, item_set, tables};
+
+use super::checkin::manifest;
+use super::items::Items;
+use super::{Item, Values, checkin, facts, tip};
+use fsl_leaves::Leaves;
+use fsl_links::Links;
+use fsl_name::Name;
+use fsl_tags::Tags;
+use fsl_text::{List, Memory, Text};
+use std::alloc::Global;
+use std::marker::Model;
+
+/// The tables of a set of artifacts. Contracts see it as the configured fields of tickets and the artifacts by name.
+#[derive(Drop)]
+pub struct Tables {
+    fields: List<Text>,
+    items: Items,
+    links: Links,
+    tags: Tags,
+    leaves: Leaves,
+}
+
+impl Model for Tables {
+    ghost use Rattle.fsl_cross.specs.Tables.{Seen};
+    ghost use Rattle.fsl_cross.specs.Inside.{AreTablesOf};
+
+    ghost Value = { Seen };
+
+    ghost view = { λ t. record { fields = t.fields; items = t.items } };
+
+    ghost invariant = { λ t. AreTablesOf t.items t.links t.tags t.leaves };
+}
+
+impl Tables {
+    /// The tables of some artifacts, of which no two have one name, and of the configured fields of tickets. They are the
+    /// same in whatever order the artifacts stand. `Memory` is the only error.
+    pub fn build(alloc: Global, fields: &List<Text>, items: List<Item>) -> Result<Tables, Memory>
+        requires names { AreDistinct (map (λ item. item.name) items) }
+        requires kinds { All IsItem items }
+        ensures { IfOk result (λ t. t ≡ record { fields = fields.now; items = item_set items }) }
+    {
+        let items = Items::of(alloc, items)?;
+        let links = Links::build(alloc, &facts::links::of_items(alloc, &items)?)?;
+        let tags = Tags::build(alloc, &facts::tags::of_items(alloc, &links, &items)?)?;
+        let leaves = Leaves::build(alloc, &facts::leaves::of_items(alloc, &tags, &items)?)?;
+        Ok(Tables {
+            fields: copied(alloc, fields.items())?,
+            items,
+            links,
+            tags,
+            leaves,
+        })
+    }
+
+    /// The table of parentage.
+    pub fn links(&self) -> &Links
+        ensures facts { result.now.facts ≡ (tables self.now.fields self.now.items).links }
+        ensures spare { result.now.spare ≡ [] }
+    {
+        &self.links
+    }
+
+    /// The table of tags.
+    pub fn tags(&self) -> &Tags
+        ensures facts { result.now.facts ≡ (tables self.now.fields self.now.items).tags }
+        ensures spare { result.now.spare ≡ [] }
+    {
+        &self.tags
+    }
+
+    /// The table of leaves.
+    pub fn leaves(&self) -> &Leaves
+        ensures facts { result.now.facts ≡ (tables self.now.fields self.now.items).leaves }
+        ensures spare { result.now.spare ≡ [] }
+    {
+        &self.leaves
+    }
+
+    /// The values of a check-in: comment, user, date and branch are those of the tags of these names where these are in force
+    /// on it, a date only where the value is one; else those of its cards, and the branch `trunk`. None where the name is
+    /// no check-in. `Memory` is the only error.
+    pub fn values(&self, alloc: Global, name: Name) -> Result<Option<Values>, Memory>
+        ensures { IfOk result (λ v. v ≡ checkins.values self.now.items name) }
+    {
+        let Some(item) = self.items.get(name) else {
+            return Ok(None);
+        };
+        let Some(manifest) = manifest(&item.artifact) else {
+            return Ok(None);
+        };
+        Ok(Some(checkin::values(alloc, &self.tags, name, manifest)?))
+    }
+
+    /// The tip of a symbolic name: of the check-ins on which the tag of `sym-` and the name is in force, the one with the
+    /// greatest date and, at one date, the greatest name. None where there is none. `Memory` is the only error.
+    pub fn tip(&self, alloc: Global, symbol: &[u8]) -> Result<Option<Name>, Memory>
+        ensures { IfOk result (λ n. n ≡ checkins.tip self.now.items symbol.now) }
+    {
+        let tag = tip::tag_of(alloc, symbol)?;
+        let holders = self.tags.holders(alloc, tag.bytes())?;
+        Ok(tip::latest(&self.items, &self.tags, holders.items()))
+    }
+
+    /// The branch of a check-in: the value of the tag `branch` where it is in force on the name, else `trunk`.
+    pub fn branch(&self, name: Name) -> &[u8]
+        ensures { result.now ≡ checkins.branch self.now.items name }
+    {
+        checkin::branch(&self.tags, name)
+    }
+}
+
+/// Copies of some texts. `Memory` is the only error.
+fn copied(alloc: Global, texts: &[Text]) -> Result<List<Text>, Memory>
+    ensures { IfOk result (λ list. list ≡ texts.now) }
+{
+    let mut list = Vec::new(alloc);
+    for text in texts {
+        list.push(Text::of(alloc, text.bytes())?)?;
+    }
+    Ok(List::from_vec(list))
+}
