@@ -55,7 +55,7 @@ module _ {X : Type 0} (date : X → ℕ) (name : X → List ℕ) where
       later Equal p h = h
       later Greater p h = refl
 
-  distinct-places : (xs : List X) → AreDistinct (map name xs) → IsDistinct (eq_by_cmp dated_cmp) (map place xs)
+  pub distinct-places : (xs : List X) → AreDistinct (map name xs) → IsDistinct (eq_by_cmp dated_cmp) (map place xs)
   unfolding IsDistinct
   distinct-places [] d = tt
   distinct-places (x ∷ xs) d = (apart x xs d.0, distinct-places xs d.1)

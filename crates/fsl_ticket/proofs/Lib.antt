@@ -1,4 +1,5 @@
 mod WorkedRows
 pub mod Filtered
 pub mod Dated
-pub mod Answers
+pub mod Looking
+pub mod Grouping

@@ -5,10 +5,12 @@
 ghost use Rattle.std.specs.Prelude.{◌≡◌, IfOk};
 
 mod cards;
+mod groups;
 mod place;
 #[cfg(test)]
 mod tests;
 mod tickets;
+mod values;
 
 use fsl_date::Moment;
 use fsl_name::Name;

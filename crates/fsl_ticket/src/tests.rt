@@ -1,79 +1,67 @@
-//! A ticket's first change, that of the next day, and that of the day after.
+//! Names are those of one letter each. In rising order the letters are x k q z d f r p e m c a y n b.
 ghost use Rattle.std.specs.Prelude.{◌≡◌, IsTrue, map, not};
 ghost use Rattle.fsl_order.specs.Names.{has};
 ghost use Rattle.fsl_order.specs.Rows.{AreDistinct};
 
 use super::*;
 
+/// A J card: whether to append, the field and the value.
+type Card<'a> = (bool, &'a [u8], &'a [u8]);
+
+/// A change: its letter, its date in milliseconds, the letter of the ticket, and its cards.
+type Row<'a> = (u8, i64, u8, &'a [Card<'a>]);
+
+const FIELDS: [&[u8]; 2] = [b"comment", b"status"];
+
 fn letter(byte: u8) -> Name {
     Name::of(&[byte])
 }
 
-fn card(alloc: Global, append: bool, field: &[u8], value: &[u8]) -> Option<FieldChange> {
-    let (Ok(field), Ok(value)) = (Text::of(alloc, field), Text::of(alloc, value)) else {
-        return None;
-    };
-    Some(FieldChange {
-        append,
-        field,
-        value,
-    })
-}
-
-fn list_of(alloc: Global, words: &[&[u8]]) -> Option<List<Text>> {
+fn texts_of(alloc: Global, words: &[&[u8]]) -> Result<List<Text>, Memory> {
     let mut list = List::new(alloc);
     for word in words {
-        let Ok(text) = Text::of(alloc, word) else {
-            return None;
-        };
-        if list.push(text).is_err() {
-            return None;
+        if list.push(Text::of(alloc, word)?).is_err() {
+            return Err(Memory);
         }
     }
-    Some(list)
+    Ok(list)
 }
 
-/// A change of the ticket `p`, with some cards: whether to append, the field and the value.
-fn change(alloc: Global, name: u8, ms: i64, cards: &[(bool, &[u8], &[u8])]) -> Option<Fact> {
-    let date = Moment::new(ms)?;
-    let mut changes = List::new(alloc);
+fn cards_of(alloc: Global, cards: &[Card]) -> Result<List<FieldChange>, Memory> {
+    let mut list = List::new(alloc);
     for (append, field, value) in cards {
-        if changes.push(card(alloc, *append, field, value)?).is_err() {
-            return None;
+        let card = FieldChange {
+            append: *append,
+            field: Text::of(alloc, field)?,
+            value: Text::of(alloc, value)?,
+        };
+        if list.push(card).is_err() {
+            return Err(Memory);
         }
     }
+    Ok(list)
+}
+
+fn fact_of(alloc: Global, row: &Row) -> Option<Fact> {
+    let Ok(changes) = cards_of(alloc, row.3) else {
+        return None;
+    };
     Some(Fact {
-        name: letter(name),
-        date,
-        id: letter(b'p'),
+        name: letter(row.0),
+        date: Moment::new(row.1)?,
+        id: letter(row.2),
         changes,
     })
 }
 
-fn first(alloc: Global) -> Option<Fact> {
-    change(
-        alloc,
-        b'a',
-        1,
-        &[(false, b"comment", b"hello"), (false, b"status", b"open")],
-    )
-}
-
-fn second(alloc: Global) -> Option<Fact> {
-    change(
-        alloc,
-        b'b',
-        2,
-        &[
-            (true, b"comment", b" world"),
-            (false, b"other", b"x"),
-            (false, b"status", b"closed"),
-        ],
-    )
-}
-
-fn third(alloc: Global) -> Option<Fact> {
-    change(alloc, b'c', 3, &[(false, b"status", b"")])
+fn facts_of(alloc: Global, rows: &[Row]) -> Option<Vec<Fact>> {
+    let mut facts = Vec::new(alloc);
+    for row in rows {
+        if facts.push(fact_of(alloc, row)?).is_err() {
+            return None;
+        }
+    }
+    Some(facts)
 }
 
 fn is_name_of_none(facts: &[Fact], name: &Name) -> bool
@@ -92,46 +80,145 @@ fn are_distinct(facts: &[Fact]) -> bool
     is_name_of_none(rest, &facts[0].name) && are_distinct(rest)
 }
 
-fn table_of(alloc: Global, facts: &[Fact]) -> Option<Tickets> {
-    let configured = list_of(alloc, &[b"comment", b"status"])?;
-    if !are_distinct(facts) {
+fn table_of(alloc: Global, fields: &[&[u8]], rows: &[Row]) -> Option<Tickets> {
+    let facts = facts_of(alloc, rows)?;
+    let Ok(fields) = texts_of(alloc, fields) else {
+        return None;
+    };
+    if !are_distinct(&facts) {
         return None;
     }
-    match Tickets::build(alloc, &configured, facts) {
+    match Tickets::build(alloc, &fields, &facts) {
         Ok(table) => Some(table),
         Err(_) => None,
     }
 }
 
-/// Whether the fields of the ticket `p` have these two values.
-fn are(alloc: Global, table: &Tickets, comment: &[u8], status: &[u8]) -> bool {
-    let Ok(Some(values)) = table.fields(alloc, letter(b'p')) else {
+/// Whether the table of some changes gives the fields of a ticket these values.
+fn gives(alloc: Global, fields: &[&[u8]], rows: &[Row], id: u8, wanted: &[&[u8]]) -> bool {
+    let Some(table) = table_of(alloc, fields, rows) else {
+        return false;
+    };
+    let Ok(Some(values)) = table.fields(alloc, letter(id)) else {
         return false;
     };
     let values = values.items();
-    values.len() == 2 && values[0].bytes() == comment && values[1].bytes() == status
+    values.len() == wanted.len()
+        && values
+            .iter()
+            .zip(wanted.iter())
+            .all(|(value, want)| value.bytes() == *want)
 }
+
+/// Whether the table of some changes knows no ticket of an id.
+fn knows_none(alloc: Global, rows: &[Row], id: u8) -> bool {
+    match table_of(alloc, &FIELDS, rows) {
+        Some(table) => matches!(table.fields(alloc, letter(id)), Ok(None)),
+        None => false,
+    }
+}
+
+const FIRST: Row = (
+    b'a',
+    1,
+    b'p',
+    &[(false, b"comment", b"hello"), (false, b"status", b"open")],
+);
+
+const SECOND: Row = (
+    b'b',
+    2,
+    b'p',
+    &[
+        (true, b"comment", b" world"),
+        (false, b"other", b"x"),
+        (false, b"status", b"closed"),
+    ],
+);
+
+const EMPTIED: Row = (b'c', 3, b'p', &[(false, b"status", b"")]);
+
+const ELSEWHERE: Row = (
+    b'd',
+    2,
+    b'q',
+    &[(true, b"status", b"new"), (true, b"status", b"er")],
+);
 
 #[test]
 fn takes_the_changes_by_date_and_each_field_by_itself(rt: HostRuntime) {
     let alloc = rt.alloc();
-    let (Some(a), Some(b), Some(c)) = (first(alloc), second(alloc), third(alloc)) else {
-        assert!(rt; false);
-        return;
-    };
-    let (Ok(two), Ok(three)) = (vec![in alloc; b, a], vec![in alloc; c]) else {
-        assert!(rt; false);
-        return;
-    };
-    let Some(table) = table_of(alloc, &two) else {
-        assert!(rt; false);
-        return;
-    };
-    assert!(rt; are(alloc, &table, b"hello world", b"closed"));
-    assert!(rt; matches!(table.fields(alloc, letter(b'q')), Ok(None)));
-    let Some(table) = table_of(alloc, &three) else {
-        assert!(rt; false);
-        return;
-    };
-    assert!(rt; are(alloc, &table, b"", b""));
+    assert!(rt; gives(alloc, &FIELDS, &[FIRST], b'p', &[b"hello", b"open"]));
+    assert!(rt;
+        gives(
+            alloc,
+            &FIELDS,
+            &[SECOND, FIRST],
+            b'p',
+            &[b"hello world", b"closed"]
+        )
+    );
+    assert!(rt;
+        gives(
+            alloc,
+            &FIELDS,
+            &[EMPTIED, ELSEWHERE, SECOND, FIRST],
+            b'p',
+            &[b"hello world", b""]
+        )
+    );
+    assert!(rt;
+        gives(
+            alloc,
+            &FIELDS,
+            &[FIRST, SECOND, EMPTIED, ELSEWHERE],
+            b'p',
+            &[b"hello world", b""]
+        )
+    );
+    assert!(rt; gives(alloc, &FIELDS, &[EMPTIED], b'p', &[b"", b""]));
+}
+
+#[test]
+fn each_ticket_has_its_own_changes(rt: HostRuntime) {
+    let alloc = rt.alloc();
+    assert!(rt;
+        gives(
+            alloc,
+            &FIELDS,
+            &[FIRST, ELSEWHERE, SECOND],
+            b'q',
+            &[b"", b"newer"]
+        )
+    );
+    assert!(rt; knows_none(alloc, &[FIRST, ELSEWHERE], b'a'));
+    assert!(rt; knows_none(alloc, &[], b'p'));
+}
+
+#[test]
+fn changes_of_one_date_are_taken_by_name(rt: HostRuntime) {
+    let alloc = rt.alloc();
+    let early: Row = (
+        b'x',
+        5,
+        b'p',
+        &[(true, b"comment", b"1"), (false, b"status", b"early")],
+    );
+    let late: Row = (
+        b'n',
+        5,
+        b'p',
+        &[(true, b"comment", b"2"), (false, b"status", b"late")],
+    );
+    assert!(rt; gives(alloc, &FIELDS, &[late, early], b'p', &[b"12", b"late"]));
+    assert!(rt; gives(alloc, &FIELDS, &[early, late], b'p', &[b"12", b"late"]));
+}
+
+#[test]
+fn the_configured_fields_alone_are_told(rt: HostRuntime) {
+    let alloc = rt.alloc();
+    let twice: [&[u8]; 3] = [b"status", b"comment", b"status"];
+    assert!(rt; gives(alloc, &twice, &[FIRST], b'p', &[b"open", b"hello", b"open"]));
+    assert!(rt; gives(alloc, &[b"closer"], &[FIRST, SECOND], b'p', &[b""]));
+    assert!(rt; gives(alloc, &[], &[FIRST], b'p', &[]));
 }

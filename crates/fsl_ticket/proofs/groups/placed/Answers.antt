@@ -2,7 +2,7 @@ use Rattle.std.proofs.Common.{◌-◌, ◌<◌, ◌∙◌, length, ap, arith}
 use Rattle.std.specs.BTreeMap.{insert_entry}
 use Rattle.fsl_order.specs.Names.{dated_cmp}
 use Rattle.fsl_ticket.proofs.Dated.{placed_next}
-use Rattle.fsl_ticket.proofs.tickets.placed.Goals as goal
+use Rattle.fsl_ticket.proofs.groups.placed.Goals as goal
 
 pub loop-left-preserved : goal.loop-left-preserved
 loop-left-preserved c =

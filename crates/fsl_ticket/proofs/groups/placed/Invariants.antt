@@ -1,6 +1,6 @@
 use Rattle.std.proofs.Common.{◌≡◌, ◌≤◌, drop, length}
 use Rattle.fsl_ticket.proofs.Dated.{placed}
-use Rattle.fsl_ticket.proofs.tickets.placed.Given as goal
+use Rattle.fsl_ticket.proofs.groups.placed.Given as goal
 
 -- the changes behind those that are left are placed
 abbrev pub invariant-loop-left : goal.invariant-loop-left

@@ -1,0 +1,109 @@
+//! What the J cards of a ticket make of its fields.
+ghost use Rattle.std.specs.Prelude.{◌≡◌, ℕ, List, None, IfOk, OnOk, cond, fold, filter, map};
+ghost use Rattle.std.specs.Str.{bytes_eq};
+ghost use Rattle.std.specs.Map.{lookup};
+ghost use Rattle.std.specs.BTreeMap.{is_at};
+ghost use Rattle.fsl_order.specs.Names.{bytes_cmp};
+ghost use Rattle.fsl_ticket.specs.Tickets.{after};
+ghost use Rattle.fsl_ticket.specs.Seen.{value_in, value_from};
+
+use super::{Fact, FieldChange};
+use fsl_text::{List, Memory, Text};
+use std::alloc::Global;
+use std::collections::BTreeMap;
+
+/// What a card makes of the value of its field.
+fn take(alloc: Global, value: &mut Text, card: &FieldChange) -> Result<(), Memory>
+    ensures { OnOk result (value.new ≡ after value.old card.now) }
+{
+    if card.append {
+        value.append(card.value.bytes())?;
+    } else {
+        *value = Text::of(alloc, card.value.bytes())?;
+    }
+    Ok(())
+}
+
+/// Takes the value of a field out, with the field; it is empty where there is none.
+fn take_out(
+    alloc: Global,
+    values: &mut BTreeMap<Text, Text>,
+    field: &Text,
+) -> Result<(Text, Text), Memory>
+    ensures field { IfOk result (λ p. p.0 ≡ field.now) }
+    ensures value { IfOk result (λ p. p.1 ≡ value_in values.old.entries field.now) }
+    ensures others { OnOk result ((q : List ℕ) → lookup (is_at (bytes_cmp q)) values.new.entries ≡ cond (is_at (bytes_cmp field.now) q) None (lookup (is_at (bytes_cmp q)) values.old.entries)) }
+{
+    match values.remove_entry(field) {
+        Some(entry) => Ok(entry),
+        None => Ok((Text::of(alloc, field.bytes())?, Text::empty(alloc))),
+    }
+}
+
+/// Takes a card into the values.
+fn take_card(
+    alloc: Global,
+    values: &mut BTreeMap<Text, Text>,
+    card: &FieldChange,
+) -> Result<(), Memory>
+    ensures { OnOk result ((q : List ℕ) → value_in values.new.entries q ≡ cond (bytes_eq card.now.field q) (after (value_in values.old.entries q) card.now) (value_in values.old.entries q)) }
+{
+    let (field, mut value) = take_out(alloc, values, &card.field)?;
+    take(alloc, &mut value, card)?;
+    match values.insert(field, value) {
+        Ok(_) => Ok(()),
+        Err(_) => Err(Memory),
+    }
+}
+
+/// Takes cards into the values, in their order.
+fn take_all(
+    alloc: Global,
+    values: &mut BTreeMap<Text, Text>,
+    cards: &[FieldChange],
+) -> Result<(), Memory>
+    ensures { OnOk result ((q : List ℕ) → value_in values.new.entries q ≡ fold after (value_in values.old.entries q) (filter (λ card. bytes_eq card.field q) cards.now)) }
+{
+    for card in cards {
+        take_card(alloc, values, card)?;
+    }
+    Ok(())
+}
+
+/// The values that changes give the fields, in their order.
+pub fn of_changes(alloc: Global, changes: &[Fact]) -> Result<BTreeMap<Text, Text>, Memory>
+    ensures { IfOk result (λ values. (q : List ℕ) → value_in values.entries q ≡ value_from changes.now q) }
+{
+    let mut values = BTreeMap::new(alloc);
+    for change in changes {
+        take_all(alloc, &mut values, change.changes.items())?;
+    }
+    Ok(values)
+}
+
+/// The value of a field, empty where there is none.
+fn copied(alloc: Global, values: &BTreeMap<Text, Text>, field: &Text) -> Result<Text, Memory>
+    ensures { IfOk result (λ value. value ≡ value_in values.now.entries field.now) }
+{
+    match values.get(field) {
+        Some(value) => Text::of(alloc, value.bytes()),
+        None => Ok(Text::empty(alloc)),
+    }
+}
+
+/// The values of some fields, in their order.
+pub fn of_fields(
+    alloc: Global,
+    values: &BTreeMap<Text, Text>,
+    fields: &[Text],
+) -> Result<List<Text>, Memory>
+    ensures { IfOk result (λ list. list ≡ map (value_in values.now.entries) fields.now) }
+{
+    let mut list = List::new(alloc);
+    for field in fields {
+        if list.push(copied(alloc, values, field)?).is_err() {
+            return Err(Memory);
+        }
+    }
+    Ok(list)
+}
