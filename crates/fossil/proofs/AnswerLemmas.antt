@@ -1,31 +1,46 @@
 -- What a message comes to, by its files.
-use Rattle.std.proofs.Common.{◌≡◌, ℕ, List, map, Option, Some, None, Result, Ok, Err, IfOk, MatchOption, sym, ap, subst, ◌∙◌, inr}
+use Rattle.std.proofs.Common.{◌≡◌, ℕ, Bool, List, [], ◌++◌, map, Option, Some, None, Result, Ok, Err, IfOk, MatchOption, sym, ap, subst, ◌∙◌, inl, inr, refl}
+use Rattle.std.specs.Prelude.{MatchBool}
+use Rattle.std.specs.Option.{option_map}
 use Rattle.std.specs.List.{AllZip}
+use Rattle.std.proofs.lemmas.List.{append-nil}
 use Rattle.fsl_text.specs.declared.memory.Memory.{Memory}
 use Rattle.fsl_artifact.specs.Kind.{IsKind}
 use Rattle.fsl_cluster.specs.declared.Fact.{Fact}
+use Rattle.fsl_record.specs.declared.Record.{Record}
+use Rattle.fsl_journal.specs.Log.{Log}
+use Rattle.fossil.specs.declared.load.Loaded.{Loaded}
 use Rattle.fossil.specs.declared.message.File.{File}
-use Rattle.fossil.specs.FileLines.{IsFileList}
-use Rattle.fossil.specs.Sets.{Sent, wrong_name, set_of, IsFactOf, report}
-use Rattle.fossil.specs.Outcome.{Outcome, IsTaken, IsReported, IsRead, wrong}
+use Rattle.fossil.specs.declared.refused.Refused.{Refused}
+use Rattle.fossil.specs.FileLines.{IsFileList, IsBadLine}
+use Rattle.fossil.specs.Sets.{Sent, set_of, IsFactOf, report}
+use Rattle.fossil.specs.Ingest.{Outcome, IsTakenBySize, IsReported, IsRead, first_refusal, bad_line, too_long}
+use Rattle.fossil.specs.Put.{put_files, IsPutFiles, IsPutRead}
 use Rattle.fossil.specs.Files.{sent_in}
+use Rattle.fossil.specs.Taking.{refused_as}
+use Rattle.fossil.specs.Acts.{IsInput, IsMessagePut, IsIngestRun, IsPutRun}
+use Rattle.fossil.specs.Run.{Stream}
 
-taken_by : (files : List Sent) (o : Option (List ℕ × List ℕ)) (a : Outcome) → o ≡ wrong_name files → MatchOption o (IsReported IsKind files a) (λ names. a ≡ wrong names) → IsTaken IsKind files a
-taken_by files o a e h = let P : Option (List ℕ × List ℕ) → Type 0 = λ names. MatchOption names (IsReported IsKind files a) (λ names. a ≡ wrong names) in subst P e h
+-- the refusal that was found, of the files that were read
+found_by : (message : List ℕ) (files items : List File) (o p : Option Refused) → items ≡ files → option_map refused_as o ≡ first_refusal (map (sent_in message) items) → o ≡ p
+    → option_map refused_as p ≡ first_refusal (map (sent_in message) files)
+found_by message files items o p same is e = ap (option_map refused_as) (sym e) ∙ is ∙ ap (λ (fs : List File). first_refusal (map (sent_in message) fs)) same
 
-found_by : (message : List ℕ) (files items : List File) (o p : Option (List ℕ × List ℕ)) → items ≡ files → o ≡ wrong_name (map (sent_in message) items) → o ≡ p → p ≡ wrong_name (map (sent_in message) files)
-found_by message files items o p same is e = sym e ∙ is ∙ ap (λ (fs : List File). wrong_name (map (sent_in message) fs)) same
+-- ---- ingest
 
--- the first wrong name is refused
-pub wrong_read : (message : List ℕ) (files items : List File) (o : Option (List ℕ × List ℕ)) (names : List ℕ × List ℕ) (r : Result Outcome Memory) → IsFileList message (map (sent_in message) files) → items ≡ files
-    → o ≡ wrong_name (map (sent_in message) items) → o ≡ Some names → IfOk r (λ a. a ≡ wrong names) → IfOk r (λ a. IsRead IsKind message a)
-wrong_read message files items o names (Ok a) list same is e refused =
-    inr (map (sent_in message) files, list, taken_by (map (sent_in message) files) (Some names) a (found_by message files items o (Some names) same is e) refused)
-wrong_read message files items o names (Err x) list same is e refused = tt
+taken_by : (files : List Sent) (o : Option Outcome) (a : Outcome) → o ≡ first_refusal files → MatchOption o (IsReported IsKind files a) (λ refusal. a ≡ refusal) → IsTakenBySize IsKind files a
+taken_by files o a e h = let P : Option Outcome → Type 0 = λ r. MatchOption r (IsReported IsKind files a) (λ refusal. a ≡ refusal) in subst P e h
+
+-- the first file that isn't taken is refused
+pub refused_read : (message : List ℕ) (files items : List File) (o : Option Refused) (refused : Refused) (r : Result Outcome Memory) → IsFileList message (map (sent_in message) files) → items ≡ files
+    → option_map refused_as o ≡ first_refusal (map (sent_in message) items) → o ≡ Some refused → IfOk r (λ a. a ≡ refused_as refused) → IfOk r (λ a. IsRead IsKind message a)
+refused_read message files items o refused (Ok a) list same is e refusal =
+    inr (map (sent_in message) files, list, taken_by (map (sent_in message) files) (Some (refused_as refused)) a (found_by message files items o (Some refused) same is e) refusal)
+refused_read message files items o refused (Err x) list same is e refusal = tt
 
 -- without one the set is reported
-pub report_read : (message text : List ℕ) (files items placed : List File) (facts seen : List Fact) (o : Option (List ℕ × List ℕ)) → IsFileList message (map (sent_in message) files) → items ≡ files
-    → o ≡ wrong_name (map (sent_in message) items) → o ≡ None → placed ≡ files → AllZip (IsFactOf IsKind) (set_of (map (sent_in message) placed)) facts → seen ≡ facts → text ≡ report seen
+pub report_read : (message text : List ℕ) (files items placed : List File) (facts seen : List Fact) (o : Option Refused) → IsFileList message (map (sent_in message) files) → items ≡ files
+    → option_map refused_as o ≡ first_refusal (map (sent_in message) items) → o ≡ None → placed ≡ files → AllZip (IsFactOf IsKind) (set_of (map (sent_in message) placed)) facts → seen ≡ facts → text ≡ report seen
     → IsRead IsKind message (record { status = 0; text = text })
 report_read message text files items placed facts seen o list same is e here each stay printed =
     let P : List File → Type 0 = λ fs. AllZip (IsFactOf IsKind) (set_of (map (sent_in message) fs)) facts in
@@ -36,3 +51,79 @@ report_read message text files items placed facts seen o list same is e here eac
       taken_by (map (sent_in message) files) None (record { status = 0; text = text }) (found_by message files items o None same is e)
           (facts, subst P here each, λ i. record { status = 0; text = text_is i }),
     )
+
+-- ---- put
+
+abbrev IsPutBy : List Sent → List Record → Outcome → List Record → Option Outcome → Type 0
+IsPutBy files old printed appended o =
+    MatchOption o ((printed ≡ record { status = 0; text = (put_files old files).text }) × (appended ≡ (put_files old files).records))
+    (λ refusal. (printed ≡ refusal) × (appended ≡ []))
+
+put_by : (files : List Sent) (old : List Record) (printed : Outcome) (appended : List Record) (o : Option Outcome) → o ≡ first_refusal files → IsPutBy files old printed appended o → IsPutFiles files old printed appended
+put_by files old printed appended o e h = subst (IsPutBy files old printed appended) e h
+
+-- nothing is appended
+pub none_appended : (log : Log) → log ≡ record log { records = log.records ++ [] }
+none_appended log = λ i. record log { records = sym (append-nil log.records) i }
+
+pub bad_put : (message : List ℕ) (l : Loaded) (n : ℕ) (r : Result Outcome Memory) → IsBadLine message n → IfOk r (λ a. a ≡ bad_line n) → IfOk r (λ a. IsMessagePut message l l a)
+bad_put message l n (Ok a) bad is = record { appended = []; put = inl (n, bad, is, refl); journal = none_appended l.journal }
+bad_put message l n (Err x) bad is = tt
+
+pub refused_put : (message : List ℕ) (l : Loaded) (files items : List File) (o : Option Refused) (refused : Refused) (r : Result Outcome Memory) → IsFileList message (map (sent_in message) files) → items ≡ files
+    → option_map refused_as o ≡ first_refusal (map (sent_in message) items) → o ≡ Some refused → IfOk r (λ a. a ≡ refused_as refused) → IfOk r (λ a. IsMessagePut message l l a)
+refused_put message l files items o refused (Ok a) list same is e refusal = record {
+  appended = [];
+  put = inr (
+    map (sent_in message) files,
+    list,
+    put_by (map (sent_in message) files) l.journal.records a [] (Some (refused_as refused)) (found_by message files items o (Some refused) same is e) (refusal, refl),
+  );
+  journal = none_appended l.journal;
+}
+refused_put message l files items o refused (Err x) list same is e refusal = tt
+
+pub taken_put : (message text : List ℕ) (before after : Loaded) (files items placed : List File) (o : Option Refused) → IsFileList message (map (sent_in message) files) → items ≡ files
+    → option_map refused_as o ≡ first_refusal (map (sent_in message) items) → o ≡ None → placed ≡ files
+    → text ≡ (put_files before.journal.records (map (sent_in message) placed)).text
+    → after.journal ≡ record before.journal { records = before.journal.records ++ (put_files before.journal.records (map (sent_in message) placed)).records }
+    → IsMessagePut message before after (record { status = 0; text = text })
+taken_put message text before after files items placed o list same is e here printed appended = record {
+  appended = (put_files before.journal.records (map (sent_in message) placed)).records;
+  put = inr (
+    map (sent_in message) files,
+    list,
+    put_by (map (sent_in message) files) before.journal.records (record { status = 0; text = text }) (put_files before.journal.records (map (sent_in message) placed)).records None (found_by message files items o None same is e) (
+      λ i. record { status = 0; text = (printed ∙ ap (λ (fs : List File). (put_files before.journal.records (map (sent_in message) fs)).text) here) i },
+      ap (λ (fs : List File). (put_files before.journal.records (map (sent_in message) fs)).records) here,
+    ),
+  );
+  journal = appended;
+}
+
+-- ---- the input of a message
+
+pub ingest_run : (input : Stream) (o : Option (List ℕ)) (message bytes : List ℕ) (a : Outcome) → IsInput input o → o ≡ Some message → bytes ≡ message → IsRead IsKind bytes a → IsIngestRun input a
+ingest_run input o message bytes a is e same read =
+    let whole : IsInput input (Some message) = subst (IsInput input) e is in
+    record {
+      read = message;
+      told = whole.0;
+      ingested = subst (λ (t : Bool). MatchBool t (a ≡ too_long) (IsRead IsKind message a)) (sym whole.2) (subst (λ (b : List ℕ). IsRead IsKind b a) same read);
+      end = λ z. whole.1;
+    }
+
+pub put_run : (input : Stream) (o : Option (List ℕ)) (message bytes : List ℕ) (before after : Loaded) (a : Outcome) → IsInput input o → o ≡ Some message → bytes ≡ message → IsMessagePut bytes before after a
+    → IsPutRun input before after a
+put_run input o message bytes before after a is e same put =
+    let whole : IsInput input (Some message) = subst (IsInput input) e is in
+    record {
+      read = message;
+      appended = put.appended;
+      told = whole.0;
+      put =
+          subst (λ (t : Bool). MatchBool t ((a ≡ too_long) × (put.appended ≡ [])) (IsPutRead message before.journal.records a put.appended)) (sym whole.2)
+          (subst (λ (b : List ℕ). IsPutRead b before.journal.records a put.appended) same put.put);
+      journal = put.journal;
+      end = λ z. whole.1;
+    }

@@ -1,15 +1,29 @@
--- Words and input have one outcome.
+-- Words, an input and a file have one outcome.
 use Rattle.std.proofs.Common.{◌≡◌, ℕ, Bool, true, false, List, [], ◌∷◌, length, ltb, Option, Some, None, refl, sym, ap, subst, ◌∙◌, inl, inr}
 use Rattle.std.specs.Prelude.{◌^◌, MatchBool, MatchOption}
 use Rattle.std.specs.List.{AllZip}
 use Rattle.fsl_artifact.specs.declared.Artifact.{Artifact}
 use Rattle.fsl_artifact.specs.Kind.{IsKind, IsOneAtMost}
 use Rattle.fsl_artifact.proofs.OneKind.{one_artifact}
+use Rattle.fsl_blobs.specs.Fold.{contents}
 use Rattle.fsl_cluster.specs.declared.Fact.{Fact}
-use Rattle.fossil.specs.Words.{is_ingest}
-use Rattle.fossil.specs.Sets.{Sent, wrong_name, set_of, IsFactOf, fact_of, report}
-use Rattle.fossil.specs.Outcome.{Outcome, IsOutcome, IsRead, IsTaken, IsReported, HasOneOutcome, usage, too_long, bad_line, wrong}
+use Rattle.fsl_journal.proofs.Failing.{no_file, one_place}
+use Rattle.fsl_journal.proofs.Unique.{one_file}
+use Rattle.fsl_record.specs.declared.Record.{Record}
+use Rattle.fsl_words.specs.declared.Question.{Question}
+use Rattle.fsl_words.specs.declared.Question.TheVariants as question_of
+use Rattle.fsl_words.specs.declared.Command.{Command}
+use Rattle.fsl_words.specs.declared.Command.TheVariants as command_of
+use Rattle.fsl_words.specs.declared.Words.{Words}
+use Rattle.fsl_words.specs.Grammar.{words_in}
+use Rattle.fossil.specs.Sets.{Sent, set_of, IsFactOf, fact_of, report}
+use Rattle.fossil.specs.Ingest as ingest
+use Rattle.fossil.specs.Put.{put_files, IsPut, IsPutRead, IsPutFiles}
+use Rattle.fossil.specs.Content.{content}
+use Rattle.fossil.specs.Outcome.{Outcome, unchanged, appending, usage, not_repository, answered, IsIngestOfFiles, IsPutOfFiles, IsLoaded, IsCommandOutcome, HasOneOutcome}
 use Rattle.fossil.proofs.OneWayFiles.{one_file_list, one_bad_line, not_both}
+
+-- ---- ingest
 
 module _ (IsWhat : List ℕ → Artifact → Type 0) (one : IsOneAtMost IsWhat) where
   -- an artifact has one fact
@@ -25,37 +39,105 @@ module _ (IsWhat : List ℕ → Artifact → Type 0) (one : IsOneAtMost IsWhat) 
   facts_are (s ∷ held) (x ∷ a) (y ∷ b) h k =
       let first = one_fact s x y h.0 k.0 in let more = facts_are held a b h.1 k.1 in λ i. first i ∷ more i
 
-  abbrev printed : List Fact → Outcome
-  printed facts = record { status = 0; text = report facts }
+  abbrev reported : List Fact → ingest.Outcome
+  reported facts = record { status = 0; text = report facts }
 
-  one_report : (files : List Sent) (a b : Outcome) → IsReported IsWhat files a → IsReported IsWhat files b → a ≡ b
-  one_report files a b h k = h.2 ∙ ap printed (facts_are (set_of files) h.0 k.0 h.1 k.1) ∙ sym k.2
+  one_report : (files : List Sent) (a b : ingest.Outcome) → ingest.IsReported IsWhat files a → ingest.IsReported IsWhat files b → a ≡ b
+  one_report files a b h k = h.2 ∙ ap reported (facts_are (set_of files) h.0 k.0 h.1 k.1) ∙ sym k.2
 
-  one_taken : (files : List Sent) (o : Option (List ℕ × List ℕ)) (a b : Outcome) → MatchOption o (IsReported IsWhat files a) (λ names. a ≡ wrong names) → MatchOption o (IsReported IsWhat files b) (λ names. b ≡ wrong names) → a ≡ b
+  one_taken : (files : List Sent) (o : Option ingest.Outcome) (a b : ingest.Outcome) → MatchOption o (ingest.IsReported IsWhat files a) (λ refusal. a ≡ refusal)
+      → MatchOption o (ingest.IsReported IsWhat files b) (λ refusal. b ≡ refusal) → a ≡ b
   one_taken files None a b h k = one_report files a b h k
-  one_taken files (Some names) a b h k = h ∙ sym k
+  one_taken files (Some refusal) a b h k = h ∙ sym k
 
-  one_read : (input : List ℕ) (a b : Outcome) → IsRead IsWhat input a → IsRead IsWhat input b → a ≡ b
-  one_read input a b (inl h) (inl k) = h.2 ∙ ap bad_line (one_bad_line input h.0 k.0 h.1 k.1) ∙ sym k.2
+  one_read : (input : List ℕ) (a b : ingest.Outcome) → ingest.IsRead IsWhat input a → ingest.IsRead IsWhat input b → a ≡ b
+  one_read input a b (inl h) (inl k) = h.2 ∙ ap ingest.bad_line (one_bad_line input h.0 k.0 h.1 k.1) ∙ sym k.2
   one_read input a b (inl h) (inr k) = absurd (not_both input k.0 h.0 k.1 h.1)
   one_read input a b (inr h) (inl k) = absurd (not_both input h.0 k.0 h.1 k.1)
   one_read input a b (inr h) (inr k) =
       let same = one_file_list input h.0 k.0 h.1 k.1 in
-      one_taken k.0 (wrong_name k.0) a b (subst (λ (files : List Sent). IsTaken IsWhat files a) same h.2) k.2
+      one_taken k.0 (ingest.first_refusal k.0) a b (subst (λ (files : List Sent). ingest.IsTakenBySize IsWhat files a) same h.2) k.2
 
-  by_length : (input : List ℕ) (t : Bool) (a b : Outcome) → MatchBool t (a ≡ too_long) (IsRead IsWhat input a) → MatchBool t (b ≡ too_long) (IsRead IsWhat input b) → a ≡ b
+  by_length : (input : List ℕ) (t : Bool) (a b : ingest.Outcome) → MatchBool t (a ≡ ingest.too_long) (ingest.IsRead IsWhat input a) → MatchBool t (b ≡ ingest.too_long) (ingest.IsRead IsWhat input b) → a ≡ b
   by_length input true a b h k = h ∙ sym k
   by_length input false a b h k = one_read input a b h k
 
-  by_words : (input : List ℕ) (t : Bool) (a b : Outcome) → MatchBool t (MatchBool (ltb (2 ^ 27) (length input)) (a ≡ too_long) (IsRead IsWhat input a)) (a ≡ usage) → MatchBool t (MatchBool (ltb (2 ^ 27) (length input)) (b ≡ too_long) (IsRead IsWhat input b)) (b ≡ usage) → a ≡ b
-  by_words input true a b h k = by_length input (ltb (2 ^ 27) (length input)) a b h k
-  by_words input false a b h k = h ∙ sym k
+  pub one_ingest : (input : List ℕ) (a b : ingest.Outcome) → ingest.IsIngested IsWhat input a → ingest.IsIngested IsWhat input b → a ≡ b
+  one_ingest input a b h k = by_length input (ltb (2 ^ 27) (length input)) a b h k
 
-  outcome_is : (words : List (List ℕ)) (input : List ℕ) (a b : Outcome) → IsOutcome IsWhat words input a → IsOutcome IsWhat words input b → a ≡ b
-  outcome_is words input a b h k = by_words input (is_ingest words) a b h k
+one_ingested : (input : List ℕ) (a b : Outcome) → IsIngestOfFiles input a → IsIngestOfFiles input b → a ≡ b
+one_ingested input a b h k = h.2 ∙ ap unchanged (one_ingest IsKind one_artifact input h.0 k.0 h.1 k.1) ∙ sym k.2
 
-pub one_outcome : (IsWhat : List ℕ → Artifact → Type 0) → HasOneOutcome IsWhat
-one_outcome IsWhat one words input a b h k = outcome_is IsWhat one words input a b h k
+-- ---- put
 
-pub one_outcome_of_kinds : (words : List (List ℕ)) (input : List ℕ) (a b : Outcome) → IsOutcome IsKind words input a → IsOutcome IsKind words input b → a ≡ b
-one_outcome_of_kinds words input a b h k = outcome_is IsKind one_artifact words input a b h k
+-- what is printed and appended
+abbrev Same : ingest.Outcome → ingest.Outcome → List Record → List Record → Type 0
+Same a b xs ys = (a ≡ b) × (xs ≡ ys)
+
+module _ (old : List Record) (a b : ingest.Outcome) (xs ys : List Record) where
+  same_refusal : (refusal : ingest.Outcome) → (a ≡ refusal) × (xs ≡ []) → (b ≡ refusal) × (ys ≡ []) → Same a b xs ys
+  same_refusal refusal h k = (h.0 ∙ sym k.0, h.1 ∙ sym k.1)
+
+  same_files : (files : List Sent) (o : Option ingest.Outcome)
+      → MatchOption o ((a ≡ record { status = 0; text = (put_files old files).text }) × (xs ≡ (put_files old files).records)) (λ refusal. (a ≡ refusal) × (xs ≡ []))
+      → MatchOption o ((b ≡ record { status = 0; text = (put_files old files).text }) × (ys ≡ (put_files old files).records)) (λ refusal. (b ≡ refusal) × (ys ≡ []))
+      → Same a b xs ys
+  same_files files None h k = (h.0 ∙ sym k.0, h.1 ∙ sym k.1)
+  same_files files (Some refusal) h k = same_refusal refusal h k
+
+  same_read : (input : List ℕ) → IsPutRead input old a xs → IsPutRead input old b ys → Same a b xs ys
+  same_read input (inl h) (inl k) = (h.2 ∙ ap ingest.bad_line (one_bad_line input h.0 k.0 h.1 k.1) ∙ sym k.2, h.3 ∙ sym k.3)
+  same_read input (inl h) (inr k) = absurd (not_both input k.0 h.0 k.1 h.1)
+  same_read input (inr h) (inl k) = absurd (not_both input h.0 k.0 h.1 k.1)
+  same_read input (inr h) (inr k) =
+      let same = one_file_list input h.0 k.0 h.1 k.1 in
+      same_files k.0 (ingest.first_refusal k.0) (subst (λ (files : List Sent). IsPutFiles files old a xs) same h.2) k.2
+
+  same_put : (input : List ℕ) (t : Bool) → MatchBool t ((a ≡ ingest.too_long) × (xs ≡ [])) (IsPutRead input old a xs) → MatchBool t ((b ≡ ingest.too_long) × (ys ≡ [])) (IsPutRead input old b ys) → Same a b xs ys
+  same_put input true h k = same_refusal ingest.too_long h k
+  same_put input false h k = same_read input h k
+
+pub one_put : (input : List ℕ) (old : List Record) (a b : ingest.Outcome) (xs ys : List Record) → IsPut input old a xs → IsPut input old b ys → (a ≡ b) × (xs ≡ ys)
+one_put input old a b xs ys h k = same_put old a b xs ys input (ltb (2 ^ 27) (length input)) h k
+
+pub one_put_outcome : (input : List ℕ) (old : List Record) (a b : Outcome) → IsPutOfFiles input old a → IsPutOfFiles input old b → a ≡ b
+one_put_outcome input old a b h k =
+    let same = one_put input old h.0 k.0 h.1 k.1 h.2 k.2 in
+    h.3 ∙ (λ i. appending (same.0 i) (same.1 i)) ∙ sym k.3
+
+-- ---- the file
+
+pub one_loaded : (ByRecords : List Record → Outcome → Type 0) (bytes : List ℕ) → ((old : List Record) (a b : Outcome) → ByRecords old a → ByRecords old b → a ≡ b)
+    → (a b : Outcome) → IsLoaded ByRecords bytes a → IsLoaded ByRecords bytes b → a ≡ b
+one_loaded ByRecords bytes one a b (inl h) (inl k) = h.2 ∙ ap not_repository (one_place bytes h.0 k.0 h.1 k.1) ∙ sym k.2
+one_loaded ByRecords bytes one a b (inl h) (inr k) = absurd (no_file bytes h.0 k.0 h.1 k.1)
+one_loaded ByRecords bytes one a b (inr h) (inl k) = absurd (no_file bytes k.0 h.0 k.1 h.1)
+one_loaded ByRecords bytes one a b (inr h) (inr k) =
+    one k.0 a b (subst (λ (old : List Record). ByRecords old a) (one_file bytes h.0 k.0 h.1 k.1) h.2) k.2
+
+-- ---- a run
+
+one_answer : (question : Question) (input bytes : List ℕ) (a b : Outcome) → IsCommandOutcome (command_of.Ask question) input bytes a → IsCommandOutcome (command_of.Ask question) input bytes b → a ≡ b
+one_answer (question_of.Cat prefix) input bytes a b h k =
+    one_loaded (λ records o. o ≡ answered (content (contents records) prefix)) bytes (λ old x y p q. p ∙ sym q) a b h k
+one_answer (question_of.Timeline count) input bytes a b h k = h ∙ sym k
+one_answer question_of.Leaves input bytes a b h k = h ∙ sym k
+one_answer (question_of.Tags prefix) input bytes a b h k = h ∙ sym k
+one_answer (question_of.Tip symbol) input bytes a b h k = h ∙ sym k
+one_answer (question_of.Files prefix) input bytes a b h k = h ∙ sym k
+one_answer (question_of.Wiki title) input bytes a b h k = h ∙ sym k
+one_answer (question_of.Ticket id) input bytes a b h k = h ∙ sym k
+one_answer (question_of.Thread name) input bytes a b h k = h ∙ sym k
+
+pub one_command_outcome : (command : Command) (input bytes : List ℕ) (a b : Outcome) → IsCommandOutcome command input bytes a → IsCommandOutcome command input bytes b → a ≡ b
+one_command_outcome (command_of.Init project server fields) input bytes a b h k = h ∙ sym k
+one_command_outcome command_of.Ingest input bytes a b h k = one_ingested input a b h k
+one_command_outcome command_of.Put input bytes a b h k = one_loaded (IsPutOfFiles input) bytes (λ old x y p q. one_put_outcome input old x y p q) a b h k
+one_command_outcome (command_of.Ask question) input bytes a b h k = one_answer question input bytes a b h k
+
+by_words : (w : Option Words) (input bytes : List ℕ) (a b : Outcome) → MatchOption w (a ≡ usage) (λ w. IsCommandOutcome w.command input bytes a) → MatchOption w (b ≡ usage) (λ w. IsCommandOutcome w.command input bytes b) → a ≡ b
+by_words None input bytes a b h k = h ∙ sym k
+by_words (Some w) input bytes a b h k = one_command_outcome w.command input bytes a b h k
+
+pub one_outcome : HasOneOutcome
+one_outcome words input bytes a b h k = by_words (words_in words) input bytes a b h k

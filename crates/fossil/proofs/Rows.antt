@@ -12,13 +12,10 @@ use Rattle.fsl_artifact.proofs.PlainRows.{abc, abc-is_plain, empty-is_plain, k2,
 use Rattle.fsl_cluster.specs.declared.Fact.{Fact}
 use Rattle.fossil.specs.Sets.{Sent}
 use Rattle.fossil.specs.FileLines.{Part}
-use Rattle.fossil.specs.Outcome.{Outcome, IsOutcome, usage}
+use Rattle.fossil.specs.Ingest.{Outcome, IsIngested}
 
 abbrev line : List ℕ → List ℕ
 line text = text ++ 10 ∷ []
-
-abbrev words : List (List ℕ)
-words = codes "r" ∷ codes "ingest" ∷ []
 
 abbrev bare : List ℕ → Part
 bare text = record { line = text; content = [] }
@@ -63,7 +60,7 @@ abbrev refused : List ℕ → Outcome
 refused text = record { status = 3; text = text }
 
 -- one file, with a newline behind it
-one_file : IsOutcome IsKind words (line a_line ++ line abc) (printed (line (codes "unclustered a9993e364706816aba3e25717850c26c9cd0d89d")))
+one_file : IsIngested IsKind (line a_line ++ line abc) (printed (line (codes "unclustered a9993e364706816aba3e25717850c26c9cd0d89d")))
 unfolding sha1 digest_bytes hash_after compress rounds schedule first_words encode_with
 one_file =
     inr (
@@ -80,11 +77,11 @@ one_file =
     )
 
 -- no input
-nothing : IsOutcome IsKind words [] (printed [])
+nothing : IsIngested IsKind [] (printed [])
 nothing = inr ([], ([], [], refl, tt, record { one_line = refl; nothing = refl }, refl), ([], tt, refl))
 
 -- two files, in ascending order
-two_files : IsOutcome IsKind words (line e_line ++ line a_line ++ abc) (printed (line (codes "unclustered a9993e364706816aba3e25717850c26c9cd0d89d") ++ line (codes "unclustered da39a3ee5e6b4b0d3255bfef95601890afd80709")))
+two_files : IsIngested IsKind (line e_line ++ line a_line ++ abc) (printed (line (codes "unclustered a9993e364706816aba3e25717850c26c9cd0d89d") ++ line (codes "unclustered da39a3ee5e6b4b0d3255bfef95601890afd80709")))
 unfolding sha1 digest_bytes hash_after compress rounds schedule first_words encode_with
 two_files =
     inr (
@@ -101,7 +98,7 @@ two_files =
     )
 
 -- a name that isn't that of the bytes
-wrong_name : IsOutcome IsKind words (line (codes "file a9993e364706816aba3e25717850c26c9cd0d89e 3") ++ abc) (refused (line (codes "refused: wrong name a9993e364706816aba3e25717850c26c9cd0d89e a9993e364706816aba3e25717850c26c9cd0d89d")))
+wrong_name : IsIngested IsKind (line (codes "file a9993e364706816aba3e25717850c26c9cd0d89e 3") ++ abc) (refused (line (codes "refused: wrong name a9993e364706816aba3e25717850c26c9cd0d89e a9993e364706816aba3e25717850c26c9cd0d89d")))
 unfolding sha1 digest_bytes hash_after compress rounds schedule first_words encode_with
 wrong_name =
     inr (
@@ -118,7 +115,7 @@ wrong_name =
     )
 
 -- a cluster alone, and with its member
-cluster_alone : IsOutcome IsKind words (line k_line ++ k) (printed (line (codes "unclustered b83d9e51e30834ab10d470d62b69619230e5acff") ++ line (codes "wanted a9993e364706816aba3e25717850c26c9cd0d89d")))
+cluster_alone : IsIngested IsKind (line k_line ++ k) (printed (line (codes "unclustered b83d9e51e30834ab10d470d62b69619230e5acff") ++ line (codes "wanted a9993e364706816aba3e25717850c26c9cd0d89d")))
 unfolding sha1 digest_bytes hash_after compress rounds schedule first_words encode_with
 cluster_alone =
     inr (
@@ -127,7 +124,7 @@ cluster_alone =
       (record { name = k_name; private = false; members = a ∷ []; refs = a ∷ [] } ∷ [], ((Cluster k_value, k-is_kind, refl), tt), refl),
     )
 
-cluster_and_member : IsOutcome IsKind words (line a_line ++ abc ++ line k_line ++ k) (printed (line (codes "unclustered b83d9e51e30834ab10d470d62b69619230e5acff")))
+cluster_and_member : IsIngested IsKind (line a_line ++ abc ++ line k_line ++ k) (printed (line (codes "unclustered b83d9e51e30834ab10d470d62b69619230e5acff")))
 unfolding sha1 digest_bytes hash_after compress rounds schedule first_words encode_with
 cluster_and_member =
     inr (
@@ -137,7 +134,7 @@ cluster_and_member =
     )
 
 -- members out of order make plain content
-out_of_order : IsOutcome IsKind words (line k2_line ++ k2) (printed (line (codes "unclustered 331cc7f8a6f7d1e82d168105252ff62dd91646f9")))
+out_of_order : IsIngested IsKind (line k2_line ++ k2) (printed (line (codes "unclustered 331cc7f8a6f7d1e82d168105252ff62dd91646f9")))
 unfolding sha1 digest_bytes hash_after compress rounds schedule first_words encode_with
 out_of_order =
     inr (
@@ -147,16 +144,6 @@ out_of_order =
     )
 
 -- a line that is no file, as long as lines of files alone are read: each other line is bad
-other_card : IsOutcome IsKind words (line (codes "igot a9993e364706816aba3e25717850c26c9cd0d89d")) (refused (line (codes "refused: line 1")))
+other_card : IsIngested IsKind (line (codes "igot a9993e364706816aba3e25717850c26c9cd0d89d")) (refused (line (codes "refused: line 1")))
 unfolding digits
 other_card = inl (1, ([], line (codes "igot a9993e364706816aba3e25717850c26c9cd0d89d"), refl, tt, refl, refl), refl)
-
--- no word at all, and one word
-no_word : IsOutcome IsKind [] [] usage
-no_word = refl
-
-one_word : IsOutcome IsKind (codes "r" ∷ []) [] usage
-one_word = refl
-
-minus : IsOutcome IsKind (codes "-x" ∷ codes "ingest" ∷ []) [] usage
-minus = refl

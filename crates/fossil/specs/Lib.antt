@@ -1,7 +1,11 @@
-pub mod Words
 pub mod FileLines
 pub mod Sets
+pub mod Ingest
+pub mod Put
+pub mod Content
 pub mod Outcome
 pub mod Files
 pub mod Fronts
 pub mod Run
+pub mod Acts
+pub mod Taking

@@ -1,61 +1,89 @@
--- The status and the text of `ingest`, by its words and its input.
-use Rattle.std.specs.Prelude.{◌≡◌, ℕ, ◌^◌, ◌⊎◌, nat_lt, List, [], ◌∷◌, ◌++◌, length, MatchBool, MatchOption, codes, decimal}
-use Rattle.std.specs.List.{AllZip}
-use Rattle.fsl_name.specs.Name.{name_text}
-use Rattle.fsl_artifact.specs.declared.Artifact.{Artifact}
-use Rattle.fsl_artifact.specs.Kind.{IsOneAtMost}
-use Rattle.fsl_cluster.specs.declared.Fact.{Fact}
-use Rattle.fossil.specs.Words.{is_ingest}
-use Rattle.fossil.specs.FileLines.{IsFileList, IsBadLine}
-use Rattle.fossil.specs.Sets.{Sent, wrong_name, set_of, IsFactOf, report}
+-- The outcome of a run: the status, the text, and the commits that the command appends to the file.
+use Rattle.std.specs.Prelude.{◌≡◌, ℕ, ◌==◌, ◌⊎◌, List, [], ◌∷◌, ◌++◌, length, Result, Ok, Err, MatchOption, if◌then◌else◌, codes, decimal}
+use Rattle.fsl_artifact.specs.Kind.{IsKind}
+use Rattle.fsl_record.specs.declared.Record.{Record}
+use Rattle.fsl_record.specs.declared.Record.TheVariants as record_of
+use Rattle.fsl_journal.specs.File.{IsFileOf, FailsAt}
+use Rattle.fsl_blobs.specs.Fold.{contents}
+use Rattle.fsl_words.specs.declared.Question.TheVariants.{Cat}
+use Rattle.fsl_words.specs.declared.Command.{Command}
+use Rattle.fsl_words.specs.declared.Command.TheVariants.{Init, Ingest, Put, Ask}
+use Rattle.fsl_words.specs.Grammar.{words_in}
+use Rattle.fossil.specs.Ingest as ingest
+use Rattle.fossil.specs.Put.{IsPut}
+use Rattle.fossil.specs.Content.{content}
 
--- the status, and the text that is written
+-- the status, the text that is written, and the records that are appended, a list for each commit
 pub record Outcome : Type 0 where
   pub status : ℕ
   pub text : List ℕ
+  pub commits : List (List Record)
+
+-- what a command prints that appends nothing
+abbrev pub unchanged : ingest.Outcome → Outcome
+unchanged printed = record { status = printed.status; text = printed.text; commits = [] }
+
+-- one commit of the records, and none where there is none
+abbrev pub one_commit : List Record → List (List Record)
+one_commit [] = []
+one_commit records = records ∷ []
+
+-- what a command prints that appends these records
+abbrev pub appending : ingest.Outcome → List Record → Outcome
+appending printed records = record { status = printed.status; text = printed.text; commits = one_commit records }
+
+-- what is printed of an outcome
+abbrev pub printed_of : Outcome → ingest.Outcome
+printed_of o = record { status = o.status; text = o.text }
 
 -- words outside the grammar
 abbrev pub usage : Outcome
-usage = record { status = 1; text = codes "usage: fossil REPOSITORY COMMAND [WORDS]" ++ 10 ∷ [] }
+usage = unchanged ingest.usage
 
--- a refusal for a reason
-abbrev pub refused : List ℕ → Outcome
-refused text = record { status = 3; text = codes "refused: " ++ text ++ 10 ∷ [] }
+-- a file that isn't a repository, from the place at which it fails
+abbrev pub not_repository : ℕ → Outcome
+not_repository at = record { status = 2; text = codes "not a repository: " ++ decimal at ++ 10 ∷ []; commits = [] }
 
--- an input of more than 2^27 bytes
-abbrev pub too_long : Outcome
-too_long = refused (codes "input too long")
+-- ---- the commands
 
--- a line that doesn't read, by its number
-abbrev pub bad_line : ℕ → Outcome
-bad_line n = refused (codes "line " ++ decimal n)
+-- a file with bytes is refused; an empty one gets the Config record
+abbrev pub begun : List ℕ → List ℕ → List (List ℕ) → ℕ → Outcome
+begun project server fields len =
+    if len == 0 then appending (record { status = 0; text = [] }) (record_of.Config (record { project = project; server = server; fields = fields }) ∷ [])
+    else unchanged (ingest.refused (codes "file not empty " ++ decimal len))
 
--- a file that was sent under a wrong name, by this and the name of its bytes
-abbrev pub wrong : List ℕ × List ℕ → Outcome
-wrong names = refused (codes "wrong name " ++ name_text names.0 ++ 32 ∷ name_text names.1)
+-- what `ingest` prints
+abbrev pub IsIngestOfFiles : List ℕ → Outcome → Type 0
+IsIngestOfFiles input o = (printed : ingest.Outcome) × ingest.IsIngested IsKind input printed × (o ≡ unchanged printed)
 
--- what an artifact is, is a parameter
-module _ (IsWhat : List ℕ → Artifact → Type 0) where
-  -- the files make a set, and its unclustered and wanted names are printed
-  abbrev pub IsReported : List Sent → Outcome → Type 0
-  IsReported files o =
-      (facts : List Fact) × AllZip (IsFactOf IsWhat) (set_of files) facts × (o ≡ record { status = 0; text = report facts })
+-- what `put` prints and appends
+abbrev pub IsPutOfFiles : List ℕ → List Record → Outcome → Type 0
+IsPutOfFiles input old o = (printed : ingest.Outcome) × (appended : List Record) × IsPut input old printed appended × (o ≡ appending printed appended)
 
-  -- the first file under a wrong name is refused
-  abbrev pub IsTaken : List Sent → Outcome → Type 0
-  IsTaken files o = MatchOption (wrong_name files) (IsReported files o) (λ names. o ≡ wrong names)
+-- the text of a report, or the refusal of its question
+abbrev pub answered : Result (List ℕ) (List ℕ) → Outcome
+answered (Ok text) = unchanged (record { status = 0; text = text })
+answered (Err reason) = unchanged (ingest.refused reason)
 
-  -- the first line that doesn't read is refused
-  abbrev pub IsRead : List ℕ → Outcome → Type 0
-  IsRead input o =
-      ((n : ℕ) × IsBadLine input n × (o ≡ bad_line n)) ⊎ ((files : List Sent) × IsFileList input files × IsTaken files o)
+-- the file stands for records, by which the outcome is told, or the place at which it doesn't is told
+abbrev pub IsLoaded : (List Record → Outcome → Type 0) → List ℕ → Outcome → Type 0
+IsLoaded ByRecords bytes o =
+    ((at : ℕ) × FailsAt bytes at × (o ≡ not_repository at)) ⊎ ((records : List Record) × IsFileOf bytes records × ByRecords records o)
 
-  -- the outcome of `ingest`: the words first, then the length of the input, then its lines, then its names
-  abbrev pub IsOutcome : List (List ℕ) → List ℕ → Outcome → Type 0
-  IsOutcome words input o =
-      MatchBool (is_ingest words) (MatchBool (nat_lt (2 ^ 27) (length input)) (o ≡ too_long) (IsRead input o)) (o ≡ usage)
+-- ---- a run
 
-  -- Law. Words and input have one outcome at most
-  abbrev pub HasOneOutcome : Type 0
-  HasOneOutcome =
-      IsOneAtMost IsWhat → (words : List (List ℕ)) (input : List ℕ) (a b : Outcome) → IsOutcome words input a → IsOutcome words input b → a ≡ b
+-- the outcome of a command over its input and the bytes of the file: `init` looks at their number alone, and `ingest` at none. The reports that aren't there yet are outside the grammar
+abbrev pub IsCommandOutcome : Command → List ℕ → List ℕ → Outcome → Type 0
+IsCommandOutcome (Init project server fields) input bytes o = o ≡ begun project server fields (length bytes)
+IsCommandOutcome Ingest input bytes o = IsIngestOfFiles input o
+IsCommandOutcome Put input bytes o = IsLoaded (IsPutOfFiles input) bytes o
+IsCommandOutcome (Ask (Cat prefix)) input bytes o = IsLoaded (λ records o. o ≡ answered (content (contents records) prefix)) bytes o
+IsCommandOutcome command input bytes o = o ≡ usage
+
+-- the outcome: the words first, then the file, then the input
+abbrev pub IsOutcome : List (List ℕ) → List ℕ → List ℕ → Outcome → Type 0
+IsOutcome words input bytes o = MatchOption (words_in words) (o ≡ usage) (λ w. IsCommandOutcome w.command input bytes o)
+
+-- Law. Words, an input and a file have one outcome at most
+abbrev pub HasOneOutcome : Type 0
+HasOneOutcome = (words : List (List ℕ)) (input bytes : List ℕ) (a b : Outcome) → IsOutcome words input bytes a → IsOutcome words input bytes b → a ≡ b

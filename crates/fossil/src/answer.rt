@@ -1,13 +1,11 @@
-//! What an input comes to.
-ghost use Rattle.std.specs.Prelude.{◌≡◌, ◌++◌, IfOk};
-ghost use Rattle.fsl_artifact.specs.Kind.{IsKind};
-ghost use Rattle.fossil.specs.Outcome.{IsRead, refused, bad_line, wrong};
+//! Answers: a status and the text that is printed.
+ghost use Rattle.std.specs.Prelude.{◌≡◌, ◌++◌, IfOk, codes, decimal};
+ghost use Rattle.fossil.specs.Ingest as ingest;
+ghost use Rattle.fossil.specs.Outcome.{printed_of, not_repository};
+ghost use Rattle.fossil.specs.Taking.{refused_as};
 
-use super::facts::facts_of;
-use super::message::{MessageFault, read_message};
-use super::names::first_wrong;
-use super::report::report_of;
-use super::status::{DONE, REFUSED};
+use super::refused::Refused;
+use super::status::{NOT_REPOSITORY, REFUSED};
 use fsl_name::Name;
 use fsl_text::{Memory, Text};
 use std::alloc::Global;
@@ -21,7 +19,7 @@ pub struct Answer {
 }
 
 impl Model for Answer {
-    ghost use Rattle.fossil.specs.Outcome.{Outcome};
+    ghost use Rattle.fossil.specs.Ingest.{Outcome};
 
     ghost Value = { Outcome };
 
@@ -29,8 +27,8 @@ impl Model for Answer {
 }
 
 /// A refusal for a reason.
-fn refusal(alloc: Global, reason: &[u8]) -> Result<Answer, Memory>
-    ensures { IfOk result (λ a. a ≡ refused reason.now) }
+pub fn refusal(alloc: Global, reason: &[u8]) -> Result<Answer, Memory>
+    ensures { IfOk result (λ a. a ≡ ingest.refused reason.now) }
 {
     let mut text = Text::of(alloc, b"refused: ")?;
     text.append(reason)?;
@@ -41,41 +39,77 @@ fn refusal(alloc: Global, reason: &[u8]) -> Result<Answer, Memory>
     })
 }
 
-/// The refusal of the line with this number.
-fn bad_line(alloc: Global, line: u64) -> Result<Answer, Memory>
-    ensures { IfOk result (λ a. a ≡ bad_line line) }
+/// A refusal for a reason that ends with some bytes.
+pub fn refusal_of(alloc: Global, reason: &[u8], bytes: &[u8]) -> Result<Answer, Memory>
+    ensures { IfOk result (λ a. a ≡ ingest.refused (reason.now ++ bytes.now)) }
 {
-    let number = line.to_string(alloc)?;
-    let mut reason = Text::of(alloc, b"line ")?;
-    reason.append(number.as_bytes())?;
-    refusal(alloc, reason.bytes())
+    let mut whole = Text::of(alloc, reason)?;
+    whole.append(bytes)?;
+    refusal(alloc, whole.bytes())
+}
+
+/// A refusal for a reason that ends with a number.
+pub fn numbered_refusal(alloc: Global, reason: &[u8], number: u64) -> Result<Answer, Memory>
+    ensures { IfOk result (λ a. a ≡ ingest.refused (reason.now ++ decimal number)) }
+{
+    let digits = number.to_string(alloc)?;
+    refusal_of(alloc, reason, digits.as_bytes())
+}
+
+/// The refusal of the line with this number.
+pub fn bad_line(alloc: Global, line: u64) -> Result<Answer, Memory>
+    ensures { IfOk result (λ a. a ≡ ingest.bad_line line) }
+{
+    numbered_refusal(alloc, b"line ", line)
+}
+
+/// The refusal of an input with more than 2^27 bytes.
+pub fn too_long(alloc: Global) -> Result<Answer, Memory>
+    ensures { IfOk result (λ a. a ≡ ingest.too_long) }
+{
+    refusal(alloc, b"input too long")
+}
+
+/// The refusal of a file by its name and its size.
+fn too_large(alloc: Global, name: Name, size: u64) -> Result<Answer, Memory>
+    ensures { IfOk result (λ a. a ≡ ingest.too_large name size) }
+{
+    let mut reason = Text::of(alloc, b"too large ")?;
+    reason.append(name.text().as_slice())?;
+    reason.append(b" ")?;
+    numbered_refusal(alloc, reason.bytes(), size)
 }
 
 /// The refusal of a file by the name that it was sent under and the name of its content.
-fn wrong_name(alloc: Global, names: (Name, Name)) -> Result<Answer, Memory>
-    ensures { IfOk result (λ a. a ≡ wrong names) }
+fn wrong_name(alloc: Global, name: Name, found: Name) -> Result<Answer, Memory>
+    ensures { IfOk result (λ a. a ≡ ingest.wrong (name, found)) }
 {
     let mut reason = Text::of(alloc, b"wrong name ")?;
-    reason.append(names.0.text().as_slice())?;
+    reason.append(name.text().as_slice())?;
     reason.append(b" ")?;
-    reason.append(names.1.text().as_slice())?;
-    refusal(alloc, reason.bytes())
+    refusal_of(alloc, reason.bytes(), found.text().as_slice())
 }
 
-/// What a message comes to: the refusal of its first bad line, or else of its first wrong name, or else the report
-/// on the set of its files.
-pub fn answer_of(alloc: Global, message: &[u8]) -> Result<Answer, Memory>
-    ensures { IfOk result (λ a. IsRead IsKind message.now a) }
+/// The refusal of a file.
+pub fn file_refusal(alloc: Global, refused: Refused) -> Result<Answer, Memory>
+    ensures { IfOk result (λ a. a ≡ refused_as refused) }
 {
-    let files = match read_message(alloc, message) {
-        Ok(files) => files,
-        Err(MessageFault::BadLine { line }) => return bad_line(alloc, line),
-        Err(MessageFault::Memory) => return Err(Memory),
-    };
-    if let Some(names) = first_wrong(message, files.items()) {
-        return wrong_name(alloc, names);
+    match refused {
+        Refused::TooLarge { name, size } => too_large(alloc, name, size),
+        Refused::WrongName { name, found } => wrong_name(alloc, name, found),
     }
-    let facts = facts_of(alloc, message, files.items())?;
-    let text = report_of(alloc, facts.as_slice())?;
-    Ok(Answer { status: DONE, text })
+}
+
+/// A file that isn't a repository, from the place at which it fails to be one.
+pub fn not_repository(alloc: Global, at: u64) -> Result<Answer, Memory>
+    ensures { IfOk result (λ a. a ≡ printed_of (not_repository at)) }
+{
+    let digits = at.to_string(alloc)?;
+    let mut text = Text::of(alloc, b"not a repository: ")?;
+    text.append(digits.as_bytes())?;
+    text.append(b"\n")?;
+    Ok(Answer {
+        status: NOT_REPOSITORY,
+        text,
+    })
 }

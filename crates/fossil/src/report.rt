@@ -9,7 +9,7 @@ use fsl_text::{Memory, Text};
 use std::alloc::Global;
 
 /// Puts a line of a word and a name at the end.
-fn add_line(text: &mut Text, word: &[u8], name: &Name) -> Result<(), Memory>
+pub fn add_line(text: &mut Text, word: &[u8], name: &Name) -> Result<(), Memory>
     ensures { OnOk result (text.new ≡ text.old ++ name_line word.now name.now) }
 {
     text.append(word)?;

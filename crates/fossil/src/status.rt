@@ -1,11 +1,15 @@
 //! The statuses with which the program ends.
 
-/// The report was printed.
+/// All was done, and the report was printed.
 pub const DONE: u8 = 0;
 /// The words are outside the grammar.
 pub const USAGE: u8 = 1;
-/// The input was refused.
+/// The file isn't a repository.
+pub const NOT_REPOSITORY: u8 = 2;
+/// The command or its input was refused.
 pub const REFUSED: u8 = 3;
+/// The repository file couldn't be read or written.
+pub const DISK_FAULT: u8 = 4;
 /// The input couldn't be read.
 pub const INPUT_FAULT: u8 = 5;
 /// The report couldn't be written whole.

@@ -1,0 +1,102 @@
+-- What a public file prints and appends, by what its name is.
+use Rattle.std.proofs.Common.{◌≡◌, ℕ, Bool, true, false, cond, not, List, [], ◌∷◌, ◌++◌, length, Option, Some, None, refl, sym, ap, subst, ◌∙◌}
+use Rattle.std.specs.Prelude.{◌&&◌, ◌||◌, fold, codes}
+use Rattle.std.specs.Option.{option_map, option_map_or}
+use Rattle.std.specs.FinMap as map_of
+use Rattle.std.specs.FinSet as set
+use Rattle.std.proofs.lemmas.Bool.{and_parts}
+use Rattle.fsl_order.specs.Names.{bytes_cmp}
+use Rattle.fsl_order.proofs.Orders.{bytes_cmp-IsTotalOrder}
+use Rattle.fsl_record.specs.declared.Record.{Record}
+use Rattle.fsl_record.specs.declared.Record.TheVariants as record_of
+use Rattle.fsl_blobs.specs.Fold.{Held, Contents, contents, nothing, after, is_new}
+use Rattle.fsl_blobs.specs.Held.{state_of}
+use Rattle.fsl_blobs.specs.Kept.{is_same}
+use Rattle.fsl_blobs.specs.declared.BlobState.{BlobState}
+use Rattle.fsl_blobs.specs.declared.BlobState.TheVariants as blob
+use Rattle.fsl_blobs.proofs.KeptLemmas.{is_same-means, turned, shown, blob-get, publish-get, shun-get}
+use Rattle.fossil.specs.declared.load.Loaded.{Loaded}
+use Rattle.fossil.specs.Sets.{Sent, name_line}
+use Rattle.fossil.specs.Put.{Taken, taken}
+use Rattle.fossil.specs.Taking.{taken_as, IsFileTaken}
+
+-- ---- held names aren't shunned
+
+abbrev IsApart : Contents → Type 0
+IsApart c = (q : List ℕ) → set.contains c.shunned q ≡ true → map_of.get c.held q ≡ None
+
+blob-shunned : (c : Contents) (name : List ℕ) (private : Bool) (bytes : List ℕ) → (after c (record_of.Blob private name bytes)).shunned ≡ c.shunned
+blob-shunned c name private bytes =
+    elim (is_new c name) as (λ b. (cond b (record c { held = map_of.insert c.held name (record { private = private; bytes = bytes }) }) c).shunned ≡ c.shunned) [ true ↦ refl | false ↦ refl ]
+
+publish-shunned : (c : Contents) (name : List ℕ) → (after c (record_of.Publish name)).shunned ≡ c.shunned
+publish-shunned c name =
+    elim (map_of.get c.held name) as (λ o. (option_map_or (λ a. record c { held = map_of.insert c.held name (record a { private = false }) }) o c).shunned ≡ c.shunned) [ None ↦ refl | Some a ↦ refl ]
+
+shun-shunned : (c : Contents) (name q : List ℕ) → set.contains (after c (record_of.Shun name)).shunned q ≡ (is_same name q || set.contains c.shunned q)
+shun-shunned c name q = set.contains-insert bytes_cmp-IsTotalOrder c.shunned name q ∙ ap (λ (b : Bool). b || set.contains c.shunned q) (turned q name)
+
+not_new : (held shunned : Bool) → shunned ≡ true → not (held || shunned) ≡ true → ⊥
+not_new true s e h = cc
+not_new false true e h = cc
+not_new false false e h = cc
+
+apart-after : (c : Contents) (r : Record) → IsApart c → IsApart (after c r)
+apart-after c (record_of.Config config) h = h
+apart-after c (record_of.Blob private name bytes) h = λ q shunned.
+    let was : set.contains c.shunned q ≡ true = sym (ap (λ (s : set.FinSet bytes_cmp). set.contains s q) (blob-shunned c name private bytes)) ∙ shunned in
+    blob-get c name private bytes q
+    ∙ elim (is_same name q && is_new c name) as (λ b. (is_same name q && is_new c name) ≡ b → cond b (Some (record { private = private; bytes = bytes })) (map_of.get c.held q) ≡ None) [
+      | true ↦ λ e.
+          let parts = and_parts (is_same name q) (is_new c name) e in
+          absurd (not_new (map_of.contains_key c.held name) (set.contains c.shunned name) (subst (λ (x : List ℕ). set.contains c.shunned x ≡ true) (sym (is_same-means name q parts.0)) was) parts.1)
+      | false ↦ λ _. h q was
+    ] refl
+apart-after c (record_of.Publish name) h = λ q shunned.
+    let was : set.contains c.shunned q ≡ true = sym (ap (λ (s : set.FinSet bytes_cmp). set.contains s q) (publish-shunned c name)) ∙ shunned in
+    publish-get c name q ∙ ap (option_map (shown name q)) (h q was)
+apart-after c (record_of.Shun name) h = λ q shunned.
+    shun-get c name q
+    ∙ elim (is_same name q) as (λ b. (b || set.contains c.shunned q) ≡ true → cond b None (map_of.get c.held q) ≡ None) [ true ↦ λ _. refl | false ↦ λ e. h q e ] (sym (shun-shunned c name q) ∙ shunned)
+
+apart-fold : (records : List Record) (c : Contents) → IsApart c → IsApart (fold after c records)
+apart-fold [] c h = h
+apart-fold (r ∷ records) c h = apart-fold records (after c r) (apart-after c r h)
+
+apart : (records : List Record) → IsApart (contents records)
+apart records = apart-fold records nothing (λ q shunned. map_of.get-empty bytes_cmp q)
+
+-- ---- one file
+
+abbrev public : List ℕ → List ℕ → Sent
+public name bytes = record { name = name; bytes = bytes; private = false }
+
+taken_by : (name bytes : List ℕ) (shunned : Bool) (o : Option Held) → (shunned ≡ true → o ≡ None)
+    → cond shunned (record { text = name_line (codes "shunned") name; records = [] })
+    (option_map_or
+    (λ held. cond (not held.private || false) (record { text = name_line (codes "present") name; records = [] }) (record { text = name_line (codes "published") name; records = record_of.Publish name ∷ [] }))
+    o (record { text = name_line (codes "stored") name; records = record_of.Blob false name bytes ∷ [] }))
+    ≡ taken_as (option_map_or (λ a. cond a.private (blob.Private (length a.bytes)) (blob.Public (length a.bytes))) o (cond shunned blob.Shunned blob.Absent)) (public name bytes)
+taken_by name bytes true None h = refl
+taken_by name bytes true (Some a) h = absurd (let e = h refl in cc)
+taken_by name bytes false None h = refl
+taken_by name bytes false (Some a) h =
+    elim a.private as (λ p.
+    cond (not p || false) (record { text = name_line (codes "present") name; records = [] }) (record { text = name_line (codes "published") name; records = record_of.Publish name ∷ [] })
+    ≡ taken_as (cond p (blob.Private (length a.bytes)) (blob.Public (length a.bytes))) (public name bytes)) [ true ↦ refl | false ↦ refl ]
+
+taken_is : (records : List Record) (name bytes : List ℕ) → taken (contents records) (public name bytes) ≡ taken_as (state_of (contents records) name) (public name bytes)
+taken_is records name bytes = taken_by name bytes (set.contains (contents records).shunned name) (map_of.get (contents records).held name) (apart records name)
+
+-- a file was taken by what its name was
+pub file_taken : (name bytes : List ℕ) (before after : Loaded) (text_before text_after : List ℕ) (was state : BlobState) → was ≡ state_of (contents before.blobs.records) name → was ≡ state
+    → before.blobs.records ≡ before.journal.records → after.journal ≡ record before.journal { records = before.journal.records ++ (taken_as state (public name bytes)).records }
+    → after.blobs.records ≡ after.journal.records → text_after ≡ text_before ++ (taken_as state (public name bytes)).text → IsFileTaken (public name bytes) before after text_before text_after
+file_taken name bytes before after text_before text_after was state is by same journal blobs text =
+    let e : taken_as state (public name bytes) ≡ taken (contents before.journal.records) (public name bytes) =
+    ap (λ (s : BlobState). taken_as s (public name bytes)) (sym by ∙ is ∙ ap (λ (rs : List Record). state_of (contents rs) name) same) ∙ sym (taken_is before.journal.records name bytes) in
+    record {
+      journal = journal ∙ ap (λ (t : Taken). record before.journal { records = before.journal.records ++ t.records }) e;
+      blobs = blobs;
+      text = text ∙ ap (λ (t : Taken). text_before ++ t.text) e;
+    }

@@ -1,0 +1,82 @@
+-- What a file stands for after it was loaded, or wasn't.
+use Rattle.std.proofs.Common.{◌≡◌, ℕ, List, [], ◌∷◌, ◌++◌, length, take, refl, sym, ap, subst, ◌∙◌, arith, length-append}
+use Rattle.std.proofs.lemmas.List.{append-nil, take_all}
+use Rattle.fsl_record.specs.declared.Record.{Record}
+use Rattle.fsl_record.specs.Records.{AreRecords}
+use Rattle.fsl_disk.specs.Disk.{DiskState, IsModelled, Keeps, LeavesOnly}
+use Rattle.fsl_disk.proofs.Moments.{weaker}
+use Rattle.fsl_journal.specs.File.{IsFileOf}
+use Rattle.fsl_journal.specs.Log.{Log, IsLoaded, IsBetween, StandsBetween, committed}
+use Rattle.fsl_journal.specs.Journal.{Belongs, OfBytes, LoadFailed}
+use Rattle.fsl_journal.specs.declared.LoadFault.{LoadFault}
+use Rattle.fsl_journal.specs.declared.LoadFault.TheVariants as load_fault
+use Rattle.fsl_journal.proofs.Unique.{one_file}
+use Rattle.fossil.specs.declared.load.Loaded.{Loaded}
+use Rattle.fossil.specs.Acts.{KeepsContents, KeepsImages, IsOpened, IsUnopened}
+use Rattle.fossil.proofs.FileLemmas.{some_same}
+
+-- ---- images
+
+nothing_behind : (records a b : List Record) → records ≡ (records ++ a) ++ b → a ≡ []
+nothing_behind records [] b e = refl
+nothing_behind records (x ∷ a) b e = absurd (omega (arith, ap length e, length-append (records ++ x ∷ a) b, length-append records (x ∷ a)))
+
+-- between a list and itself there is no other
+same_between : (old records : List Record) → IsBetween old old records → records ≡ old
+same_between old records between =
+    let more = between.more in
+    let front = between.front in
+    let none = nothing_behind old more.0 front.0 (front.1 ∙ ap (λ (rs : List Record). rs ++ front.0) more.1) in
+    more.1 ∙ ap (λ (rs : List Record). old ++ rs) none ∙ append-nil old
+
+-- what `load` says of each moment
+abbrev KeepsBetween : DiskState → DiskState → Type 0
+KeepsBetween file left =
+    IsModelled file → (low high : List Record) → ((c : List ℕ) → file.images c → StandsBetween low high c) → LeavesOnly file left (StandsBetween low high)
+
+pub images_kept : (file left : DiskState) → KeepsBetween file left → KeepsImages file left
+images_kept file left between modelled old are =
+    weaker file left (StandsBetween old old) (λ c. IsFileOf c old) (λ c h. subst (λ (rs : List Record). IsFileOf c rs) (same_between old h.0 h.2) h.1)
+    (between modelled old old (λ c image. (old, are c image, record { more = ([], sym (append-nil old)); front = ([], sym (append-nil old)) })))
+
+-- ---- a file that was loaded
+
+module _ (file left : DiskState) (log : Log) (records : List Record) (loaded : IsLoaded log records) (stands : OfBytes file (λ bytes. IsFileOf bytes records)) (belongs : Belongs log left) where
+  all_committed : committed log ≡ records
+  all_committed = (λ i. take (loaded.stable i) (loaded.records i)) ∙ take_all (length records) records (omega arith)
+
+  pub contents_kept : KeepsContents file left
+  contents_kept bytes told old are held left_told =
+      let same : records ≡ old = one_file bytes records old (subst (λ (b : List ℕ). IsFileOf b records) (stands.1 bytes told) stands.2) are in
+      subst (λ (rs : List Record). IsFileOf held rs) (all_committed ∙ same) (belongs.reads loaded.runs held left_told).0.file
+
+  pub opened : (l : Loaded) → l.journal ≡ log → l.blobs.records ≡ records → KeepsBetween file left → Keeps file left → left.faults ≡ file.faults → IsOpened file left l
+  opened l same folded between keeps faults = record {
+    is_open = record {
+      runs = ap (λ (j : Log). j.stopped) same ∙ loaded.runs;
+      stable = ap (λ (j : Log). j.stable) same ∙ loaded.stable ∙ ap length (sym (ap (λ (j : Log). j.records) same ∙ loaded.records));
+      fit = subst AreRecords (sym (ap (λ (j : Log). j.records) same ∙ loaded.records)) loaded.fit;
+      same = folded ∙ sym (ap (λ (j : Log). j.records) same ∙ loaded.records);
+    };
+    stands = (stands.0, stands.1, subst (λ (rs : List Record). IsFileOf stands.0 rs) (sym (ap (λ (j : Log). j.records) same ∙ loaded.records)) stands.2);
+    belongs = subst (λ (j : Log). Belongs j left) (sym same) belongs;
+    faults = faults;
+    contents = contents_kept;
+    any_moment = images_kept file left between;
+    keeps = keeps;
+  }
+
+  -- there was no memory for its artifacts
+  pub not_folded : KeepsBetween file left → Keeps file left → IsUnopened file left load_fault.Memory
+  not_folded between keeps = record { cause = tt; contents = λ other. contents_kept; any_moment = images_kept file left between; keeps = keeps }
+
+-- ---- a file that wasn't
+
+same_contents : (file left : DiskState) → left.contents ≡ file.contents → KeepsContents file left
+same_contents file left same bytes told old are held left_told =
+    subst (λ (b : List ℕ). IsFileOf b old) (some_same (sym told ∙ sym same ∙ left_told)) are
+
+pub unopened : (file left : DiskState) (fault : LoadFault) → LoadFailed fault file left → KeepsBetween file left → Keeps file left → IsUnopened file left fault
+unopened file left load_fault.Disk failed between keeps = record { cause = failed; contents = λ other. absurd (other refl); any_moment = images_kept file left between; keeps = keeps }
+unopened file left (load_fault.NotRepository at) failed between keeps = record { cause = failed.1; contents = λ other. same_contents file left failed.0.contents; any_moment = images_kept file left between; keeps = keeps }
+unopened file left load_fault.Memory failed between keeps = record { cause = tt; contents = λ other. same_contents file left failed.contents; any_moment = images_kept file left between; keeps = keeps }

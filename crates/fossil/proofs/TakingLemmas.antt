@@ -1,0 +1,49 @@
+-- Files that are taken one after another.
+use Rattle.std.proofs.Common.{◌≡◌, ℕ, List, [], ◌∷◌, ◌++◌, refl, sym, ap, ◌∙◌, append_assoc}
+use Rattle.std.proofs.lemmas.List.{append-nil}
+use Rattle.fsl_record.specs.declared.Record.{Record}
+use Rattle.fsl_blobs.specs.Fold.{contents}
+use Rattle.fsl_journal.specs.Log.{Log}
+use Rattle.fossil.specs.declared.load.Loaded.{Loaded}
+use Rattle.fossil.specs.Sets.{Sent}
+use Rattle.fossil.specs.Put.{Taken, taken, and_taken, all_taken, put_files}
+use Rattle.fossil.specs.Taking.{AreTaken, IsFileTaken}
+
+-- before the first file
+pub none_taken : (now : Loaded) (all : List Sent) (text : List ℕ) → text ≡ [] → now.blobs.records ≡ now.journal.records → AreTaken now.journal all all now text
+none_taken now all text empty same = record {
+  so_far = record { text = []; records = [] };
+  printed = empty;
+  journal = λ i. record now.journal { records = sym (append-nil now.journal.records) i };
+  blobs = same;
+  rest = refl;
+}
+
+-- one file more
+pub one_taken : (before : Log) (all left rest : List Sent) (f : Sent) (now next : Loaded) (text text_next : List ℕ) → AreTaken before all left now text → left ≡ f ∷ rest → IsFileTaken f now next text text_next
+    → AreTaken before all rest next text_next
+one_taken before all left rest f now next text text_next are split more =
+    let so_far = are.so_far in
+    let here : now.journal.records ≡ before.records ++ so_far.records = ap (λ (j : Log). j.records) are.journal in
+    let t : Taken = taken (contents now.journal.records) f in
+    record {
+      so_far = and_taken so_far t;
+      printed = more.text ∙ ap (λ (b : List ℕ). b ++ t.text) are.printed;
+      journal =
+          more.journal ∙ ap (λ (j : Log). record j { records = j.records ++ t.records }) are.journal
+          ∙ ap (λ (rs : List Record). record before { records = rs }) (append_assoc before.records so_far.records t.records);
+      blobs = more.blobs;
+      rest =
+          ap (λ (rs : List Record). all_taken before.records (and_taken so_far (taken (contents rs) f)) rest) here
+          ∙ sym (ap (all_taken before.records so_far) split) ∙ are.rest;
+    }
+
+-- after the last
+pub all_text : (before : Log) (all left : List Sent) (now : Loaded) (text : List ℕ) → AreTaken before all left now text → left ≡ [] → text ≡ (put_files before.records all).text
+all_text before all left now text are none =
+    are.printed ∙ ap (λ (t : Taken). t.text) (sym (ap (all_taken before.records are.so_far) none) ∙ are.rest)
+
+pub all_journal : (before : Log) (all left : List Sent) (now : Loaded) (text : List ℕ) → AreTaken before all left now text → left ≡ []
+    → now.journal ≡ record before { records = before.records ++ (put_files before.records all).records }
+all_journal before all left now text are none =
+    are.journal ∙ ap (λ (t : Taken). record before { records = before.records ++ t.records }) (sym (ap (all_taken before.records are.so_far) none) ∙ are.rest)

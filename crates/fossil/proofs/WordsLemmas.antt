@@ -1,0 +1,124 @@
+-- What words say, as a command that can be obeyed.
+use Rattle.std.proofs.Common.{◌≡◌, ℕ, ◌≤◌, Bool, true, false, not, cond, List, [], ◌∷◌, length, Option, Some, None, refl, sym, subst, arith}
+use Rattle.std.specs.Prelude.{◌&&◌, ◌||◌, nat_le, IfSome, MatchOption, option_and_then, codes}
+use Rattle.std.specs.Option.{option_map, option_map_or}
+use Rattle.std.specs.List.{IsDistinct, AllByRecursion, list_any, list_all}
+use Rattle.std.specs.Str.{bytes_eq}
+use Rattle.std.proofs.lemmas.Bool.{and_parts}
+use Rattle.fsl_order.specs.Names.{has}
+use Rattle.fsl_name.specs.Name.{name_in}
+use Rattle.fsl_record.specs.Records.{is_field, AreFields}
+use Rattle.fsl_words.specs.declared.Question.{Question}
+use Rattle.fsl_words.specs.declared.Command.{Command}
+use Rattle.fsl_words.specs.declared.Command.TheVariants as command_of
+use Rattle.fsl_words.specs.declared.Words.{Words}
+use Rattle.fsl_words.specs.Grammar.{words_in, parts_in, command_in, plain_command, question_in, init_command, fields_in, are_fields, all_differ, is_word}
+use Rattle.fsl_disk.specs.Disk.{DiskState}
+use Rattle.fossil.specs.Outcome.{Outcome, IsOutcome, IsCommandOutcome, usage}
+use Rattle.fossil.specs.Run.{Stream, command_reads, command_begins, reads_input, begins_empty}
+use Rattle.fossil.specs.Acts.{IsObeyable, Runs}
+
+-- ---- fields
+
+neither : (a b : Bool) → (a || b) ≡ false → (a ≡ false) × (b ≡ false)
+neither true b e = absurd (cc)
+neither false b e = (refl, e)
+
+not_true : (b : Bool) → not b ≡ true → b ≡ false
+not_true true e = absurd (cc)
+not_true false e = refl
+
+none_equal : (word : List ℕ) (words : List (List ℕ)) → list_any (bytes_eq word) words ≡ false → AllByRecursion (λ w. bytes_eq word w ≡ false) words
+none_equal word [] e = tt
+none_equal word (w ∷ words) e = let parts = neither (bytes_eq word w) (list_any (bytes_eq word) words) e in (parts.0, none_equal word words parts.1)
+
+distinct : (words : List (List ℕ)) → all_differ words ≡ true → IsDistinct bytes_eq words
+unfolding IsDistinct
+distinct [] e = tt
+distinct (word ∷ words) e =
+    let parts = and_parts (not (has words word)) (all_differ words) e in
+    (none_equal word words (not_true (has words word) parts.0), distinct words parts.1)
+
+few : (n : ℕ) → nat_le n 256 ≡ true → n ≤ 256
+few n e = grind (arith)
+
+fields_fit : (fields : List (List ℕ)) → are_fields fields ≡ true → AreFields fields
+fields_fit fields e =
+    let parts = and_parts (list_all is_field fields && all_differ fields) (nat_le (length fields) 256) e in
+    let more = and_parts (list_all is_field fields) (all_differ fields) parts.0 in
+    record { few = few (length fields) parts.1; formed = more.0; differ = distinct fields more.1 }
+
+-- ---- commands
+
+abbrev Obeyed : Option Command → Type 0
+Obeyed o = IfSome o IsObeyable
+
+fields_by : (project server : List ℕ) (fields : List (List ℕ)) (fit : Bool) → are_fields fields ≡ fit → Obeyed (option_map (command_of.Init project server) (cond fit (Some fields) None))
+fields_by project server fields true e = fields_fit fields e
+fields_by project server fields false e = tt
+
+server_by : (project : List ℕ) (fields : List (List ℕ)) (server : Option (List ℕ)) → Obeyed (option_and_then (λ s. option_map (command_of.Init project s) (fields_in fields)) server)
+server_by project fields None = tt
+server_by project fields (Some server) = fields_by project server fields (are_fields fields) refl
+
+project_by : (server : List ℕ) (fields : List (List ℕ)) (project : Option (List ℕ)) → Obeyed (option_and_then (λ p. option_and_then (λ s. option_map (command_of.Init p s) (fields_in fields)) (name_in server)) project)
+project_by server fields None = tt
+project_by server fields (Some project) = server_by project fields (name_in server)
+
+init_obeyed : (words : List (List ℕ)) → Obeyed (init_command words)
+init_obeyed [] = tt
+init_obeyed (project ∷ []) = tt
+init_obeyed (project ∷ server ∷ fields) = project_by server fields (name_in project)
+
+bare_by : (ingest put leaves : Bool) (a b c : Command) → IsObeyable a → IsObeyable b → IsObeyable c → Obeyed (cond ingest (Some a) (cond put (Some b) (cond leaves (Some c) None)))
+bare_by true put leaves a b c h k l = h
+bare_by false true leaves a b c h k l = k
+bare_by false false true a b c h k l = l
+bare_by false false false a b c h k l = tt
+
+asked : (o : Option Question) → Obeyed (option_map command_of.Ask o)
+asked None = tt
+asked (Some question) = tt
+
+plain_obeyed : (command : List ℕ) (words : List (List ℕ)) → Obeyed (plain_command command words)
+plain_obeyed command [] = bare_by (bytes_eq command (codes "ingest")) (bytes_eq command (codes "put")) (bytes_eq command (codes "leaves")) _ _ _ tt tt tt
+plain_obeyed command (word ∷ []) = asked (question_in command word)
+plain_obeyed command (word ∷ other ∷ words) = tt
+
+command_by : (init : Bool) (a b : Option Command) → Obeyed a → Obeyed b → Obeyed (cond init a b)
+command_by true a b h k = h
+command_by false a b h k = k
+
+named_by : (repository : List ℕ) (o : Option Command) → Obeyed o → IfSome {T = Words} (option_map (λ c. record { repository = repository; command = c }) o) (λ w. IsObeyable w.command)
+named_by repository None h = tt
+named_by repository (Some command) h = h
+
+parts_obeyed : (words : List (List ℕ)) → IfSome (parts_in words) (λ w. IsObeyable w.command)
+parts_obeyed [] = tt
+parts_obeyed (repository ∷ []) = tt
+parts_obeyed (repository ∷ command ∷ words) =
+    named_by repository (command_in command words)
+    (command_by (bytes_eq command (codes "init")) (init_command words) (plain_command command words) (init_obeyed words) (plain_obeyed command words))
+
+words_by : (fit : Bool) (o : Option Words) → IfSome o (λ w. IsObeyable w.command) → IfSome (cond fit o None) (λ w. IsObeyable w.command)
+words_by true o h = h
+words_by false o h = tt
+
+-- each command that words say can be obeyed
+pub obeyable : (words : List (List ℕ)) (w : Words) → words_in words ≡ Some w → IsObeyable w.command
+obeyable words w e = subst (λ (o : Option Words). IfSome o (λ w. IsObeyable w.command)) e (words_by (list_all is_word words) (parts_in words) (parts_obeyed words))
+
+-- ---- runs
+
+-- what the command does, the words do
+pub words_run : (words : List (List ℕ)) (w : Words) (input out : Stream) (file left : DiskState) (status : ℕ) → words_in words ≡ Some w
+    → Runs (IsCommandOutcome w.command) (command_reads w.command) (command_begins w.command) input out file left status → Runs (IsOutcome words) (reads_input words) (begins_empty words) input out file left status
+words_run words w input out file left status e h =
+    subst (λ (o : Option Words).
+    Runs (λ read bytes x. MatchOption o (x ≡ usage) (λ w. IsCommandOutcome w.command read bytes x)) (option_map_or (λ w. command_reads w.command) o false) (option_map_or (λ w. command_begins w.command) o false) input out file left status) (sym e) h
+
+pub usage_is : (words : List (List ℕ)) → words_in words ≡ None → (read bytes : List ℕ) → IsOutcome words read bytes usage
+usage_is words e read bytes = subst (λ (o : Option Words). MatchOption o (usage ≡ usage) (λ w. IsCommandOutcome w.command read bytes usage)) (sym e) refl
+
+pub usage_alone : (words : List (List ℕ)) → words_in words ≡ None → (read bytes : List ℕ) (x : Outcome) → IsOutcome words read bytes x → x ≡ usage
+usage_alone words e read bytes x h = subst (λ (o : Option Words). MatchOption o (x ≡ usage) (λ w. IsCommandOutcome w.command read bytes x)) e h

@@ -1,0 +1,46 @@
+-- How files are taken one after another.
+use Rattle.std.specs.Prelude.{◌≡◌, ℕ, List, [], ◌∷◌, ◌++◌, false, codes}
+use Rattle.fsl_record.specs.declared.Record.TheVariants as record_of
+use Rattle.fsl_record.specs.Records.{IsWritable}
+use Rattle.fsl_blobs.specs.declared.BlobState.{BlobState}
+use Rattle.fsl_blobs.specs.declared.BlobState.TheVariants as blob
+use Rattle.fsl_blobs.specs.Fold.{contents}
+use Rattle.fsl_journal.specs.Log.{Log}
+use Rattle.fossil.specs.declared.load.Loaded.{Loaded}
+use Rattle.fossil.specs.declared.message.File.{File}
+use Rattle.fossil.specs.declared.refused.Refused.{Refused}
+use Rattle.fossil.specs.declared.refused.Refused.TheVariants.{TooLarge, WrongName}
+use Rattle.fossil.specs.Files.{sent_in}
+use Rattle.fossil.specs.Sets.{Sent, name_line}
+use Rattle.fossil.specs.Ingest as ingest
+use Rattle.fossil.specs.Put.{Taken, taken, all_taken, put_files}
+
+-- the refusal of a file
+abbrev pub refused_as : Refused → ingest.Outcome
+refused_as (TooLarge name size) = ingest.too_large name size
+refused_as (WrongName name found) = ingest.wrong (name, found)
+
+-- a file that a record may hold
+abbrev pub IsSound : List ℕ → File → Type 0
+IsSound message file = IsWritable (record_of.Blob false file.name (sent_in message file).bytes)
+
+-- what a public file prints and appends, by what its name is
+abbrev pub taken_as : BlobState → Sent → Taken
+taken_as (blob.Public size) f = record { text = name_line (codes "present") f.name; records = [] }
+taken_as (blob.Private size) f = record { text = name_line (codes "published") f.name; records = record_of.Publish f.name ∷ [] }
+taken_as blob.Shunned f = record { text = name_line (codes "shunned") f.name; records = [] }
+taken_as blob.Absent f = record { text = name_line (codes "stored") f.name; records = record_of.Blob f.private f.name f.bytes ∷ [] }
+
+-- one file was taken
+pub record IsFileTaken (f : Sent) (before after : Loaded) (text_before text_after : List ℕ) : Type 0 where
+  pub journal : after.journal ≡ record before.journal { records = before.journal.records ++ (taken (contents before.journal.records) f).records }
+  pub blobs : after.blobs.records ≡ after.journal.records
+  pub text : text_after ≡ text_before ++ (taken (contents before.journal.records) f).text
+
+-- files were taken, and these are left of all
+pub record AreTaken (before : Log) (all left : List Sent) (now : Loaded) (text : List ℕ) : Type 0 where
+  pub so_far : Taken
+  pub printed : text ≡ so_far.text
+  pub journal : now.journal ≡ record before { records = before.records ++ so_far.records }
+  pub blobs : now.blobs.records ≡ now.journal.records
+  pub rest : all_taken before.records so_far left ≡ put_files before.records all

@@ -1,0 +1,24 @@
+//! The commands that ask the repository.
+ghost use Rattle.std.specs.Prelude.{◌≡◌, false};
+ghost use Rattle.fsl_words.specs.declared.Command.TheVariants as command_of;
+ghost use Rattle.fossil.specs.Outcome.{IsCommandOutcome};
+ghost use Rattle.fossil.specs.Run.{Stream, command_opens, stream};
+ghost use Rattle.fossil.specs.Acts.{Runs};
+
+use super::cat::cat;
+use super::say::say_usage;
+use fsl_disk::Disk;
+use fsl_outside::Sink;
+use fsl_words::Question;
+use std::alloc::Global;
+
+/// Prints the report on a question. A report that isn't there yet is no command.
+pub fn ask<K: Sink, D: Disk>(alloc: Global, question: &Question, out: &mut K, disk: &mut D) -> u8
+    ensures runs { (input : Stream) → Runs (IsCommandOutcome (command_of.Ask question.now)) false false input (stream (K.taken out.old) (K.taken out.new) (K.fault_count out.old) (K.fault_count out.new)) (D.state disk.old) (D.state disk.new) result }
+    ensures untouched { command_opens (command_of.Ask question.now) ≡ false → disk.new ≡ disk.old }
+{
+    match question {
+        Question::Cat { prefix } => cat(alloc, prefix.bytes(), out, disk),
+        _ => say_usage(out),
+    }
+}

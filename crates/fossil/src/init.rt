@@ -1,0 +1,31 @@
+//! `init`: makes a new repository.
+ghost use Rattle.std.specs.Prelude.{ℕ, List, length, false, true, ◌≡◌};
+ghost use Rattle.fsl_record.specs.Records.{AreFields};
+ghost use Rattle.fossil.specs.Outcome.{Outcome, begun};
+ghost use Rattle.fossil.specs.Run.{Stream};
+ghost use Rattle.fossil.specs.Acts.{Acts};
+
+use super::answer::{Answer, numbered_refusal};
+use super::fault::Fault;
+use super::status::DONE;
+use fsl_disk::Disk;
+use fsl_journal::{CreateFault, create};
+use fsl_record::Config;
+use fsl_text::Text;
+use std::alloc::Global;
+
+/// Writes a new repository with this Config into an empty file. A file that isn't empty is refused.
+pub fn init<D: Disk>(alloc: Global, config: &Config, disk: &mut D) -> Result<Answer, Fault>
+    requires { AreFields config.now.fields }
+    ensures { (input : Stream) → Acts (λ read bytes o. o ≡ begun config.now.project config.now.server config.now.fields (length bytes)) false true input (D.state disk.old) (D.state disk.new) result }
+{
+    match create(alloc, disk, config) {
+        Ok(()) => Ok(Answer {
+            status: DONE,
+            text: Text::empty(alloc),
+        }),
+        Err(CreateFault::NotEmpty { len }) => Ok(numbered_refusal(alloc, b"file not empty ", len)?),
+        Err(CreateFault::Disk) => Err(Fault::Disk),
+        Err(CreateFault::Memory) => Err(Fault::Memory),
+    }
+}

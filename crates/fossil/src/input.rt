@@ -1,0 +1,24 @@
+//! Reads the input.
+ghost use Rattle.std.specs.Prelude.{IfOk, IfErr};
+ghost use Rattle.fossil.specs.Run.{stream};
+ghost use Rattle.fossil.specs.Acts.{IsInput, IsUnread};
+
+use super::fault::Fault;
+use fsl_outside::{ReadFault, Source, read_whole};
+use fsl_text::Text;
+use std::alloc::Global;
+
+/// The most bytes that an input has.
+const LIMIT: usize = 1 << 27;
+
+/// Reads the input to its end, or gives `None` where it is too long.
+pub fn read_input<S: Source>(alloc: Global, input: &mut S) -> Result<Option<Text>, Fault>
+    ensures ok { IfOk result (IsInput (stream (S.left input.old) (S.left input.new) (S.fault_count input.old) (S.fault_count input.new))) }
+    ensures err { IfErr result (λ fault. IsUnread fault (stream (S.left input.old) (S.left input.new) (S.fault_count input.old) (S.fault_count input.new))) }
+{
+    match read_whole(alloc, input, LIMIT) {
+        Ok(message) => Ok(message),
+        Err(ReadFault::Failed) => Err(Fault::Input),
+        Err(ReadFault::Memory) => Err(Fault::Memory),
+    }
+}

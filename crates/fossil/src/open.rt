@@ -1,0 +1,22 @@
+//! Opens the repository file.
+use fsl_disk::FileDisk;
+use fsl_words::Command;
+use std::fs::OpenOptions;
+
+/// The disk of a command: that of the file at this path, which is made for `init` alone where it is missing. Each call
+/// of the disk fails where the file can't be opened, and for `ingest`, which opens none.
+pub fn open(rt: &HostRuntime, path: &str, command: &Command) -> FileDisk {
+    let mut options = OpenOptions::new();
+    options.read(true).write(true);
+    match command {
+        Command::Ingest => return FileDisk::none(),
+        Command::Init { .. } => {
+            options.create(true);
+        }
+        Command::Put | Command::Ask(_) => {}
+    }
+    match options.open(rt, path) {
+        Ok(file) => FileDisk::over(file),
+        Err(_) => FileDisk::none(),
+    }
+}

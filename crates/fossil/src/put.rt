@@ -1,0 +1,89 @@
+//! `put`: takes a message of files into the repository.
+ghost use Rattle.std.specs.Prelude.{◌≡◌, ℕ, List, None, IfOk, IfErr, OnOk, true, false};
+ghost use Rattle.fsl_order.specs.Causes.{Rose};
+ghost use Rattle.fsl_disk.specs.Disk.{IsModelled, Told, Keeps, LeavesOnly};
+ghost use Rattle.fsl_journal.specs.File.{IsFileOf};
+ghost use Rattle.fsl_journal.specs.Journal.{Belongs};
+ghost use Rattle.fsl_journal.specs.Log.{BeforeOrAll};
+ghost use Rattle.fsl_words.specs.declared.Command.TheVariants as command_of;
+ghost use Rattle.fossil.specs.declared.fault.Fault.TheVariants as fault_is;
+ghost use Rattle.fossil.specs.Outcome.{IsCommandOutcome};
+ghost use Rattle.fossil.specs.Run.{stream};
+ghost use Rattle.fossil.specs.Acts.{IsMessagePut, IsPutRun, IsUnread, Acts};
+
+use super::answer::{Answer, bad_line, file_refusal, too_long};
+use super::fault::Fault;
+use super::input::read_input;
+use super::load::{Loaded, load, not_loaded};
+use super::message::{MessageFault, read_message};
+use super::refused::first_refused;
+use super::status::DONE;
+use super::taking::take_files;
+use fsl_disk::Disk;
+use fsl_journal::{CommitFault, Journal};
+use fsl_outside::Source;
+use fsl_text::Memory;
+use std::alloc::Global;
+
+/// Takes a message: the refusal of its first bad line, or else of its first file that isn't taken, or else the lines of
+/// its files, which are then appended in memory.
+fn take_message(alloc: Global, message: &[u8], loaded: &mut Loaded) -> Result<Answer, Memory>
+    requires runs { loaded.old.journal.stopped ≡ None }
+    requires same { loaded.old.blobs.records ≡ loaded.old.journal.records }
+    ensures { IfOk result (λ a. IsMessagePut message.now loaded.old loaded.new a) }
+{
+    let files = match read_message(alloc, message) {
+        Ok(files) => files,
+        Err(MessageFault::BadLine { line }) => return bad_line(alloc, line),
+        Err(MessageFault::Memory) => return Err(Memory),
+    };
+    if let Some(refused) = first_refused(message, files.items()) {
+        return file_refusal(alloc, refused);
+    }
+    let text = take_files(alloc, message, files.items(), loaded)?;
+    Ok(Answer { status: DONE, text })
+}
+
+/// Reads the input and takes it, in memory alone.
+fn take_input<S: Source>(alloc: Global, input: &mut S, loaded: &mut Loaded) -> Result<Answer, Fault>
+    requires runs { loaded.old.journal.stopped ≡ None }
+    requires same { loaded.old.blobs.records ≡ loaded.old.journal.records }
+    ensures ok { IfOk result (IsPutRun (stream (S.left input.old) (S.left input.new) (S.fault_count input.old) (S.fault_count input.new)) loaded.old loaded.new) }
+    ensures err { IfErr result (λ fault. IsUnread fault (stream (S.left input.old) (S.left input.new) (S.fault_count input.old) (S.fault_count input.new))) }
+{
+    let Some(message) = read_input(alloc, input)? else {
+        return Ok(too_long(alloc)?);
+    };
+    Ok(take_message(alloc, message.bytes(), loaded)?)
+}
+
+/// Puts what was appended on the disk, all of it or nothing.
+fn commit<D: Disk>(journal: &mut Journal, disk: &mut D) -> Result<(), Fault>
+    requires runs { journal.old.stopped ≡ None }
+    requires belongs { Belongs journal.old (D.state disk.old) }
+    ensures contents { OnOk result (Told (D.state disk.new) (λ held. IsFileOf held journal.old.records)) }
+    ensures durable { OnOk result (IsModelled (D.state disk.old) → (c : List ℕ) → (D.state disk.new).images c → IsFileOf c journal.old.records) }
+    ensures any_moment { IsModelled (D.state disk.old) → LeavesOnly (D.state disk.old) (D.state disk.new) (BeforeOrAll journal.old) }
+    ensures keeps { Keeps (D.state disk.old) (D.state disk.new) }
+    ensures fault { IfErr result (λ fault. fault ≡ fault_is.Disk) }
+    ensures cause { IfErr result (λ fault. Rose (D.state disk.old).faults (D.state disk.new).faults) }
+{
+    match journal.commit(disk) {
+        Ok(_) => Ok(()),
+        Err(CommitFault::Disk) => Err(Fault::Disk),
+        Err(CommitFault::Stopped { .. }) => unreachable!(),
+    }
+}
+
+/// Takes a message of files into the repository: all of them in one commit, or none.
+pub fn put<S: Source, D: Disk>(alloc: Global, input: &mut S, disk: &mut D) -> Result<Answer, Fault>
+    ensures { Acts (IsCommandOutcome command_of.Put) true false (stream (S.left input.old) (S.left input.new) (S.fault_count input.old) (S.fault_count input.new)) (D.state disk.old) (D.state disk.new) result }
+{
+    let mut loaded = match load(alloc, disk) {
+        Ok(loaded) => loaded,
+        Err(fault) => return not_loaded(alloc, fault),
+    };
+    let answer = take_input(alloc, input, &mut loaded)?;
+    commit(&mut loaded.journal, disk)?;
+    Ok(answer)
+}
