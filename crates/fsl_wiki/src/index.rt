@@ -1,5 +1,5 @@
 //! What the table looks up.
-ghost use Rattle.std.specs.Prelude.{◌≡◌, List, [], ◌∷◌, IfOk, OnOk};
+ghost use Rattle.std.specs.Prelude.{List, [], ◌∷◌, IfOk, OnOk};
 ghost use Rattle.fsl_wiki.specs.declared.Fact as fact_type;
 ghost use Rattle.fsl_wiki.specs.Kept.{IsIndexOf};
 

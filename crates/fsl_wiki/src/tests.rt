@@ -232,3 +232,31 @@ fn an_attachment_that_was_deleted_is_made_again(rt: HostRuntime) {
     };
     assert!(rt; are_attached(alloc, &table, b"Home", &[(b'z', b"note.txt", true)]));
 }
+
+/// Whether a copy of a page has this title, or a copy of an attachment this file and the source `s`.
+fn copy_has(alloc: Global, fact: &Fact, text: &[u8]) -> bool {
+    match fact {
+        Fact::Page(page) => match page.copied(alloc) {
+            Ok(copy) => copy.title.bytes() == text,
+            Err(_) => false,
+        },
+        Fact::Attached(attached) => match attached.copied(alloc) {
+            Ok(copy) => copy.file.bytes() == text && copy.source == Some(letter(b's')),
+            Err(_) => false,
+        },
+        Fact::Note(_) => false,
+    }
+}
+
+#[test]
+fn copies_have_the_same_content(rt: HostRuntime) {
+    let alloc = rt.alloc();
+    let page = page(alloc, b'a', 2, b"Home");
+    let attached = attached(alloc, b'k', 2, b"Home", b"note.txt", true);
+    let (Some(page), Some(attached)) = (page, attached) else {
+        assert!(rt; false);
+        return;
+    };
+    assert!(rt; copy_has(alloc, &page, b"Home"));
+    assert!(rt; copy_has(alloc, &attached, b"note.txt"));
+}

@@ -1,0 +1,103 @@
+//! Forum posts and their threads. `Threads` is the table of them, and its answers are those of the definitions over the facts it was
+//! built from, in whatever order these stand.
+#![tactic(auto)]
+
+ghost use Rattle.std.specs.Prelude.{◌≡◌, IfOk};
+ghost use Rattle.fsl_forum.specs.Threads.{next, kind, EndByNext, WholeStays};
+
+mod chains;
+mod index;
+#[cfg(test)]
+mod tests;
+mod threads;
+
+use fsl_date::Moment;
+use fsl_name::Name;
+use fsl_text::{Memory, Text};
+use std::alloc::Global;
+pub use threads::Threads;
+
+/// A forum post with the names of its G, I and P cards.
+#[derive(Drop)]
+pub struct Fact {
+    /// The name of its artifact.
+    pub name: Name,
+    /// When it was made.
+    pub date: Moment,
+    /// Who made it.
+    pub user: Text,
+    /// The root that it names in its G card.
+    pub root: Option<Name>,
+    /// The post that it replies to, of its I card. It need not be there.
+    pub reply: Option<Name>,
+    /// The post that it edits, of its P card. It need not be there.
+    pub prior: Option<Name>,
+}
+
+impl Fact {
+    /// The next post of its chain: the one it replies to, else the one it edits. None where it has neither.
+    pub fn next(&self) -> Option<Name>
+        ensures { result ≡ next self.now }
+    {
+        match self.reply {
+            Some(reply) => Some(reply),
+            None => self.prior,
+        }
+    }
+
+    /// What it is: an edit where it edits a post, else a reply where it replies to one, else a start.
+    pub fn kind(&self) -> PostKind
+        ensures { result ≡ kind self.now }
+    {
+        match (self.prior, self.reply) {
+            (Some(_), _) => PostKind::Edit,
+            (None, Some(_)) => PostKind::Reply,
+            (None, None) => PostKind::Start,
+        }
+    }
+}
+
+/// What a post is.
+#[derive(Clone, Copy, PartialEq, Eq, Debug)]
+pub enum PostKind {
+    /// It starts a thread.
+    Start,
+    /// It edits another post.
+    Edit,
+    /// It replies to another post.
+    Reply,
+}
+
+/// A valid post in its thread.
+#[derive(Drop)]
+pub struct Post {
+    /// The name of its artifact.
+    pub name: Name,
+    /// When it was made.
+    pub date: Moment,
+    /// Who made it.
+    pub user: Text,
+    /// What it is.
+    pub how: PostKind,
+}
+
+impl Post {
+    /// A post with the same content. `Memory` is the only error.
+    pub fn copied(&self, alloc: Global) -> Result<Post, Memory>
+        ensures { IfOk result (λ post. post ≡ self.now) }
+    {
+        Ok(Post {
+            name: self.name,
+            date: self.date,
+            user: Text::of(alloc, self.user.bytes())?,
+            how: self.how,
+        })
+    }
+}
+
+/// A law and no code: a post without a next post is the end of its own chain, and every other post's chain has the end of its next
+/// post's. A chain that is whole stays as it is when a post comes.
+pub fn end_by_next()
+    ensures by_next { EndByNext }
+    ensures stays { WholeStays }
+{}
