@@ -1,0 +1,5 @@
+pub mod Items
+pub mod Lines
+pub mod Reports
+pub mod Refusals
+pub mod Answers

@@ -1,0 +1,60 @@
+//! Reports: what a question about a repository is answered, by what it holds and by the tables of that. Each report has a
+//! module, which prints the answers of the tables, one line each.
+#![tactic(auto)]
+
+ghost use Rattle.std.specs.Prelude.{◌≡◌};
+ghost use Rattle.fsl_query.specs.declared.QueryFault.TheVariants as query_fault;
+
+mod answering;
+mod finding;
+mod leaves;
+mod lines;
+mod refusals;
+mod tags;
+#[cfg(test)]
+mod tests;
+mod tip;
+
+pub use answering::answer;
+pub use finding::content;
+use fsl_name::Name;
+use fsl_text::{Memory, Text};
+pub use refusals::refusal_text;
+
+/// Why a question gets no report.
+#[derive(Debug, Drop)]
+pub enum Refused {
+    /// The digits of no held artifact begin with the prefix.
+    NoArtifact { prefix: Text },
+    /// Those of several held artifacts do.
+    SeveralArtifacts { prefix: Text },
+    /// The artifact is no check-in.
+    NotCheckin { name: Name },
+    /// The baseline of the check-in isn't held, or is a delta itself.
+    NoBaseline { name: Name },
+    /// No check-in has the symbolic name.
+    NoCheckin { symbol: Text },
+    /// No page has the title.
+    NoPage { title: Text },
+    /// No ticket has the id.
+    NoTicket { id: Name },
+    /// The name is that of no thread.
+    NoThread { name: Name },
+}
+
+/// Why a question isn't answered.
+#[derive(Debug, Drop)]
+pub enum QueryFault {
+    /// There is nothing to report, for this reason.
+    Refused(Refused),
+    /// There was no memory.
+    Memory,
+}
+
+impl From<Memory> for QueryFault {
+    ghost from_gives = { λ _ fault. fault ≡ query_fault.Memory };
+
+    fn from(_: Memory) -> Self {
+        QueryFault::Memory
+    }
+}
