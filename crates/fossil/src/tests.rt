@@ -74,6 +74,23 @@ struct Other {
     out: MemorySink,
 }
 
+// Runs over a disk, where a call of the source and a call of the sink fail, and gives it back; the status and what is
+// printed are these.
+fn expect_with<D: Disk + Drop>(
+    alloc: Global,
+    words: &[&str],
+    input: &[u8],
+    fails: (u64, u64),
+    repo: D,
+    want: (u8, &str),
+) -> Result<D, Fail> {
+    let (status, out, repo) = run_with(alloc, words, input, fails, repo)?;
+    if status == want.0 && out.taken() == want.1.as_bytes() {
+        return Ok(repo);
+    }
+    Err(Fail::from(Other { status, out }))
+}
+
 // Runs over a disk, and gives it back; the status and what is printed are these.
 fn expect<D: Disk + Drop>(
     alloc: Global,
@@ -82,11 +99,7 @@ fn expect<D: Disk + Drop>(
     repo: D,
     want: (u8, &str),
 ) -> Result<D, Fail> {
-    let (status, out, repo) = run_with(alloc, words, input.as_bytes(), (0, 0), repo)?;
-    if status == want.0 && out.taken() == want.1.as_bytes() {
-        return Ok(repo);
-    }
-    Err(Fail::from(Other { status, out }))
+    expect_with(alloc, words, input.as_bytes(), (0, 0), repo, want)
 }
 
 // A new repository without fields.

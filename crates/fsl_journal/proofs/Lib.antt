@@ -1,5 +1,5 @@
 pub mod Belonging
-mod Failing
+pub mod Failing
 mod Files
 mod Gate
 mod Groups
@@ -8,5 +8,5 @@ mod Opening
 mod Pending
 mod Walking
 mod Records
-mod Unique
+pub mod Unique
 mod WorkedRows

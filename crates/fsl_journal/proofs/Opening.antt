@@ -122,5 +122,5 @@ module _ (s0 s1 s2 s3 : DiskState) (file : List ℕ) (records : List Record) (pl
 -- a file that doesn't read
 pub load_failed : (fault : LoadFault) (s0 s2 : DiskState) (file : List ℕ) → s2.contents ≡ s0.contents → s2.faults ≡ s0.faults → Told s0 (λ held. file ≡ held) → FileFailed file fault → LoadFailed fault s0 s2
 load_failed load_fault.Disk s0 s2 file contents faults told fails = absurd fails
-load_failed (load_fault.NotRepository at) s0 s2 file contents faults told fails = (record { contents = contents; faults = faults }, λ held is. subst (λ (f : List ℕ). FailsAt f at) (told held is) fails)
+load_failed (load_fault.NotRepository at) s0 s2 file contents faults told fails = (record { contents = contents; faults = faults }, (file, told, fails))
 load_failed load_fault.Memory s0 s2 file contents faults told fails = record { contents = contents; faults = faults }

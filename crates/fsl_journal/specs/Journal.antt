@@ -37,6 +37,10 @@ abbrev pub CommitFailed : CommitFault → Log → Log → DiskState → DiskStat
 CommitFailed (commit_fault.Stopped faults) old new before after = (old.stopped ≡ Some faults) × (new ≡ old)
 CommitFailed commit_fault.Disk old new before after = (old.stopped ≡ None) × (new ≡ record old { stopped = Some after.faults }) × Rose before.faults after.faults
 
+-- P holds of the bytes that were read, which are those that the disk tells
+abbrev pub OfBytes : DiskState → (List ℕ → Type 0) → Type 0
+OfBytes disk P = (bytes : List ℕ) × Told disk (λ held. bytes ≡ held) × P bytes
+
 -- what a call that only read leaves
 pub record IsLeft (before after : DiskState) : Type 0 where
   pub contents : after.contents ≡ before.contents
@@ -45,7 +49,7 @@ pub record IsLeft (before after : DiskState) : Type 0 where
 -- an opening that answers a fault
 abbrev pub LoadFailed : LoadFault → DiskState → DiskState → Type 0
 LoadFailed load_fault.Disk before after = Rose before.faults after.faults
-LoadFailed (load_fault.NotRepository at) before after = IsLeft before after × Told before (λ held. FailsAt held at)
+LoadFailed (load_fault.NotRepository at) before after = IsLeft before after × OfBytes before (λ bytes. FailsAt bytes at)
 LoadFailed load_fault.Memory before after = IsLeft before after
 
 -- a file that is no repository, or one with this Config alone

@@ -5,7 +5,7 @@ ghost use Rattle.fsl_disk.specs.Disk.{DiskState, IsModelled, Told, Keeps, Calls,
 ghost use Rattle.fsl_journal.specs.File.{IsFileOf};
 ghost use Rattle.fsl_record.specs.declared.Record.{Record};
 ghost use Rattle.fsl_journal.specs.Log.{Log, IsBetween, StandsBetween, IsLoaded};
-ghost use Rattle.fsl_journal.specs.Journal.{Belongs, LoadFailed};
+ghost use Rattle.fsl_journal.specs.Journal.{Belongs, OfBytes, LoadFailed};
 ghost use Rattle.fsl_journal.specs.Reading.{ReadFailed};
 ghost use Rattle.fsl_journal.specs.declared.LoadFault.TheVariants as load_fault;
 
@@ -56,7 +56,7 @@ impl Journal {
         disk: &mut D,
     ) -> Result<(Journal, fsl_text::List<Record>), LoadFault>
         ensures loaded { IfOk result (λ loaded. IsLoaded loaded.0 loaded.1) }
-        ensures stands { IfOk result (λ loaded. Told (D.state disk.old) (λ held. IsFileOf held loaded.1)) }
+        ensures stands { IfOk result (λ loaded. OfBytes (D.state disk.old) (λ bytes. IsFileOf bytes loaded.1)) }
         ensures cut { IfOk result (λ loaded. Told (D.state disk.old) (λ held. (D.state disk.new).contents ≡ Some (take (loaded.0.place + 1) held))) }
         ensures belongs { IfOk result (λ loaded. Belongs loaded.0 (D.state disk.new)) }
         ensures count { OnOk result ((D.state disk.new).faults ≡ (D.state disk.old).faults) }

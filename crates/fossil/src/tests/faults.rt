@@ -1,5 +1,5 @@
 //! Disks, inputs and outputs that fail, and what a crash leaves.
-use super::{ABC, INIT, PUT, disk_of, expect, new_repository, run_with};
+use super::{ABC, INIT, PUT, disk_of, expect, expect_with, new_repository, run_with};
 use fsl_disk::{FileDisk, FuseDisk};
 use std::test::Fail;
 
@@ -39,11 +39,10 @@ fn tells_a_disk_that_fails_at_first(rt: HostRuntime) -> Result<(), Fail> {
 #[test]
 fn tells_an_input_and_an_output_that_fail(rt: HostRuntime) -> Result<(), Fail> {
     let disk = new_repository(rt.alloc())?;
-    let (status, sink, disk) = run_with(rt.alloc(), &PUT, ABC.as_bytes(), (2, 0), disk)?;
-    assert_eq!(rt; (status, sink.taken()), (5, b"input fault\n".as_slice()));
+    let input = ABC.as_bytes();
+    let disk = expect_with(rt.alloc(), &PUT, input, (2, 0), disk, (5, "input fault\n"))?;
     assert_eq!(rt; disk.bytes().len(), 68);
-    let (status, sink, disk) = run_with(rt.alloc(), &PUT, ABC.as_bytes(), (0, 1), disk)?;
-    assert_eq!(rt; (status, sink.taken()), (6, b"".as_slice()));
+    let disk = expect_with(rt.alloc(), &PUT, input, (0, 1), disk, (6, ""))?;
     assert_eq!(rt; disk.bytes().len(), 110);
     Ok(())
 }

@@ -1,11 +1,15 @@
 //! `init`, `put` and `cat` over a repository in memory.
-use super::{ABC, ABC_FILE, INIT, NEW_FILE, PUT, disk_of, expect, new_repository, run_with};
+use super::{ABC, ABC_FILE, INIT, NEW_FILE, PUT, disk_of, expect, expect_with, new_repository};
 use fsl_disk::FileDisk;
+use std::alloc::{AllocError, Global};
 use std::test::Fail;
 
 const STORED: &str = "stored a9993e364706816aba3e25717850c26c9cd0d89d\n";
 
 const PRESENT: &str = "present a9993e364706816aba3e25717850c26c9cd0d89d\n";
+
+// The line of a file of 2^24 + 1 bytes, itself of 55.
+const LARGE: &[u8] = b"file a9993e364706816aba3e25717850c26c9cd0d89d 16777217\n";
 
 // The lengths are those of the format: 15 and 1, and 9 for each group, 43 for the Config and 33 for the blob.
 #[test]
@@ -91,20 +95,23 @@ fn finds_by_prefixes(rt: HostRuntime) -> Result<(), Fail> {
     Ok(())
 }
 
+// The message of a file of 2^24 + 1 bytes.
+fn large_message(alloc: Global) -> Result<Vec<u8>, AllocError> {
+    let mut message = LARGE.to_vec(alloc)?;
+    message.resize(16_777_272, 0)?;
+    Ok(message)
+}
+
 // A content of a byte more than 2^24 is refused, before its name is looked at.
 #[test]
 fn refuses_a_file_that_is_too_large(rt: HostRuntime) -> Result<(), Fail> {
-    let line = b"file a9993e364706816aba3e25717850c26c9cd0d89d 16777217\n";
-    let mut message = line.as_slice().to_vec(rt.alloc())?;
-    message.resize(line.len() + 16_777_217, 0)?;
-    let refused = b"refused: too large a9993e364706816aba3e25717850c26c9cd0d89d 16777217\n";
+    let message = large_message(rt.alloc())?;
+    let refused = "refused: too large a9993e364706816aba3e25717850c26c9cd0d89d 16777217\n";
     let disk = new_repository(rt.alloc())?;
-    let (status, sink, _) = run_with(rt.alloc(), &PUT, message.as_slice(), (0, 0), disk)?;
-    assert_eq!(rt; (status, sink.taken()), (3, refused.as_slice()));
-    let words = ["r", "ingest"];
+    expect_with(rt.alloc(), &PUT, &message, (0, 0), disk, (3, refused))?;
+    let ingest = ["r", "ingest"];
     let none = FileDisk::none();
-    let (status, sink, _) = run_with(rt.alloc(), &words, message.as_slice(), (0, 0), none)?;
-    assert_eq!(rt; (status, sink.taken()), (3, refused.as_slice()));
+    expect_with(rt.alloc(), &ingest, &message, (0, 0), none, (3, refused))?;
     Ok(())
 }
 

@@ -49,7 +49,7 @@ returns g c =
     let journal_is = subst (λ (rs : List Record). c.in_ok-journal-in-Ok.journal ≡ resumed_log rs c.in-Ok.place) c.deref-in-Ok.ensures.value c.in_ok-journal-in-Ok.ensures in
     record {
       loaded = search rules;
-      stands = search rules;
+      stands = (c.in_ok-file.file.items, λ held told. c.in_ok-file.ensures.file.1 held (c.sync.ensures.contents ∙ told), subst (λ (rs : List Record). IsFileOf c.in_ok-file.file.items rs) (sym c.from_vec.ensures) run.log.file);
       cut = search rules;
       belongs = belongs_loaded _ _ _ _ c.in_ok-file.file.items c.in-Ok.records.items c.in-Ok.place run c.in_ok-journal-in-Ok.journal journal_is c.in_ok-cut_behind-in-Ok.ensures.cut;
       count = search rules;
