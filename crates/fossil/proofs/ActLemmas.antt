@@ -11,7 +11,7 @@ use Rattle.fossil.specs.declared.fault.Fault.TheVariants as fault_is
 use Rattle.fossil.specs.Ingest as ingest
 use Rattle.fossil.specs.Outcome.{Outcome, IsLoaded, printed_of, not_repository}
 use Rattle.fossil.specs.Run.{Ruled, Stream, StreamRose, Agrees}
-use Rattle.fossil.specs.Acts.{Acts, IsUnopened, IsNotLoadedAnswer, IsAnswered, IsUnread, KeepsContents, KeepsImages}
+use Rattle.fossil.specs.Acts.{Acts, IsUnopened, IsNotLoadedAnswer, HasOutcome, IsUnread, KeepsContents, KeepsImages}
 use Rattle.fossil.proofs.InputLemmas.{some_bytes}
 use Rattle.fossil.proofs.FileLemmas.{kept_contents, kept_moments, kept_failed}
 
@@ -27,7 +27,7 @@ module _ (ByInput : List ℕ → List Record → Outcome → Type 0) (reads : Bo
   Rule read bytes o = IsLoaded (ByInput read) bytes o
 
   -- the place at which the file fails is told
-  pub fails_answer : (at : ℕ) → OfBytes file (λ bytes. FailsAt bytes at) → IsAnswered Rule input file (printed_of (not_repository at))
+  pub fails_answer : (at : ℕ) → OfBytes file (λ bytes. FailsAt bytes at) → HasOutcome Rule input file (printed_of (not_repository at))
   fails_answer at fails =
       let some = some_bytes input.before in
       (some.0, fails.0, not_repository at, some.1, agrees file.contents fails.0 fails.1, inl (at, fails.2, refl), refl)

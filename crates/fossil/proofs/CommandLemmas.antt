@@ -1,27 +1,20 @@
--- What the commands did that don't touch the file, and what `cat` did.
-use Rattle.std.proofs.Common.{◌≡◌, ◌⊎◌, inl, inr, ℕ, ◌≤◌, Bool, true, false, List, [], length, Option, Some, None, Result, Ok, Err, IfOk, IfErr, IsTrue, refl, sym, ap, ◌∙◌, arith}
+-- What the commands did that don't touch the file.
+use Rattle.std.proofs.Common.{◌≡◌, inl, inr, ℕ, ◌≤◌, Bool, true, false, List, [], length, Option, Some, None, Result, Ok, Err, IfOk, IfErr, IsTrue, refl, sym, ap, ◌∙◌, arith}
 use Rattle.std.specs.Prelude.{◌^◌, nat_lt, IfSome, MatchBool, MatchOption}
 use Rattle.std.specs.Io.KnownBytes.{IsAtEnd}
-use Rattle.fsl_record.specs.declared.Record.{Record}
 use Rattle.fsl_artifact.specs.Kind.{IsKind}
-use Rattle.fsl_blobs.specs.Fold.{contents}
 use Rattle.fsl_disk.specs.Disk.{DiskState, Keeps}
-use Rattle.fsl_words.specs.declared.Question.{Question}
-use Rattle.fsl_words.specs.declared.Question.TheVariants as question_of
 use Rattle.fsl_words.specs.declared.Command.TheVariants as command_of
 use Rattle.fossil.specs.declared.fault.Fault.{Fault}
 use Rattle.fossil.specs.declared.fault.Fault.TheVariants as fault_is
-use Rattle.fossil.specs.declared.load.Loaded.{Loaded}
 use Rattle.fossil.specs.Sets.{Sent}
 use Rattle.fossil.specs.Ingest as ingest
-use Rattle.fossil.specs.Content.{content}
-use Rattle.fossil.specs.Outcome.{Outcome, unchanged, usage, printed_of, answered, IsLoaded, IsCommandOutcome}
-use Rattle.fossil.specs.Run.{Ruled, Stream, StreamRose, IsSaid, IsTold, cut_off_status, out_of_memory}
-use Rattle.fossil.specs.Acts.{Acts, Runs, IsUnread, IsIngestRun, IsOpened, IsAnswered}
+use Rattle.fossil.specs.Outcome.{Outcome, unchanged, usage, IsCommandOutcome}
+use Rattle.fossil.specs.Run.{Ruled, Stream, StreamRose, IsSaid, IsTold, cut_off_status}
+use Rattle.fossil.specs.Acts.{Acts, Runs, IsUnread, IsIngestRun, HasOutcome}
 use Rattle.fossil.proofs.InputLemmas.{some_bytes}
 use Rattle.fossil.proofs.RefusedLemmas.{first_status}
-use Rattle.fossil.proofs.FileLemmas.{idle_kept, idle_moments, idle_durable, kept_contents, kept_moments, kept_durable}
-use Rattle.fossil.proofs.ActLemmas.{agrees, memory_acts}
+use Rattle.fossil.proofs.FileLemmas.{idle_kept, idle_moments, idle_durable}
 use Rattle.fossil.proofs.PrintedLemmas.{printed}
 
 -- a line whose status stays
@@ -34,7 +27,7 @@ module _ (IsRuled : Ruled) (reads begins : Bool) (input : Stream) (file : DiskSt
   keeps = record { tells = refl; model = refl }
 
   -- nothing was done but the outcome, which commits nothing
-  pub idle_acts : (answer : ingest.Outcome) → IsAnswered IsRuled input file answer → answer.status ≤ 3 → (answer.status ≡ 0 → IsTrue reads → IsAtEnd input.after)
+  pub idle_acts : (answer : ingest.Outcome) → HasOutcome IsRuled input file answer → answer.status ≤ 3 → (answer.status ≡ 0 → IsTrue reads → IsAtEnd input.after)
       → ((read bytes : List ℕ) (o : Outcome) → IsRuled read bytes o → o.commits ≡ []) → Acts IsRuled reads begins input file file (Ok answer)
   idle_acts answer is small end none = record {
     answer = is;
@@ -108,75 +101,3 @@ ingest_acts input file no_other (Ok answer) run un =
     (run.read, bytes.0, unchanged answer, run.told, bytes.1, (answer, run.ingested, refl), refl) (small_ingest run.read (nat_lt (2 ^ 27) (length run.read)) answer run.ingested) (λ z reads. run.end z)
     (λ r b o h. ap (λ (x : Outcome). x.commits) h.2)
 ingest_acts input file no_other (Err fault) run un = idle_unread (IsCommandOutcome command_of.Ingest) true false input file no_other fault un
-
--- ---- cat
-
-answered_small : (r : Result (List ℕ) (List ℕ)) → (answered r).status ≤ 3
-answered_small (Ok text) = omega arith
-answered_small (Err reason) = omega arith
-
-answered_none : (r : Result (List ℕ) (List ℕ)) → (answered r).commits ≡ []
-answered_none (Ok text) = refl
-answered_none (Err reason) = refl
-
-module _ (prefix : List ℕ) (input out : Stream) (file left : DiskState) (l : Loaded) (opened : IsOpened file left l) (file_reads : (held : List ℕ) → IsTrue left.is_model → left.contents ≡ Some held → left.images held) where
-  abbrev Rule : Ruled
-  Rule read bytes o = IsLoaded (λ records o. o ≡ answered (content (contents records) prefix)) bytes o
-
-  none : (read bytes : List ℕ) (o : Outcome) → Rule read bytes o → o.commits ≡ []
-  none read bytes o (inl h) = ap (λ (x : Outcome). x.commits) h.2
-  none read bytes o (inr h) = ap (λ (x : Outcome). x.commits) h.2 ∙ answered_none (content (contents h.0) prefix)
-
-  cat_acts : Acts Rule false false input file left (Ok (printed_of (answered (content (contents l.blobs.records) prefix))))
-  cat_acts =
-      let text = content (contents l.blobs.records) prefix in
-      let read = some_bytes input.before in
-      record {
-        answer = (
-          read.0,
-          opened.stands.0,
-          answered text,
-          read.1,
-          agrees file.contents opened.stands.0 opened.stands.1,
-          inr (l.journal.records, opened.stands.2, ap (λ (rs : List Record). answered (content (contents rs) prefix)) opened.is_open.same),
-          refl,
-        );
-        plain = answered_small text;
-        cause = tt;
-        end = λ z reads. absurd (cc);
-        kept = kept_contents Rule input.before file left (answered text).status (λ z. none) opened.contents;
-        any_moment = kept_moments Rule input.before file left opened.any_moment;
-        durable = λ z. kept_durable Rule input.before file left (answered text).status z (λ z. none) opened.any_moment;
-        keeps = opened.keeps;
-      }
-
-  pub cat_runs : (status : ℕ) → IsTold (answered (content (contents l.blobs.records) prefix)) status out ⊎ ((status ≡ 9) × IsSaid out out_of_memory) → Runs Rule false false input out file left status
-  cat_runs status (inl told) =
-      printed Rule false false input out file left (Ok (printed_of (answered (content (contents l.blobs.records) prefix)))) status cat_acts told
-  cat_runs status (inr memory) =
-      printed Rule false false input out file left (Err fault_is.Memory) status
-      (memory_acts (λ read records o. o ≡ answered (content (contents records) prefix)) false input file left file_reads opened.contents opened.any_moment opened.keeps) memory
-
--- ---- questions whose reports aren't there yet
-
-pub other_question : (question : Question) → ((prefix : List ℕ) → question ≡ question_of.Cat prefix → ⊥) → (read bytes : List ℕ) → IsCommandOutcome (command_of.Ask question) read bytes usage
-other_question (question_of.Cat prefix) other read bytes = absurd (other prefix refl)
-other_question (question_of.Timeline count) other read bytes = refl
-other_question question_of.Leaves other read bytes = refl
-other_question (question_of.Tags prefix) other read bytes = refl
-other_question (question_of.Tip symbol) other read bytes = refl
-other_question (question_of.Files prefix) other read bytes = refl
-other_question (question_of.Wiki title) other read bytes = refl
-other_question (question_of.Ticket id) other read bytes = refl
-other_question (question_of.Thread name) other read bytes = refl
-
-pub usage_only : (question : Question) → ((prefix : List ℕ) → question ≡ question_of.Cat prefix → ⊥) → (read bytes : List ℕ) (o : Outcome) → IsCommandOutcome (command_of.Ask question) read bytes o → o ≡ usage
-usage_only (question_of.Cat prefix) other read bytes o h = absurd (other prefix refl)
-usage_only (question_of.Timeline count) other read bytes o h = h
-usage_only question_of.Leaves other read bytes o h = h
-usage_only (question_of.Tags prefix) other read bytes o h = h
-usage_only (question_of.Tip symbol) other read bytes o h = h
-usage_only (question_of.Files prefix) other read bytes o h = h
-usage_only (question_of.Wiki title) other read bytes o h = h
-usage_only (question_of.Ticket id) other read bytes o h = h
-usage_only (question_of.Thread name) other read bytes o h = h

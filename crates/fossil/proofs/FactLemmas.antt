@@ -60,7 +60,7 @@ taken_again held facts seen new file t there same =
 
 -- ---- a new name
 
-AllZip-push : {A B : Type 0} (R : A → B → Type 0) (xs : List A) (ys : List B) (x : A) (y : B) → AllZip R xs ys → R x y → AllZip R (xs ++ x ∷ []) (ys ++ y ∷ [])
+pub AllZip-push : {A B : Type 0} (R : A → B → Type 0) (xs : List A) (ys : List B) (x : A) (y : B) → AllZip R xs ys → R x y → AllZip R (xs ++ x ∷ []) (ys ++ y ∷ [])
 AllZip-push R [] [] x y all r = (r, tt)
 AllZip-push R [] (b ∷ ys) x y all r = absurd all
 AllZip-push R (a ∷ xs) [] x y all r = absurd all

@@ -1,4 +1,5 @@
 pub mod OneWayFiles
+pub mod OneList
 pub mod OneOutcome
 mod Rows
 mod PutRows
@@ -24,4 +25,5 @@ pub mod PutLemmas
 pub mod InitLemmas
 pub mod CommandLemmas
 pub mod WordsLemmas
-pub mod ContentLemmas
+pub mod ItemLemmas
+pub mod QuestionLemmas

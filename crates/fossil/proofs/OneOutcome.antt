@@ -11,16 +11,16 @@ use Rattle.fsl_journal.proofs.Failing.{no_file, one_place}
 use Rattle.fsl_journal.proofs.Unique.{one_file}
 use Rattle.fsl_record.specs.declared.Record.{Record}
 use Rattle.fsl_words.specs.declared.Question.{Question}
-use Rattle.fsl_words.specs.declared.Question.TheVariants as question_of
 use Rattle.fsl_words.specs.declared.Command.{Command}
 use Rattle.fsl_words.specs.declared.Command.TheVariants as command_of
 use Rattle.fsl_words.specs.declared.Words.{Words}
 use Rattle.fsl_words.specs.Grammar.{words_in}
+use Rattle.fsl_query.specs.Reports.{is_reported}
 use Rattle.fossil.specs.Sets.{Sent, set_of, IsFactOf, fact_of, report}
 use Rattle.fossil.specs.Ingest as ingest
 use Rattle.fossil.specs.Put.{put_files, IsPut, IsPutRead, IsPutFiles}
-use Rattle.fossil.specs.Content.{content}
-use Rattle.fossil.specs.Outcome.{Outcome, unchanged, appending, usage, not_repository, answered, IsIngestOfFiles, IsPutOfFiles, IsLoaded, IsCommandOutcome, HasOneOutcome}
+use Rattle.fossil.specs.Outcome.{Outcome, unchanged, appending, usage, not_repository, answered, IsAnswered, IsIngestOfFiles, IsPutOfFiles, IsLoaded, IsCommandOutcome, HasOneOutcome}
+use Rattle.fossil.proofs.OneList.{one_result}
 use Rattle.fossil.proofs.OneWayFiles.{one_file_list, one_bad_line, not_both}
 
 -- ---- ingest
@@ -117,23 +117,18 @@ one_loaded ByRecords bytes one a b (inr h) (inr k) =
 
 -- ---- a run
 
-one_answer : (question : Question) (input bytes : List ℕ) (a b : Outcome) → IsCommandOutcome (command_of.Ask question) input bytes a → IsCommandOutcome (command_of.Ask question) input bytes b → a ≡ b
-one_answer (question_of.Cat prefix) input bytes a b h k =
-    one_loaded (λ records o. o ≡ answered (content (contents records) prefix)) bytes (λ old x y p q. p ∙ sym q) a b h k
-one_answer (question_of.Timeline count) input bytes a b h k = h ∙ sym k
-one_answer question_of.Leaves input bytes a b h k = h ∙ sym k
-one_answer (question_of.Tags prefix) input bytes a b h k = h ∙ sym k
-one_answer (question_of.Tip symbol) input bytes a b h k = h ∙ sym k
-one_answer (question_of.Files prefix) input bytes a b h k = h ∙ sym k
-one_answer (question_of.Wiki title) input bytes a b h k = h ∙ sym k
-one_answer (question_of.Ticket id) input bytes a b h k = h ∙ sym k
-one_answer (question_of.Thread name) input bytes a b h k = h ∙ sym k
+one_answered : (question : Question) (old : List Record) (a b : Outcome) → IsAnswered question old a → IsAnswered question old b → a ≡ b
+one_answered question old a b h k = h.2 ∙ ap answered (one_result (contents old) question h.0 k.0 h.1 k.1) ∙ sym k.2
+
+one_asked : (question : Question) (reported : Bool) (bytes : List ℕ) (a b : Outcome) → MatchBool reported (IsLoaded (IsAnswered question) bytes a) (a ≡ usage) → MatchBool reported (IsLoaded (IsAnswered question) bytes b) (b ≡ usage) → a ≡ b
+one_asked question true bytes a b h k = one_loaded (IsAnswered question) bytes (one_answered question) a b h k
+one_asked question false bytes a b h k = h ∙ sym k
 
 pub one_command_outcome : (command : Command) (input bytes : List ℕ) (a b : Outcome) → IsCommandOutcome command input bytes a → IsCommandOutcome command input bytes b → a ≡ b
 one_command_outcome (command_of.Init project server fields) input bytes a b h k = h ∙ sym k
 one_command_outcome command_of.Ingest input bytes a b h k = one_ingested input a b h k
 one_command_outcome command_of.Put input bytes a b h k = one_loaded (IsPutOfFiles input) bytes (λ old x y p q. one_put_outcome input old x y p q) a b h k
-one_command_outcome (command_of.Ask question) input bytes a b h k = one_answer question input bytes a b h k
+one_command_outcome (command_of.Ask question) input bytes a b h k = one_asked question (is_reported question) bytes a b h k
 
 by_words : (w : Option Words) (input bytes : List ℕ) (a b : Outcome) → MatchOption w (a ≡ usage) (λ w. IsCommandOutcome w.command input bytes a) → MatchOption w (b ≡ usage) (λ w. IsCommandOutcome w.command input bytes b) → a ≡ b
 by_words None input bytes a b h k = h ∙ sym k

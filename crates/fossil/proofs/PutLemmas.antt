@@ -18,7 +18,7 @@ use Rattle.fossil.specs.Sets.{Sent}
 use Rattle.fossil.specs.Put.{IsPutRead, put_files}
 use Rattle.fossil.specs.Outcome.{Outcome, appending, one_commit, IsLoaded, IsPutOfFiles}
 use Rattle.fossil.specs.Run.{Ruled, Stream, StandsFor, StandsForAll, StandsForSome, ByOutcomeBy, IsLeft}
-use Rattle.fossil.specs.Acts.{Acts, IsOpened, IsPutRun, IsAnswered}
+use Rattle.fossil.specs.Acts.{Acts, IsOpened, IsPutRun, HasOutcome}
 use Rattle.fossil.proofs.OneOutcome.{one_loaded, one_put_outcome}
 use Rattle.fossil.proofs.RefusedLemmas.{first_status}
 use Rattle.fossil.proofs.FileLemmas.{stands, none_committed, all_committed, one_is_all, agreed, kept_failed}
@@ -75,7 +75,7 @@ module _ (input : Stream) (file mid left : DiskState) (l after : Loaded) (answer
   small : answer.status ≤ 3
   small = ⊎_elim (λ z. omega (arith, z)) (λ three. let t = three.0 in omega (arith, t)) plain
 
-  answered : IsAnswered Rule input file answer
+  answered : HasOutcome Rule input file answer
   answered = (
     run.read,
     opened.stands.0,

@@ -10,7 +10,8 @@ use Rattle.fsl_record.specs.declared.Record.{Record}
 use Rattle.fsl_record.specs.declared.Record.TheVariants as record_of
 use Rattle.fossil.specs.Sets.{Sent}
 use Rattle.fossil.specs.Put.{put_files}
-use Rattle.fossil.specs.Content.{content}
+use Rattle.fsl_query.specs.declared.Refused.TheVariants.{NoArtifact}
+use Rattle.fsl_query.specs.Reports.{content}
 
 abbrev line : List ℕ → List ℕ
 line text = text ++ 10 ∷ []
@@ -43,7 +44,8 @@ no_item : {X : Type 0} (xs : List X) → length xs ≡ 0 → xs ≡ []
 no_item [] h = refl
 no_item (x ∷ xs) h = absurd (omega arith)
 
-none_held : map_of.entries (map_of.empty {X = Held} {R = bytes_cmp}) ≡ []
+-- no artifacts
+pub none_held : map_of.entries (map_of.empty {X = Held} {R = bytes_cmp}) ≡ []
 none_held = no_item (map_of.entries (map_of.empty {X = Held} {R = bytes_cmp})) (sym (map_of.len-entries (map_of.empty {X = Held} {R = bytes_cmp})) ∙ map_of.len-empty bytes_cmp Held)
 
 -- the content of the artifact that a prefix finds
@@ -52,6 +54,6 @@ unfolding encode_with
 found = simp (map_of.gets, set.members, map_of.entries-insert, none_held) refl
 
 -- a prefix that finds none
-not_found : content (contents (config ∷ blob false ∷ [])) (codes "a998") ≡ Err (codes "no artifact a998")
+not_found : content (contents (config ∷ blob false ∷ [])) (codes "a998") ≡ Err (NoArtifact (codes "a998"))
 unfolding encode_with
 not_found = simp (map_of.gets, set.members, map_of.entries-insert, none_held) refl

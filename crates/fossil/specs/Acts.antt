@@ -106,13 +106,13 @@ result_status (Ok answer) = answer.status
 result_status (Err fault) = fault_status fault
 
 -- the answer is that of an outcome
-abbrev pub IsAnswered : Ruled → Stream → DiskState → ingest.Outcome → Type 0
-IsAnswered IsRuled input file answer =
+abbrev pub HasOutcome : Ruled → Stream → DiskState → ingest.Outcome → Type 0
+HasOutcome IsRuled input file answer =
     (read : List ℕ) × (bytes : List ℕ) × (o : Outcome) × Agrees input.before read × Agrees file.contents bytes × IsRuled read bytes o × (answer ≡ printed_of o)
 
 -- what a command did, by the rule of its outcome: reads: whether it reads its input; begins: whether it begins with an empty file
 pub record Acts (IsRuled : Ruled) (reads begins : Bool) (input : Stream) (file left : DiskState) (result : Result ingest.Outcome Fault) : Type 0 where
-  pub answer : IfOk result (IsAnswered IsRuled input file)
+  pub answer : IfOk result (HasOutcome IsRuled input file)
   pub plain : IfOk result (λ answer. answer.status ≤ 3)
   pub cause : IfErr result (λ fault. IsCaused fault file.faults left.faults input)
   pub end : IsReadToEndBy reads (result_status result) input

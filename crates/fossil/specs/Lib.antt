@@ -2,7 +2,6 @@ pub mod FileLines
 pub mod Sets
 pub mod Ingest
 pub mod Put
-pub mod Content
 pub mod Outcome
 pub mod Files
 pub mod Fronts

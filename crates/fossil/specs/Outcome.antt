@@ -1,17 +1,19 @@
 -- The outcome of a run: the status, the text, and the commits that the command appends to the file.
-use Rattle.std.specs.Prelude.{◌≡◌, ℕ, ◌==◌, ◌⊎◌, List, [], ◌∷◌, ◌++◌, length, Result, Ok, Err, MatchOption, if◌then◌else◌, codes, decimal}
+use Rattle.std.specs.Prelude.{◌≡◌, ℕ, ◌==◌, ◌⊎◌, List, [], ◌∷◌, ◌++◌, length, Result, Ok, Err, MatchBool, MatchOption, if◌then◌else◌, codes, decimal}
 use Rattle.fsl_artifact.specs.Kind.{IsKind}
 use Rattle.fsl_record.specs.declared.Record.{Record}
 use Rattle.fsl_record.specs.declared.Record.TheVariants as record_of
 use Rattle.fsl_journal.specs.File.{IsFileOf, FailsAt}
 use Rattle.fsl_blobs.specs.Fold.{contents}
-use Rattle.fsl_words.specs.declared.Question.TheVariants.{Cat}
+use Rattle.fsl_words.specs.declared.Question.{Question}
 use Rattle.fsl_words.specs.declared.Command.{Command}
 use Rattle.fsl_words.specs.declared.Command.TheVariants.{Init, Ingest, Put, Ask}
 use Rattle.fsl_words.specs.Grammar.{words_in}
+use Rattle.fsl_query.specs.declared.Refused.{Refused}
+use Rattle.fsl_query.specs.Refusals.{refusal_text}
+use Rattle.fsl_query.specs.Reports.{IsReport, is_reported}
 use Rattle.fossil.specs.Ingest as ingest
 use Rattle.fossil.specs.Put.{IsPut}
-use Rattle.fossil.specs.Content.{content}
 
 -- the status, the text that is written, and the records that are appended, a list for each commit
 pub record Outcome : Type 0 where
@@ -61,9 +63,13 @@ abbrev pub IsPutOfFiles : List ℕ → List Record → Outcome → Type 0
 IsPutOfFiles input old o = (printed : ingest.Outcome) × (appended : List Record) × IsPut input old printed appended × (o ≡ appending printed appended)
 
 -- the text of a report, or the refusal of its question
-abbrev pub answered : Result (List ℕ) (List ℕ) → Outcome
+abbrev pub answered : Result (List ℕ) Refused → Outcome
 answered (Ok text) = unchanged (record { status = 0; text = text })
-answered (Err reason) = unchanged (ingest.refused reason)
+answered (Err refused) = unchanged (ingest.refused (refusal_text refused))
+
+-- the report on a question or its refusal is printed, by what the records leave
+abbrev pub IsAnswered : Question → List Record → Outcome → Type 0
+IsAnswered question records o = (result : Result (List ℕ) Refused) × IsReport (contents records) question result × (o ≡ answered result)
 
 -- the file stands for records, by which the outcome is told, or the place at which it doesn't is told
 abbrev pub IsLoaded : (List Record → Outcome → Type 0) → List ℕ → Outcome → Type 0
@@ -77,8 +83,7 @@ abbrev pub IsCommandOutcome : Command → List ℕ → List ℕ → Outcome → 
 IsCommandOutcome (Init project server fields) input bytes o = o ≡ begun project server fields (length bytes)
 IsCommandOutcome Ingest input bytes o = IsIngestOfFiles input o
 IsCommandOutcome Put input bytes o = IsLoaded (IsPutOfFiles input) bytes o
-IsCommandOutcome (Ask (Cat prefix)) input bytes o = IsLoaded (λ records o. o ≡ answered (content (contents records) prefix)) bytes o
-IsCommandOutcome command input bytes o = o ≡ usage
+IsCommandOutcome (Ask question) input bytes o = MatchBool (is_reported question) (IsLoaded (IsAnswered question) bytes o) (o ≡ usage)
 
 -- the outcome: the words first, then the file, then the input
 abbrev pub IsOutcome : List (List ℕ) → List ℕ → List ℕ → Outcome → Type 0

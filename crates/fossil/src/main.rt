@@ -1,6 +1,8 @@
 //! A repository of artifacts. `fossil REPOSITORY init PROJECT SERVER [FIELD ...]` makes its file, `put` takes a message
-//! of files into it, and `cat PREFIX` writes the content of an artifact. `ingest` reads a message of files into a set of
-//! its own, and prints which of its names stand in no cluster and which are named and not there.
+//! of files into it, and `cat PREFIX` writes the content of an artifact. `leaves` prints the check-ins without a child in
+//! their branch, `tags PREFIX` the tags in force on an artifact, and `tip SYMBOL` the latest check-in of a symbolic name.
+//! `ingest` reads a message of files into a set of its own, and prints which of its names stand in no cluster and which
+//! are named and not there.
 #![tactic(auto)]
 
 mod answer;
@@ -13,6 +15,7 @@ mod front;
 mod ingest;
 mod init;
 mod input;
+mod items;
 mod line;
 mod load;
 mod message;
@@ -21,6 +24,7 @@ mod open;
 mod put;
 mod refused;
 mod report;
+mod reporting;
 mod run;
 mod say;
 mod status;

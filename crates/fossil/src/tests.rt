@@ -3,6 +3,7 @@ mod files;
 mod ingest;
 mod kept;
 mod put;
+mod reports;
 mod words;
 
 use crate::run::run;

@@ -1,5 +1,5 @@
 -- The held names in their order, and by their places.
-use Rattle.std.proofs.Common.{◌≡◌, ℕ, ◌-◌, ◌<◌, ◌≤◌, zero, suc, get_or, eqb, Bool, true, false, cond, List, [], ◌∷◌, ◌++◌, length, take, map, filter, Option, Some, None, refl, sym, ap, ◌∙◌, subst, arith}
+use Rattle.std.proofs.Common.{◌≡◌, ℕ, ◌-◌, ◌<◌, ◌≤◌, zero, suc, get_or, eqb, Bool, true, false, cond, List, [], ◌∷◌, ◌++◌, length, take, map, filter, Option, Some, None, Result, Ok, Err, IfOk, Vec, Global, refl, sym, ap, ◌∙◌, subst, arith}
 use Rattle.std.specs.Prelude.{◌&&◌, is_some, nat_le, filter_map, IfSome, T, slice_get, All}
 use Rattle.std.specs.Option.{option_map, option_map_or, option_to_list}
 use Rattle.std.specs.List.{AllByRecursion, IsDistinct, range_with_len, cons_option}
@@ -24,14 +24,16 @@ use Rattle.fsl_order.specs.Names.{bytes_cmp}
 use Rattle.fsl_order.proofs.Orders.{bytes_cmp-IsTotalOrder, bytes_cmp-IsAntisymmetric}
 use Rattle.fsl_record.specs.declared.Record.{Record}
 use Rattle.fsl_blobs.specs.declared.Found.TheVariants.{Several}
+use Rattle.fsl_text.specs.declared.memory.Memory.{Memory}
 use Rattle.fsl_blobs.specs.declared.Placed.{Placed}
+use Rattle.fsl_blobs.specs.declared.Holding.{Holding}
 use Rattle.fsl_blobs.specs.declared.blobs.HeldArtifact.{HeldArtifact}
 use Rattle.fsl_record.specs.declared.Record.TheVariants as record_of
 use Rattle.fsl_blobs.specs.Fold.{Held, contents, is_new, is_blob_of, adds, place, held_from}
 use Rattle.fsl_blobs.specs.Held.{matching, found}
-use Rattle.fsl_blobs.specs.Seen.{Seen}
+use Rattle.fsl_blobs.specs.Seen.{Seen, held_as}
 use Rattle.fsl_blobs.specs.Kept.{is_same, held_at, artifact_of}
-use Rattle.fsl_blobs.specs.Listing.{begins, pair_of, place_of}
+use Rattle.fsl_blobs.specs.Listing.{begins, pair_of, place_of, entry_of}
 
 -- ---- several names that pass a test
 
@@ -49,7 +51,7 @@ keys_in es = map (λ e. e.0) es
 
 -- the entries without their places
 abbrev bare : List (List ℕ × HeldArtifact) → List (List ℕ × Held)
-bare es = map (λ e. (e.0, artifact_of e.1)) es
+bare es = map entry_of es
 
 both : (a b : Bool) → T a → T b → T (a && b)
 both true b p q = q
@@ -74,15 +76,25 @@ keys-bare [] = refl
 keys-bare (e ∷ es) = ap (λ (ks : List (List ℕ)). e.0 ∷ ks) (keys-bare es)
 
 module _ (records : List Record) (es : List (List ℕ × HeldArtifact)) (held : (name : List ℕ) → option_map artifact_of (held_at es name) ≡ map_of.get (contents records).held name) (rise : IsStrictlySortedBy bytes_cmp (keys_in es)) where
-  keys-held : keys_in es ≡ map_of.keys (contents records).held
-  keys-held =
+  entries-held : map_of.entries (contents records).held ≡ bare es
+  entries-held =
       let set = (contents records).held in
-      sym (keys-bare es)
-      ∙ ap (map (λ e. e.0)) (sym (same_entries bytes_cmp bytes_cmp-IsTotalOrder bytes_cmp-IsAntisymmetric (map_of.entries set) (bare es) (map_of.entries_sorted set) (rising es rise)
-      (λ q. sym (map_of.get-entries set q) ∙ sym (held q) ∙ sym (find-bare q es))))
+      same_entries bytes_cmp bytes_cmp-IsTotalOrder bytes_cmp-IsAntisymmetric (map_of.entries set) (bare es) (map_of.entries_sorted set) (rising es rise)
+      (λ q. sym (map_of.get-entries set q) ∙ sym (held q) ∙ sym (find-bare q es))
+
+  keys-held : keys_in es ≡ map_of.keys (contents records).held
+  keys-held = sym (keys-bare es) ∙ ap (map (λ e. e.0)) (sym entries-held)
+
+  pub bare-held : (b : Seen) → records ≡ b.records → bare es ≡ map_of.entries (contents b.records).held
+  bare-held b view = sym entries-held ∙ ap (λ (rs : List Record). map_of.entries (contents rs).held) view
 
   pub matching-held : (b : Seen) (prefix : List ℕ) → records ≡ b.records → found (filter (begins prefix) (keys_in es)) ≡ found (matching (contents b.records).held prefix)
   matching-held b prefix view = ap (λ (ks : List (List ℕ)). found (filter (begins prefix) ks)) keys-held ∙ ap (λ (rs : List Record). found (matching (contents rs).held prefix)) view
+
+-- what is lent is what another list has
+pub lent : (es fs : List (List ℕ × Held)) (r : Result (Vec Holding Global) Memory) → IfOk r (λ list. map held_as list.items ≡ es) → es ≡ fs → IfOk r (λ list. map held_as list.items ≡ fs)
+lent es fs (Ok list) h e = h ∙ e
+lent es fs (Err x) h e = tt
 
 -- ---- places
 

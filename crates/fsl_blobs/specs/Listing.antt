@@ -4,6 +4,8 @@ use Rattle.std.specs.Str.{bytes_eq}
 use Rattle.fsl_name.specs.Name.{name_text}
 use Rattle.fsl_blobs.specs.declared.Placed.{Placed}
 use Rattle.fsl_blobs.specs.declared.blobs.HeldArtifact.{HeldArtifact}
+use Rattle.fsl_blobs.specs.Fold.{Held}
+use Rattle.fsl_blobs.specs.Kept.{artifact_of}
 
 -- whether a name's digits begin with the prefix
 abbrev pub begins : List ℕ → List ℕ → Bool
@@ -16,3 +18,7 @@ pair_of p = (p.place, p.name)
 -- the place of a held artifact, with its name
 abbrev pub place_of : List ℕ × HeldArtifact → ℕ × List ℕ
 place_of e = (e.1.place, e.0)
+
+-- a held artifact without its place, under its name
+abbrev pub entry_of : List ℕ × HeldArtifact → List ℕ × Held
+entry_of e = (e.0, artifact_of e.1)

@@ -5,7 +5,8 @@ use Rattle.std.specs.FinSet as set
 use Rattle.std.specs.FinSet.{FinSet}
 use Rattle.fsl_order.specs.Names.{bytes_cmp}
 use Rattle.fsl_record.specs.declared.Record.{Record}
-use Rattle.fsl_blobs.specs.Fold.{contents}
+use Rattle.fsl_blobs.specs.Fold.{Held, contents}
+use Rattle.fsl_blobs.specs.declared.Holding.{Holding}
 use Rattle.fsl_blobs.specs.declared.Known.{Known}
 use Rattle.fsl_blobs.specs.declared.Known.TheVariants as known
 
@@ -27,3 +28,7 @@ known_of b name =
 abbrev pub announced_after : Seen → List ℕ → Known → Seen
 announced_after b name known.New = record b { announced = set.insert b.announced name }
 announced_after b name _ = b
+
+-- a held artifact, under its name
+abbrev pub held_as : Holding → List ℕ × Held
+held_as h = (h.name, record { private = h.private; bytes = h.bytes.now })

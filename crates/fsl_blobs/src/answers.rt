@@ -4,10 +4,11 @@ ghost use Rattle.std.specs.Option.{option_map};
 ghost use Rattle.std.specs.FinMap as map_of;
 ghost use Rattle.fsl_blobs.specs.Fold.{contents, held_from};
 ghost use Rattle.fsl_blobs.specs.Held.{state_of, matching, found};
+ghost use Rattle.fsl_blobs.specs.Seen.{held_as};
 ghost use Rattle.fsl_blobs.specs.declared.BlobFault.TheVariants.{Absent as AbsentFault};
 
-use crate::listing::{only_match, placed_from};
-use crate::{BlobFault, BlobState, Blobs, Found, Placed};
+use crate::listing::{holdings, only_match, placed_from};
+use crate::{BlobFault, BlobState, Blobs, Found, Holding, Placed};
 use fsl_disk::Disk;
 use fsl_name::Name;
 use fsl_record::Config;
@@ -87,5 +88,12 @@ impl Blobs {
         let mut names = placed_from(alloc, &self.held, from)?;
         names.sort_unstable_by_key(|placed| placed.place);
         Ok(List::from_vec(names))
+    }
+
+    /// The held artifacts, public and private, by rising name. No bytes are copied. `Memory` is the only error.
+    pub fn holdings<'a>(&'a self, alloc: Global) -> Result<Vec<Holding<'a>>, Memory>
+        ensures { IfOk result (λ list. map held_as list.items ≡ map_of.entries (contents self.now.records).held) }
+    {
+        holdings(alloc, &self.held)
     }
 }

@@ -67,6 +67,15 @@ pub struct Placed {
     pub name: Name,
 }
 
+/// A held artifact, whose bytes are lent.
+#[derive(Clone, Copy, Debug)]
+pub struct Holding<'a> {
+    pub name: Name,
+    /// Whether it isn't given to others.
+    pub private: bool,
+    pub bytes: &'a [u8],
+}
+
 /// Why a content wasn't given.
 #[derive(Clone, Copy, PartialEq, Eq, Debug)]
 pub enum BlobFault {

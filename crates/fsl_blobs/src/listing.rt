@@ -5,10 +5,11 @@ ghost use Rattle.std.specs.List.Sorted.{IsStrictlySortedBy};
 ghost use Rattle.fsl_order.specs.Names.{bytes_cmp};
 ghost use Rattle.fsl_blobs.specs.Held.{found};
 ghost use Rattle.fsl_blobs.specs.Kept.{held_at};
-ghost use Rattle.fsl_blobs.specs.Listing.{begins, pair_of, place_of};
+ghost use Rattle.fsl_blobs.specs.Seen.{held_as};
+ghost use Rattle.fsl_blobs.specs.Listing.{begins, pair_of, place_of, entry_of};
 
 use crate::blobs::HeldArtifact;
-use crate::{Found, Placed};
+use crate::{Found, Holding, Placed};
 use fsl_name::Name;
 use fsl_text::Memory;
 use std::alloc::Global;
@@ -61,4 +62,26 @@ pub(crate) fn placed_from(
         }
     }
     Ok(names)
+}
+
+/// The held artifacts in the order of their names, with their bytes lent.
+pub(crate) fn holdings<'a>(
+    alloc: Global,
+    held: &'a BTreeMap<Name, HeldArtifact>,
+) -> Result<Vec<Holding<'a>>, Memory>
+    ensures holdings { IfOk result (λ list. map held_as list.items ≡ map entry_of held.now.entries) }
+    ensures ordered { IsStrictlySortedBy bytes_cmp (tree.keys held.now) }
+{
+    let mut list = Vec::new(alloc);
+    for (name, artifact) in held {
+        let holding = Holding {
+            name: *name,
+            private: artifact.private,
+            bytes: artifact.bytes.bytes(),
+        };
+        if list.push(holding).is_err() {
+            return Err(Memory);
+        }
+    }
+    Ok(list)
 }

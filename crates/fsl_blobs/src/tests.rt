@@ -115,6 +115,36 @@ fn looks_names_up(rt: HostRuntime) -> Result<(), Fail> {
     Ok(())
 }
 
+/// Whether the held artifacts are these, in this order.
+fn are_lent(alloc: Global, blobs: &Blobs, want: &[(bool, &[u8])]) -> Result<bool, Memory> {
+    let Ok(held) = blobs.holdings(alloc) else {
+        return Err(Memory);
+    };
+    let mut same = held.len() == want.len();
+    for (found, wanted) in held.iter().zip(want) {
+        same = same && found.private == wanted.0 && found.bytes == wanted.1;
+        same = same && found.name == Name::of(wanted.1);
+    }
+    Ok(same)
+}
+
+/// The names of these bytes begin with a99, a99 and da3.
+#[test]
+fn lends_artifacts(rt: HostRuntime) -> Result<(), Fail> {
+    let mut blobs = Blobs::fold(rt.alloc(), first_record(rt.alloc())?)?;
+    blobs.apply(blob(rt.alloc(), false, b"")?)?;
+    blobs.apply(blob(rt.alloc(), false, b"2939")?)?;
+    blobs.apply(blob(rt.alloc(), true, b"abc")?)?;
+    assert!(rt;
+        are_lent(
+            rt.alloc(),
+            &blobs,
+            &[(true, b"abc"), (false, b"2939"), (false, b"")]
+        )?
+    );
+    Ok(())
+}
+
 fn counted(number: u32) -> Name {
     let mut bytes = [0u8; 20];
     let [a, b, c, d] = number.to_be_bytes();

@@ -13,7 +13,7 @@ fn asks_for_words(rt: HostRuntime) -> Result<(), Fail> {
         &["r", "cat", "-x"],
         &["r", "cat", "abc"],
         &["r", "shun", "abcd"],
-        &["r", "leaves"],
+        &["r", "files", "abcd"],
         &["", "ingest"],
         &["-r", "ingest"],
         &["r", "ingest", "x"],

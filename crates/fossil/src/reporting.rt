@@ -1,0 +1,66 @@
+//! Reports on what a repository holds.
+ghost use Rattle.std.specs.Prelude.{◌≡◌, IfOk, IsTrue, false};
+ghost use Rattle.fsl_blobs.specs.Fold.{contents};
+ghost use Rattle.fsl_query.specs.Items.{AreItems};
+ghost use Rattle.fsl_query.specs.Refusals.{refusal_text};
+ghost use Rattle.fsl_query.specs.Reports.{configured, is_reported};
+ghost use Rattle.fsl_words.specs.declared.Command.TheVariants as command_of;
+ghost use Rattle.fossil.specs.Ingest as ingest;
+ghost use Rattle.fossil.specs.Outcome.{IsAnswered, IsCommandOutcome, unchanged};
+ghost use Rattle.fossil.specs.Run.{Stream};
+ghost use Rattle.fossil.specs.Acts.{Acts};
+
+use super::answer::{Answer, refusal};
+use super::fault::Fault;
+use super::items::items_of;
+use super::load::{load, not_loaded};
+use super::say::made;
+use super::status::DONE;
+use fsl_blobs::Blobs;
+use fsl_cross::Tables;
+use fsl_disk::Disk;
+use fsl_query::{QueryFault, Refused, answer, refusal_text};
+use fsl_text::Memory;
+use fsl_words::Question;
+use std::alloc::Global;
+
+/// The refusal of a question.
+pub fn question_refusal(alloc: Global, refused: &Refused) -> Result<Answer, Memory>
+    ensures { IfOk result (λ a. a ≡ ingest.refused (refusal_text refused.now)) }
+{
+    let reason = refusal_text(alloc, refused)?;
+    refusal(alloc, reason.bytes())
+}
+
+/// All tables of the held artifacts, with the fields of tickets that the Config has.
+fn tables_of(alloc: Global, blobs: &Blobs) -> Result<Tables, Memory>
+    ensures items { IfOk result (λ tables. AreItems (contents blobs.now.records).held tables.items) }
+    ensures fields { IfOk result (λ tables. tables.fields ≡ configured (contents blobs.now.records)) }
+{
+    let items = items_of(alloc, blobs)?;
+    Tables::build(alloc, &blobs.config().fields, items)
+}
+
+/// The report on a question, or the reason why there is none.
+fn report_on(alloc: Global, blobs: &Blobs, question: &Question) -> Result<Answer, Memory>
+    requires { IsTrue (is_reported question.now) }
+    ensures { IfOk result (λ a. IsAnswered question.now blobs.now.records (unchanged a)) }
+{
+    let tables = tables_of(alloc, blobs)?;
+    match answer(alloc, blobs, &tables, question) {
+        Ok(text) => Ok(Answer { status: DONE, text }),
+        Err(QueryFault::Refused(refused)) => question_refusal(alloc, &refused),
+        Err(QueryFault::Memory) => Err(Memory),
+    }
+}
+
+/// Loads the repository, and answers with the report on a question.
+pub fn report<D: Disk>(alloc: Global, question: &Question, disk: &mut D) -> Result<Answer, Fault>
+    requires { IsTrue (is_reported question.now) }
+    ensures { (input : Stream) → Acts (IsCommandOutcome (command_of.Ask question.now)) false false input (D.state disk.old) (D.state disk.new) result }
+{
+    match load(alloc, disk) {
+        Ok(loaded) => made(report_on(alloc, &loaded.blobs, question)),
+        Err(fault) => not_loaded(alloc, fault),
+    }
+}
