@@ -15,7 +15,6 @@ use Rattle.fsl_words.specs.declared.Command.{Command}
 use Rattle.fsl_words.specs.declared.Command.TheVariants as command_of
 use Rattle.fsl_words.specs.declared.Words.{Words}
 use Rattle.fsl_words.specs.Grammar.{words_in}
-use Rattle.fsl_query.specs.Reports.{is_reported}
 use Rattle.fossil.specs.Sets.{Sent, set_of, IsFactOf, fact_of, report}
 use Rattle.fossil.specs.Ingest as ingest
 use Rattle.fossil.specs.Put.{put_files, IsPut, IsPutRead, IsPutFiles}
@@ -120,15 +119,11 @@ one_loaded ByRecords bytes one a b (inr h) (inr k) =
 one_answered : (question : Question) (old : List Record) (a b : Outcome) → IsAnswered question old a → IsAnswered question old b → a ≡ b
 one_answered question old a b h k = h.2 ∙ ap answered (one_result (contents old) question h.0 k.0 h.1 k.1) ∙ sym k.2
 
-one_asked : (question : Question) (reported : Bool) (bytes : List ℕ) (a b : Outcome) → MatchBool reported (IsLoaded (IsAnswered question) bytes a) (a ≡ usage) → MatchBool reported (IsLoaded (IsAnswered question) bytes b) (b ≡ usage) → a ≡ b
-one_asked question true bytes a b h k = one_loaded (IsAnswered question) bytes (one_answered question) a b h k
-one_asked question false bytes a b h k = h ∙ sym k
-
 pub one_command_outcome : (command : Command) (input bytes : List ℕ) (a b : Outcome) → IsCommandOutcome command input bytes a → IsCommandOutcome command input bytes b → a ≡ b
 one_command_outcome (command_of.Init project server fields) input bytes a b h k = h ∙ sym k
 one_command_outcome command_of.Ingest input bytes a b h k = one_ingested input a b h k
 one_command_outcome command_of.Put input bytes a b h k = one_loaded (IsPutOfFiles input) bytes (λ old x y p q. one_put_outcome input old x y p q) a b h k
-one_command_outcome (command_of.Ask question) input bytes a b h k = one_asked question (is_reported question) bytes a b h k
+one_command_outcome (command_of.Ask question) input bytes a b h k = one_loaded (IsAnswered question) bytes (one_answered question) a b h k
 
 by_words : (w : Option Words) (input bytes : List ℕ) (a b : Outcome) → MatchOption w (a ≡ usage) (λ w. IsCommandOutcome w.command input bytes a) → MatchOption w (b ≡ usage) (λ w. IsCommandOutcome w.command input bytes b) → a ≡ b
 by_words None input bytes a b h k = h ∙ sym k

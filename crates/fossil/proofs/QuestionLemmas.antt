@@ -1,6 +1,5 @@
 -- What is answered to questions.
-use Rattle.std.proofs.Common.{◌≡◌, ◌⊎◌, inl, inr, ℕ, ◌≤◌, Bool, true, false, List, [], Some, Result, Ok, Err, IfOk, IfErr, IsTrue, refl, sym, ap, subst, ◌∙◌, arith}
-use Rattle.std.specs.Prelude.{MatchBool}
+use Rattle.std.proofs.Common.{◌≡◌, ◌⊎◌, inl, inr, ℕ, ◌≤◌, false, List, [], Some, Result, Ok, Err, IfOk, IfErr, IsTrue, refl, sym, ap, subst, ◌∙◌, arith}
 use Rattle.fsl_text.specs.declared.memory.Memory.{Memory}
 use Rattle.fsl_record.specs.declared.Record.{Record}
 use Rattle.fsl_blobs.specs.Fold.{contents}
@@ -11,12 +10,12 @@ use Rattle.fsl_words.specs.declared.Question.TheVariants as question_of
 use Rattle.fsl_words.specs.declared.Command.TheVariants as command_of
 use Rattle.fsl_query.specs.declared.Refused.{Refused}
 use Rattle.fsl_query.specs.Refusals.{refusal_text}
-use Rattle.fsl_query.specs.Reports.{content, IsReport, is_reported}
+use Rattle.fsl_query.specs.Reports.{content, IsReport}
 use Rattle.fossil.specs.declared.fault.Fault.{Fault}
 use Rattle.fossil.specs.declared.fault.Fault.TheVariants as fault_is
 use Rattle.fossil.specs.declared.load.Loaded.{Loaded}
 use Rattle.fossil.specs.Ingest as ingest
-use Rattle.fossil.specs.Outcome.{Outcome, unchanged, printed_of, usage, answered, IsAnswered, IsLoaded, IsCommandOutcome}
+use Rattle.fossil.specs.Outcome.{Outcome, unchanged, printed_of, answered, IsAnswered, IsLoaded, IsCommandOutcome}
 use Rattle.fossil.specs.Run.{Ruled, Stream, IsSaid, IsTold, out_of_memory}
 use Rattle.fossil.specs.Acts.{Acts, Runs, IsPrinted, IsOpened, IsUnopened, IsNotLoadedAnswer, fault_status, fault_line}
 use Rattle.fossil.proofs.InputLemmas.{some_bytes}
@@ -74,19 +73,14 @@ module _ (question : Question) (input : Stream) (file left : DiskState) (file_re
     made_acts (Ok a) r made fault is = answer_acts a (subst (λ (x : Result ingest.Outcome Memory). IfOk x (λ y. IsAnswered question l.blobs.records (unchanged y))) made is)
     made_acts (Err f) r made fault is = subst (λ (x : Fault). Acts Rule false false input file left (Err x)) (sym fault) no_memory
 
-  -- the rule of a question that is reported on
-  reported_acts : (result : Result ingest.Outcome Fault) → is_reported question ≡ true → Acts Rule false false input file left result → Acts (IsCommandOutcome (command_of.Ask question)) false false input file left result
-  reported_acts result e acts =
-      subst (λ (b : Bool). Acts (λ read bytes o. MatchBool b (IsLoaded (IsAnswered question) bytes o) (o ≡ usage)) false false input file left result) (sym e) acts
-
-  pub report_acts : (l : Loaded) → IsOpened file left l → (made : Result ingest.Outcome Fault) (r : Result ingest.Outcome Memory) → is_reported question ≡ true → IfOk made (λ a. r ≡ Ok a)
+  pub report_acts : (l : Loaded) → IsOpened file left l → (made : Result ingest.Outcome Fault) (r : Result ingest.Outcome Memory) → IfOk made (λ a. r ≡ Ok a)
       → IfErr made (λ fault. fault ≡ fault_is.Memory) → IfOk r (λ a. IsAnswered question l.blobs.records (unchanged a)) → Acts (IsCommandOutcome (command_of.Ask question)) false false input file left made
-  report_acts l opened made r e made_is fault is = reported_acts made e (made_acts l opened made r made_is fault is)
+  report_acts l opened made r made_is fault is = made_acts l opened made r made_is fault is
 
   -- the file wasn't loaded
-  pub unopened_acts : (fault : LoadFault) (result : Result ingest.Outcome Fault) → is_reported question ≡ true → IsUnopened file left fault → IsNotLoadedAnswer fault result
+  pub unopened_acts : (fault : LoadFault) (result : Result ingest.Outcome Fault) → IsUnopened file left fault → IsNotLoadedAnswer fault result
       → Acts (IsCommandOutcome (command_of.Ask question)) false false input file left result
-  unopened_acts fault result e un is = reported_acts result e (not_loaded_acts (λ read. IsAnswered question) false input file left file_reads fault result un is)
+  unopened_acts fault result un is = not_loaded_acts (λ read. IsAnswered question) false input file left file_reads fault result un is
 
 -- ---- the report, or the refusal
 
@@ -125,17 +119,3 @@ refused_told due refused (Ok a) r status out e made fault is printed =
     inl (subst (λ (t : Result (List ℕ) Refused). IsTold (answered t) status out) (sym e) (refusal_told refused a r status out made is printed))
 refused_told due refused (Err f) r status out e made fault is printed =
     inr (subst (λ (x : Fault). (status ≡ fault_status x) × IsSaid out (fault_line x)) fault printed)
-
--- ---- questions whose reports aren't there yet
-
-pub unreported : (question : Question) → is_reported question ≡ false → (read bytes : List ℕ) → IsCommandOutcome (command_of.Ask question) read bytes usage
-unreported question e read bytes = subst (λ (b : Bool). MatchBool b (IsLoaded (IsAnswered question) bytes usage) (usage ≡ usage)) (sym e) refl
-
-pub usage_only : (question : Question) → is_reported question ≡ false → (read bytes : List ℕ) (o : Outcome) → IsCommandOutcome (command_of.Ask question) read bytes o → o ≡ usage
-usage_only question e read bytes o h = subst (λ (b : Bool). MatchBool b (IsLoaded (IsAnswered question) bytes o) (o ≡ usage)) e h
-
-pub not_both : (reported : Bool) → reported ≡ true → reported ≡ false → ⊥
-not_both reported p q = differ (sym p ∙ q)
-  where
-    differ : true ≡ false → ⊥
-    differ e = cc

@@ -1,5 +1,5 @@
 -- The outcome of a run: the status, the text, and the commits that the command appends to the file.
-use Rattle.std.specs.Prelude.{◌≡◌, ℕ, ◌==◌, ◌⊎◌, List, [], ◌∷◌, ◌++◌, length, Result, Ok, Err, MatchBool, MatchOption, if◌then◌else◌, codes, decimal}
+use Rattle.std.specs.Prelude.{◌≡◌, ℕ, ◌==◌, ◌⊎◌, List, [], ◌∷◌, ◌++◌, length, Result, Ok, Err, MatchOption, if◌then◌else◌, codes, decimal}
 use Rattle.fsl_artifact.specs.Kind.{IsKind}
 use Rattle.fsl_record.specs.declared.Record.{Record}
 use Rattle.fsl_record.specs.declared.Record.TheVariants as record_of
@@ -11,7 +11,7 @@ use Rattle.fsl_words.specs.declared.Command.TheVariants.{Init, Ingest, Put, Ask}
 use Rattle.fsl_words.specs.Grammar.{words_in}
 use Rattle.fsl_query.specs.declared.Refused.{Refused}
 use Rattle.fsl_query.specs.Refusals.{refusal_text}
-use Rattle.fsl_query.specs.Reports.{IsReport, is_reported}
+use Rattle.fsl_query.specs.Reports.{IsReport}
 use Rattle.fossil.specs.Ingest as ingest
 use Rattle.fossil.specs.Put.{IsPut}
 
@@ -78,12 +78,12 @@ IsLoaded ByRecords bytes o =
 
 -- ---- a run
 
--- the outcome of a command over its input and the bytes of the file: `init` looks at their number alone, and `ingest` at none. The reports that aren't there yet are outside the grammar
+-- the outcome of a command over its input and the bytes of the file: `init` looks at their number alone, and `ingest` at none
 abbrev pub IsCommandOutcome : Command → List ℕ → List ℕ → Outcome → Type 0
 IsCommandOutcome (Init project server fields) input bytes o = o ≡ begun project server fields (length bytes)
 IsCommandOutcome Ingest input bytes o = IsIngestOfFiles input o
 IsCommandOutcome Put input bytes o = IsLoaded (IsPutOfFiles input) bytes o
-IsCommandOutcome (Ask question) input bytes o = MatchBool (is_reported question) (IsLoaded (IsAnswered question) bytes o) (o ≡ usage)
+IsCommandOutcome (Ask question) input bytes o = IsLoaded (IsAnswered question) bytes o
 
 -- the outcome: the words first, then the file, then the input
 abbrev pub IsOutcome : List (List ℕ) → List ℕ → List ℕ → Outcome → Type 0

@@ -9,7 +9,6 @@ use Rattle.fsl_journal.specs.File.{IsFileOf}
 use Rattle.fsl_words.specs.declared.Command.{Command}
 use Rattle.fsl_words.specs.declared.Command.TheVariants.{Init, Ingest, Put, Ask}
 use Rattle.fsl_words.specs.Grammar.{words_in}
-use Rattle.fsl_query.specs.Reports.{is_reported}
 use Rattle.fossil.specs.Outcome.{Outcome, IsOutcome}
 
 -- ---- what a run is handed and leaves, as far as its objects tell it
@@ -114,7 +113,7 @@ begins_empty words = option_map_or (λ w. command_begins w.command) (words_in wo
 abbrev pub command_opens : Command → Bool
 command_opens (Init project server fields) = true
 command_opens Put = true
-command_opens (Ask question) = is_reported question
+command_opens (Ask question) = true
 command_opens _ = false
 
 -- whether the command touches the file

@@ -1,9 +1,9 @@
 //! Reports on what a repository holds.
-ghost use Rattle.std.specs.Prelude.{◌≡◌, IfOk, IsTrue, false};
+ghost use Rattle.std.specs.Prelude.{◌≡◌, IfOk, false};
 ghost use Rattle.fsl_blobs.specs.Fold.{contents};
 ghost use Rattle.fsl_query.specs.Items.{AreItems};
 ghost use Rattle.fsl_query.specs.Refusals.{refusal_text};
-ghost use Rattle.fsl_query.specs.Reports.{configured, is_reported};
+ghost use Rattle.fsl_query.specs.Reports.{configured};
 ghost use Rattle.fsl_words.specs.declared.Command.TheVariants as command_of;
 ghost use Rattle.fossil.specs.Ingest as ingest;
 ghost use Rattle.fossil.specs.Outcome.{IsAnswered, IsCommandOutcome, unchanged};
@@ -43,7 +43,6 @@ fn tables_of(alloc: Global, blobs: &Blobs) -> Result<Tables, Memory>
 
 /// The report on a question, or the reason why there is none.
 fn report_on(alloc: Global, blobs: &Blobs, question: &Question) -> Result<Answer, Memory>
-    requires { IsTrue (is_reported question.now) }
     ensures { IfOk result (λ a. IsAnswered question.now blobs.now.records (unchanged a)) }
 {
     let tables = tables_of(alloc, blobs)?;
@@ -56,7 +55,6 @@ fn report_on(alloc: Global, blobs: &Blobs, question: &Question) -> Result<Answer
 
 /// Loads the repository, and answers with the report on a question.
 pub fn report<D: Disk>(alloc: Global, question: &Question, disk: &mut D) -> Result<Answer, Fault>
-    requires { IsTrue (is_reported question.now) }
     ensures { (input : Stream) → Acts (IsCommandOutcome (command_of.Ask question.now)) false false input (D.state disk.old) (D.state disk.new) result }
 {
     match load(alloc, disk) {

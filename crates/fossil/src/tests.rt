@@ -4,6 +4,7 @@ mod ingest;
 mod kept;
 mod put;
 mod reports;
+mod tables;
 mod words;
 
 use crate::run::run;

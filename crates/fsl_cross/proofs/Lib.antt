@@ -4,3 +4,5 @@ pub mod Mapped
 pub mod Moved
 pub mod FactLemmas
 pub mod TipLemmas
+pub mod FileLemmas
+pub mod TableLemmas

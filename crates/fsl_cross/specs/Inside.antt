@@ -1,21 +1,41 @@
 -- The facts and the values of check-ins over the facts of a table, and what the tables of a set hold.
-use Rattle.std.specs.Prelude.{◌≡◌, ℕ, List, [], Option, is_some, map, option_map, option_and_then, unwrap_or, codes}
+use Rattle.std.specs.Prelude.{◌≡◌, ℕ, List, [], Bool, false, if◌then◌else◌, Option, Some, None, is_some, map, filter_map, slice_get, option_map, option_and_then, unwrap_or, codes}
+use Rattle.std.specs.List.{list_any}
+use Rattle.std.specs.Option.{option_eq, option_map_or}
+use Rattle.std.specs.Str.{bytes_eq}
 use Rattle.std.specs.List.Sorted.{IsStrictlySortedBy}
 use Rattle.fsl_order.specs.Names.{bytes_cmp}
 use Rattle.fsl_order.specs.Rows.{named}
 use Rattle.fsl_order.specs.Held.{Held}
+use Rattle.fsl_name.specs.Name.{name_text}
 use Rattle.fsl_date.specs.Moment.{date_in}
 use Rattle.fsl_manifest.specs.declared.Manifest.{Manifest}
+use Rattle.fsl_forms.specs.declared.control.Control.{Control}
+use Rattle.fsl_forms.specs.declared.attachment.Attachment.{Attachment}
+use Rattle.fsl_forms.specs.declared.technote.Technote.{Technote}
+use Rattle.fsl_forms.specs.declared.forum.Forum.{Forum}
+use Rattle.fsl_artifact.specs.declared.Artifact.{Artifact}
+use Rattle.fsl_artifact.specs.declared.Artifact.TheVariants as kind
 use Rattle.fsl_links.specs.declared.Fact as links
 use Rattle.fsl_links.specs.Links.{primary}
 use Rattle.fsl_tags.specs.declared.Fact as tags
 use Rattle.fsl_tags.specs.Tags.{force}
 use Rattle.fsl_leaves.specs.declared.Fact as leaves
+use Rattle.fsl_files.specs.declared.Fact as files
+use Rattle.fsl_timeline.specs.declared.Row.{Row}
+use Rattle.fsl_timeline.specs.declared.RowKind.{RowKind}
+use Rattle.fsl_timeline.specs.declared.RowKind.TheVariants as row
+use Rattle.fsl_wiki.specs.declared.Fact as wiki
+use Rattle.fsl_wiki.specs.Pages as pages
+use Rattle.fsl_ticket.specs.Seen as change
+use Rattle.fsl_forum.specs.declared.Fact as forum
+use Rattle.fsl_forum.specs.Threads as threads
+use Rattle.fsl_cluster.specs.declared.Fact as cluster
 use Rattle.fsl_cross.specs.declared.Item.{Item}
 use Rattle.fsl_cross.specs.declared.Values.{Values}
-use Rattle.fsl_cross.specs.Facts.{as_manifest, tag_cards, assertions}
+use Rattle.fsl_cross.specs.Facts.{as_manifest, tag_cards, assertions, pages_fact, ticket_fact}
 use Rattle.fsl_cross.specs.Checkins.{links_facts, tags_facts}
-use Rattle.fsl_cross.specs.Tables.{leaves_facts}
+use Rattle.fsl_cross.specs.Tables.{leaves_facts, files_facts, pages_facts, ticket_facts, forum_facts, cluster_facts, tag_text, timeline_rows}
 
 -- an artifact that may have T cards, with its assertions and its primary parent by some facts
 abbrev pub tags_fact_over : List links.Fact → Item → Option tags.Fact
@@ -63,9 +83,82 @@ abbrev pub dated_over : List tags.Fact → List Item → List ℕ → Option (�
 dated_over facts items name =
     option_map (λ m. (date_over facts name m, name)) (option_and_then (λ item. as_manifest item.artifact) (named (λ item. item.name) items name))
 
+-- whether a text is the id of a ticket change in 40 digits
+abbrev pub is_ticket : List Item → List ℕ → Bool
+is_ticket items target = list_any (λ f. bytes_eq (name_text f.id) target) (ticket_facts items)
+
+-- .. of a technote
+abbrev pub is_note : List Item → List ℕ → Bool
+is_note items target = list_any (λ n. bytes_eq (name_text n.id) target) (filter_map pages.as_note (pages_facts items))
+
+-- what one artifact adds to the ids of ticket changes, and to those of technotes
+abbrev pub has_ticket : Item → List ℕ → Bool
+has_ticket item target = option_map_or (λ f. bytes_eq (name_text f.id) target) (ticket_fact item) false
+
+abbrev pub has_note : Item → List ℕ → Bool
+has_note item target = option_map_or (λ n. bytes_eq (name_text n.id) target) (option_and_then pages.as_note (pages_fact item)) false
+
+-- the kind of an attachment, by whether its target is the id of a ticket, and of a technote
+abbrev pub kind_by : Bool → Bool → RowKind
+kind_by on_ticket on_note = if on_ticket then row.Ticket else (if on_note then row.Note else row.Wiki)
+
+-- a check-in's row by facts of tags
+abbrev pub checkin_row : List tags.Fact → List ℕ → Manifest → Row
+checkin_row facts name m =
+    record {
+      time = date_over facts name m;
+      name = name;
+      kind = row.Checkin;
+      user = text_over facts name (codes "user") m.user;
+      text = text_over facts name (codes "comment") m.comment;
+    }
+
+-- a technote's by facts of technotes, where it is the current one
+abbrev pub note_row : List wiki.Fact → List ℕ → Technote → Option Row
+note_row facts name t =
+    if option_eq bytes_eq (pages.note facts t.id) (Some name)
+    then Some (record { time = t.time; name = name; kind = row.Note; user = unwrap_or t.user []; text = unwrap_or t.comment [] })
+    else None
+
+-- an attachment's
+abbrev pub attachment_row : RowKind → List ℕ → Attachment → Row
+attachment_row what name a = record { time = a.date; name = name; kind = what; user = unwrap_or a.user []; text = a.file }
+
+-- a post's by facts of posts, where it is valid
+abbrev pub post_row : List forum.Fact → List ℕ → Forum → Option Row
+post_row facts name f =
+    if is_some (threads.place facts name)
+    then Some (record { time = f.date; name = name; kind = row.Forum; user = f.user; text = unwrap_or f.title [] })
+    else None
+
+-- a control artifact's
+abbrev pub control_row : List ℕ → Control → Row
+control_row name c = record { time = c.date; name = name; kind = row.Tag; user = c.user; text = option_map_or tag_text (slice_get c.tags 0) [] }
+
+-- the row of an artifact by facts of tags, technotes and posts, and by tests of the ids of tickets and technotes
+abbrev pub row_over : List tags.Fact → List wiki.Fact → List forum.Fact → (List ℕ → Bool) → (List ℕ → Bool) → List ℕ → Artifact → Option Row
+row_over ts ps fs on_ticket on_note name (kind.Manifest m) = Some (checkin_row ts name m)
+row_over ts ps fs on_ticket on_note name (kind.Wiki w) = Some (record { time = w.date; name = name; kind = row.Wiki; user = w.user; text = w.title })
+row_over ts ps fs on_ticket on_note name (kind.Ticket t) = Some (record { time = t.date; name = name; kind = row.Ticket; user = t.user; text = name_text t.id })
+row_over ts ps fs on_ticket on_note name (kind.Technote t) = note_row ps name t
+row_over ts ps fs on_ticket on_note name (kind.Attachment a) = Some (attachment_row (kind_by (on_ticket a.target) (on_note a.target)) name a)
+row_over ts ps fs on_ticket on_note name (kind.Forum f) = post_row fs name f
+row_over ts ps fs on_ticket on_note name (kind.Control c) = Some (control_row name c)
+row_over ts ps fs on_ticket on_note name _ = None
+
+abbrev pub item_row_over : List tags.Fact → List wiki.Fact → List forum.Fact → (List ℕ → Bool) → (List ℕ → Bool) → Item → Option Row
+item_row_over ts ps fs on_ticket on_note item = row_over ts ps fs on_ticket on_note item.name item.artifact
+
 -- the items rise by name, and each table has the facts that they give
-pub record AreTablesOf (items : List Item) (l : Held links.Fact) (t : Held tags.Fact) (v : Held leaves.Fact) : Type 0 where
+pub record AreTablesOf (fields : List (List ℕ)) (items : List Item) (l : Held links.Fact) (t : Held tags.Fact) (v : Held leaves.Fact) (f : Held files.Fact) (r : Held Row) (p : Held wiki.Fact) (k : change.Seen) (h : Held forum.Fact)
+    (c : Held cluster.Fact) : Type 0 where
   pub rising : IsStrictlySortedBy bytes_cmp (map (λ item. item.name) items)
   pub links : l ≡ record { facts = links_facts items; spare = [] }
   pub tags : t ≡ record { facts = tags_facts items; spare = [] }
   pub leaves : v ≡ record { facts = leaves_facts items; spare = [] }
+  pub files : f ≡ record { facts = files_facts items; spare = [] }
+  pub timeline : r ≡ record { facts = timeline_rows items; spare = [] }
+  pub pages : p ≡ record { facts = pages_facts items; spare = [] }
+  pub tickets : k ≡ record { fields = fields; facts = ticket_facts items; spare = [] }
+  pub threads : h ≡ record { facts = forum_facts items; spare = [] }
+  pub clusters : c ≡ record { facts = cluster_facts items; spare = [] }

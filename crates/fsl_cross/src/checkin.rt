@@ -42,7 +42,7 @@ fn forced<'a>(tags: &'a Tags, name: Name, tag: &[u8]) -> Option<&'a [u8]>
 }
 
 /// The value of a tag, where it is in force on a name, else that of a card.
-fn text<'a>(tags: &'a Tags, name: Name, tag: &[u8], card: &'a [u8]) -> &'a [u8]
+pub(crate) fn text<'a>(tags: &'a Tags, name: Name, tag: &[u8], card: &'a [u8]) -> &'a [u8]
     ensures { result.now ≡ text_over tags.now.facts name tag.now card.now }
 {
     match forced(tags, name, tag) {

@@ -5,11 +5,15 @@
 ghost use Rattle.fsl_cross.specs.Tables.{SameInAnyOrder};
 
 mod checkin;
+mod contents;
 mod facts;
+mod history;
 mod items;
 mod tables;
+mod targets;
 #[cfg(test)]
 mod tests;
+mod timeline;
 mod tip;
 
 use fsl_artifact::Artifact;

@@ -5,13 +5,21 @@ ghost use Rattle.fsl_cross.specs.Checkins as checkins;
 ghost use Rattle.fsl_cross.specs.Tables.{IsItem, item_set, tables};
 
 use super::checkin::manifest;
+use super::contents::Contents;
+use super::history::History;
 use super::items::Items;
-use super::{Item, Values, checkin, facts, tip};
+use super::{Item, Values, checkin, timeline, tip};
+use fsl_cluster::Clusters;
+use fsl_files::Files;
+use fsl_forum::Threads;
 use fsl_leaves::Leaves;
 use fsl_links::Links;
 use fsl_name::Name;
 use fsl_tags::Tags;
 use fsl_text::{List, Memory, Text};
+use fsl_ticket::Tickets;
+use fsl_timeline::Timeline;
+use fsl_wiki::Pages;
 use std::alloc::Global;
 use std::marker::Model;
 
@@ -20,9 +28,9 @@ use std::marker::Model;
 pub struct Tables {
     fields: List<Text>,
     items: Items,
-    links: Links,
-    tags: Tags,
-    leaves: Leaves,
+    history: History,
+    contents: Contents,
+    timeline: Timeline,
 }
 
 impl Model for Tables {
@@ -33,7 +41,7 @@ impl Model for Tables {
 
     ghost view = { λ t. record { fields = t.fields; items = t.items } };
 
-    ghost invariant = { λ t. AreTablesOf t.items t.links t.tags t.leaves };
+    ghost invariant = { λ t. AreTablesOf t.fields t.items t.history.links t.history.tags t.history.leaves t.contents.files t.timeline t.contents.pages t.contents.tickets t.contents.threads t.contents.clusters };
 }
 
 impl Tables {
@@ -45,15 +53,21 @@ impl Tables {
         ensures { IfOk result (λ t. t ≡ record { fields = fields.now; items = item_set items }) }
     {
         let items = Items::of(alloc, items)?;
-        let links = Links::build(alloc, &facts::links::of_items(alloc, &items)?)?;
-        let tags = Tags::build(alloc, &facts::tags::of_items(alloc, &links, &items)?)?;
-        let leaves = Leaves::build(alloc, &facts::leaves::of_items(alloc, &tags, &items)?)?;
+        let history = History::build(alloc, &items)?;
+        let contents = Contents::build(alloc, fields, &items)?;
+        let timeline = timeline::table(
+            alloc,
+            &history.tags,
+            &contents.pages,
+            &contents.threads,
+            &items,
+        )?;
         Ok(Tables {
             fields: copied(alloc, fields.items())?,
             items,
-            links,
-            tags,
-            leaves,
+            history,
+            contents,
+            timeline,
         })
     }
 
@@ -62,7 +76,7 @@ impl Tables {
         ensures facts { result.now.facts ≡ (tables self.now.fields self.now.items).links }
         ensures spare { result.now.spare ≡ [] }
     {
-        &self.links
+        &self.history.links
     }
 
     /// The table of tags.
@@ -70,7 +84,7 @@ impl Tables {
         ensures facts { result.now.facts ≡ (tables self.now.fields self.now.items).tags }
         ensures spare { result.now.spare ≡ [] }
     {
-        &self.tags
+        &self.history.tags
     }
 
     /// The table of leaves.
@@ -78,7 +92,56 @@ impl Tables {
         ensures facts { result.now.facts ≡ (tables self.now.fields self.now.items).leaves }
         ensures spare { result.now.spare ≡ [] }
     {
-        &self.leaves
+        &self.history.leaves
+    }
+
+    /// The table of the files of check-ins.
+    pub fn files(&self) -> &Files
+        ensures facts { result.now.facts ≡ (tables self.now.fields self.now.items).files }
+        ensures spare { result.now.spare ≡ [] }
+    {
+        &self.contents.files
+    }
+
+    /// The timeline.
+    pub fn timeline(&self) -> &Timeline
+        ensures facts { result.now.facts ≡ (tables self.now.fields self.now.items).timeline }
+        ensures spare { result.now.spare ≡ [] }
+    {
+        &self.timeline
+    }
+
+    /// The table of wiki pages, technotes and attachments.
+    pub fn wiki(&self) -> &Pages
+        ensures facts { result.now.facts ≡ (tables self.now.fields self.now.items).pages }
+        ensures spare { result.now.spare ≡ [] }
+    {
+        &self.contents.pages
+    }
+
+    /// The table of tickets.
+    pub fn ticket(&self) -> &Tickets
+        ensures fields { result.now.fields ≡ (tables self.now.fields self.now.items).fields }
+        ensures facts { result.now.facts ≡ (tables self.now.fields self.now.items).tickets }
+        ensures spare { result.now.spare ≡ [] }
+    {
+        &self.contents.tickets
+    }
+
+    /// The table of forum posts.
+    pub fn forum(&self) -> &Threads
+        ensures facts { result.now.facts ≡ (tables self.now.fields self.now.items).threads }
+        ensures spare { result.now.spare ≡ [] }
+    {
+        &self.contents.threads
+    }
+
+    /// The table of clusters.
+    pub fn cluster(&self) -> &Clusters
+        ensures facts { result.now.facts ≡ (tables self.now.fields self.now.items).clusters }
+        ensures spare { result.now.spare ≡ [] }
+    {
+        &self.contents.clusters
     }
 
     /// The values of a check-in: comment, user, date and branch are those of the tags of these names where these are in force
@@ -93,7 +156,7 @@ impl Tables {
         let Some(manifest) = manifest(&item.artifact) else {
             return Ok(None);
         };
-        Ok(Some(checkin::values(alloc, &self.tags, name, manifest)?))
+        Ok(Some(checkin::values(alloc, &self.history.tags, name, manifest)?))
     }
 
     /// The tip of a symbolic name: of the check-ins on which the tag of `sym-` and the name is in force, the one with the
@@ -102,15 +165,15 @@ impl Tables {
         ensures { IfOk result (λ n. n ≡ checkins.tip self.now.items symbol.now) }
     {
         let tag = tip::tag_of(alloc, symbol)?;
-        let holders = self.tags.holders(alloc, tag.bytes())?;
-        Ok(tip::latest(&self.items, &self.tags, holders.items()))
+        let holders = self.history.tags.holders(alloc, tag.bytes())?;
+        Ok(tip::latest(&self.items, &self.history.tags, holders.items()))
     }
 
     /// The branch of a check-in: the value of the tag `branch` where it is in force on the name, else `trunk`.
     pub fn branch(&self, name: Name) -> &[u8]
         ensures { result.now ≡ checkins.branch self.now.items name }
     {
-        checkin::branch(&self.tags, name)
+        checkin::branch(&self.history.tags, name)
     }
 }
 

@@ -6,6 +6,8 @@ ghost use Rattle.fsl_order.specs.Rows.{AreDistinct};
 ghost use Rattle.fsl_artifact.specs.Kind.{IsKind};
 ghost use Rattle.fsl_cross.specs.Tables.{IsItem};
 
+mod contents;
+
 use super::*;
 use fsl_artifact::parse;
 use fsl_text::{List, Memory, Steps};
@@ -82,13 +84,17 @@ fn are_distinct(items: &[Item]) -> bool
 }
 
 fn tables_of(alloc: Global, texts: &[&[u8]]) -> Option<Tables> {
+    tables_with(alloc, &List::new(alloc), texts)
+}
+
+fn tables_with(alloc: Global, fields: &List<Text>, texts: &[&[u8]]) -> Option<Tables> {
     let Ok(items) = items_of(alloc, texts) else {
         return None;
     };
     if !are_distinct(items.items()) {
         return None;
     }
-    Tables::build(alloc, &List::new(alloc), items).ok()
+    Tables::build(alloc, fields, items).ok()
 }
 
 /// Whether the leaves are these, in this order.

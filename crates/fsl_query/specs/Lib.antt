@@ -1,4 +1,5 @@
 pub mod Items
+pub mod Dates
 pub mod Lines
 pub mod Reports
 pub mod Refusals

@@ -1,9 +1,25 @@
 -- The lines of reports.
-use Rattle.std.specs.Prelude.{ℕ, List, [], ◌∷◌, ◌++◌, if◌then◌else◌}
+use Rattle.std.specs.Prelude.{ℕ, List, [], ◌∷◌, ◌++◌, if◌then◌else◌, codes}
+use Rattle.std.specs.Option.{option_map_or}
 use Rattle.fsl_text.specs.Bytes.{is_empty}
 use Rattle.fsl_text.specs.Escapes.{escape}
 use Rattle.fsl_name.specs.Name.{name_text}
 use Rattle.fsl_tags.specs.declared.Assertion.{Assertion}
+use Rattle.fsl_files.specs.declared.Perm.{Perm}
+use Rattle.fsl_files.specs.declared.Perm.TheVariants as perm
+use Rattle.fsl_files.specs.declared.FileRow.{FileRow}
+use Rattle.fsl_files.specs.declared.How.{How}
+use Rattle.fsl_files.specs.declared.How.TheVariants.{Added, Edited, Deleted}
+use Rattle.fsl_files.specs.declared.Change.{Change}
+use Rattle.fsl_timeline.specs.declared.RowKind.{RowKind}
+use Rattle.fsl_timeline.specs.declared.RowKind.TheVariants as row
+use Rattle.fsl_timeline.specs.declared.Row.{Row}
+use Rattle.fsl_wiki.specs.declared.Page.{Page}
+use Rattle.fsl_wiki.specs.declared.Attached.{Attached}
+use Rattle.fsl_forum.specs.declared.PostKind.{PostKind}
+use Rattle.fsl_forum.specs.declared.PostKind.TheVariants.{Start, Edit, Reply}
+use Rattle.fsl_forum.specs.declared.Post.{Post}
+use Rattle.fsl_query.specs.Dates.{moment_text}
 
 -- words with one space between them, and a newline
 abbrev pub spaced : List (List ℕ) → List ℕ
@@ -19,6 +35,22 @@ shown text = if is_empty text then 45 ∷ [] else escape text
 abbrev pub valued_line : List ℕ → List ℕ → List ℕ
 valued_line key value = if is_empty value then spaced (escape key ∷ []) else spaced (escape key ∷ escape value ∷ [])
 
+-- ---- timeline
+
+abbrev pub kind_text : RowKind → List ℕ
+kind_text row.Checkin = codes "ci"
+kind_text row.Wiki = codes "wiki"
+kind_text row.Ticket = codes "tkt"
+kind_text row.Note = codes "note"
+kind_text row.Forum = codes "forum"
+kind_text row.Tag = codes "tag"
+
+-- TIME NAME KIND USER TEXT
+abbrev pub timeline_line : Row → List ℕ
+timeline_line r = spaced (moment_text r.time ∷ name_text r.name ∷ kind_text r.kind ∷ shown r.user ∷ shown r.text ∷ [])
+
+-- ---- leaves, tags and tips
+
 -- NAME BRANCH
 abbrev pub leaf_line : List ℕ → List ℕ → List ℕ
 leaf_line branch name = spaced (name_text name ∷ shown branch ∷ [])
@@ -30,3 +62,47 @@ tag_line a = valued_line a.tag a.value
 -- NAME
 abbrev pub tip_line : List ℕ → List ℕ
 tip_line name = spaced (name_text name ∷ [])
+
+-- ---- files
+
+abbrev pub perm_text : Perm → List ℕ
+perm_text perm.Plain = codes "-"
+perm_text perm.Writable = codes "-"
+perm_text perm.Exec = codes "x"
+perm_text perm.Symlink = codes "l"
+
+-- HASH PERM PATH; each file that is known has a hash
+abbrev pub file_line : FileRow → List ℕ
+file_line f = option_map_or (λ hash. spaced (name_text hash ∷ perm_text f.perm ∷ escape f.path ∷ [])) f.hash []
+
+abbrev pub how_text : How → List ℕ
+how_text Added = codes "added"
+how_text Edited = codes "edited"
+how_text Deleted = codes "deleted"
+
+-- added PATH, edited PATH, deleted PATH
+abbrev pub change_line : Change → List ℕ
+change_line c = spaced (how_text c.how ∷ escape c.path ∷ [])
+
+-- ---- wiki, tickets and threads
+
+-- DATE NAME USER
+abbrev pub page_line : Page → List ℕ
+page_line p = spaced (moment_text p.date ∷ name_text p.name ∷ shown p.user ∷ [])
+
+-- attachment NAME FILE
+abbrev pub attachment_line : Attached → List ℕ
+attachment_line a = spaced (codes "attachment" ∷ name_text a.name ∷ escape a.file ∷ [])
+
+-- FIELD VALUE, or FIELD
+abbrev pub field_line : List ℕ × List ℕ → List ℕ
+field_line pair = valued_line pair.0 pair.1
+
+abbrev pub post_kind_text : PostKind → List ℕ
+post_kind_text Start = codes "start"
+post_kind_text Edit = codes "edit"
+post_kind_text Reply = codes "reply"
+
+-- DATE NAME KIND USER
+abbrev pub post_line : Post → List ℕ
+post_line p = spaced (moment_text p.date ∷ name_text p.name ∷ post_kind_text p.how ∷ shown p.user ∷ [])

@@ -1,9 +1,17 @@
 -- The report or the refusal that a question gets, by the contents and the items that the held artifacts are.
-use Rattle.std.specs.Prelude.{◌≡◌, ℕ, List, [], flat_map, Bool, true, false, Result, Ok, Err}
+use Rattle.std.specs.Prelude.{◌≡◌, ℕ, List, [], ◌∷◌, ◌++◌, filter, flat_map, zip, is_some, Result, Ok, Err}
 use Rattle.std.specs.Option.{option_map_or}
 use Rattle.std.specs.FinMap as map_of
+use Rattle.fsl_name.specs.Name.{name_text}
 use Rattle.fsl_tags.specs.Tags.{in_force}
 use Rattle.fsl_leaves.specs.Leaves.{leaves}
+use Rattle.fsl_files.specs.declared.Listing.{Listing}
+use Rattle.fsl_files.specs.declared.Listing.TheVariants.{NotCheckin as not_checkin, NoBaseline as no_baseline, Known}
+use Rattle.fsl_files.specs.Files.{files, changes}
+use Rattle.fsl_timeline.specs.Timeline.{latest}
+use Rattle.fsl_wiki.specs.Pages.{history, attached}
+use Rattle.fsl_ticket.specs.Tickets.{fields}
+use Rattle.fsl_forum.specs.Threads.{thread}
 use Rattle.fsl_cross.specs.declared.Item.{Item}
 use Rattle.fsl_cross.specs.Checkins.{branch, tip}
 use Rattle.fsl_cross.specs.Tables.{TableFacts, tables}
@@ -12,11 +20,11 @@ use Rattle.fsl_blobs.specs.declared.Found.{Found}
 use Rattle.fsl_blobs.specs.declared.Found.TheVariants as found_as
 use Rattle.fsl_blobs.specs.Held.{matching, found}
 use Rattle.fsl_words.specs.declared.Question.{Question}
-use Rattle.fsl_words.specs.declared.Question.TheVariants.{Cat, Leaves, Tags, Tip}
+use Rattle.fsl_words.specs.declared.Question.TheVariants.{Cat, Timeline, Leaves, Tags, Tip, Files, Wiki, Ticket, Thread}
 use Rattle.fsl_query.specs.declared.Refused.{Refused}
 use Rattle.fsl_query.specs.declared.Refused.TheVariants as refused
 use Rattle.fsl_query.specs.Items.{AreItems}
-use Rattle.fsl_query.specs.Lines.{leaf_line, tag_line, tip_line}
+use Rattle.fsl_query.specs.Lines.{timeline_line, leaf_line, tag_line, tip_line, file_line, change_line, page_line, attachment_line, field_line, post_line}
 
 -- the configured ticket fields
 abbrev pub configured : Contents → List (List ℕ)
@@ -39,11 +47,20 @@ of_prefix c prefix answer = by_found prefix answer (found (matching c.held prefi
 abbrev pub name_found : Contents → List ℕ → Result (List ℕ) Refused
 name_found c prefix = of_prefix c prefix (λ name. Ok name)
 
+-- the text, where there is something to report
+abbrev pub unless_none : {X : Type 0} → List X → Refused → List ℕ → Result (List ℕ) Refused
+unless_none [] refusal text = Err refusal
+unless_none (x ∷ xs) refusal text = Ok text
+
 -- ---- the questions
 
 -- the content alone
 abbrev pub content : Contents → List ℕ → Result (List ℕ) Refused
 content c prefix = of_prefix c prefix (λ name. option_map_or (λ held. Ok held.bytes) (map_of.get c.held name) (Err (refused.NoArtifact prefix)))
+
+-- the first rows of the timeline
+abbrev pub timeline_report : TableFacts → ℕ → List ℕ
+timeline_report t count = flat_map timeline_line (latest t.timeline count)
 
 -- the leaves by name, each with its branch
 abbrev pub leaves_report : TableFacts → List Item → List ℕ
@@ -57,23 +74,48 @@ tags_report t name = flat_map tag_line (in_force t.tags name)
 abbrev pub tip_report : List Item → List ℕ → Result (List ℕ) Refused
 tip_report items symbol = option_map_or (λ name. Ok (tip_line name)) (tip items symbol) (Err (refused.NoCheckin symbol))
 
+-- the files by path, and then the changes by path, where there are some
+abbrev pub listing_report : TableFacts → List ℕ → Listing → Result (List ℕ) Refused
+listing_report t name not_checkin = Err (refused.NotCheckin name)
+listing_report t name no_baseline = Err (refused.NoBaseline name)
+listing_report t name (Known rows) = Ok (flat_map file_line rows ++ option_map_or (flat_map change_line) (changes t.files name) [])
+
+abbrev pub files_report : TableFacts → List ℕ → Result (List ℕ) Refused
+files_report t name = listing_report t name (files t.files name)
+
+-- the attachments of a target that aren't deleted, by file
+abbrev pub attachments_report : TableFacts → List ℕ → List ℕ
+attachments_report t target = flat_map attachment_line (filter (λ a. is_some a.source) (attached t.pages target))
+
+-- the versions of a page by date and name, and its attachments
+abbrev pub wiki_report : TableFacts → List ℕ → Result (List ℕ) Refused
+wiki_report t title =
+    let pages = history t.pages title in
+    unless_none pages (refused.NoPage title) (flat_map page_line pages ++ attachments_report t title)
+
+-- the configured fields in their order, and the attachments of the ticket
+abbrev pub ticket_report : TableFacts → List ℕ → Result (List ℕ) Refused
+ticket_report t id =
+    option_map_or (λ values. Ok (flat_map field_line (zip t.fields values) ++ attachments_report t (name_text id)))
+    (fields t.fields t.tickets id) (Err (refused.NoTicket id))
+
+-- the valid posts of a thread by date and name
+abbrev pub thread_report : TableFacts → List ℕ → Result (List ℕ) Refused
+thread_report t name = let posts = thread t.threads name in unless_none posts (refused.NoThread name) (flat_map post_line posts)
+
 -- ---- reports
 
--- whether the question is one of those that are reported on so far
-abbrev pub is_reported : Question → Bool
-is_reported (Cat prefix) = true
-is_reported Leaves = true
-is_reported (Tags prefix) = true
-is_reported (Tip symbol) = true
-is_reported _ = false
-
--- the report on a question, or its refusal; of a question that isn't reported on it has no meaning
+-- the report on a question, or its refusal
 abbrev pub report : Contents → List Item → Question → Result (List ℕ) Refused
 report c items (Cat prefix) = content c prefix
+report c items (Timeline count) = Ok (timeline_report (tables_now c items) count)
 report c items Leaves = Ok (leaves_report (tables_now c items) items)
 report c items (Tags prefix) = of_prefix c prefix (λ name. Ok (tags_report (tables_now c items) name))
 report c items (Tip symbol) = tip_report items symbol
-report c items _ = Ok []
+report c items (Files prefix) = of_prefix c prefix (files_report (tables_now c items))
+report c items (Wiki title) = wiki_report (tables_now c items) title
+report c items (Ticket id) = ticket_report (tables_now c items) id
+report c items (Thread name) = thread_report (tables_now c items) name
 
 -- the report by the items that the held artifacts are; of a content alone they don't matter
 abbrev pub IsReport : Contents → Question → Result (List ℕ) Refused → Type 0

@@ -6,6 +6,9 @@ ghost use Rattle.std.specs.Prelude.{◌≡◌};
 ghost use Rattle.fsl_query.specs.declared.QueryFault.TheVariants as query_fault;
 
 mod answering;
+mod attachments;
+mod dates;
+mod files;
 mod finding;
 mod leaves;
 mod lines;
@@ -13,9 +16,14 @@ mod refusals;
 mod tags;
 #[cfg(test)]
 mod tests;
+mod thread;
+mod ticket;
+mod timeline;
 mod tip;
+mod wiki;
 
 pub use answering::answer;
+pub use dates::prints_moments;
 pub use finding::content;
 use fsl_name::Name;
 use fsl_text::{Memory, Text};

@@ -1,10 +1,18 @@
 //! The lines of reports.
-ghost use Rattle.std.specs.Prelude.{◌≡◌, ◌++◌, OnOk};
-ghost use Rattle.fsl_query.specs.Lines.{shown, valued_line, leaf_line, tag_line, tip_line};
+ghost use Rattle.std.specs.Prelude.{◌≡◌, ◌∷◌, ◌++◌, [], OnOk};
+ghost use Rattle.fsl_name.specs.Name.{name_text};
+ghost use Rattle.fsl_query.specs.Dates.{moment_text};
+ghost use Rattle.fsl_query.specs.Lines as line;
+ghost use Rattle.fsl_query.specs.Lines.{shown, valued_line, leaf_line, tag_line, tip_line, timeline_line, file_line, change_line, page_line, attachment_line, post_line};
 
+use fsl_date::Moment;
+use fsl_files::{Change, FileRow, How, Perm};
+use fsl_forum::{Post, PostKind};
 use fsl_name::Name;
 use fsl_tags::Assertion;
 use fsl_text::{Memory, Text, escape_into};
+use fsl_timeline::{Row, RowKind};
+use fsl_wiki::{Attached, Page};
 
 /// Puts a text at the end of another as a line shows it: escaped, and `-` where it is empty.
 fn append_shown(into: &mut Text, text: &[u8]) -> Result<(), Memory>
@@ -17,8 +25,47 @@ fn append_shown(into: &mut Text, text: &[u8]) -> Result<(), Memory>
     }
 }
 
+/// Puts a word and a blank at the end of a text.
+fn append_word(into: &mut Text, word: &[u8]) -> Result<(), Memory>
+    ensures { OnOk result (into.new ≡ into.old ++ word.now ++ 32 ∷ []) }
+{
+    into.append(word)?;
+    into.append(b" ")
+}
+
+/// Puts the text of a moment and a blank at the end of a text.
+fn append_moment(into: &mut Text, moment: Moment) -> Result<(), Memory>
+    ensures { OnOk result (into.new ≡ into.old ++ moment_text moment ++ 32 ∷ []) }
+{
+    append_word(into, &moment.text())
+}
+
+/// Puts a date and a name at the end of a text, with a blank behind each.
+fn append_dated(into: &mut Text, date: Moment, name: Name) -> Result<(), Memory>
+    ensures { OnOk result (into.new ≡ into.old ++ moment_text date ++ 32 ∷ (name_text name ++ 32 ∷ [])) }
+{
+    append_moment(into, date)?;
+    append_word(into, &name.text())
+}
+
+/// Puts a text at the end of another as a line shows it, and a blank.
+fn append_shown_word(into: &mut Text, text: &[u8]) -> Result<(), Memory>
+    ensures { OnOk result (into.new ≡ into.old ++ shown text.now ++ 32 ∷ []) }
+{
+    append_shown(into, text)?;
+    into.append(b" ")
+}
+
+/// Puts the last word of a line at the end of a text: a text as a line shows it, and a newline.
+fn append_last(into: &mut Text, text: &[u8]) -> Result<(), Memory>
+    ensures { OnOk result (into.new ≡ into.old ++ shown text.now ++ 10 ∷ []) }
+{
+    append_shown(into, text)?;
+    into.append(b"\n")
+}
+
 /// Puts a line of a key and a value at the end of a text; where the value is empty, of the key alone.
-fn append_valued(into: &mut Text, key: &[u8], value: &[u8]) -> Result<(), Memory>
+pub(crate) fn append_valued(into: &mut Text, key: &[u8], value: &[u8]) -> Result<(), Memory>
     ensures { OnOk result (into.new ≡ into.old ++ valued_line key.now value.now) }
 {
     escape_into(into, key)?;
@@ -52,4 +99,110 @@ pub(crate) fn append_tip(into: &mut Text, name: Name) -> Result<(), Memory>
 {
     into.append(&name.text())?;
     into.append(b"\n")
+}
+
+/// The word for what a row of the timeline tells of.
+fn kind_text(kind: RowKind) -> &'static [u8]
+    ensures { result.now ≡ line.kind_text kind }
+{
+    match kind {
+        RowKind::Checkin => b"ci",
+        RowKind::Wiki => b"wiki",
+        RowKind::Ticket => b"tkt",
+        RowKind::Note => b"note",
+        RowKind::Forum => b"forum",
+        RowKind::Tag => b"tag",
+    }
+}
+
+/// Puts the line of a row of the timeline at the end of a text: its time, its name, what it tells of, its user and its text.
+pub(crate) fn append_row(into: &mut Text, row: &Row) -> Result<(), Memory>
+    ensures { OnOk result (into.new ≡ into.old ++ timeline_line row.now) }
+{
+    append_dated(into, row.time, row.name)?;
+    append_word(into, kind_text(row.kind))?;
+    append_shown_word(into, row.user.bytes())?;
+    append_last(into, row.text.bytes())
+}
+
+/// The word for a permission, where `w` counts as none.
+fn perm_text(perm: Perm) -> &'static [u8]
+    ensures { result.now ≡ line.perm_text perm }
+{
+    match perm {
+        Perm::Plain | Perm::Writable => b"-",
+        Perm::Exec => b"x",
+        Perm::Symlink => b"l",
+    }
+}
+
+/// Puts the line of a file at the end of a text: its hash, its permission and its path.
+pub(crate) fn append_file(into: &mut Text, file: &FileRow) -> Result<(), Memory>
+    ensures { OnOk result (into.new ≡ into.old ++ file_line file.now) }
+{
+    let Some(hash) = file.hash else {
+        return Ok(());
+    };
+    append_word(into, &hash.text())?;
+    append_word(into, perm_text(file.perm))?;
+    escape_into(into, file.path.bytes())?;
+    into.append(b"\n")
+}
+
+/// The word for how a file differs from the parent's.
+fn how_text(how: How) -> &'static [u8]
+    ensures { result.now ≡ line.how_text how }
+{
+    match how {
+        How::Added => b"added",
+        How::Edited => b"edited",
+        How::Deleted => b"deleted",
+    }
+}
+
+/// Puts the line of a change at the end of a text: how the file differs, and its path.
+pub(crate) fn append_change(into: &mut Text, change: &Change) -> Result<(), Memory>
+    ensures { OnOk result (into.new ≡ into.old ++ change_line change.now) }
+{
+    append_word(into, how_text(change.how))?;
+    escape_into(into, change.path.bytes())?;
+    into.append(b"\n")
+}
+
+/// Puts the line of a version of a page at the end of a text: its date, its name and its user.
+pub(crate) fn append_page(into: &mut Text, page: &Page) -> Result<(), Memory>
+    ensures { OnOk result (into.new ≡ into.old ++ page_line page.now) }
+{
+    append_dated(into, page.date, page.name)?;
+    append_last(into, page.user.bytes())
+}
+
+/// Puts the line of an attachment at the end of a text: its name and that of the file.
+pub(crate) fn append_attachment(into: &mut Text, attached: &Attached) -> Result<(), Memory>
+    ensures { OnOk result (into.new ≡ into.old ++ attachment_line attached.now) }
+{
+    into.append(b"attachment ")?;
+    append_word(into, &attached.name.text())?;
+    escape_into(into, attached.file.bytes())?;
+    into.append(b"\n")
+}
+
+/// The word for what a post is.
+fn post_kind_text(kind: PostKind) -> &'static [u8]
+    ensures { result.now ≡ line.post_kind_text kind }
+{
+    match kind {
+        PostKind::Start => b"start",
+        PostKind::Edit => b"edit",
+        PostKind::Reply => b"reply",
+    }
+}
+
+/// Puts the line of a post at the end of a text: its date, its name, what it is and its user.
+pub(crate) fn append_post(into: &mut Text, post: &Post) -> Result<(), Memory>
+    ensures { OnOk result (into.new ≡ into.old ++ post_line post.now) }
+{
+    append_dated(into, post.date, post.name)?;
+    append_word(into, post_kind_text(post.how))?;
+    append_last(into, post.user.bytes())
 }

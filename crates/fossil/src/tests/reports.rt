@@ -5,10 +5,10 @@ use std::alloc::Global;
 use std::test::Fail;
 
 // An artifact: its name and its text.
-type Artifact = (&'static str, &'static str);
+pub type Artifact = (&'static str, &'static str);
 
 // A check-in with an empty P card.
-const FIRST: Artifact = (
+pub const FIRST: Artifact = (
     "40cecd1e0c96717f4210cbff361e5efa0c7c6016",
     "C first\nD 2024-01-02T03:04:05\nP\nR d41d8cd98f00b204e9800998ecf8427e\nU ann\nZ 9976f6c4e0a8032dc1f2e1f1151d2f88\n",
 );
@@ -28,7 +28,7 @@ const CLOSED: Artifact = (
     "C four\nD 2024-01-02T03:04:07\nP ba2f444add35a560f078201bdf1b7a5048d1a934\nT +closed 3685fd2c9306fc981666be37a59126e81c51b69e\nU ann\nZ c1b2e82f430202205e698b4dfde3377c\n",
 );
 // Two control artifacts of one date, which give a tag another value.
-const ONE: Artifact = (
+pub const ONE: Artifact = (
     "295b7902c9d2906e8101d015fc82c5ec0032ace8",
     "D 2024-01-03T00:00:00\nT +k 40cecd1e0c96717f4210cbff361e5efa0c7c6016 v1\nU ann\nZ fdffcc043f304aefbbb004ee8a345efc\n",
 );
@@ -38,25 +38,42 @@ const TWO: Artifact = (
     "D 2024-01-03T00:00:00\nT +k 40cecd1e0c96717f4210cbff361e5efa0c7c6016 v2\nU ann\nZ d69396cba490ae66ae493d46b23951a3\n",
 );
 // Two contents whose names begin with the same four digits.
-const ALIKE: Artifact = ("0159a99ed28b0581890608d24ada9decc4874197", "161");
+pub const ALIKE: Artifact = ("0159a99ed28b0581890608d24ada9decc4874197", "161");
 
 const OTHER: Artifact = ("01592d51db5afd0165cb73baca5c0b340c4889f1", "244");
 
 const LEAVES: [&str; 2] = ["r", "leaves"];
 
+// Takes an artifact.
+fn takes(alloc: Global, disk: MemoryDisk, artifact: Artifact) -> Result<MemoryDisk, Fail> {
+    let (name, content) = artifact;
+    let message = format!(in alloc; "file {name} {}\n{content}", content.len())?;
+    let stored = format!(in alloc; "stored {name}\n")?;
+    expect(alloc, &PUT, message.as_str(), disk, (0, stored.as_str()))
+}
+
 // Takes an artifact, and then prints a report.
-fn asks_after(
+pub fn asks_after(
     alloc: Global,
     disk: MemoryDisk,
     artifact: Artifact,
     words: &[&str],
     text: &str,
 ) -> Result<MemoryDisk, Fail> {
-    let (name, content) = artifact;
-    let message = format!(in alloc; "file {name} {}\n{content}", content.len())?;
-    let stored = format!(in alloc; "stored {name}\n")?;
-    let disk = expect(alloc, &PUT, message.as_str(), disk, (0, stored.as_str()))?;
+    let disk = takes(alloc, disk, artifact)?;
     expect(alloc, words, "", disk, (0, text))
+}
+
+// Takes an artifact, and then refuses a report.
+pub fn refused_after(
+    alloc: Global,
+    disk: MemoryDisk,
+    artifact: Artifact,
+    words: &[&str],
+    text: &str,
+) -> Result<MemoryDisk, Fail> {
+    let disk = takes(alloc, disk, artifact)?;
+    expect(alloc, words, "", disk, (3, text))
 }
 
 #[test]

@@ -6,14 +6,13 @@ use std::test::Fail;
 #[test]
 fn asks_for_words(rt: HostRuntime) -> Result<(), Fail> {
     one_outcome();
-    let table: [&[&str]; 12] = [
+    let table: [&[&str]; 11] = [
         &[],
         &["r"],
         &["r", "timeline", "0"],
         &["r", "cat", "-x"],
         &["r", "cat", "abc"],
         &["r", "shun", "abcd"],
-        &["r", "files", "abcd"],
         &["", "ingest"],
         &["-r", "ingest"],
         &["r", "ingest", "x"],

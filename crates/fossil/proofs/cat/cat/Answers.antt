@@ -1,4 +1,4 @@
-use Rattle.std.proofs.Common.{false, refl}
+use Rattle.std.proofs.Common.{false}
 use Rattle.fossil.specs.Outcome.{IsCommandOutcome}
 use Rattle.fossil.specs.Run.{stream}
 use Rattle.fsl_words.specs.declared.Command.TheVariants as command_of
@@ -18,4 +18,4 @@ returns-in-Err g c = λ input.
     (stream (g.K.Sink.taken c.args.out.now) (g.K.Sink.taken c.print.new.out) (g.K.Sink.fault_count c.args.out.now) (g.K.Sink.fault_count c.print.new.out))
     (g.D.Disk.state c.args.disk.now) (g.D.Disk.state c.load.new.disk) c.not_loaded.result c.print.result
     (unopened_acts (question_of.Cat c.args.prefix.now) input (g.D.Disk.state c.args.disk.now) (g.D.Disk.state c.load.new.disk)
-    (λ held model told. g.met.D.Disk.reads_as_image c.load.new.disk held model told) c.in-Err.fault c.not_loaded.result refl c.in-Err.ensures.err c.not_loaded.ensures) c.print.ensures
+    (λ held model told. g.met.D.Disk.reads_as_image c.load.new.disk held model told) c.in-Err.fault c.not_loaded.result c.in-Err.ensures.err c.not_loaded.ensures) c.print.ensures

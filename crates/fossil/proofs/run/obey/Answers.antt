@@ -38,4 +38,4 @@ pub returns-in-Ask-clause-runs : goal.returns-in-Ask-clause-runs
 returns-in-Ask-clause-runs g c =
     let input = stream (g.S.Source.left c.args.input.now) (g.S.Source.left c.args.input.now) (g.S.Source.fault_count c.args.input.now) (g.S.Source.fault_count c.args.input.now) in
     let out = stream (g.K.Sink.taken c.args.out.now) (g.K.Sink.taken c.ask.new.out) (g.K.Sink.fault_count c.args.out.now) (g.K.Sink.fault_count c.ask.new.out) in
-    subst (λ (x : Command). Runs (IsCommandOutcome x) (command_reads x) (command_begins x) input out (g.D.Disk.state c.args.disk.now) (g.D.Disk.state c.ask.new.disk) c.ask.result) (sym c.in-Ask.is) (c.ask.ensures.runs input)
+    subst (λ (x : Command). Runs (IsCommandOutcome x) (command_reads x) (command_begins x) input out (g.D.Disk.state c.args.disk.now) (g.D.Disk.state c.ask.new.disk) c.ask.result) (sym c.in-Ask.is) (c.ask.ensures input)

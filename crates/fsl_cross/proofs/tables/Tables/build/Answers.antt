@@ -1,48 +1,39 @@
-use Rattle.std.proofs.Common.{◌≡◌, map, ap, sym, subst, ◌∙◌}
-use Rattle.std.specs.Prelude.{filter_map}
-use Rattle.fsl_order.specs.Rows.{by_name, AreDistinct}
-use Rattle.fsl_tags.specs.Tags.{AreTagFacts}
-use Rattle.fsl_cross.specs.Checkins.{links_facts, tags_facts}
-use Rattle.fsl_cross.specs.Tables.{leaves_facts}
-use Rattle.fsl_cross.specs.Inside.{tags_fact_over, leaves_fact_over}
-use Rattle.fsl_cross.proofs.FactLemmas.{links-by_name, tags-by_name, leaves-by_name, links-distinct, leaves-distinct, tags-fit}
+use Rattle.std.proofs.Common.{[], All, sym, ap, subst, ◌∙◌}
+use Rattle.std.proofs.lemmas.List.Sorted.{All-permutation}
+use Rattle.fsl_order.specs.Rows.{by_name}
+use Rattle.fsl_order.proofs.MovedLemmas.{IsPermutation-by_name}
+use Rattle.fsl_cross.specs.Tables.{ticket_facts, IsItem}
+use Rattle.fsl_cross.proofs.Moved.{item_name}
 use Rattle.fsl_cross.proofs.tables.Tables.build.Goals as goal
 
-pub build-requires : goal.build-requires
-build-requires c =
-    subst (λ l. AreDistinct (map (λ f. f.name) l)) (sym (c.deref.ensures.value ∙ c.in_ok-of_items.ensures)) (links-distinct c.in_ok-items.items c.in_ok-items.ensures.rising)
+pub build-requires-2-clause-kinds : goal.build-requires-2-clause-kinds
+build-requires-2-clause-kinds c =
+    let given = c.args.items in
+    subst (All IsItem) (sym c.in_ok-items.ensures.items) (All-permutation IsItem given (by_name item_name given) (IsPermutation-by_name item_name given c.requires.names) c.requires.kinds)
 
-pub build-requires-2 : goal.build-requires-2
-build-requires-2 c =
-    let items = c.in_ok-items.items in
-    let rise = c.in_ok-items.ensures.rising in
-    let links : c.in_ok-links.links.facts ≡ links_facts items
-    = c.in_ok-links.ensures.facts ∙ ap (by_name (λ f. f.name)) (c.deref.ensures.value ∙ c.in_ok-of_items.ensures) ∙ links-by_name items rise in
-    subst AreTagFacts (sym (c.deref-2.ensures.value ∙ c.in_ok-of_items-2.ensures ∙ ap (λ facts. filter_map (tags_fact_over facts) items) links)) (tags-fit items rise)
+pub table-requires-clause-tags : goal.table-requires-clause-tags
+table-requires-clause-tags c = ap (λ h. h.facts) c.in_ok-history.ensures.tags
 
-pub build-requires-3 : goal.build-requires-3
-build-requires-3 c =
-    let items = c.in_ok-items.items in
-    let rise = c.in_ok-items.ensures.rising in
-    let links : c.in_ok-links.links.facts ≡ links_facts items
-    = c.in_ok-links.ensures.facts ∙ ap (by_name (λ f. f.name)) (c.deref.ensures.value ∙ c.in_ok-of_items.ensures) ∙ links-by_name items rise in
-    let tags : c.in_ok-tags.tags.facts ≡ tags_facts items
-    = c.in_ok-tags.ensures.facts ∙ ap (by_name (λ f. f.name)) (c.deref-2.ensures.value ∙ c.in_ok-of_items-2.ensures ∙ ap (λ facts. filter_map (tags_fact_over facts) items) links) ∙ tags-by_name items rise in
-    subst (λ l. AreDistinct (map (λ f. f.name) l)) (sym (c.deref-3.ensures.value ∙ c.in_ok-of_items-3.ensures ∙ ap (λ facts. filter_map (leaves_fact_over facts) items) tags)) (leaves-distinct items rise)
+pub table-requires-clause-pages : goal.table-requires-clause-pages
+table-requires-clause-pages c = ap (λ h. h.facts) c.in_ok-contents.ensures.pages
+
+pub table-requires-clause-threads : goal.table-requires-clause-threads
+table-requires-clause-threads c = ap (λ h. h.facts) c.in_ok-contents.ensures.threads
 
 pub invariant_of-result : goal.invariant_of-result
 invariant_of-result c =
+    let told = c.in_ok-contents.ensures in
+    let history = c.in_ok-history.ensures in
     let items = c.in_ok-items.items in
-    let rise = c.in_ok-items.ensures.rising in
-    let links : c.in_ok-links.links.facts ≡ links_facts items
-    = c.in_ok-links.ensures.facts ∙ ap (by_name (λ f. f.name)) (c.deref.ensures.value ∙ c.in_ok-of_items.ensures) ∙ links-by_name items rise in
-    let tags : c.in_ok-tags.tags.facts ≡ tags_facts items
-    = c.in_ok-tags.ensures.facts ∙ ap (by_name (λ f. f.name)) (c.deref-2.ensures.value ∙ c.in_ok-of_items-2.ensures ∙ ap (λ facts. filter_map (tags_fact_over facts) items) links) ∙ tags-by_name items rise in
-    let leaves : c.in_ok-leaves.leaves.facts ≡ leaves_facts items
-    = c.in_ok-leaves.ensures.facts ∙ ap (by_name (λ f. f.name)) (c.deref-3.ensures.value ∙ c.in_ok-of_items-3.ensures ∙ ap (λ facts. filter_map (leaves_fact_over facts) items) tags) ∙ leaves-by_name items rise in
     record {
-      rising = rise;
-      links = λ i. record { facts = links i; spare = c.in_ok-links.ensures.spare i };
-      tags = λ i. record { facts = tags i; spare = c.in_ok-tags.ensures.spare i };
-      leaves = λ i. record { facts = leaves i; spare = c.in_ok-leaves.ensures.spare i };
+      rising = c.in_ok-items.ensures.rising;
+      links = history.links;
+      tags = history.tags;
+      leaves = history.leaves;
+      files = told.files;
+      timeline = c.in_ok-timeline.ensures;
+      pages = told.pages;
+      tickets = told.tickets ∙ (λ i. record { fields = sym (c.in_ok-copied.ensures ∙ c.items-2.ensures) i; facts = ticket_facts items; spare = [] });
+      threads = told.threads;
+      clusters = told.clusters;
     }

@@ -4,7 +4,7 @@ use Rattle.std.specs.List.{IsDistinct}
 use Rattle.fsl_order.specs.Rows.{AreDistinct}
 use Rattle.fsl_cross.specs.declared.Item.{Item}
 use Rattle.fsl_cross.specs.Tables.{IsItem}
-use Rattle.fsl_query.proofs.tests.tables.Goals as goal
+use Rattle.fsl_query.proofs.tests.items.Goals as goal
 
 distinct_none : AreDistinct []
 unfolding IsDistinct
@@ -16,6 +16,3 @@ loop-text-init c =
       names = subst (λ (items : List Item). AreDistinct (map (λ (i : Item). i.name) items)) (sym c.new-items.ensures.items) distinct_none;
       kinds = subst (All IsItem) (sym c.new-items.ensures.items) (λ k d lt. absurd (omega arith));
     }
-
-pub build-requires-clause-kinds : goal.build-requires-clause-kinds
-build-requires-clause-kinds c = subst (All IsItem) (sym c.from_vec.ensures) c.loop-text.invariant.kinds

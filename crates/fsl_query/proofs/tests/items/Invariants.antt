@@ -1,7 +1,7 @@
 use Rattle.std.specs.Prelude.{All, map}
 use Rattle.fsl_order.specs.Rows.{AreDistinct}
 use Rattle.fsl_cross.specs.Tables.{IsItem}
-use Rattle.fsl_query.proofs.tests.tables.Given as goal
+use Rattle.fsl_query.proofs.tests.items.Given as goal
 
 -- the items that were added have their own names, and each is what some bytes are
 abbrev pub invariant-loop-text : goal.invariant-loop-text

@@ -1,0 +1,8 @@
+use Rattle.std.proofs.Common.{◌≡◌, ◌++◌, map}
+use Rattle.fsl_cross.specs.Facts.{cluster_fact}
+use Rattle.fsl_cross.proofs.facts.clusters.of_items.Given as goal
+
+-- with what the items give that are left, the facts are the whole
+abbrev pub invariant-loop-item : goal.invariant-loop-item
+invariant-loop-item l =
+    (goal.iterator-loop-item).can_next l.item-iterator × (goal.iterator-loop-item).is_finite l.item-iterator × (l.facts.items ++ map cluster_fact l.item-iterator ≡ map cluster_fact l.items)

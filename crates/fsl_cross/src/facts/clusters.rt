@@ -1,0 +1,45 @@
+//! The facts of clusters: of each artifact its members and the names that it refers to.
+ghost use Rattle.std.specs.Prelude.{◌≡◌, [], IfOk, map};
+ghost use Rattle.std.specs.List.Sorted.{IsStrictlySortedBy};
+ghost use Rattle.fsl_order.specs.Names.{bytes_cmp};
+ghost use Rattle.fsl_cross.specs.Facts.{cluster_fact};
+ghost use Rattle.fsl_cross.specs.Tables.{cluster_facts};
+
+use crate::Item;
+use crate::checkin::copied;
+use crate::items::Items;
+use fsl_artifact::{members, refs};
+use fsl_cluster::{Clusters, Fact};
+use fsl_text::Memory;
+use std::alloc::Global;
+
+/// The fact that an artifact gives.
+fn fact_of(alloc: Global, item: &Item) -> Result<Fact, Memory>
+    ensures { IfOk result (λ fact. fact ≡ cluster_fact item.now) }
+{
+    Ok(Fact {
+        name: item.name,
+        private: item.private,
+        members: copied(alloc, members(&item.artifact))?,
+        refs: refs(alloc, &item.artifact)?,
+    })
+}
+
+/// The facts that artifacts give. `Memory` is the only error.
+fn of_items(alloc: Global, items: &Items) -> Result<Vec<Fact>, Memory>
+    ensures { IfOk result (λ facts. facts.items ≡ cluster_facts items.now) }
+{
+    let mut facts = Vec::new(alloc);
+    for item in items.iter() {
+        facts.push(fact_of(alloc, item)?)?;
+    }
+    Ok(facts)
+}
+
+/// The table of clusters. `Memory` is the only error.
+pub(crate) fn table(alloc: Global, items: &Items) -> Result<Clusters, Memory>
+    requires { IsStrictlySortedBy bytes_cmp (map (λ i. i.name) items.now) }
+    ensures { IfOk result (λ t. t ≡ record { facts = cluster_facts items.now; spare = [] }) }
+{
+    Clusters::build(alloc, &of_items(alloc, items)?)
+}
