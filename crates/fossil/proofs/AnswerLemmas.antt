@@ -6,20 +6,22 @@ use Rattle.std.specs.List.{AllZip}
 use Rattle.std.proofs.lemmas.List.{append-nil}
 use Rattle.fsl_text.specs.declared.memory.Memory.{Memory}
 use Rattle.fsl_artifact.specs.Kind.{IsKind}
-use Rattle.fsl_cluster.specs.declared.Fact.{Fact}
+use Rattle.fsl_cross.specs.declared.Item.{Item}
+use Rattle.fsl_cross.specs.Tables.{cluster_facts}
 use Rattle.fsl_record.specs.declared.Record.{Record}
 use Rattle.fsl_journal.specs.Log.{Log}
 use Rattle.fossil.specs.declared.load.Loaded.{Loaded}
 use Rattle.fossil.specs.declared.message.File.{File}
 use Rattle.fossil.specs.declared.refused.Refused.{Refused}
 use Rattle.fossil.specs.FileLines.{IsFileList, IsBadLine}
-use Rattle.fossil.specs.Sets.{Sent, set_of, IsFactOf, report}
+use Rattle.fossil.specs.Sets.{Sent, set_of, IsItemSent, report}
 use Rattle.fossil.specs.Ingest.{Outcome, IsTakenBySize, IsReported, IsRead, first_refusal, bad_line, too_long}
 use Rattle.fossil.specs.Put.{put_files, IsPutFiles, IsPutRead}
 use Rattle.fossil.specs.Files.{sent_in}
 use Rattle.fossil.specs.Taking.{refused_as}
 use Rattle.fossil.specs.Acts.{IsInput, IsMessagePut, IsIngestRun, IsPutRun}
 use Rattle.fossil.specs.Run.{Stream}
+use Rattle.fossil.proofs.SentLemmas.{facts_are}
 
 -- the refusal that was found, of the files that were read
 found_by : (message : List ℕ) (files items : List File) (o p : Option Refused) → items ≡ files → option_map refused_as o ≡ first_refusal (map (sent_in message) items) → o ≡ p
@@ -39,17 +41,17 @@ refused_read message files items o refused (Ok a) list same is e refusal =
 refused_read message files items o refused (Err x) list same is e refusal = tt
 
 -- without one the set is reported
-pub report_read : (message text : List ℕ) (files items placed : List File) (facts seen : List Fact) (o : Option Refused) → IsFileList message (map (sent_in message) files) → items ≡ files
-    → option_map refused_as o ≡ first_refusal (map (sent_in message) items) → o ≡ None → placed ≡ files → AllZip (IsFactOf IsKind) (set_of (map (sent_in message) placed)) facts → seen ≡ facts → text ≡ report seen
+pub report_read : (message text : List ℕ) (files items placed : List File) (set : List Item) (o : Option Refused) → IsFileList message (map (sent_in message) files) → items ≡ files
+    → option_map refused_as o ≡ first_refusal (map (sent_in message) items) → o ≡ None → placed ≡ files → AllZip IsItemSent (set_of (map (sent_in message) placed)) set → text ≡ report (cluster_facts set)
     → IsRead IsKind message (record { status = 0; text = text })
-report_read message text files items placed facts seen o list same is e here each stay printed =
-    let P : List File → Type 0 = λ fs. AllZip (IsFactOf IsKind) (set_of (map (sent_in message) fs)) facts in
-    let text_is : text ≡ report facts = printed ∙ ap report stay in
+report_read message text files items placed set o list same is e here each printed =
+    let P : List File → Type 0 = λ fs. AllZip IsItemSent (set_of (map (sent_in message) fs)) set in
+    let facts = facts_are (set_of (map (sent_in message) files)) set (subst P here each) in
     inr (
       map (sent_in message) files,
       list,
       taken_by (map (sent_in message) files) None (record { status = 0; text = text }) (found_by message files items o None same is e)
-          (facts, subst P here each, λ i. record { status = 0; text = text_is i }),
+          (cluster_facts set, facts, λ i. record { status = 0; text = printed i }),
     )
 
 -- ---- put

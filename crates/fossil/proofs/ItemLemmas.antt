@@ -1,5 +1,5 @@
 -- The items of the held artifacts, which rise by name.
-use Rattle.std.proofs.Common.{◌≡◌, ℕ, zero, suc, ◌+◌, ◌<◌, Bool, true, false, List, [], ◌∷◌, ◌++◌, length, map, take, get_or, Result, Ok, Err, IfOk, refl, sym, ap, subst, ◌∙◌, arith}
+use Rattle.std.proofs.Common.{◌≡◌, ℕ, ◌+◌, ◌<◌, Bool, true, false, List, [], ◌∷◌, ◌++◌, length, map, take, get_or, Result, Ok, Err, IfOk, refl, sym, ap, subst, ◌∙◌}
 use Rattle.std.specs.Prelude.{◌&&◌, T, All}
 use Rattle.std.specs.List.{AllZip, AllByRecursion}
 use Rattle.std.specs.List.Sorted.{IsStrictlySortedBy}
@@ -21,7 +21,7 @@ use Rattle.fsl_cross.specs.Tables.{IsItem, item_set, Seen}
 use Rattle.fsl_cross.proofs.Mapped.{distinct-rising}
 use Rattle.fsl_cross.proofs.FactLemmas.{set-rising}
 use Rattle.fsl_query.specs.Items.{IsItemOf, AreItems}
-use Rattle.fossil.proofs.FactLemmas.{AllZip-push}
+use Rattle.fossil.proofs.SentLemmas.{AllZip-push, all_of}
 
 -- ---- one artifact more
 
@@ -84,11 +84,6 @@ each_item [] [] each = tt
 each_item [] (i ∷ items) each = absurd each
 each_item (e ∷ entries) [] each = absurd each
 each_item (e ∷ entries) (i ∷ items) each = ((e.1.bytes, each.0.kind), each_item entries items each.1)
-
-all_of : {X : Type 0} (P : X → Type 0) (xs : List X) → AllByRecursion P xs → All P xs
-all_of P [] h i d lt = absurd (omega (arith, lt))
-all_of P (x ∷ xs) h zero d lt = h.0
-all_of P (x ∷ xs) h (suc i) d lt = all_of P xs h.1 i d (omega (arith, lt))
 
 pub items_are : (held : HeldSet) (items : List Item) → AreItems held items → All IsItem items
 items_are held items each = all_of IsItem items (each_item (map_of.entries held) items each)

@@ -11,7 +11,7 @@ pub mod MessageLemmas
 pub mod NameLemmas
 pub mod RefusedLemmas
 pub mod SetLemmas
-pub mod FactLemmas
+pub mod SentLemmas
 pub mod ReportLemmas
 pub mod AnswerLemmas
 pub mod InputLemmas

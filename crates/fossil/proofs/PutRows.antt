@@ -44,7 +44,8 @@ no_item : {X : Type 0} (xs : List X) → length xs ≡ 0 → xs ≡ []
 no_item [] h = refl
 no_item (x ∷ xs) h = absurd (omega arith)
 
-none_held : map_of.entries (map_of.empty {X = Held} {R = bytes_cmp}) ≡ []
+-- no artifacts
+pub none_held : map_of.entries (map_of.empty {X = Held} {R = bytes_cmp}) ≡ []
 none_held = no_item (map_of.entries (map_of.empty {X = Held} {R = bytes_cmp})) (sym (map_of.len-entries (map_of.empty {X = Held} {R = bytes_cmp})) ∙ map_of.len-empty bytes_cmp Held)
 
 -- the content of the artifact that a prefix finds

@@ -1,7 +1,7 @@
--- A whole run of `put` over a new file, digest included.
+-- Whole runs over a new file, digest included.
 use Rattle.std.specs.Prelude.{◌≡◌, ◌≢◌, ℕ, List, [], ◌∷◌, ◌++◌, false, replicate, flat_map, refl, codes}
-use Rattle.std.proofs.Common.{inr, sym, arith}
-use Rattle.std.specs.List.{IsDistinct}
+use Rattle.std.proofs.Common.{inr, sym, subst, Ok, Err, arith}
+use Rattle.std.specs.List.{IsDistinct, AllZip}
 use Rattle.std.specs.FinMap as map_of
 use Rattle.std.specs.FinSet as set
 use Rattle.std.specs.Fmt.{digits}
@@ -11,10 +11,14 @@ use Rattle.fsl_name.specs.Name.{bytes_of_digits}
 use Rattle.fsl_record.specs.declared.Record.{Record}
 use Rattle.fsl_record.specs.declared.Record.TheVariants as record_of
 use Rattle.fsl_journal.specs.File.{header, group_bytes, IsFileOf}
+use Rattle.fsl_blobs.specs.Fold.{Held, contents}
+use Rattle.fsl_query.specs.declared.Refused.TheVariants.{NoCheckin}
+use Rattle.fsl_query.specs.Items.{IsItemOf, AreItems}
 use Rattle.fossil.specs.Sets.{Sent}
 use Rattle.fossil.specs.FileLines.{IsFileList}
 use Rattle.fossil.specs.Outcome.{Outcome, IsOutcome, usage}
 use Rattle.fossil.specs.Put.{put_files}
+use Rattle.fossil.proofs.PutRows.{none_held}
 
 abbrev line : List ℕ → List ℕ
 line text = text ++ 10 ∷ []
@@ -89,6 +93,20 @@ put_abc =
         refl,
       ),
     )
+
+-- ---- questions about a repository without artifacts
+
+none_held_items : AreItems (contents (config ∷ [])).held []
+none_held_items = subst (λ (entries : List (List ℕ × Held)). AllZip IsItemOf entries []) (sym none_held) tt
+
+no_leaves : (input : List ℕ) → IsOutcome (codes "r" ∷ codes "leaves" ∷ []) input file (record { status = 0; text = []; commits = [] })
+no_leaves input = inr (config ∷ [], is_file, (Ok [], ([], none_held_items, refl), refl))
+
+no_tip : (input : List ℕ) → IsOutcome (codes "r" ∷ codes "tip" ∷ codes "b" ∷ []) input file (record { status = 3; text = line (codes "refused: no check-in b"); commits = [] })
+no_tip input = inr (config ∷ [], is_file, (Err (NoCheckin (codes "b")), ([], none_held_items, refl), refl))
+
+no_rows : (input : List ℕ) → IsOutcome (codes "r" ∷ codes "timeline" ∷ codes "5" ∷ []) input file (record { status = 0; text = []; commits = [] })
+no_rows input = inr (config ∷ [], is_file, (Ok [], ([], none_held_items, refl), refl))
 
 -- ---- words and files alone
 

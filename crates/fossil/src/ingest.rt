@@ -6,12 +6,12 @@ ghost use Rattle.fossil.specs.Run.{stream};
 ghost use Rattle.fossil.specs.Acts.{IsIngestRun, IsUnread};
 
 use super::answer::{Answer, bad_line, file_refusal, too_long};
-use super::facts::facts_of;
 use super::fault::Fault;
 use super::input::read_input;
 use super::message::{MessageFault, read_message};
 use super::refused::first_refused;
 use super::report::report_of;
+use super::sent::items_sent;
 use super::status::DONE;
 use fsl_outside::Source;
 use fsl_text::Memory;
@@ -30,8 +30,8 @@ fn answer_of(alloc: Global, message: &[u8]) -> Result<Answer, Memory>
     if let Some(refused) = first_refused(message, files.items()) {
         return file_refusal(alloc, refused);
     }
-    let facts = facts_of(alloc, message, files.items())?;
-    let text = report_of(alloc, facts.as_slice())?;
+    let set = items_sent(alloc, message, files.items())?;
+    let text = report_of(alloc, set)?;
     Ok(Answer { status: DONE, text })
 }
 

@@ -11,7 +11,6 @@ mod answer;
 mod artifact;
 mod ask;
 mod cat;
-mod facts;
 mod fault;
 mod front;
 mod ingest;
@@ -29,6 +28,7 @@ mod report;
 mod reporting;
 mod run;
 mod say;
+mod sent;
 mod status;
 mod taking;
 #[cfg(test)]

@@ -1,11 +1,12 @@
 //! What is printed of a set of artifacts.
-ghost use Rattle.std.specs.Prelude.{◌≡◌, ◌++◌, map, flat_map, OnOk, IfOk, codes};
+ghost use Rattle.std.specs.Prelude.{◌≡◌, ◌++◌, map, flat_map, All, OnOk, IfOk, codes};
 ghost use Rattle.fsl_order.specs.Rows.{AreDistinct};
+ghost use Rattle.fsl_cross.specs.Tables.{IsItem, cluster_facts};
 ghost use Rattle.fossil.specs.Sets.{name_line, report};
 
-use fsl_cluster::{Clusters, Fact};
+use fsl_cross::{Item, Tables};
 use fsl_name::Name;
-use fsl_text::{Memory, Text};
+use fsl_text::{List, Memory, Text};
 use std::alloc::Global;
 
 /// Puts a line of a word and a name at the end.
@@ -27,12 +28,15 @@ fn add_lines(text: &mut Text, word: &[u8], names: &[Name]) -> Result<(), Memory>
     Ok(())
 }
 
-/// The unclustered names of the facts, and then the wanted ones, both ascending, each on a line.
-pub fn report_of(alloc: Global, facts: &[Fact]) -> Result<Text, Memory>
-    requires { AreDistinct (map (λ f. f.name) facts.now) }
-    ensures { IfOk result (λ text. text ≡ report facts.now) }
+/// The unclustered names of a set of artifacts, and then the wanted ones, both ascending, each on a line.
+pub fn report_of(alloc: Global, set: List<Item>) -> Result<Text, Memory>
+    requires names { AreDistinct (map (λ item. item.name) set) }
+    requires kinds { All IsItem set }
+    ensures { IfOk result (λ text. text ≡ report (cluster_facts set)) }
 {
-    let clusters = Clusters::build(alloc, facts)?;
+    let fields = List::new(alloc);
+    let tables = Tables::build(alloc, &fields, set)?;
+    let clusters = tables.cluster();
     let unclustered = clusters.unclustered(alloc)?;
     let missing = clusters.missing(alloc)?;
     let mut text = Text::empty(alloc);

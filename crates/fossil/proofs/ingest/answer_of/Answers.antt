@@ -7,5 +7,5 @@ returns-in-Some c =
 
 pub returns : goal.returns
 returns c =
-    report_read c.args.message.now c.in_ok-text.text c.in-Ok.files c.items.result.now c.items-2.result.now c.in_ok-facts.facts.items c.as_slice.result.now c.first_refused.result c.in-Ok.ensures.files c.items.ensures c.first_refused.ensures.first
-    c.in_default.is c.items-2.ensures c.in_ok-facts.ensures.facts c.as_slice.ensures.value c.in_ok-text.ensures
+    report_read c.args.message.now c.in_ok-text.text c.in-Ok.files c.items.result.now c.items-2.result.now c.in_ok-set.set c.first_refused.result c.in-Ok.ensures.files c.items.ensures c.first_refused.ensures.first c.in_default.is c.items-2.ensures
+    c.in_ok-set.ensures.set c.in_ok-text.ensures

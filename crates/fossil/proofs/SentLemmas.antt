@@ -1,5 +1,6 @@
--- The set that files make, and the facts on it, one file after another.
-use Rattle.std.proofs.Common.{◌≡◌, ℕ, ◌+◌, ◌<◌, Bool, true, false, not, ◌&&◌, ◌||◌, cond, List, [], ◌∷◌, ◌++◌, length, map, take, get_or, refl, sym, ap, subst, ◌∙◌}
+-- The set that files make, and the items of the tables that it is, one file after another.
+use Rattle.std.proofs.Common.{◌≡◌, ℕ, zero, suc, ◌+◌, ◌<◌, Bool, true, false, not, ◌&&◌, ◌||◌, cond, List, [], ◌∷◌, ◌++◌, length, map, take, get_or, refl, sym, ap, subst, ◌∙◌, arith}
+use Rattle.std.specs.Prelude.{All}
 use Rattle.std.specs.List.{AllZip, AllByRecursion, IsDistinct, list_any}
 use Rattle.std.specs.Str.{bytes_eq}
 use Rattle.std.specs.Cmp.Lexicographic.{texts_ties}
@@ -13,17 +14,20 @@ use Rattle.std.proofs.lemmas.Map.Keys.{IsDistinct-push}
 use Rattle.fsl_order.specs.Names.{bytes_cmp}
 use Rattle.fsl_order.specs.Rows.{AreDistinct}
 use Rattle.fsl_artifact.specs.Kind.{IsKind}
-use Rattle.fsl_cluster.specs.declared.Fact.{Fact}
+use Rattle.fsl_artifact.specs.References.{members, references}
+use Rattle.fsl_cross.specs.declared.Item.{Item}
+use Rattle.fsl_cross.specs.Facts.{cluster_fact}
+use Rattle.fsl_cross.specs.Tables.{IsItem, cluster_facts}
 use Rattle.fossil.specs.declared.message.File.{File}
-use Rattle.fossil.specs.Sets.{Sent, held_after, after_arrival, set_of, IsFactOf}
+use Rattle.fossil.specs.Sets.{Sent, held_after, after_arrival, set_of, IsFactOf, IsItemSent, fact_of}
 use Rattle.fossil.specs.Files.{sent_in}
 
 abbrev is_of : List ℕ → Sent → Bool
 is_of name held = bytes_eq held.name name
 
--- the held artifacts, their facts, and the names that were seen
-pub record AreTaken (held : List Sent) (facts : List Fact) (seen : BTreeSet (List ℕ)) : Type 0 where
-  pub each : AllZip (IsFactOf IsKind) held facts
+-- the held artifacts, their items, and the names that were seen
+pub record AreTaken (held : List Sent) (items : List Item) (seen : BTreeSet (List ℕ)) : Type 0 where
+  pub each : AllZip IsItemSent held items
   pub known : (name : List ℕ) → contains bytes_cmp seen name ≡ list_any (λ h. bytes_eq h.name name) held
   pub public : AllByRecursion (λ h. h.private ≡ false) held
   pub apart : AreDistinct (map (λ h. h.name) held)
@@ -50,12 +54,12 @@ kept_all : (file : Sent) (held : List Sent) → AllByRecursion (λ h. h.private 
 kept_all file [] all = refl
 kept_all file (h ∷ held) all = let first = kept_one file h (is_of file.name h) all.0 in let more = kept_all file held all.1 in λ i. first i ∷ more i
 
-pub taken_again : (held : List Sent) (facts : List Fact) (seen new : BTreeSet (List ℕ)) (file : Sent) → AreTaken held facts seen → contains bytes_cmp seen file.name ≡ true → IsUnchanged seen new
-    → AreTaken (after_arrival held file) facts new
-taken_again held facts seen new file t there same =
+pub taken_again : (held : List Sent) (items : List Item) (seen new : BTreeSet (List ℕ)) (file : Sent) → AreTaken held items seen → contains bytes_cmp seen file.name ≡ true → IsUnchanged seen new
+    → AreTaken (after_arrival held file) items new
+taken_again held items seen new file t there same =
     let stays : after_arrival held file ≡ held =
     ap (λ (b : Bool). cond b (map (held_after file) held) (held ++ file ∷ [])) (sym (t.known file.name) ∙ there) ∙ kept_all file held t.public in
-    let P : List Sent → Type 0 = λ hs. AreTaken hs facts new in
+    let P : List Sent → Type 0 = λ hs. AreTaken hs items new in
     subst P (sym stays) (record { each = t.each; known = λ name. ap (λ (ks : List (List ℕ)). list_any (is_at (bytes_cmp name)) ks) same ∙ t.known name; public = t.public; apart = t.apart })
 
 -- ---- a new name
@@ -81,16 +85,16 @@ among_names [] name = refl
 among_names (h ∷ held) name =
     ap (λ (b : Bool). b || list_any (bytes_eq name) (map (λ h. h.name) held)) (nat_list_eq_equiv.symm name h.name) ∙ ap (λ (b : Bool). bytes_eq h.name name || b) (among_names held name)
 
-pub taken_new : (held : List Sent) (facts : List Fact) (seen new : BTreeSet (List ℕ)) (file : Sent) (fact : Fact) → AreTaken held facts seen → file.private ≡ false → contains bytes_cmp seen file.name ≡ false
-    → Updates bytes_cmp seen new file.name true → IsFactOf IsKind file fact → AreTaken (after_arrival held file) (facts ++ fact ∷ []) new
-taken_new held facts seen new file fact t public absent updates is =
+pub taken_new : (held : List Sent) (items : List Item) (seen new : BTreeSet (List ℕ)) (file : Sent) (item : Item) → AreTaken held items seen → file.private ≡ false → contains bytes_cmp seen file.name ≡ false
+    → Updates bytes_cmp seen new file.name true → IsItemSent file item → AreTaken (after_arrival held file) (items ++ item ∷ []) new
+taken_new held items seen new file item t public absent updates is =
     let more : after_arrival held file ≡ held ++ file ∷ [] =
     ap (λ (b : Bool). cond b (map (held_after file) held) (held ++ file ∷ [])) (sym (t.known file.name) ∙ absent) in
-    let P : List Sent → Type 0 = λ hs. AreTaken hs (facts ++ fact ∷ []) new in
+    let P : List Sent → Type 0 = λ hs. AreTaken hs (items ++ item ∷ []) new in
     let Q : List (List ℕ) → Type 0 = AreDistinct in
     subst P (sym more)
     (record {
-      each = AllZip-push (IsFactOf IsKind) held facts file fact t.each is;
+      each = AllZip-push IsItemSent held items file item t.each is;
       known = λ name.
           updates.0 name ∙ ap (λ (b : Bool). cond b true (contains bytes_cmp seen name)) (sym (texts_ties file.name name))
           ∙ ap (λ (b : Bool). cond (bytes_eq file.name name) true b) (t.known name)
@@ -102,41 +106,41 @@ taken_new held facts seen new file fact t public absent updates is =
 
 -- ---- in the loop
 
-pub file_again : (message : List ℕ) (files : List File) (i : ℕ) (f : File) (facts same_facts : List Fact) (seen new : BTreeSet (List ℕ)) → i < length files → f ≡ get_or files i f → AreTaken (held_to message files i) facts seen
-    → contains bytes_cmp seen f.name ≡ true → IsUnchanged seen new → same_facts ≡ facts → AreTaken (held_to message files (i + 1)) same_facts new
-file_again message files i f facts same_facts seen new lt is t there same stay =
-    let P : List Sent → Type 0 = λ hs. AreTaken hs same_facts new in
-    let Q : List Fact → Type 0 = λ fs. AreTaken (held_to message files i) fs seen in
-    subst P (sym (held_more message files i f lt is)) (taken_again (held_to message files i) same_facts seen new (sent_in message f) (subst Q (sym stay) t) there same)
+pub file_again : (message : List ℕ) (files : List File) (i : ℕ) (f : File) (items same_items : List Item) (seen new : BTreeSet (List ℕ)) → i < length files → f ≡ get_or files i f → AreTaken (held_to message files i) items seen
+    → contains bytes_cmp seen f.name ≡ true → IsUnchanged seen new → same_items ≡ items → AreTaken (held_to message files (i + 1)) same_items new
+file_again message files i f items same_items seen new lt is t there same stay =
+    let P : List Sent → Type 0 = λ hs. AreTaken hs same_items new in
+    let Q : List Item → Type 0 = λ fs. AreTaken (held_to message files i) fs seen in
+    subst P (sym (held_more message files i f lt is)) (taken_again (held_to message files i) same_items seen new (sent_in message f) (subst Q (sym stay) t) there same)
 
-fact_fits : (message bytes : List ℕ) (f : File) (fact : Fact) → bytes ≡ (sent_in message f).bytes → IsFactOf IsKind (record { name = f.name; bytes = bytes; private = false }) fact
-    → IsFactOf IsKind (sent_in message f) fact
-fact_fits message bytes f fact e is = let P : List ℕ → Type 0 = λ b. IsFactOf IsKind (record { name = f.name; bytes = b; private = false }) fact in subst P e is
+item_fits : (message bytes : List ℕ) (f : File) (item : Item) → bytes ≡ (sent_in message f).bytes → IsItemSent (record { name = f.name; bytes = bytes; private = false }) item
+    → IsItemSent (sent_in message f) item
+item_fits message bytes f item e is = let P : List ℕ → Type 0 = λ b. IsItemSent (record { name = f.name; bytes = b; private = false }) item in subst P e is
 
-pub file_new : (message bytes : List ℕ) (files : List File) (i : ℕ) (f : File) (facts more : List Fact) (fact : Fact) (seen new : BTreeSet (List ℕ)) → i < length files → f ≡ get_or files i f → AreTaken (held_to message files i) facts seen
-    → contains bytes_cmp seen f.name ≡ false → Updates bytes_cmp seen new f.name true → bytes ≡ (sent_in message f).bytes → IsFactOf IsKind (record { name = f.name; bytes = bytes; private = false }) fact
-    → more ≡ facts ++ fact ∷ [] → AreTaken (held_to message files (i + 1)) more new
-file_new message bytes files i f facts more fact seen new lt is t absent updates content fits grown =
-    let P : List Sent → Type 0 = λ hs. AreTaken hs (facts ++ fact ∷ []) new in
-    let Q : List Fact → Type 0 = λ fs. AreTaken (held_to message files (i + 1)) fs new in
+pub file_new : (message bytes : List ℕ) (files : List File) (i : ℕ) (f : File) (items more : List Item) (item : Item) (seen new : BTreeSet (List ℕ)) → i < length files → f ≡ get_or files i f → AreTaken (held_to message files i) items seen
+    → contains bytes_cmp seen f.name ≡ false → Updates bytes_cmp seen new f.name true → bytes ≡ (sent_in message f).bytes → IsItemSent (record { name = f.name; bytes = bytes; private = false }) item
+    → more ≡ items ++ item ∷ [] → AreTaken (held_to message files (i + 1)) more new
+file_new message bytes files i f items more item seen new lt is t absent updates content fits grown =
+    let P : List Sent → Type 0 = λ hs. AreTaken hs (items ++ item ∷ []) new in
+    let Q : List Item → Type 0 = λ fs. AreTaken (held_to message files (i + 1)) fs new in
     subst Q (sym grown)
     (subst P (sym (held_more message files i f lt is))
-    (taken_new (held_to message files i) facts seen new (sent_in message f) fact t refl absent updates (fact_fits message bytes f fact content fits)))
+    (taken_new (held_to message files i) items seen new (sent_in message f) item t refl absent updates (item_fits message bytes f item content fits)))
 
-fact_names : (held : List Sent) (facts : List Fact) → AllZip (IsFactOf IsKind) held facts → map (λ f. f.name) facts ≡ map (λ h. h.name) held
-fact_names [] [] all = refl
-fact_names [] (f ∷ facts) all = absurd all
-fact_names (h ∷ held) [] all = absurd all
-fact_names (h ∷ held) (f ∷ facts) all =
-    let first : f.name ≡ h.name = ap (λ (x : Fact). x.name) (all.0.2) in let more = fact_names held facts all.1 in λ i. first i ∷ more i
+item_names : (held : List Sent) (items : List Item) → AllZip IsItemSent held items → map (λ f. f.name) items ≡ map (λ h. h.name) held
+item_names [] [] all = refl
+item_names [] (f ∷ items) all = absurd all
+item_names (h ∷ held) [] all = absurd all
+item_names (h ∷ held) (f ∷ items) all =
+    let first : f.name ≡ h.name = all.0.name in let more = item_names held items all.1 in λ i. first i ∷ more i
 
-pub facts_apart : (held : List Sent) (facts : List Fact) (seen : BTreeSet (List ℕ)) → AreTaken held facts seen → AreDistinct (map (λ f. f.name) facts)
-facts_apart held facts seen t = let Q : List (List ℕ) → Type 0 = AreDistinct in subst Q (sym (fact_names held facts t.each)) t.apart
+pub items_apart : (held : List Sent) (items : List Item) (seen : BTreeSet (List ℕ)) → AreTaken held items seen → AreDistinct (map (λ f. f.name) items)
+items_apart held items seen t = let Q : List (List ℕ) → Type 0 = AreDistinct in subst Q (sym (item_names held items t.each)) t.apart
 
-pub none_taken : (facts : List Fact) (seen : BTreeSet (List ℕ)) → facts ≡ [] → seen.keys ≡ [] → AreTaken [] facts seen
+pub none_taken : (items : List Item) (seen : BTreeSet (List ℕ)) → items ≡ [] → seen.keys ≡ [] → AreTaken [] items seen
 unfolding IsDistinct
-none_taken facts seen none empty =
-    let P : List Fact → Type 0 = λ fs. AreTaken [] fs seen in
+none_taken items seen none empty =
+    let P : List Item → Type 0 = λ fs. AreTaken [] fs seen in
     subst P (sym none) (record { each = tt; known = λ name. ap (λ (ks : List (List ℕ)). list_any (is_at (bytes_cmp name)) ks) empty; public = tt; apart = tt })
 
 seen_before : (b added : Bool) → added ≡ not b → added ≡ false → b ≡ true
@@ -153,3 +157,28 @@ was_seen seen name added e h = seen_before (contains bytes_cmp seen name) added 
 
 pub was_new : (seen : BTreeSet (List ℕ)) (name : List ℕ) (added : Bool) → added ≡ not (contains bytes_cmp seen name) → added ≡ true → contains bytes_cmp seen name ≡ false
 was_new seen name added e h = seen_first (contains bytes_cmp seen name) added e h
+
+-- ---- what the items are
+
+pub facts_are : (held : List Sent) (items : List Item) → AllZip IsItemSent held items → AllZip (IsFactOf IsKind) held (cluster_facts items)
+facts_are [] [] all = tt
+facts_are [] (i ∷ items) all = absurd all
+facts_are (h ∷ held) [] all = absurd all
+facts_are (h ∷ held) (i ∷ items) all =
+    let is = all.0 in
+    let fact : cluster_fact i ≡ fact_of h i.artifact = λ j. record { name = is.name j; private = is.private j; members = members i.artifact; refs = references i.artifact } in
+    ((i.artifact, is.kind, fact), facts_are held items all.1)
+
+each_kind : (held : List Sent) (items : List Item) → AllZip IsItemSent held items → AllByRecursion IsItem items
+each_kind [] [] all = tt
+each_kind [] (i ∷ items) all = absurd all
+each_kind (h ∷ held) [] all = absurd all
+each_kind (h ∷ held) (i ∷ items) all = ((h.bytes, all.0.kind), each_kind held items all.1)
+
+pub all_of : {X : Type 0} (P : X → Type 0) (xs : List X) → AllByRecursion P xs → All P xs
+all_of P [] h i d lt = absurd (omega (arith, lt))
+all_of P (x ∷ xs) h zero d lt = h.0
+all_of P (x ∷ xs) h (suc i) d lt = all_of P xs h.1 i d (omega (arith, lt))
+
+pub items_kinds : (held : List Sent) (items : List Item) (seen : BTreeSet (List ℕ)) → AreTaken held items seen → All IsItem items
+items_kinds held items seen t = all_of IsItem items (each_kind held items t.each)
