@@ -40,3 +40,67 @@ fn tells_where_a_group_fails(rt: HostRuntime) -> Result<(), Fail> {
     }
     Ok(())
 }
+
+const NO_HEADER: (u8, &str) = (2, "not a repository: 0\n");
+
+const NO_FIRST_GROUP: (u8, &str) = (2, "not a repository: 15\n");
+
+const NO_SECOND_GROUP: (u8, &str) = (2, "not a repository: 67\n");
+
+// What `cat` says of the file of `abc` where it is cut off at a length.
+fn said_of_length(length: usize) -> (u8, &'static str) {
+    match length {
+        0..=14 => NO_HEADER,
+        15..=67 => NO_FIRST_GROUP,
+        68..=109 => NO_SECOND_GROUP,
+        _ => (0, "abc"),
+    }
+}
+
+// What `cat` says of it where all bits of the byte at a place are turned. Codes may have any bytes, a turned gate is
+// closed, and what stands behind a closed gate has no meaning.
+fn said_of_turned(place: usize) -> (u8, &'static str) {
+    match place {
+        0..=14 => NO_HEADER,
+        15..=24 | 65 | 66 => NO_FIRST_GROUP,
+        67 => (3, "refused: no artifact a999\n"),
+        68..=108 => NO_SECOND_GROUP,
+        _ => (0, "abc"),
+    }
+}
+
+#[test]
+fn tells_where_a_file_is_cut_off(rt: HostRuntime) -> Result<(), Fail> {
+    for length in 0..111 {
+        let mut bytes = ABC_FILE.to_vec(rt.alloc())?;
+        bytes.truncate(length);
+        let disk = disk_of(rt.alloc(), bytes.as_slice())?;
+        expect(
+            rt.alloc(),
+            &["r", "cat", "a999"],
+            "",
+            disk,
+            said_of_length(length),
+        )?;
+    }
+    Ok(())
+}
+
+#[test]
+fn tells_where_a_byte_is_turned(rt: HostRuntime) -> Result<(), Fail> {
+    for place in 0..110 {
+        let mut bytes = ABC_FILE.to_vec(rt.alloc())?;
+        if let Some(byte) = bytes.get_mut(place) {
+            *byte = !*byte;
+        }
+        let disk = disk_of(rt.alloc(), bytes.as_slice())?;
+        expect(
+            rt.alloc(),
+            &["r", "cat", "a999"],
+            "",
+            disk,
+            said_of_turned(place),
+        )?;
+    }
+    Ok(())
+}
