@@ -7,7 +7,7 @@ import tempfile
 import time
 
 TOP = os.path.dirname(os.path.dirname(os.path.abspath(__file__)))
-PROGRAM = os.path.join(TOP, 'crates', 'fossil', 'out', 'fossil')
+PROGRAM = os.path.join(TOP, 'crates', 'fossil_main', 'out', 'fossil_main')
 
 
 def program():

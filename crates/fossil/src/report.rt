@@ -4,6 +4,7 @@ ghost use Rattle.fsl_order.specs.Rows.{AreDistinct};
 ghost use Rattle.fsl_cross.specs.Tables.{IsItem, cluster_facts};
 ghost use Rattle.fossil.specs.Sets.{name_line, report};
 
+use fsl_cluster::Clusters;
 use fsl_cross::{Item, Tables};
 use fsl_name::Name;
 use fsl_text::{List, Memory, Text};
@@ -28,6 +29,18 @@ fn add_lines(text: &mut Text, word: &[u8], names: &[Name]) -> Result<(), Memory>
     Ok(())
 }
 
+/// The unclustered names of a table, and then the missing ones, both ascending, each on a line.
+fn lines_of(alloc: Global, clusters: &Clusters) -> Result<Text, Memory>
+    ensures { IfOk result (λ text. text ≡ report clusters.now.facts) }
+{
+    let unclustered = clusters.unclustered(alloc)?;
+    let missing = clusters.missing(alloc)?;
+    let mut text = Text::empty(alloc);
+    add_lines(&mut text, b"unclustered", unclustered.items())?;
+    add_lines(&mut text, b"wanted", missing.items())?;
+    Ok(text)
+}
+
 /// The unclustered names of a set of artifacts, and then the wanted ones, both ascending, each on a line.
 pub fn report_of(alloc: Global, set: List<Item>) -> Result<Text, Memory>
     requires names { AreDistinct (map (λ item. item.name) set) }
@@ -36,11 +49,5 @@ pub fn report_of(alloc: Global, set: List<Item>) -> Result<Text, Memory>
 {
     let fields = List::new(alloc);
     let tables = Tables::build(alloc, &fields, set)?;
-    let clusters = tables.cluster();
-    let unclustered = clusters.unclustered(alloc)?;
-    let missing = clusters.missing(alloc)?;
-    let mut text = Text::empty(alloc);
-    add_lines(&mut text, b"unclustered", unclustered.items())?;
-    add_lines(&mut text, b"wanted", missing.items())?;
-    Ok(text)
+    lines_of(alloc, tables.cluster())
 }

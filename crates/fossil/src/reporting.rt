@@ -1,6 +1,9 @@
 //! Reports on what a repository holds.
-ghost use Rattle.std.specs.Prelude.{◌≡◌, IfOk, false};
+ghost use Rattle.std.specs.Prelude.{◌≡◌, List, IfOk, false};
 ghost use Rattle.fsl_blobs.specs.Fold.{contents};
+ghost use Rattle.fsl_record.specs.declared.Record.{Record};
+ghost use Rattle.fsl_words.specs.declared.Question.{Question};
+ghost use Rattle.fsl_query.specs.Answers.{IsReported};
 ghost use Rattle.fsl_query.specs.Items.{AreItems};
 ghost use Rattle.fsl_query.specs.Refusals.{refusal_text};
 ghost use Rattle.fsl_query.specs.Reports.{configured};
@@ -20,7 +23,7 @@ use fsl_blobs::Blobs;
 use fsl_cross::Tables;
 use fsl_disk::Disk;
 use fsl_query::{QueryFault, Refused, answer, refusal_text};
-use fsl_text::Memory;
+use fsl_text::{Memory, Text};
 use fsl_words::Question;
 use std::alloc::Global;
 
@@ -41,16 +44,23 @@ fn tables_of(alloc: Global, blobs: &Blobs) -> Result<Tables, Memory>
     Tables::build(alloc, &blobs.config().fields, items)
 }
 
+/// What is answered where a question found this: the report, or the reason why there is none.
+fn answer_of(alloc: Global, found: Result<Text, QueryFault>) -> Result<Answer, Memory>
+    ensures { (question : Question) (records : List Record) → IsReported (contents records) question found → IfOk result (λ a. IsAnswered question records (unchanged a)) }
+{
+    match found {
+        Ok(text) => Ok(Answer { status: DONE, text }),
+        Err(QueryFault::Refused(refused)) => question_refusal(alloc, &refused),
+        Err(QueryFault::Memory) => Err(Memory),
+    }
+}
+
 /// The report on a question, or the reason why there is none.
 fn report_on(alloc: Global, blobs: &Blobs, question: &Question) -> Result<Answer, Memory>
     ensures { IfOk result (λ a. IsAnswered question.now blobs.now.records (unchanged a)) }
 {
     let tables = tables_of(alloc, blobs)?;
-    match answer(alloc, blobs, &tables, question) {
-        Ok(text) => Ok(Answer { status: DONE, text }),
-        Err(QueryFault::Refused(refused)) => question_refusal(alloc, &refused),
-        Err(QueryFault::Memory) => Err(Memory),
-    }
+    answer_of(alloc, answer(alloc, blobs, &tables, question))
 }
 
 /// Loads the repository, and answers with the report on a question.

@@ -9,8 +9,6 @@ mod kind;
 mod laws;
 mod names;
 mod references;
-#[cfg(test)]
-mod tests;
 
 use fsl_forms as forms;
 use fsl_manifest as manifests;

@@ -10,8 +10,6 @@ mod blobs;
 mod changes;
 mod laws;
 mod listing;
-#[cfg(test)]
-mod tests;
 
 ghost use Rattle.std.specs.Prelude.{◌≡◌};
 ghost use Rattle.fsl_blobs.specs.declared.BlobFault.TheVariants.{Memory as MemoryFault};

@@ -13,8 +13,6 @@ mod laws;
 mod order;
 mod reading;
 mod seal;
-#[cfg(test)]
-mod tests;
 mod types;
 
 pub use laws::{sealed_text_reads_back, text_is_finished, text_is_unambiguous};

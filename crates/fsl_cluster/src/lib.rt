@@ -6,8 +6,6 @@
 mod clusters;
 mod gather;
 mod name_set;
-#[cfg(test)]
-mod tests;
 
 pub use clusters::Clusters;
 use fsl_name::Name;

@@ -11,8 +11,6 @@ mod history;
 mod items;
 mod tables;
 mod targets;
-#[cfg(test)]
-mod tests;
 mod timeline;
 mod tip;
 

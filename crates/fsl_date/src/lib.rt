@@ -108,6 +108,3 @@ impl Moment {
         text
     }
 }
-
-#[cfg(test)]
-mod tests;

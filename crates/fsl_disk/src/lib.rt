@@ -16,6 +16,3 @@ pub use file::FileDisk;
 pub use fuse::FuseDisk;
 pub use law::images_by_place;
 pub use memory::MemoryDisk;
-
-#[cfg(test)]
-mod tests;

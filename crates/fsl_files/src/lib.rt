@@ -9,8 +9,6 @@ mod files;
 mod found;
 mod overlay;
 mod rows;
-#[cfg(test)]
-mod tests;
 
 pub use files::Files;
 use fsl_name::Name;

@@ -20,6 +20,3 @@ pub use laws::{well_formed_have_a_text, written_texts_read_back};
 pub use technote::Technote;
 pub use ticket::{Ticket, TicketChange};
 pub use wiki::Wiki;
-
-#[cfg(test)]
-mod tests;

@@ -7,8 +7,6 @@ ghost use Rattle.fsl_forum.specs.Threads.{next, kind, EndByNext, WholeStays};
 
 mod chains;
 mod index;
-#[cfg(test)]
-mod tests;
 mod threads;
 
 use fsl_date::Moment;

@@ -47,6 +47,3 @@ pub struct TagCard {
     pub target: Option<Name>,
     pub value: Option<Text>,
 }
-
-#[cfg(test)]
-mod tests;

@@ -16,8 +16,6 @@ mod laws;
 mod loading;
 mod names;
 mod reading;
-#[cfg(test)]
-mod tests;
 
 ghost use Rattle.std.specs.Prelude.{◌≡◌};
 ghost use Rattle.fsl_journal.specs.declared.CreateFault.TheVariants as create_fault;

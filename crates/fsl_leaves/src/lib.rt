@@ -6,8 +6,6 @@ ghost use Rattle.std.specs.Prelude.{◌≡◌, IfOk};
 
 mod continued;
 mod leaves;
-#[cfg(test)]
-mod tests;
 
 use fsl_name::Name;
 use fsl_rows::Named;

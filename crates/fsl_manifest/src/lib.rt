@@ -57,6 +57,3 @@ pub struct Manifest {
     pub tags: List<TagCard>,
     pub user: Text,
 }
-
-#[cfg(test)]
-mod tests;

@@ -133,6 +133,3 @@ fn spelled(text: &[u8]) -> [u8; 20]
     let _ = hex::decode_to_slice(text, &mut bytes);
     bytes
 }
-
-#[cfg(test)]
-mod tests;

@@ -12,6 +12,3 @@ pub use memory::{MemorySink, MemorySource};
 pub use outside::{Failed, Sink, Source};
 pub use std_forms::{StdSink, StdSource};
 pub use whole::{ReadFault, read_whole, write_whole};
-
-#[cfg(test)]
-mod tests;

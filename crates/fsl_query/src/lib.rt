@@ -14,8 +14,6 @@ mod leaves;
 mod lines;
 mod refusals;
 mod tags;
-#[cfg(test)]
-mod tests;
 mod thread;
 mod ticket;
 mod timeline;

@@ -10,8 +10,6 @@ mod groups;
 mod laws;
 mod pieces;
 mod reading;
-#[cfg(test)]
-mod tests;
 mod writing;
 
 pub use fields::are_fields;

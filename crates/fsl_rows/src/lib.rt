@@ -4,8 +4,6 @@
 
 mod named;
 mod rows;
-#[cfg(test)]
-mod tests;
 
 pub use named::Named;
 pub use rows::Rows;

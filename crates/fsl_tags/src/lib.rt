@@ -21,8 +21,6 @@ mod row;
 mod settle;
 mod shared;
 mod tags;
-#[cfg(test)]
-mod tests;
 mod walk;
 
 use fsl_date::Moment;

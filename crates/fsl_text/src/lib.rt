@@ -10,8 +10,6 @@ mod list;
 mod memory;
 mod path;
 mod steps;
-#[cfg(test)]
-mod tests;
 mod text;
 mod token;
 

@@ -7,8 +7,6 @@ ghost use Rattle.std.specs.Prelude.{◌≡◌, IfOk};
 mod cards;
 mod groups;
 mod place;
-#[cfg(test)]
-mod tests;
 mod tickets;
 mod values;
 

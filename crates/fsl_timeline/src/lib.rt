@@ -5,8 +5,6 @@
 ghost use Rattle.std.specs.Prelude.{◌≡◌, IfOk};
 
 mod place;
-#[cfg(test)]
-mod tests;
 mod timeline;
 
 use fsl_date::Moment;

@@ -9,8 +9,6 @@ mod attachments;
 mod index;
 mod notes;
 mod pages;
-#[cfg(test)]
-mod tests;
 mod versions;
 
 use fsl_date::Moment;

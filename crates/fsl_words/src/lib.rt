@@ -7,8 +7,6 @@ mod faults;
 mod fields;
 mod forms;
 mod reading;
-#[cfg(test)]
-mod tests;
 
 use fsl_name::Name;
 use fsl_text::{List, Text};

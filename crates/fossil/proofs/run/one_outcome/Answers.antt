@@ -1,6 +1,0 @@
-use Rattle.fsl_artifact.proofs.OneKind.{one_artifact}
-use Rattle.fossil.proofs.OneOutcome.{one_outcome}
-use Rattle.fossil.proofs.run.one_outcome.Goals as goal
-
-pub returns : goal.returns
-returns c = record { kinds = one_artifact; outcome = one_outcome }

@@ -1,0 +1,6 @@
+use Rattle.fsl_artifact.proofs.OneKind.{one_artifact}
+use Rattle.fossil.proofs.OneOutcome.{one_outcome}
+use Rattle.fossil.proofs.top.one_outcome.Goals as goal
+
+pub returns : goal.returns
+returns c = record { kinds = one_artifact; outcome = one_outcome }

@@ -1,0 +1,36 @@
+//! A repository of artifacts. `fossil REPOSITORY init PROJECT SERVER [FIELD ...]` makes its file, `put` takes a message
+//! of files into it, and `cat PREFIX` writes the content of an artifact. `timeline COUNT` prints so many of the latest
+//! events, `leaves` the check-ins without a child in their branch, `tags PREFIX` the tags in force on an artifact, `tip
+//! SYMBOL` the latest check-in of a symbolic name, `files PREFIX` the files of a check-in and what it changed, `wiki TITLE`
+//! the versions of a page, `ticket ID` the fields of a ticket, and `thread NAME` the posts of a thread. `ingest` reads a
+//! message of files into a set of its own, and prints which of its names stand in no cluster and which are named and not
+//! there.
+#![tactic(auto)]
+
+mod answer;
+mod artifact;
+mod ask;
+mod cat;
+mod fault;
+mod front;
+mod ingest;
+mod init;
+mod input;
+mod items;
+mod line;
+mod load;
+mod message;
+mod names;
+mod put;
+mod refused;
+mod report;
+mod reporting;
+mod say;
+mod sent;
+mod status;
+mod taking;
+mod token;
+mod top;
+
+pub use status::NO_MEMORY;
+pub use top::{Ran, one_outcome, run};

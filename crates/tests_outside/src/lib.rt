@@ -1,0 +1,7 @@
+//! Tests of what is handed in: sources, sinks and disks, by their public calls alone. They stand apart, so that no crate is proved once more for its tests.
+#![tactic(auto)]
+
+#[cfg(test)]
+mod disk;
+#[cfg(test)]
+mod outside;
