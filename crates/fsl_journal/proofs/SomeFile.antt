@@ -8,7 +8,8 @@ use Rattle.std.proofs.lemmas.Bool.{and_parts}
 use Rattle.fsl_record.specs.declared.Record.{Record}
 use Rattle.fsl_record.specs.Records.{record_bytes, records_bytes, IsFit, AreRecords}
 use Rattle.fsl_record.proofs.Deciding.{Decided, decide_text, decide_nat, decide_four, decide_le}
-use Rattle.fsl_record.proofs.FirstRecord.{Piece, Begins, Mores, decide_front, no_records, decide_mores}
+use Rattle.fsl_record.proofs.FirstRecord.{Begins, Mores, decide_front, no_records, decide_mores}
+use Rattle.fsl_record.proofs.ReadAgain.{Piece}
 use Rattle.fsl_record.proofs.Unique.{record_same, record_some}
 use Rattle.fsl_journal.specs.Commit.{eight}
 use Rattle.fsl_journal.specs.File.{header, IsGroup, IsFileOf, FailsAt}

@@ -1,3 +1,4 @@
+pub mod ReadAgain
 pub mod Unique
 pub mod FieldLists
 pub mod Cuts
