@@ -58,9 +58,7 @@ fn leading_arguments(alloc: Global, bytes: &[u8]) -> Result<ArgumentList, Memory
     let mut rest = bytes;
     while let Some(length) = next_argument(rest) {
         let (argument, behind) = rest[1..].split_at(length);
-        if list.push(Text::of(alloc, argument)?).is_err() {
-            return Err(Memory);
-        }
+        list.append(Text::of(alloc, argument)?)?;
         rest = behind;
     }
     Ok(ArgumentList {
@@ -106,9 +104,7 @@ pub fn arguments(alloc: Global, letter: u8, bytes: &[u8]) -> Result<Option<Argum
     if !is_empty_field(letter, list.items(), rest) {
         return Ok(None);
     }
-    if list.push(Text::empty(alloc)).is_err() {
-        return Err(Memory);
-    }
+    list.append(Text::empty(alloc))?;
     Ok(Some(ArgumentList {
         list,
         taken: taken + 2,

@@ -24,9 +24,7 @@ fn ordered_cards(alloc: Global, text: &[u8]) -> Result<Option<List<Card>>, Memor
             return Ok(None);
         }
         rest = &rest[front.taken..];
-        if cards.push(front.card).is_err() {
-            return Err(Memory);
-        }
+        cards.append(front.card)?;
     }
     Ok(Some(cards))
 }
@@ -35,16 +33,13 @@ fn ordered_cards(alloc: Global, text: &[u8]) -> Result<Option<List<Card>>, Memor
 fn card_of(alloc: Global, letter: u8, argument: &[u8]) -> Result<Card, Memory>
     ensures { IfOk result (λ card. card ≡ record { letter = letter; args = argument.now ∷ []; body = None }) }
 {
-    let argument = Text::of(alloc, argument)?;
     let mut args = List::new(alloc);
-    match args.push(argument) {
-        Ok(()) => Ok(Card {
-            letter,
-            args,
-            body: None,
-        }),
-        Err(_) => Err(Memory),
-    }
+    args.append(Text::of(alloc, argument)?)?;
+    Ok(Card {
+        letter,
+        args,
+        body: None,
+    })
 }
 
 /// The cards of a structural text, or `None` where the text is none.
@@ -70,8 +65,6 @@ pub fn cards(alloc: Global, text: &[u8]) -> Result<Option<Cards>, Memory>
     if !may_follow_all(cards.items(), &seal) {
         return Ok(None);
     }
-    match cards.push(seal) {
-        Ok(()) => Ok(Some(Cards::from_list(cards))),
-        Err(_) => Err(Memory),
-    }
+    cards.append(seal)?;
+    Ok(Some(Cards::from_list(cards)))
 }

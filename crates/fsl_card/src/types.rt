@@ -1,4 +1,5 @@
 ghost use Rattle.std.specs.Prelude.{◌≡◌};
+ghost use Rattle.fsl_card.specs.Cards.{AreCards};
 
 use fsl_text::{List, Text};
 use std::marker::Model;
@@ -11,7 +12,7 @@ pub struct Card {
     pub body: Option<Text>,
 }
 
-/// The cards of a structural artifact, the `Z` card included.
+/// The cards of a structural text, in order, the `Z` card included. `cards` alone makes them.
 #[derive(Debug, Drop)]
 pub struct Cards {
     items: List<Card>,
@@ -23,12 +24,17 @@ impl Model for Cards {
 
     ghost Value = { List Card };
 
+    ghost use Rattle.fsl_card.specs.Cards.{AreCards};
+
     ghost view = { λ c. c.items };
+
+    ghost invariant = { λ c. AreCards c.items };
 }
 
 impl Cards {
-    /// Cards in this order, whatever they are. Takes no memory.
-    pub fn from_list(items: List<Card>) -> Cards
+    /// The cards of a text. Takes no memory.
+    pub(crate) fn from_list(items: List<Card>) -> Cards
+        requires { AreCards items }
         ensures { result ≡ items }
     {
         Cards { items }

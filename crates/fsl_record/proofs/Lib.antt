@@ -1,3 +1,4 @@
+pub mod ReadAgain
 pub mod Unique
 pub mod FieldLists
 pub mod Cuts
@@ -5,3 +6,5 @@ pub mod GroupLists
 pub mod Fronts
 pub mod Exclusive
 pub mod OneFault
+pub mod Deciding
+pub mod FirstRecord

@@ -1,5 +1,6 @@
 pub mod Examples
 pub mod FirstLines
+mod Fronts
 pub mod Unescaping
 pub mod DecimalLemmas
 pub mod TokenLemmas

@@ -2,11 +2,11 @@
 use Rattle.std.specs.Prelude.{map, ◌≡◌, ℕ, ◌+◌, ◌-◌, ◌<◌, ◌≤◌, ◌==◌, ◌||◌, ◌⊎◌, Bool, not, List, [], ◌∷◌, length, nat_lt, slice_index, slice_range, IsTrue, if◌then◌else◌}
 use Rattle.std.specs.List.{filter, slice_split, AllPass, AllPairs, Contains}
 use Rattle.fsl_text.specs.declared.fault.Span.{Span}
-use Rattle.fsl_text.specs.Bytes.{is_empty}
+use Rattle.fsl_text.specs.Bytes.{tab, carriage_return, space, is_empty}
 
 -- space, tab and carriage return stand between tokens
 abbrev pub is_blank : ℕ → Bool
-is_blank b = (b == 32) || (b == 9) || (b == 13)
+is_blank b = (b == space) || (b == tab) || (b == carriage_return)
 
 -- the tokens: of the parts between blanks those that have a byte
 abbrev pub tokens_of : List ℕ → List (List ℕ)

@@ -1,5 +1,5 @@
 //! Bytes that cards and messages can't hold as they are, written as two bytes.
-ghost use Rattle.std.specs.Prelude.{◌≡◌, ◌++◌, ◌∷◌, [], IfOk, OnOk, MatchOption};
+ghost use Rattle.std.specs.Prelude.{◌≡◌, ◌++◌, ◌∷◌, [], length, take, IfOk, OnOk, OnErr, MatchOption};
 ghost use Rattle.fsl_text.specs.Escapes.{escape, escaped_byte, unescape, byte_meant, UnescapesEscaped};
 
 use super::memory::Memory;
@@ -52,7 +52,8 @@ pub fn escape(alloc: Global, bytes: &[u8]) -> Result<Text, Memory>
 
 /// Puts one byte at the end of a text as it is written.
 fn append_byte(into: &mut Text, byte: u8) -> Result<(), Memory>
-    ensures { OnOk result (into.new ≡ into.old ++ escaped_byte byte) }
+    ensures ok { OnOk result (into.new ≡ into.old ++ escaped_byte byte) }
+    ensures err { OnErr result (into.new ≡ into.old) }
 {
     match letter_of(byte) {
         Some(letter) => into.append(&[b'\\', letter]),
@@ -60,15 +61,30 @@ fn append_byte(into: &mut Text, byte: u8) -> Result<(), Memory>
     }
 }
 
-/// Puts bytes at the end of a text as `escape` writes them. `Memory` is the only error; the text then may be
-/// longer than it was, and is of no use.
-pub fn escape_into(into: &mut Text, bytes: &[u8]) -> Result<(), Memory>
-    ensures { OnOk result (into.new ≡ into.old ++ escape bytes.now) }
+/// Puts bytes at the end of a text as they are written, all of them or some.
+#[tactic(auto, using(crate::proofs::Fronts::front_stays))]
+fn append_bytes(into: &mut Text, bytes: &[u8]) -> Result<(), Memory>
+    ensures ok { OnOk result (into.new ≡ into.old ++ escape bytes.now) }
+    ensures err { OnErr result (take (length into.old) into.new ≡ into.old) }
 {
     for byte in bytes {
         append_byte(into, *byte)?;
     }
     Ok(())
+}
+
+/// Puts bytes at the end of a text as `escape` writes them. `Memory` is the only error, and then the text stays
+/// as it was.
+pub fn escape_into(into: &mut Text, bytes: &[u8]) -> Result<(), Memory>
+    ensures ok { OnOk result (into.new ≡ into.old ++ escape bytes.now) }
+    ensures err { OnErr result (into.new ≡ into.old) }
+{
+    let length = into.bytes().len();
+    let written = append_bytes(into, bytes);
+    if written.is_err() {
+        into.truncate(length);
+    }
+    written
 }
 
 /// The bytes that a text of a card or a message stands for. A backslash and the byte behind it are one byte:

@@ -1,5 +1,6 @@
 ghost use Rattle.std.specs.Prelude.{◌≡◌, ◌++◌, ◌∷◌, [], OnOk, OnErr, IfErr};
 
+use super::memory::Memory;
 use std::alloc::Global;
 use std::marker::Model;
 
@@ -58,5 +59,16 @@ impl<T> List<T> {
         ensures { result.now ≡ self.now }
     {
         self.items.as_slice()
+    }
+}
+
+impl<T: Drop> List<T> {
+    /// Puts an item at the end. For want of memory the list stays as it is, and the item is let go.
+    pub fn append(&mut self, item: T) -> Result<(), Memory>
+        ensures ok { OnOk result (self.new ≡ self.old ++ item ∷ []) }
+        ensures err { OnErr result (self.new ≡ self.old) }
+    {
+        self.items.push(item)?;
+        Ok(())
     }
 }

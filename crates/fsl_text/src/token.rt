@@ -22,7 +22,7 @@ fn push_token(spans: &mut List<Span>, from: usize, to: usize) -> Result<(), Memo
             from: from as u64,
             to: to as u64,
         };
-        return spans.push(span).map_err(|_| Memory);
+        return spans.append(span);
     }
     Ok(())
 }

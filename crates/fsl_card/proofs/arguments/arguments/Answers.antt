@@ -21,5 +21,5 @@ returns-then-not-is_empty_field-clause-none c =
 pub returns-clause-spelled : goal.returns-clause-spelled
 returns-clause-spelled c =
     let P : List ℕ → Type 0 = λ r. r ≡ 32 ∷ 10 ∷ drop 2 r in
-    field_ends c.args.bytes.now c.in_ok-list.field-0.list c.push.new.self c.in_ok-list.field-0.taken c.in_ok-list.ensures
+    field_ends c.args.bytes.now c.in_ok-list.field-0.list c.append.new.self c.in_ok-list.field-0.taken c.in_ok-list.ensures
     (subst P (take_rest c.args.bytes.now c.in_ok-list.field-0.taken) (c.if-not-is_empty_field.ensures.spelled refl)) (search rules)

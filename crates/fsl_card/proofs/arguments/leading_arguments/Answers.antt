@@ -13,7 +13,7 @@ split_at-requires c =
 pub loop-length-preserved : goal.loop-length-preserved
 loop-length-preserved c =
     let rest = take_rest c.loop-length.rest.now 1 in
-    let P : List ℕ → Type 0 = λ r. AreArgumentsTo c.args.bytes.now c.push.new.self r in
+    let P : List ℕ → Type 0 = λ r. AreArgumentsTo c.args.bytes.now c.append.new.self r in
     subst P (sym (c.split_at.ensures.back ∙ ap (drop c.in-Some.length) rest))
-    (run_more c.args.bytes.now c.loop-length.list c.push.new.self c.loop-length.rest.now c.in_ok-of.field-0 c.in-Some.length
+    (run_more c.args.bytes.now c.loop-length.list c.append.new.self c.loop-length.rest.now c.in_ok-of.field-0 c.in-Some.length
     c.loop-length.invariant c.in-Some.ensures (c.in_ok-of.ensures ∙ c.split_at.ensures.front ∙ ap (take c.in-Some.length) rest) (search rules))

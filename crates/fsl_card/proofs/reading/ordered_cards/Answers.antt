@@ -22,7 +22,7 @@ returns-then-not-may_follow_all c =
 pub loop-rest-preserved : goal.loop-rest-preserved
 loop-rest-preserved c =
     let follows = ap (λ (l : List Card). may_follow_all l c.in-Some.front.card) (sym c.items.ensures) ∙ sym c.may_follow_all.ensures ∙ c.if-not-may_follow_all.false in
-    let P : List ℕ → Type 0 = λ r. AreOrderedTo c.args.text.now c.push.new.self r in
+    let P : List ℕ → Type 0 = λ r. AreOrderedTo c.args.text.now c.append.new.self r in
     subst P (sym (take_rest c.loop-rest.rest.now c.in-Some.front.taken))
-    (ordered_more c.args.text.now c.loop-rest.cards c.push.new.self c.in-Some.front.card c.loop-rest.rest.now _ c.loop-rest.invariant
+    (ordered_more c.args.text.now c.loop-rest.cards c.append.new.self c.in-Some.front.card c.loop-rest.rest.now _ c.loop-rest.invariant
     (rw c.in-Some.is at c.in_ok-front.ensures.card) (rw c.in-Some.is at c.in_ok-front.ensures.spelled) follows (search rules))
