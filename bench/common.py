@@ -1,5 +1,6 @@
-"""What the measuring scripts share: inputs, the built program, and times of one run."""
+"""What the measuring scripts share: inputs, the built program, and times and memory of one run."""
 import hashlib
+import json
 import os
 import subprocess
 import sys
@@ -60,6 +61,27 @@ def timed(words, stdin=None, check=True):
     if check and done.returncode != 0:
         sys.exit(f'{words[:3]} ended with status {done.returncode}: {done.stdout[:200]!r} {done.stderr[:200]!r}')
     return seconds, done.stdout
+
+
+# Runs a command as a child of a small process, so that its peak isn't that of the script that asks.
+MEASURE = """
+import json, resource, subprocess, sys, time
+begin = time.perf_counter()
+done = subprocess.run(sys.argv[2:])
+seconds = time.perf_counter() - begin
+with open(sys.argv[1], 'w') as out:
+    json.dump([seconds, resource.getrusage(resource.RUSAGE_CHILDREN).ru_maxrss / 1024], out)
+sys.exit(done.returncode)
+"""
+
+
+def measured(room, words, stdin=None, check=True):
+    """The seconds that a command takes, its peak of memory in MiB, and what it prints."""
+    told = room.path('measured')
+    _, printed = timed([sys.executable, '-c', MEASURE, told, *words], stdin, check)
+    with open(told) as file:
+        seconds, peak = json.load(file)
+    return seconds, peak, printed
 
 
 def row(what, seconds, beside, tool):

@@ -1,6 +1,6 @@
 //! Clusters: which names of held artifacts stand in no cluster, and which names are referred to and not held.
-//! `Clusters` is the table of both, and its answers are those of the definitions over the facts it was built from,
-//! in whatever order these stand.
+//! `Clusters` is the table of both, and its answers are those of the definitions over the facts it was built from. In whatever order these stand it
+//! is the same: `fsl_order::by_name_in_any_order`.
 #![tactic(auto)]
 
 mod clusters;

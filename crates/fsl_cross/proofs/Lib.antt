@@ -1,4 +1,3 @@
-mod WorkedRows
 pub mod Laws
 pub mod Mapped
 pub mod Moved

@@ -15,11 +15,11 @@ use Rattle.std.proofs.lemmas.List.Elements.{filter_map-append}
 use Rattle.std.proofs.lemmas.List.Folds.{list_any-append}
 use Rattle.fsl_order.specs.Names.{bytes_cmp, has, dated_cmp}
 use Rattle.fsl_order.specs.Rows.{keyed, ascending, named, greater, greatest}
-use Rattle.fsl_order.proofs.Orders.{bytes_cmp-IsTotalOrder, dated_cmp-IsTotalOrder}
-use Rattle.fsl_order.proofs.RowLemmas.{is_sorted-keyed, is_some-named}
+use Rattle.fsl_order.proofs.Orders.{bytes_cmp-IsTotalOrder, dated_cmp-IsTotalOrder, less_from}
+use Rattle.fsl_order.proofs.RowLemmas.{is_sorted-keyed, is_some-named, has-filter}
 use Rattle.fsl_order.proofs.AscendingLemmas.{itself, Twins-keyed, twin_parts, has-ascending}
 use Rattle.fsl_order.proofs.GreatestLemmas.{greatest-append}
-use Rattle.fsl_order.proofs.SortedLemmas.{ascending-from}
+use Rattle.fsl_order.proofs.SortedLemmas.{ascending-from, same_names}
 use Rattle.fsl_rows.proofs.Rising.{rising-filter, named-own}
 use Rattle.fsl_manifest.specs.declared.Manifest.{Manifest}
 use Rattle.fsl_artifact.specs.declared.Artifact.TheVariants as kind
@@ -53,11 +53,6 @@ greatest-next give xs i x best next found lt is so gives step =
 
 -- ---- ascending names rise
 
-less_from : (r : Ordering) → is_lt r ≡ true → r ≡ Less
-less_from Less e = refl
-less_from Equal e = cc
-less_from Greater e = cc
-
 first-holds : (a b : Bool) → T (a && b) → a ≡ true
 first-holds true b h = refl
 first-holds false b h = absurd h
@@ -87,28 +82,6 @@ ascending-rises names =
     subst (IsStrictlySortedBy bytes_cmp) (sym (twin_parts es (Twins-keyed names))) (keys-rising es (is_sorted-keyed bytes_cmp-IsTotalOrder itself names))
 
 -- ---- tests of names
-
-has-filtered : (p : List ℕ → Bool) (xs : List (List ℕ)) (q : List ℕ) → has (filter p xs) q ≡ (has xs q && p q)
-has-filtered p [] q = refl
-has-filtered p (x ∷ xs) q =
-    elim (bytes_eq q x) as (λ b. bytes_eq q x ≡ b → has (cond (p x) (x ∷ filter p xs) (filter p xs)) q ≡ ((b || has xs q) && p q)) [
-      | true ↦ λ e. elim (p x) as (λ c. p x ≡ c → has (cond c (x ∷ filter p xs) (filter p xs)) q ≡ p q) [
-        | true ↦ λ px. ap (λ b. b || has (filter p xs) q) e ∙ sym (ap p ((bytes_decides q x).0 e) ∙ px)
-        | false ↦ λ px. has-filtered p xs q ∙ ap (λ c. has xs q && c) (ap p ((bytes_decides q x).0 e) ∙ px) ∙ and-false (has xs q) ∙ sym (ap p ((bytes_decides q x).0 e) ∙ px)
-      ] refl
-      | false ↦ λ e. elim (p x) as (λ c. has (cond c (x ∷ filter p xs) (filter p xs)) q ≡ (has xs q && p q)) [
-        | true ↦ ap (λ b. b || has (filter p xs) q) e ∙ has-filtered p xs q
-        | false ↦ has-filtered p xs q
-      ]
-    ] refl
-  where
-    and-false : (b : Bool) → (b && false) ≡ false
-    and-false true = refl
-    and-false false = refl
-
-same_names : (xs : List (List ℕ)) → map (λ name. name) xs ≡ xs
-same_names [] = refl
-same_names (x ∷ xs) = ap (λ ys. x ∷ ys) (same_names xs)
 
 -- those that pass a test rise too
 filter-rises : (p : List ℕ → Bool) (xs : List (List ℕ)) → IsStrictlySortedBy bytes_cmp xs → IsStrictlySortedBy bytes_cmp (filter p xs)
@@ -200,7 +173,7 @@ module _ (items : List Item) (rise : Rise items) (symbol : List ℕ) where
   -- a check-in on which the tag is in force is among the holders
   holders-has : (q : List ℕ) → has (filter is_checkin (holders facts tag)) q ≡ (holds q && is_checkin q)
   holders-has q =
-      has-filtered is_checkin (holders facts tag) q ∙ ap (λ b. b && is_checkin q) (has-ascending (filter holds subjects) q ∙ has-filtered holds subjects q)
+      has-filter is_checkin (holders facts tag) q ∙ ap (λ b. b && is_checkin q) (has-ascending (filter holds subjects) q ∙ has-filter holds subjects q)
       ∙ elim (is_checkin q) as (λ b. is_checkin q ≡ b → ((has subjects q && holds q) && b) ≡ (holds q && b)) [
         | true ↦ λ e. ap (λ b. (b && holds q) && true) (list_any-append (bytes_eq q) (map (λ f. f.name) facts) (map (λ a. a.target) (assertions facts)) ∙ ap (λ b. b || has (map (λ (a : Assertion). a.target) (assertions facts)) q) (there q e))
         | false ↦ λ e. and-none (has subjects q && holds q) ∙ sym (and-none (holds q))

@@ -148,17 +148,3 @@ row_over ts ps fs on_ticket on_note name _ = None
 
 abbrev pub item_row_over : List tags.Fact → List wiki.Fact → List forum.Fact → (List ℕ → Bool) → (List ℕ → Bool) → Item → Option Row
 item_row_over ts ps fs on_ticket on_note item = row_over ts ps fs on_ticket on_note item.name item.artifact
-
--- the items rise by name, and each table has the facts that they give
-pub record AreTablesOf (fields : List (List ℕ)) (items : List Item) (l : Held links.Fact) (t : Held tags.Fact) (v : Held leaves.Fact) (f : Held files.Fact) (r : Held Row) (p : Held wiki.Fact) (k : change.Seen) (h : Held forum.Fact)
-    (c : Held cluster.Fact) : Type 0 where
-  pub rising : IsStrictlySortedBy bytes_cmp (map (λ item. item.name) items)
-  pub links : l ≡ record { facts = links_facts items; spare = [] }
-  pub tags : t ≡ record { facts = tags_facts items; spare = [] }
-  pub leaves : v ≡ record { facts = leaves_facts items; spare = [] }
-  pub files : f ≡ record { facts = files_facts items; spare = [] }
-  pub timeline : r ≡ record { facts = timeline_rows items; spare = [] }
-  pub pages : p ≡ record { facts = pages_facts items; spare = [] }
-  pub tickets : k ≡ record { fields = fields; facts = ticket_facts items; spare = [] }
-  pub threads : h ≡ record { facts = forum_facts items; spare = [] }
-  pub clusters : c ≡ record { facts = cluster_facts items; spare = [] }

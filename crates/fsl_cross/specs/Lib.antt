@@ -2,3 +2,4 @@ pub mod Facts
 pub mod Checkins
 pub mod Tables
 pub mod Inside
+pub mod Built

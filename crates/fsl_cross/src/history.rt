@@ -10,7 +10,7 @@ use super::items::Items;
 use fsl_leaves::Leaves;
 use fsl_links::Links;
 use fsl_tags::Tags;
-use fsl_text::Memory;
+use fsl_text::{List, Memory};
 use std::alloc::Global;
 
 /// What is told of check-ins from their parents and from tags: each table stands on the ones before it.
@@ -31,7 +31,8 @@ impl History {
     {
         let links = Links::build(alloc, &facts::links::of_items(alloc, items)?)?;
         let tags = Tags::build(alloc, &facts::tags::of_items(alloc, &links, items)?)?;
-        let leaves = Leaves::build(alloc, &facts::leaves::of_items(alloc, &tags, items)?)?;
+        let facts = facts::leaves::of_items(alloc, &tags, items)?;
+        let leaves = Leaves::build(alloc, List::from_vec(facts))?;
         Ok(History {
             links,
             tags,

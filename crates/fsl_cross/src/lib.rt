@@ -6,6 +6,7 @@ ghost use Rattle.fsl_cross.specs.Tables.{SameInAnyOrder};
 
 mod checkin;
 mod contents;
+mod derived;
 mod facts;
 mod history;
 mod items;

@@ -5,10 +5,9 @@ ghost use Rattle.fsl_cross.specs.Checkins as checkins;
 ghost use Rattle.fsl_cross.specs.Tables.{IsItem, item_set, tables};
 
 use super::checkin::manifest;
-use super::contents::Contents;
-use super::history::History;
+use super::derived::Derived;
 use super::items::Items;
-use super::{Item, Values, checkin, timeline, tip};
+use super::{Item, Values, checkin, tip};
 use fsl_cluster::Clusters;
 use fsl_files::Files;
 use fsl_forum::Threads;
@@ -28,20 +27,18 @@ use std::marker::Model;
 pub struct Tables {
     fields: List<Text>,
     items: Items,
-    history: History,
-    contents: Contents,
-    timeline: Timeline,
+    derived: Derived,
 }
 
 impl Model for Tables {
     ghost use Rattle.fsl_cross.specs.Tables.{Seen};
-    ghost use Rattle.fsl_cross.specs.Inside.{AreTablesOf};
+    ghost use Rattle.fsl_cross.specs.Built.{AreTablesOf};
 
     ghost Value = { Seen };
 
     ghost view = { λ t. record { fields = t.fields; items = t.items } };
 
-    ghost invariant = { λ t. AreTablesOf t.fields t.items t.history.links t.history.tags t.history.leaves t.contents.files t.timeline t.contents.pages t.contents.tickets t.contents.threads t.contents.clusters };
+    ghost invariant = { λ t. AreTablesOf t.fields t.items t.derived };
 }
 
 impl Tables {
@@ -52,22 +49,13 @@ impl Tables {
         requires kinds { All IsItem items }
         ensures { IfOk result (λ t. t ≡ record { fields = fields.now; items = item_set items }) }
     {
+        let fields = copied(alloc, fields.items())?;
         let items = Items::of(alloc, items)?;
-        let history = History::build(alloc, &items)?;
-        let contents = Contents::build(alloc, fields, &items)?;
-        let timeline = timeline::table(
-            alloc,
-            &history.tags,
-            &contents.pages,
-            &contents.threads,
-            &items,
-        )?;
+        let derived = Derived::build(alloc, &fields, &items)?;
         Ok(Tables {
-            fields: copied(alloc, fields.items())?,
+            fields,
             items,
-            history,
-            contents,
-            timeline,
+            derived,
         })
     }
 
@@ -76,7 +64,7 @@ impl Tables {
         ensures facts { result.now.facts ≡ (tables self.now.fields self.now.items).links }
         ensures spare { result.now.spare ≡ [] }
     {
-        &self.history.links
+        &self.derived.history.links
     }
 
     /// The table of tags.
@@ -84,7 +72,7 @@ impl Tables {
         ensures facts { result.now.facts ≡ (tables self.now.fields self.now.items).tags }
         ensures spare { result.now.spare ≡ [] }
     {
-        &self.history.tags
+        &self.derived.history.tags
     }
 
     /// The table of leaves.
@@ -92,7 +80,7 @@ impl Tables {
         ensures facts { result.now.facts ≡ (tables self.now.fields self.now.items).leaves }
         ensures spare { result.now.spare ≡ [] }
     {
-        &self.history.leaves
+        &self.derived.history.leaves
     }
 
     /// The table of the files of check-ins.
@@ -100,7 +88,7 @@ impl Tables {
         ensures facts { result.now.facts ≡ (tables self.now.fields self.now.items).files }
         ensures spare { result.now.spare ≡ [] }
     {
-        &self.contents.files
+        &self.derived.contents.files
     }
 
     /// The timeline.
@@ -108,7 +96,7 @@ impl Tables {
         ensures facts { result.now.facts ≡ (tables self.now.fields self.now.items).timeline }
         ensures spare { result.now.spare ≡ [] }
     {
-        &self.timeline
+        &self.derived.timeline
     }
 
     /// The table of wiki pages, technotes and attachments.
@@ -116,7 +104,7 @@ impl Tables {
         ensures facts { result.now.facts ≡ (tables self.now.fields self.now.items).pages }
         ensures spare { result.now.spare ≡ [] }
     {
-        &self.contents.pages
+        &self.derived.contents.pages
     }
 
     /// The table of tickets.
@@ -125,7 +113,7 @@ impl Tables {
         ensures facts { result.now.facts ≡ (tables self.now.fields self.now.items).tickets }
         ensures spare { result.now.spare ≡ [] }
     {
-        &self.contents.tickets
+        &self.derived.contents.tickets
     }
 
     /// The table of forum posts.
@@ -133,7 +121,7 @@ impl Tables {
         ensures facts { result.now.facts ≡ (tables self.now.fields self.now.items).threads }
         ensures spare { result.now.spare ≡ [] }
     {
-        &self.contents.threads
+        &self.derived.contents.threads
     }
 
     /// The table of clusters.
@@ -141,7 +129,7 @@ impl Tables {
         ensures facts { result.now.facts ≡ (tables self.now.fields self.now.items).clusters }
         ensures spare { result.now.spare ≡ [] }
     {
-        &self.contents.clusters
+        &self.derived.contents.clusters
     }
 
     /// The values of a check-in: comment, user, date and branch are those of the tags of these names where these are in force
@@ -156,7 +144,7 @@ impl Tables {
         let Some(manifest) = manifest(&item.artifact) else {
             return Ok(None);
         };
-        Ok(Some(checkin::values(alloc, &self.history.tags, name, manifest)?))
+        Ok(Some(checkin::values(alloc, &self.derived.history.tags, name, manifest)?))
     }
 
     /// The tip of a symbolic name: of the check-ins on which the tag of `sym-` and the name is in force, the one with the
@@ -165,15 +153,15 @@ impl Tables {
         ensures { IfOk result (λ n. n ≡ checkins.tip self.now.items symbol.now) }
     {
         let tag = tip::tag_of(alloc, symbol)?;
-        let holders = self.history.tags.holders(alloc, tag.bytes())?;
-        Ok(tip::latest(&self.items, &self.history.tags, holders.items()))
+        let holders = self.derived.history.tags.holders(alloc, tag.bytes())?;
+        Ok(tip::latest(&self.items, &self.derived.history.tags, holders.items()))
     }
 
     /// The branch of a check-in: the value of the tag `branch` where it is in force on the name, else `trunk`.
     pub fn branch(&self, name: Name) -> &[u8]
         ensures { result.now ≡ checkins.branch self.now.items name }
     {
-        checkin::branch(&self.history.tags, name)
+        checkin::branch(&self.derived.history.tags, name)
     }
 }
 

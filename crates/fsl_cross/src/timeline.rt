@@ -23,7 +23,7 @@ use fsl_grammar::{Prefix, TagCard};
 use fsl_manifest::Manifest;
 use fsl_name::Name;
 use fsl_tags::Tags;
-use fsl_text::{Memory, Text};
+use fsl_text::{List, Memory, Text};
 use fsl_timeline::{Row, RowKind, Timeline};
 use fsl_wiki::Pages;
 use std::alloc::Global;
@@ -232,5 +232,5 @@ pub(crate) fn table(
 {
     let targets = Targets::of(alloc, items)?;
     let rows = of_items(alloc, tags, pages, threads, &targets, items)?;
-    Timeline::build(alloc, &rows)
+    Timeline::build(alloc, List::from_vec(rows))
 }

@@ -11,15 +11,10 @@ use Rattle.std.specs.FinMap.Entries.{by_order}
 use Rattle.std.proofs.lemmas.Bool.{and_parts}
 use Rattle.fsl_order.specs.Names.{bytes_cmp, is_before}
 use Rattle.fsl_order.specs.Rows.{rises, keyed, in_order}
-use Rattle.fsl_order.proofs.Orders.{bytes_cmp-IsTotalOrder, bytes_cmp-IsAntisymmetric}
+use Rattle.fsl_order.proofs.Orders.{bytes_cmp-IsTotalOrder, bytes_cmp-IsAntisymmetric, less_from}
 use Rattle.fsl_files.proofs.Merging.{After-later, AfterKeys, After-put}
 
 -- ---- names that rise
-
-less_from : (o : Ordering) → is_lt o ≡ true → o ≡ Less
-less_from Less h = refl
-less_from Equal h = absurd cc
-less_from Greater h = absurd cc
 
 pub sorted-rises : (names : List (List ℕ)) → IsTrue (rises names) → IsStrictlySortedBy bytes_cmp names
 unfolding IsStrictlySortedBy

@@ -1,5 +1,6 @@
 //! The files of check-ins, and what changed against the primary parent. `Files` is the table of them, and its answers are those of
-//! the definitions over the facts it was built from, in whatever order these stand.
+//! the definitions over the facts it was built from. In whatever order these stand it
+//! is the same: `fsl_order::by_name_in_any_order`.
 #![tactic(auto)]
 
 ghost use Rattle.std.specs.Prelude.{◌≡◌, IfOk};

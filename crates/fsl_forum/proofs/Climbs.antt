@@ -21,7 +21,8 @@ use Rattle.fsl_order.proofs.RowLemmas.{is_some-named}
 use Rattle.fsl_order.proofs.Walks.{steps_on-add, some_before}
 use Rattle.fsl_forum.specs.declared.Fact.{Fact}
 use Rattle.fsl_forum.specs.Threads.{post, next, next_of, last, end_at, end}
-use Rattle.fsl_forum.specs.Kept.{value_at, known_end, Nexts, AreNexts, AreRight, IsWithin, Leads, IsClimb, IsClimbed}
+use Rattle.fsl_order.specs.Maps.{value_at}
+use Rattle.fsl_forum.specs.Kept.{known_end, Nexts, AreNexts, AreRight, IsWithin, Leads, IsClimb, IsClimbed}
 use Rattle.fsl_forum.proofs.ChainLaw.{end_by_next, first-at}
 
 -- ---- lists of names

@@ -12,8 +12,9 @@ use Rattle.fsl_order.specs.Rows.{keyed}
 use Rattle.fsl_forum.specs.declared.Fact.{Fact}
 use Rattle.fsl_forum.specs.declared.Post.{Post}
 use Rattle.fsl_forum.specs.Threads.{post, end, is_valid, thread_of, thread, shown}
-use Rattle.fsl_forum.specs.Kept.{value_at, group_at, group_with, Nexts, place_by, placed, IsIndexOf}
-use Rattle.fsl_forum.proofs.Maps.{put-insert}
+use Rattle.fsl_order.specs.Maps.{value_at, group_at}
+use Rattle.fsl_forum.specs.Kept.{group_with, Nexts, place_by, placed, IsIndexOf}
+use Rattle.fsl_order.proofs.Places.{put-insert}
 
 abbrev Key : Type 0
 Key = ℕ × List ℕ

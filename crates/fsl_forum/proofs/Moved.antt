@@ -16,11 +16,12 @@ use Rattle.fsl_order.proofs.Orders.{bytes_cmp-IsTotalOrder, dated_cmp-IsTotalOrd
 use Rattle.fsl_order.proofs.RowLemmas.{keyed-permutation}
 use Rattle.fsl_order.proofs.MovedLemmas.{IsPermutation-by_name}
 use Rattle.fsl_order.proofs.NamedLemmas.{named-by_name}
+use Rattle.fsl_order.proofs.Gathered.{distinct-filter, moved-filter}
+use Rattle.fsl_order.proofs.Places.{distinct-places, dated-other}
 use Rattle.fsl_forum.specs.declared.Fact.{Fact}
 use Rattle.fsl_forum.specs.declared.Post.{Post}
 use Rattle.fsl_forum.specs.Threads.{post, next, next_of, last, end, is_valid, thread_of, shown}
 use Rattle.fsl_forum.specs.Kept.{Nexts, place_by, placed, IsIndexOf}
-use Rattle.fsl_forum.proofs.Filtered.{in_order-filter}
 
 abbrev name_of : Fact → List ℕ
 name_of f = f.name
@@ -28,42 +29,12 @@ name_of f = f.name
 abbrev place_of : Fact → ℕ × List ℕ
 place_of f = (f.date, f.name)
 
--- ---- posts with distinct names
-
-apart : (f : Fact) (facts : List Fact) → AllByRecursion (λ q. bytes_eq f.name q ≡ false) (map name_of facts) → AllByRecursion (λ p. eq_by_cmp dated_cmp (place_of f) p ≡ false) (map place_of facts)
-apart f [] all = tt
-apart f (g ∷ facts) all = (later (nat_cmp f.date g.date) (bytes_cmp f.name g.name) (sym (texts_ties f.name g.name) ∙ all.0), apart f facts all.1)
-  where
-    later : (o p : Ordering) → is_eq p ≡ false → is_eq (ordering_then o p) ≡ false
-    later Less p h = refl
-    later Equal p h = h
-    later Greater p h = refl
-
-distinct-places : (facts : List Fact) → AreDistinct (map name_of facts) → IsDistinct (eq_by_cmp dated_cmp) (map place_of facts)
-unfolding IsDistinct
-distinct-places [] d = tt
-distinct-places (f ∷ facts) d = (apart f facts d.0, distinct-places facts d.1)
-
-module _ (test : Fact → Bool) where
-  away : (q : List ℕ) (facts : List Fact) → AllByRecursion (λ n. bytes_eq q n ≡ false) (map name_of facts) → AllByRecursion (λ n. bytes_eq q n ≡ false) (map name_of (filter test facts))
-  away q [] a = tt
-  away q (f ∷ facts) a = elim (test f) as (λ b. AllByRecursion (λ n. bytes_eq q n ≡ false) (map name_of (cond b (f ∷ filter test facts) (filter test facts)))) [ true ↦ (a.0, away q facts a.1) | false ↦ away q facts a.1 ]
-
-  distinct-filter : (facts : List Fact) → AreDistinct (map name_of facts) → AreDistinct (map name_of (filter test facts))
-  unfolding IsDistinct
-  distinct-filter [] d = tt
-  distinct-filter (f ∷ facts) d =
-      elim (test f) as (λ b. AreDistinct (map name_of (cond b (f ∷ filter test facts) (filter test facts)))) [ true ↦ (away f.name facts d.0, distinct-filter facts d.1) | false ↦ distinct-filter facts d.1 ]
-
-  -- the posts that pass a test, by date and name
-  keyed-moved : (facts : List Fact) → AreDistinct (map name_of facts) → keyed dated_cmp place_of (filter test facts) ≡ keyed dated_cmp place_of (filter test (by_name name_of facts))
-  keyed-moved facts d =
-      let tied : bytes_eq ≡ eq_by_cmp bytes_cmp = λ i x y. texts_ties x y i in
-      let passing = distinct-filter facts d in
-      let moved : IsPermutation (filter test facts) (filter test (by_name name_of facts)) =
-      subst (IsPermutation (filter test facts)) (in_order-filter bytes_cmp bytes_cmp-IsTotalOrder test name_of facts (subst (λ e. IsDistinct e (map name_of facts)) tied d))
-      (IsPermutation-by_name name_of (filter test facts) passing) in
-      keyed-permutation dated_cmp-IsTotalOrder place_of dated_cmp-IsAntisymmetric (filter test facts) (filter test (by_name name_of facts)) (distinct-places (filter test facts) passing) moved
+-- the posts that pass a test, by date and name
+keyed-moved : (test : Fact → Bool) (facts : List Fact) → AreDistinct (map name_of facts) → keyed dated_cmp place_of (filter test facts) ≡ keyed dated_cmp place_of (filter test (by_name name_of facts))
+keyed-moved test facts d =
+    keyed-permutation dated_cmp-IsTotalOrder place_of dated_cmp-IsAntisymmetric (filter test facts) (filter test (by_name name_of facts))
+    (distinct-places dated_cmp place_of dated_cmp-IsTotalOrder dated_cmp-IsAntisymmetric name_of (λ f g h. dated-other f.date g.date f.name g.name h) (filter test facts) (distinct-filter test name_of facts d))
+    (moved-filter test name_of facts d)
 
 module _ (facts : List Fact) (d : AreDistinct (map name_of facts)) where
   -- ---- chains

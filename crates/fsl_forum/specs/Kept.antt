@@ -6,17 +6,10 @@ use Rattle.std.specs.BTreeMap.{BTreeMap, is_at, insert_entry}
 use Rattle.std.specs.Str.{bytes_eq}
 use Rattle.fsl_order.specs.Names.{bytes_cmp, dated_cmp, has}
 use Rattle.fsl_order.specs.Rows.{keyed, steps_on}
+use Rattle.fsl_order.specs.Maps.{value_at, group_at}
 use Rattle.fsl_forum.specs.declared.Fact.{Fact}
 use Rattle.fsl_forum.specs.declared.Post.{Post}
 use Rattle.fsl_forum.specs.Threads.{post, next, next_of, end, is_valid, thread_of, shown}
-
--- the value of a name
-abbrev pub value_at : {X : Type 0} → List (List ℕ × X) → List ℕ → Option X
-value_at entries name = lookup (is_at (bytes_cmp name)) entries
-
--- the entries of the map of a name, none where there is none
-abbrev pub group_at : {K X : Type 0} → List (List ℕ × BTreeMap K X) → List ℕ → List (K × X)
-group_at groups name = option_map_or (λ group. group.entries) (value_at groups name) []
 
 -- the entries of a thread with a post that stands in the thread of a root, if it stands in one
 abbrev pub group_with : Option (List ℕ) → Fact → List ((ℕ × List ℕ) × Post) → List ℕ → List ((ℕ × List ℕ) × Post)

@@ -5,7 +5,8 @@ ghost use Rattle.std.specs.Map.{keys_of};
 ghost use Rattle.std.specs.List.Sorted.{IsStrictlySortedBy};
 ghost use Rattle.fsl_order.specs.Names.{bytes_cmp, has};
 ghost use Rattle.fsl_forum.specs.declared.Fact as fact_type;
-ghost use Rattle.fsl_forum.specs.Kept.{value_at, known_end, AreNexts, AreRight, AreEnds, IsWithin, IsClimbed};
+ghost use Rattle.fsl_order.specs.Maps.{value_at};
+ghost use Rattle.fsl_forum.specs.Kept.{known_end, AreNexts, AreRight, AreEnds, IsWithin, IsClimbed};
 
 use super::Fact;
 use fsl_name::Name;

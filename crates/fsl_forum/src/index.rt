@@ -6,7 +6,8 @@ ghost use Rattle.fsl_order.specs.Names.{dated_cmp};
 ghost use Rattle.fsl_forum.specs.declared.Fact as fact_type;
 ghost use Rattle.fsl_forum.specs.Threads.{shown};
 ghost use Rattle.fsl_forum.specs.Threads as table;
-ghost use Rattle.fsl_forum.specs.Kept.{value_at, group_at, group_with, place_by, IsIndexOf};
+ghost use Rattle.fsl_order.specs.Maps.{value_at, group_at};
+ghost use Rattle.fsl_forum.specs.Kept.{group_with, place_by, IsIndexOf};
 
 use super::chains::{Ends, ends_of};
 use super::{Fact, Post};

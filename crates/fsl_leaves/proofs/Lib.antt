@@ -1,2 +1,1 @@
-mod WorkedRows
 pub mod Continuing

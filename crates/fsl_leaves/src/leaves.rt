@@ -9,13 +9,15 @@ use fsl_rows::Rows;
 use fsl_text::{List, Memory};
 use std::alloc::Global;
 use std::marker::Model;
+use std::snapshot::Snapshot;
 
 /// The leaves among check-ins. Contracts see it as the facts by name.
 #[derive(Drop)]
 pub struct Leaves {
-    rows: Rows<Fact>,
     /// The names of the leaves, ascending.
     names: List<Name>,
+    /// What the table was built from. It takes no memory.
+    facts: Snapshot<Rows<Fact>>,
 }
 
 impl Model for Leaves {
@@ -26,23 +28,26 @@ impl Model for Leaves {
 
     ghost Value = { Held Fact };
 
-    ghost view = { λ l. record { facts = l.rows; spare = [] } };
+    ghost view = { λ l. record { facts = l.facts.value; spare = [] } };
 
-    ghost invariant = { λ l. l.names ≡ table.leaves l.rows };
+    ghost invariant = { λ l. l.names ≡ table.leaves l.facts.value };
 }
 
 impl Leaves {
-    /// The table of some facts, of which no two have one name. It is the same in whatever order they stand. `Memory`
-    /// is the only error.
-    pub fn build(alloc: Global, facts: &[Fact]) -> Result<Leaves, Memory>
-        requires { AreDistinct (map (λ f. f.name) facts.now) }
-        ensures facts { IfOk result (λ t. t.facts ≡ by_name (λ f. f.name) facts.now) }
+    /// The table of some facts, of which no two have one name. They are moved, and none is kept. The table is the same in whatever
+    /// order they stand: that is the law `fsl_order::by_name_in_any_order`. `Memory` is the only error.
+    pub fn build(alloc: Global, facts: List<Fact>) -> Result<Leaves, Memory>
+        requires { AreDistinct (map (λ f. f.name) facts) }
+        ensures facts { IfOk result (λ t. t.facts ≡ by_name (λ f. f.name) facts) }
         ensures spare { IfOk result (λ t. t.spare ≡ []) }
     {
-        let rows = Rows::build(alloc, facts)?;
+        let rows = Rows::of(alloc, facts)?;
         let continued = continued::continued(alloc, &rows)?;
         let names = continued::without(alloc, &rows, &continued)?;
-        Ok(Leaves { rows, names })
+        Ok(Leaves {
+            names,
+            facts: Snapshot::of(&rows),
+        })
     }
 
     /// The check-ins without a child in their own branch, ascending. `Memory` is the only error.

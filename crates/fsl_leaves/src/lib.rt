@@ -1,5 +1,6 @@
 //! Leaves: check-ins without a child in their own branch. `Leaves` is the table of them, and its answer is that of the
-//! definition over the facts it was built from, in whatever order these stand.
+//! definition over the facts it was built from. In whatever order these stand it is the same:
+//! `fsl_order::by_name_in_any_order`. It keeps the names of the leaves alone.
 #![tactic(auto)]
 
 ghost use Rattle.std.specs.Prelude.{◌≡◌, IfOk};

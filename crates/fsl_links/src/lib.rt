@@ -1,5 +1,6 @@
 //! Parentage of check-ins: the primary parent and the children of each. `Links` is the table of both, and its answers are
-//! those of the definitions over the facts it was built from, in whatever order these stand.
+//! those of the definitions over the facts it was built from. In whatever order these stand it
+//! is the same: `fsl_order::by_name_in_any_order`.
 #![tactic(auto)]
 
 ghost use Rattle.std.specs.Prelude.{◌≡◌, IfOk};

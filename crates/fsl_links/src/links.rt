@@ -34,8 +34,8 @@ impl Model for Links {
 }
 
 impl Links {
-    /// The table of some facts, of which no two have one name. It is the same in whatever order they stand. `Memory`
-    /// is the only error.
+    /// The table of some facts, of which no two have one name. It is the same in whatever order they stand:
+    /// that is the law `fsl_order::by_name_in_any_order`. `Memory` is the only error.
     pub fn build(alloc: Global, facts: &[Fact]) -> Result<Links, Memory>
         requires { AreDistinct (map (λ f. f.name) facts.now) }
         ensures facts { IfOk result (λ t. t.facts ≡ by_name (λ f. f.name) facts.now) }

@@ -13,21 +13,12 @@ use Rattle.std.specs.Cmp.Lexicographic.{texts_ties, nat_list_eq_equiv}
 use Rattle.fsl_order.specs.Names.{bytes_cmp}
 use Rattle.fsl_order.specs.Rows.{keyed, by_name, named}
 use Rattle.fsl_order.proofs.Orders.{bytes_cmp-IsAntisymmetric}
+use Rattle.fsl_order.proofs.Places.{put-insert}
 use Rattle.fsl_rows.specs.Kept.{IsKept}
 
 module _ {X : Type 0} (name : X → List ℕ) where
   abbrev pub Own : List (List ℕ × X) → Type 0
   Own es = AllByRecursion (λ e. e.0 ≡ name e.1) es
-
-  -- a put is an insert where each key is exact
-  put-insert : (k : List ℕ) (x : X) (es : List (List ℕ × X)) → put bytes_cmp k x es ≡ insert_entry bytes_cmp es k x
-  put-insert k x [] = refl
-  put-insert k x (e ∷ es) =
-      elim (bytes_cmp k e.0) as (λ r. bytes_cmp k e.0 ≡ r → by_order r ((k, x) ∷ e ∷ es) ((e.0, x) ∷ es) (e ∷ put bytes_cmp k x es) ≡ match_ordering r ((k, x) ∷ e ∷ es) ((e.0, x) ∷ es) (e ∷ insert_entry bytes_cmp es k x)) [
-        | Less ↦ λ _. refl
-        | Equal ↦ λ _. refl
-        | Greater ↦ λ _. ap (λ l. e ∷ l) (put-insert k x es)
-      ] refl
 
   -- kept entries are those of their rows
   keyed-kept : (es : List (List ℕ × X)) → IsStrictlySortedBy bytes_cmp (keys_of es) → Own es → keyed bytes_cmp name (values_of es) ≡ es
@@ -43,7 +34,7 @@ module _ {X : Type 0} (name : X → List ℕ) where
   -- an insert of a row under its name is that row put among the rows by name
   pub values-insert : (x : X) (es : List (List ℕ × X)) → IsKept name es → values_of (insert_entry bytes_cmp es (name x) x) ≡ by_name name (x ∷ values_of es)
   values-insert x es kept =
-      ap values_of (sym (put-insert (name x) x es) ∙ ap (put bytes_cmp (name x) x) (sym (keyed-kept es kept.rising kept.named)))
+      ap values_of (sym (put-insert bytes_cmp (name x) x es) ∙ ap (put bytes_cmp (name x) x) (sym (keyed-kept es kept.rising kept.named)))
 
   own-insert : (x : X) (es : List (List ℕ × X)) → Own es → Own (insert_entry bytes_cmp es (name x) x)
   own-insert x [] own = (refl, tt)

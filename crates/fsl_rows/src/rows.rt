@@ -9,7 +9,7 @@ ghost use Rattle.fsl_order.specs.Rows.{by_name, named, AreDistinct};
 
 use super::named::Named;
 use fsl_name::Name;
-use fsl_text::Memory;
+use fsl_text::{List, Memory};
 use std::alloc::Global;
 use std::collections::BTreeMap;
 use std::collections::btree_map::Values;
@@ -44,8 +44,24 @@ impl<F: Named> Rows<F> {
         }
     }
 
-    /// Copies of some rows, of which no two have one name, by rising name. They are the same in whatever order the rows stand.
-    /// `Memory` is the only error.
+    /// Some rows, of which no two have one name, by rising name. They are moved. They are the same in whatever order they stand:
+    /// that is the law `fsl_order::by_name_in_any_order`. `Memory` is the only error.
+    pub fn of(alloc: Global, rows: List<F>) -> Result<Rows<F>, Memory>
+    where
+        F: Drop,
+        requires { AreDistinct (map F.name rows) }
+        ensures { IfOk result (λ built. built ≡ by_name F.name rows) }
+    {
+        let mut left = rows.into_vec();
+        let mut built = Rows::new(alloc);
+        while let Some(row) = left.pop() {
+            built.put(row)?;
+        }
+        Ok(built)
+    }
+
+    /// Copies of some rows, of which no two have one name, by rising name. They are the same in whatever order the rows stand: that
+    /// is the law `fsl_order::by_name_in_any_order`. `Memory` is the only error.
     pub fn build(alloc: Global, rows: &[F]) -> Result<Rows<F>, Memory>
     where
         F: Drop,

@@ -11,7 +11,8 @@ use Rattle.std.proofs.lemmas.List.{map-append}
 use Rattle.std.proofs.lemmas.List.Folds.{list_any-append}
 use Rattle.fsl_order.specs.Names.{bytes_cmp, has}
 use Rattle.fsl_order.specs.Rows.{ascending}
-use Rattle.fsl_order.proofs.SortedLemmas.{ascending-from}
+use Rattle.fsl_order.proofs.RowLemmas.{has-filter}
+use Rattle.fsl_order.proofs.SortedLemmas.{ascending-from, same_names}
 use Rattle.fsl_rows.proofs.Rising.{rising-filter}
 use Rattle.fsl_tags.specs.declared.Fact.{Fact}
 use Rattle.fsl_tags.specs.declared.Assertion.{Assertion}
@@ -96,28 +97,6 @@ held-next facts tag name some wanted is =
     ap (λ b. cond b (name ∷ filter (holds facts tag) some) (filter (holds facts tag) some)) (sym is)
     ∙ elim wanted as (λ b. cond b (name ∷ filter (holds facts tag) some) (filter (holds facts tag) some) ≡ cond b (name ∷ []) [] ++ filter (holds facts tag) some) [ true ↦ refl | false ↦ refl ]
 
-same_names : (xs : List (List ℕ)) → map (λ name. name) xs ≡ xs
-same_names [] = refl
-same_names (x ∷ xs) = ap (λ ys. x ∷ ys) (same_names xs)
-
-has-filtered : (p : List ℕ → Bool) (xs : List (List ℕ)) (q : List ℕ) → has (filter p xs) q ≡ (has xs q && p q)
-has-filtered p [] q = refl
-has-filtered p (x ∷ xs) q =
-    elim (bytes_eq q x) as (λ b. bytes_eq q x ≡ b → has (cond (p x) (x ∷ filter p xs) (filter p xs)) q ≡ ((b || has xs q) && p q)) [
-      | true ↦ λ e. elim (p x) as (λ c. p x ≡ c → has (cond c (x ∷ filter p xs) (filter p xs)) q ≡ p q) [
-        | true ↦ λ px. ap (λ b. b || has (filter p xs) q) e ∙ sym (ap p ((bytes_decides q x).0 e) ∙ px)
-        | false ↦ λ px. has-filtered p xs q ∙ ap (λ c. has xs q && c) (ap p ((bytes_decides q x).0 e) ∙ px) ∙ and-false (has xs q) ∙ sym (ap p ((bytes_decides q x).0 e) ∙ px)
-      ] refl
-      | false ↦ λ e. elim (p x) as (λ c. has (cond c (x ∷ filter p xs) (filter p xs)) q ≡ (has xs q && p q)) [
-        | true ↦ ap (λ b. b || has (filter p xs) q) e ∙ has-filtered p xs q
-        | false ↦ has-filtered p xs q
-      ]
-    ] refl
-  where
-    and-false : (b : Bool) → (b && false) ≡ false
-    and-false true = refl
-    and-false false = refl
-
 -- no tag is held outside
 none_holds : (facts : List Fact) → AreTagFacts facts → (tag q : List ℕ) → has (subjects facts) q ≡ false → holds facts tag q ≡ false
 none_holds facts fit tag q none = ap (λ o. is_some (only (λ a. not (cancels a.prefix)) o)) (none_outside facts fit q tag none)
@@ -129,7 +108,7 @@ holders-kept facts rows tag table rise =
     let names = map (λ r. r.name) rows in
     ascending-from (filter p (subjects facts)) (filter p names)
     (subst (IsStrictlySortedBy bytes_cmp) (same_names (filter p names)) (rising-filter (λ name. name) p names (subst (IsStrictlySortedBy bytes_cmp) (sym (same_names names)) rise)))
-    (λ q. has-filtered p names q ∙ same q ∙ sym (has-filtered p (subjects facts) q))
+    (λ q. has-filter p names q ∙ same q ∙ sym (has-filter p (subjects facts) q))
   where
     and-false : (b : Bool) → (b && false) ≡ false
     and-false true = refl

@@ -1,4 +1,3 @@
-mod WorkedRows
 pub mod Newest
 pub mod EffectiveLaw
 pub mod Climb

@@ -1,5 +1,6 @@
 //! Tags of artifacts, and what check-ins take over from their primary ancestors. `Tags` is the table of them, and its answers are
-//! those of the definitions over the facts it was built from, in whatever order these stand.
+//! those of the definitions over the facts it was built from. In whatever order these stand it
+//! is the same: `fsl_order::by_name_in_any_order`.
 //!
 //! The table keeps for each name that can have tags the row of its effective assertions by rising tag; rows share the assertions.
 //! `build` takes time by n log n in the facts and assertions, and by the sizes of the rows: each row is merged from the newest

@@ -1,4 +1,5 @@
-//! The row of a check-in from its own assertions and the row of its primary parent.
+//! The row of a check-in from its own assertions and the row of its primary parent. That the newer of the two is the effective one
+//! is the law `effective_by_parent`.
 ghost use Rattle.std.specs.Prelude.{◌≡◌, ◌++◌, ◌∷◌, [], map, filter, List, ℕ, OnOk, IfOk, cond};
 ghost use Rattle.std.specs.List.Sorted.{IsStrictlySortedBy};
 ghost use Rattle.fsl_order.specs.Names.{bytes_cmp};

@@ -1,4 +1,4 @@
-//! The rows of names, each after that of its primary parent.
+//! The rows of names, each after that of its primary parent: by the law `effective_by_parent` it follows from that one.
 ghost use Rattle.std.specs.Prelude.{◌≡◌, ℕ, List, true, OnOk, IfOk};
 ghost use Rattle.fsl_tags.specs.Kept.{IsIndexed, AreRows, has_row};
 ghost use Rattle.fsl_tags.specs.Tags as table;

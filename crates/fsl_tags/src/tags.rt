@@ -55,8 +55,8 @@ fn rows_of(alloc: Global, facts: &Rows<Fact>) -> Result<Rows<Row>, Memory>
 }
 
 impl Tags {
-    /// The table of some facts, of which no two have one name. It is the same in whatever order they stand. `Memory`
-    /// is the only error.
+    /// The table of some facts, of which no two have one name. It is the same in whatever order they stand:
+    /// that is the law `fsl_order::by_name_in_any_order`. `Memory` is the only error.
     pub fn build(alloc: Global, facts: &[Fact]) -> Result<Tags, Memory>
         requires { table.AreTagFacts facts.now }
         ensures facts { IfOk result (λ t. t.facts ≡ by_name (λ f. f.name) facts.now) }

@@ -4,7 +4,7 @@ use Rattle.std.specs.Prelude.{IsPermutation, is_some, if◌then◌else◌, ◌||
 use Rattle.std.specs.Option.{option_map, unwrap_or}
 use Rattle.std.specs.declared.cmp.Ordering.TheVariants.{Less, Equal, Greater}
 use Rattle.std.specs.List.{list_any}
-use Rattle.std.specs.Ordering.{match_ordering, is_eq}
+use Rattle.std.specs.Ordering.{match_ordering, is_eq, eq_by_cmp}
 use Rattle.std.specs.Map.{remove_entry, values_of}
 use Rattle.std.specs.BTreeMap.{insert_entry, is_at}
 use Rattle.std.specs.Str.{bytes_eq}
@@ -15,14 +15,14 @@ use Rattle.std.proofs.lemmas.List.Elements.{filter-append}
 use Rattle.std.proofs.lemmas.List.Sorted.{IsPermutation-refl, IsPermutation-sym, IsPermutation-cons, IsPermutation-trans, IsPermutation-middle, IsPermutation-append_right, IsPermutation-append_left, IsPermutation-append_comm}
 use Rattle.fsl_order.specs.Names.{bytes_cmp, dated_cmp}
 use Rattle.fsl_order.specs.Rows.{keyed, in_order, by_name, AreDistinct}
-use Rattle.fsl_order.proofs.Orders.{dated_cmp-IsTotalOrder}
+use Rattle.fsl_order.proofs.Orders.{dated_cmp-IsTotalOrder, dated_cmp-IsAntisymmetric}
 use Rattle.fsl_order.proofs.RowLemmas.{by_name-permutation}
 use Rattle.fsl_order.proofs.MovedLemmas.{IsPermutation-in_order}
+use Rattle.fsl_order.proofs.Gathered.{in_order-filter}
+use Rattle.fsl_order.proofs.Places.{distinct-places, facts_kept, order_kept, distinct_kept, dated-other}
 use Rattle.fsl_ticket.specs.declared.Fact.{Fact}
 use Rattle.fsl_ticket.specs.Tickets.{changes, value, fields}
 use Rattle.fsl_ticket.specs.Seen.{changes_in, all_in, if_any, IsKept, value_from}
-use Rattle.fsl_ticket.proofs.Filtered.{in_order-filter}
-use Rattle.fsl_ticket.proofs.Dated.{placed, distinct-places, facts_kept, order_kept, distinct_kept}
 
 abbrev Groups : Type 0
 Groups = List (List ℕ × List Fact)
@@ -92,22 +92,29 @@ group_next done f q before now is made =
 abbrev place : Fact → ℕ × List ℕ
 place f = (f.date, f.name)
 
-module _ (facts : List Fact) (es : List ((ℕ × List ℕ) × Fact)) (d : AreDistinct (map (λ f. f.name) facts)) (is : es ≡ placed (λ f. f.date) (λ f. f.name) facts) where
+abbrev name : Fact → List ℕ
+name f = f.name
+
+other : (f g : Fact) → bytes_eq f.name g.name ≡ false → eq_by_cmp dated_cmp (place f) (place g) ≡ false
+other f g h = dated-other f.date g.date f.name g.name h
+
+module _ (facts : List Fact) (es : List ((ℕ × List ℕ) × Fact)) (d : AreDistinct (map (λ f. f.name) facts)) (is : es ≡ keyed dated_cmp place facts) where
   module _ (groups : Groups) (all : IsPermutation (values_of es) (all_in groups)) where
     -- the changes by name are those of all tickets
     pub facts_grouped : by_name (λ f. f.name) (all_in groups) ≡ by_name (λ f. f.name) facts
     facts_grouped =
         sym (by_name-permutation (λ f. f.name) facts (all_in groups) d
         (IsPermutation-trans facts (values_of es) (all_in groups)
-        (subst (λ l. IsPermutation facts (values_of l)) (sym is) (IsPermutation-in_order dated_cmp dated_cmp-IsTotalOrder place facts (distinct-places (λ f. f.date) (λ f. f.name) facts d))) all))
+        (subst (λ l. IsPermutation facts (values_of l)) (sym is) (IsPermutation-in_order dated_cmp dated_cmp-IsTotalOrder place facts (distinct-places dated_cmp place dated_cmp-IsTotalOrder dated_cmp-IsAntisymmetric name other facts d))) all))
 
     -- the changes of a ticket by date and name are those in their order
     changes_filtered : (q : List ℕ) → changes (by_name (λ f. f.name) (all_in groups)) q ≡ filter (λ f. bytes_eq f.id q) (values_of es)
     changes_filtered q =
-        let same = facts_kept (λ f. f.date) (λ f. f.name) facts es d is in
+        let same = facts_kept dated_cmp place dated_cmp-IsTotalOrder dated_cmp-IsAntisymmetric name other facts es d is in
         ap (λ l. changes l q) (facts_grouped ∙ sym same)
-        ∙ in_order-filter dated_cmp dated_cmp-IsTotalOrder (λ f. bytes_eq f.id q) place (by_name (λ f. f.name) (values_of es)) (distinct_kept (λ f. f.date) (λ f. f.name) facts es d is)
-        ∙ ap (filter (λ f. bytes_eq f.id q)) (sym (order_kept (λ f. f.date) (λ f. f.name) facts es d is))
+        ∙ in_order-filter (λ f. bytes_eq f.id q) place dated_cmp dated_cmp-IsTotalOrder (by_name (λ f. f.name) (values_of es)) 
+        (distinct_kept dated_cmp place dated_cmp-IsTotalOrder dated_cmp-IsAntisymmetric name other facts es d is)
+        ∙ ap (filter (λ f. bytes_eq f.id q)) (sym (order_kept dated_cmp place dated_cmp-IsTotalOrder dated_cmp-IsAntisymmetric name other facts es d is))
 
     pub grouped_kept : ((q : List ℕ) → changes_in groups q ≡ if_any (filter (λ f. bytes_eq f.id q) (values_of es))) → IsKept groups
     grouped_kept each q = each q ∙ ap if_any (sym (changes_filtered q))

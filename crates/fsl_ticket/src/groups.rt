@@ -9,17 +9,17 @@ ghost use Rattle.fsl_order.specs.Rows.{keyed};
 ghost use Rattle.fsl_ticket.specs.Seen.{changes_in, all_in, if_any};
 
 use super::Fact;
-use super::place::Place;
+use fsl_date::Moment;
 use fsl_name::Name;
 use fsl_text::{List, Memory};
 use std::alloc::Global;
 use std::collections::BTreeMap;
 
 /// Puts a change in at its place.
-fn put(tree: &mut BTreeMap<Place, Fact>, fact: Fact) -> Result<(), Memory>
+fn put(tree: &mut BTreeMap<(Moment, Name), Fact>, fact: Fact) -> Result<(), Memory>
     ensures { OnOk result (tree.new.entries ≡ insert_entry dated_cmp tree.old.entries (fact.date, fact.name) fact) }
 {
-    let place = Place::new(fact.date, fact.name);
+    let place = (fact.date, fact.name);
     match tree.insert(place, fact) {
         Ok(_) => Ok(()),
         Err(_) => Err(Memory),
@@ -27,7 +27,7 @@ fn put(tree: &mut BTreeMap<Place, Fact>, fact: Fact) -> Result<(), Memory>
 }
 
 /// Copies of the changes by their places.
-pub fn placed(alloc: Global, facts: &[Fact]) -> Result<BTreeMap<Place, Fact>, Memory>
+pub fn placed(alloc: Global, facts: &[Fact]) -> Result<BTreeMap<(Moment, Name), Fact>, Memory>
     ensures { IfOk result (λ tree. tree.entries ≡ keyed dated_cmp (λ f. (f.date, f.name)) facts.now) }
 {
     let mut tree = BTreeMap::new(alloc);
@@ -78,7 +78,7 @@ fn note(alloc: Global, groups: &mut BTreeMap<Name, List<Fact>>, fact: Fact) -> R
 /// Changes in their order, each with the others of its ticket.
 pub fn grouped(
     alloc: Global,
-    changes: BTreeMap<Place, Fact>,
+    changes: BTreeMap<(Moment, Name), Fact>,
 ) -> Result<BTreeMap<Name, List<Fact>>, Memory>
     ensures group { IfOk result (λ groups. (q : List ℕ) → changes_in groups.entries q ≡ if_any (filter (λ f. bytes_eq f.id q) (values_of changes.entries))) }
     ensures all { IfOk result (λ groups. IsPermutation (values_of changes.entries) (all_in groups.entries)) }

@@ -1,12 +1,12 @@
 //! Tickets: from the changes of each ticket the values of its fields. `Tickets` is the table of them, and its answers are those of the
-//! definitions over the changes it was built from, in whatever order these stand.
+//! definitions over the changes it was built from. In whatever order these stand it
+//! is the same: `fsl_order::by_name_in_any_order`.
 #![tactic(auto)]
 
 ghost use Rattle.std.specs.Prelude.{◌≡◌, IfOk};
 
 mod cards;
 mod groups;
-mod place;
 mod tickets;
 mod values;
 

@@ -1,5 +1,5 @@
 //! The timeline: rows with a time, the latest first. `Timeline` is the table of them, and its answers are those of the
-//! definitions over the rows it was built from, in whatever order these stand.
+//! definitions over the rows it was built from. In whatever order these stand it is the same: `fsl_order::by_name_in_any_order`.
 #![tactic(auto)]
 
 ghost use Rattle.std.specs.Prelude.{◌≡◌, IfOk};

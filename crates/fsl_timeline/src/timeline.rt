@@ -45,15 +45,14 @@ fn put(tree: &mut BTreeMap<Place, Row>, row: Row) -> Result<(), Memory>
     }
 }
 
-/// Copies of the rows by their places.
-fn placed(alloc: Global, rows: &[Row]) -> Result<BTreeMap<Place, Row>, Memory>
-    ensures { IfOk result (λ tree. tree.entries ≡ keyed latest_first (λ r. (r.time, r.name)) rows.now) }
+/// The rows by their places. They are moved.
+fn placed(alloc: Global, rows: List<Row>) -> Result<BTreeMap<Place, Row>, Memory>
+    ensures { IfOk result (λ tree. tree.entries ≡ keyed latest_first (λ r. (r.time, r.name)) rows) }
 {
+    let mut left = rows.into_vec();
     let mut tree = BTreeMap::new(alloc);
-    let mut left = rows.len();
-    while left > 0 {
-        left -= 1;
-        put(&mut tree, rows[left].copied(alloc)?)?;
+    while let Some(row) = left.pop() {
+        put(&mut tree, row)?;
     }
     Ok(tree)
 }
@@ -77,11 +76,11 @@ fn first_rows(alloc: Global, rows: &BTreeMap<Place, Row>, count: u64) -> Result<
 }
 
 impl Timeline {
-    /// The table of some rows, of which no two have one name. It is the same in whatever order they stand. `Memory` is
-    /// the only error.
-    pub fn build(alloc: Global, rows: &[Row]) -> Result<Timeline, Memory>
-        requires { AreDistinct (map (λ r. r.name) rows.now) }
-        ensures facts { IfOk result (λ t. t.facts ≡ by_name (λ r. r.name) rows.now) }
+    /// The table of some rows, of which no two have one name. They are moved. The table is the same in whatever order they stand: that
+    /// is the law `fsl_order::by_name_in_any_order`. `Memory` is the only error.
+    pub fn build(alloc: Global, rows: List<Row>) -> Result<Timeline, Memory>
+        requires { AreDistinct (map (λ r. r.name) rows) }
+        ensures facts { IfOk result (λ t. t.facts ≡ by_name (λ r. r.name) rows) }
         ensures spare { IfOk result (λ t. t.spare ≡ []) }
     {
         Ok(Timeline {

@@ -11,8 +11,9 @@ use Rattle.fsl_wiki.specs.declared.Attached.{Attached}
 use Rattle.fsl_wiki.specs.declared.Fact.{Fact}
 use Rattle.fsl_wiki.specs.declared.Fact.TheVariants as fact
 use Rattle.fsl_wiki.specs.Pages.{as_page, as_note, as_attached, current_note, current}
-use Rattle.fsl_wiki.specs.Kept.{value_at, group_at, note_cmp, attached_cmp, placed, IsIndexOf}
-use Rattle.fsl_wiki.proofs.Maps.{put-insert}
+use Rattle.fsl_order.specs.Maps.{value_at, group_at}
+use Rattle.fsl_wiki.specs.Kept.{note_cmp, attached_cmp, placed, IsIndexOf}
+use Rattle.fsl_order.proofs.Places.{put-insert}
 
 abbrev Titles : Type 0
 Titles = List (List ℕ × BTreeMap (ℕ × List ℕ) Page)

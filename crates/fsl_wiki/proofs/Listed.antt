@@ -17,7 +17,8 @@ use Rattle.fsl_order.proofs.SortedLemmas.{ascending-from}
 use Rattle.fsl_wiki.specs.declared.Attached.{Attached}
 use Rattle.fsl_wiki.specs.declared.Fact.{Fact}
 use Rattle.fsl_wiki.specs.Pages.{as_attached, current, attached}
-use Rattle.fsl_wiki.specs.Kept.{value_at, attached_cmp}
+use Rattle.fsl_order.specs.Maps.{value_at}
+use Rattle.fsl_wiki.specs.Kept.{attached_cmp}
 
 module _ {X : Type 0} where
   -- ---- what look-ups of the keys give

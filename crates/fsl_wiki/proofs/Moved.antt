@@ -19,6 +19,8 @@ use Rattle.fsl_order.proofs.Orders.{bytes_cmp-IsTotalOrder, dated_cmp-IsTotalOrd
 use Rattle.fsl_order.proofs.RowLemmas.{pairs, keyed-permutation}
 use Rattle.fsl_order.proofs.MovedLemmas.{IsPermutation-by_name}
 use Rattle.fsl_order.proofs.GreatestLemmas.{greatest-alike}
+use Rattle.fsl_order.proofs.Gathered.{distinct-given, moved-given}
+use Rattle.fsl_order.proofs.Places.{distinct-places, dated-other}
 use Rattle.fsl_wiki.specs.declared.Fact.{Fact}
 use Rattle.fsl_wiki.specs.declared.Fact.TheVariants as fact
 use Rattle.fsl_wiki.specs.declared.Page.{Page}
@@ -26,27 +28,12 @@ use Rattle.fsl_wiki.specs.declared.Note.{Note}
 use Rattle.fsl_wiki.specs.declared.Attached.{Attached}
 use Rattle.fsl_wiki.specs.Pages.{name_of, as_page, as_note, as_attached, current_note, current}
 use Rattle.fsl_wiki.specs.Kept.{placed, IsIndexOf}
-use Rattle.fsl_wiki.proofs.Gathered.{in_order-filter_map}
 
 -- ---- items with dates and distinct names
 
 module _ {Y : Type 0} (date : Y → ℕ) (name : Y → List ℕ) where
   abbrev place : Y → ℕ × List ℕ
   place y = (date y, name y)
-
-  apart : (y : Y) (ys : List Y) → AllByRecursion (λ q. bytes_eq (name y) q ≡ false) (map name ys) → AllByRecursion (λ p. eq_by_cmp dated_cmp (place y) p ≡ false) (map place ys)
-  apart y [] all = tt
-  apart y (z ∷ ys) all = (later (nat_cmp (date y) (date z)) (bytes_cmp (name y) (name z)) (sym (texts_ties (name y) (name z)) ∙ all.0), apart y ys all.1)
-    where
-      later : (o p : Ordering) → is_eq p ≡ false → is_eq (ordering_then o p) ≡ false
-      later Less p h = refl
-      later Equal p h = h
-      later Greater p h = refl
-
-  distinct-places : (ys : List Y) → AreDistinct (map name ys) → IsDistinct (eq_by_cmp dated_cmp) (map place ys)
-  unfolding IsDistinct
-  distinct-places [] d = tt
-  distinct-places (y ∷ ys) d = (apart y ys d.0, distinct-places ys d.1)
 
   names-pairs : (ys : List Y) → keys_of (pairs name ys) ≡ map name ys
   names-pairs [] = refl
@@ -69,38 +56,13 @@ module _ {Y : Type 0} (date : Y → ℕ) (name : Y → List ℕ) where
 
   module _ (ys zs : List Y) (d : AreDistinct (map name ys)) (moved : IsPermutation ys zs) where
     keyed-moved : keyed dated_cmp place ys ≡ keyed dated_cmp place zs
-    keyed-moved = keyed-permutation dated_cmp-IsTotalOrder place dated_cmp-IsAntisymmetric ys zs (distinct-places ys d) moved
+    keyed-moved = keyed-permutation dated_cmp-IsTotalOrder place dated_cmp-IsAntisymmetric ys zs
+        (distinct-places dated_cmp place dated_cmp-IsTotalOrder dated_cmp-IsAntisymmetric name (λ x y h. dated-other (date x) (date y) (name x) (name y) h) ys d) moved
 
     greatest-moved : greatest (on place dated_cmp) ys ≡ greatest (on place dated_cmp) zs
     greatest-moved =
         greatest-alike (on place dated_cmp) (on_total place dated_cmp-IsTotalOrder) ys zs (λ y z cy cz e. ties ys y z d cy cz e)
         (λ y c. Contains-permutation ys zs y moved c) (λ y c. Contains-permutation zs ys y (IsPermutation-sym ys zs moved) c)
-
--- ---- what facts give, by name
-
-module _ {Y : Type 0} (give : Fact → Option Y) (name : Y → List ℕ) (same : (f : Fact) (y : Y) → give f ≡ Some y → name y ≡ name_of f) where
-  away : (q : List ℕ) (facts : List Fact) → AllByRecursion (λ n. bytes_eq q n ≡ false) (map name_of facts) → AllByRecursion (λ n. bytes_eq q n ≡ false) (map name (filter_map give facts))
-  away q [] a = tt
-  away q (f ∷ facts) a =
-      elim (give f) as (λ p. give f ≡ p → AllByRecursion (λ n. bytes_eq q n ≡ false) (map name (cons_option p (filter_map give facts)))) [
-        | None ↦ λ _. away q facts a.1
-        | Some y ↦ λ e. (ap (bytes_eq q) (same f y e) ∙ a.0, away q facts a.1)
-      ] refl
-
-  distinct-given : (facts : List Fact) → AreDistinct (map name_of facts) → AreDistinct (map name (filter_map give facts))
-  unfolding IsDistinct
-  distinct-given [] d = tt
-  distinct-given (f ∷ facts) d =
-      elim (give f) as (λ p. give f ≡ p → AreDistinct (map name (cons_option p (filter_map give facts)))) [
-        | None ↦ λ _. distinct-given facts d.1
-        | Some y ↦ λ e. (subst (λ n. AllByRecursion (λ q. bytes_eq n q ≡ false) (map name (filter_map give facts))) (sym (same f y e)) (away (name_of f) facts d.0), distinct-given facts d.1)
-      ] refl
-
-  moved-given : (facts : List Fact) → AreDistinct (map name_of facts) → IsPermutation (filter_map give facts) (filter_map give (by_name name_of facts))
-  moved-given facts d =
-      let tied : bytes_eq ≡ eq_by_cmp bytes_cmp = λ i x y. texts_ties x y i in
-      subst (IsPermutation (filter_map give facts)) (in_order-filter_map bytes_cmp bytes_cmp-IsTotalOrder give name_of name same facts (subst (λ e. IsDistinct e (map name_of facts)) tied d))
-      (IsPermutation-by_name name (filter_map give facts) (distinct-given facts d))
 
 -- ---- the items of one kind that pass a test
 
@@ -132,12 +94,12 @@ module _ {Y : Type 0} (kind : Fact → Option Y) (test : Y → Bool) where
     items facts = filter test (filter_map kind facts)
 
     distinct-items : AreDistinct (map name (items facts))
-    distinct-items = subst (λ l. AreDistinct (map name l)) (sym (filter-is facts)) (distinct-given (λ f. only (kind f)) name same-only facts d)
+    distinct-items = subst (λ l. AreDistinct (map name l)) (sym (filter-is facts)) (distinct-given (λ f. only (kind f)) name_of name same-only facts d)
 
     moved-items : IsPermutation (items facts) (items (by_name name_of facts))
     moved-items =
         subst (λ l. IsPermutation l (items (by_name name_of facts))) (sym (filter-is facts))
-        (subst (IsPermutation (filter_map (λ f. only (kind f)) facts)) (sym (filter-is (by_name name_of facts))) (moved-given (λ f. only (kind f)) name same-only facts d))
+        (subst (IsPermutation (filter_map (λ f. only (kind f)) facts)) (sym (filter-is (by_name name_of facts))) (moved-given (λ f. only (kind f)) name_of name same-only facts d))
 
     keyed-items : keyed dated_cmp (λ y. (date y, name y)) (items facts) ≡ keyed dated_cmp (λ y. (date y, name y)) (items (by_name name_of facts))
     keyed-items = keyed-moved date name (items facts) (items (by_name name_of facts)) distinct-items moved-items

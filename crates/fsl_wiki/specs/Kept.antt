@@ -8,6 +8,7 @@ use Rattle.std.specs.BTreeMap.{BTreeMap, is_at}
 use Rattle.std.specs.Str.{bytes_eq}
 use Rattle.fsl_order.specs.Names.{bytes_cmp, dated_cmp}
 use Rattle.fsl_order.specs.Rows.{keyed}
+use Rattle.fsl_order.specs.Maps.{value_at, group_at}
 use Rattle.fsl_wiki.specs.declared.Page.{Page}
 use Rattle.fsl_wiki.specs.declared.Note.{Note}
 use Rattle.fsl_wiki.specs.declared.Attached.{Attached}
@@ -21,14 +22,6 @@ note_cmp = on (λ n. (n.date, n.name)) dated_cmp
 -- attachments by date and name
 abbrev pub attached_cmp : Attached → Attached → Ordering
 attached_cmp = on (λ a. (a.date, a.name)) dated_cmp
-
--- the value of a text or a name
-abbrev pub value_at : {X : Type 0} → List (List ℕ × X) → List ℕ → Option X
-value_at entries key = lookup (is_at (bytes_cmp key)) entries
-
--- the entries of the map of a text, none where there is none
-abbrev pub group_at : {K X : Type 0} → List (List ℕ × BTreeMap K X) → List ℕ → List (K × X)
-group_at groups key = option_map_or (λ group. group.entries) (value_at groups key) []
 
 -- the versions of a title beside their dates and names, in the order of these
 abbrev pub placed : List Fact → List ℕ → List ((ℕ × List ℕ) × Page)

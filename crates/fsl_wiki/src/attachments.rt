@@ -7,7 +7,8 @@ ghost use Rattle.std.specs.List.Sorted.{IsStrictlySortedBy};
 ghost use Rattle.std.specs.Map.{keys_of, values_of};
 ghost use Rattle.fsl_order.specs.Names.{bytes_cmp};
 ghost use Rattle.fsl_order.specs.Rows.{greater};
-ghost use Rattle.fsl_wiki.specs.Kept.{value_at, group_at, attached_cmp};
+ghost use Rattle.fsl_order.specs.Maps.{value_at, group_at};
+ghost use Rattle.fsl_wiki.specs.Kept.{attached_cmp};
 
 use super::Attached;
 use fsl_text::{List, Memory, Text};

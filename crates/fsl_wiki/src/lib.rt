@@ -1,5 +1,6 @@
 //! Wiki pages, technotes and attachments. `Pages` is the table of them, and its answers are those of the definitions over the facts it
-//! was built from, in whatever order these stand.
+//! was built from. In whatever order these stand it
+//! is the same: `fsl_order::by_name_in_any_order`.
 #![tactic(auto)]
 
 ghost use Rattle.std.specs.Prelude.{◌≡◌, IfOk};

@@ -4,7 +4,8 @@ ghost use Rattle.std.specs.Option.{option_copied, option_map_or};
 ghost use Rattle.std.specs.Ordering.{is_lt};
 ghost use Rattle.std.specs.Str.{bytes_eq};
 ghost use Rattle.fsl_order.specs.Rows.{greater};
-ghost use Rattle.fsl_wiki.specs.Kept.{value_at, note_cmp};
+ghost use Rattle.fsl_order.specs.Maps.{value_at};
+ghost use Rattle.fsl_wiki.specs.Kept.{note_cmp};
 
 use super::Note;
 use fsl_name::Name;

@@ -4,7 +4,7 @@ ghost use Rattle.std.specs.Str.{bytes_eq};
 ghost use Rattle.std.specs.Map.{values_of};
 ghost use Rattle.std.specs.BTreeMap.{insert_entry};
 ghost use Rattle.fsl_order.specs.Names.{dated_cmp};
-ghost use Rattle.fsl_wiki.specs.Kept.{group_at};
+ghost use Rattle.fsl_order.specs.Maps.{group_at};
 
 use super::Page;
 use fsl_date::Moment;

@@ -9,15 +9,15 @@ use Rattle.fsl_cross.proofs.timeline.table.Goals as goal
 pub build-requires : goal.build-requires
 build-requires c =
     let items = c.args.items.now in
-    let rows : c.deref.result.now ≡ timeline_rows items
-    = c.deref.ensures.value ∙ c.in_ok-rows.ensures
+    let rows : c.from_vec.result ≡ timeline_rows items
+    = c.from_vec.ensures ∙ c.in_ok-rows.ensures
     ∙ (λ i. filter_map (item_row_over (c.requires.tags i) (c.requires.pages i) (c.requires.threads i) (λ q. c.in_ok-targets.ensures.tickets q i) (λ q. c.in_ok-targets.ensures.notes q i)) items) ∙ rows-by_facts items in
     subst (λ l. AreDistinct (map (λ r. r.name) l)) (sym rows) (rows-distinct items c.requires.rising)
 
 pub returns : goal.returns
 returns c =
     let items = c.args.items.now in
-    let rows : c.deref.result.now ≡ timeline_rows items
-    = c.deref.ensures.value ∙ c.in_ok-rows.ensures
+    let rows : c.from_vec.result ≡ timeline_rows items
+    = c.from_vec.ensures ∙ c.in_ok-rows.ensures
     ∙ (λ i. filter_map (item_row_over (c.requires.tags i) (c.requires.pages i) (c.requires.threads i) (λ q. c.in_ok-targets.ensures.tickets q i) (λ q. c.in_ok-targets.ensures.notes q i)) items) ∙ rows-by_facts items in
-    held-if c.build.result (by_name (λ r. r.name) c.deref.result.now) (timeline_rows items) (ap (by_name (λ r. r.name)) rows ∙ rows-by_name items c.requires.rising) c.build.ensures.facts c.build.ensures.spare
+    held-if c.build.result (by_name (λ r. r.name) c.from_vec.result) (timeline_rows items) (ap (by_name (λ r. r.name)) rows ∙ rows-by_name items c.requires.rising) c.build.ensures.facts c.build.ensures.spare

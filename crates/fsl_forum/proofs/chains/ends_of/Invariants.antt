@@ -1,7 +1,8 @@
 use Rattle.std.proofs.Common.{◌≡◌, ℕ, List, true, map, take}
 use Rattle.std.specs.Prelude.{is_some}
 use Rattle.fsl_order.specs.Names.{has}
-use Rattle.fsl_forum.specs.Kept.{value_at, AreNexts, AreRight, IsWithin}
+use Rattle.fsl_order.specs.Maps.{value_at}
+use Rattle.fsl_forum.specs.Kept.{AreNexts, AreRight, IsWithin}
 use Rattle.fsl_forum.proofs.chains.ends_of.Given as goal
 
 -- the ends of the posts that were passed are in, and all that are in are right

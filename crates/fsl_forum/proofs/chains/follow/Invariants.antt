@@ -2,7 +2,8 @@ use Rattle.std.proofs.Common.{◌≡◌, ◌-◌, ℕ, List, true, length}
 use Rattle.std.specs.Prelude.{is_some}
 use Rattle.fsl_order.specs.Names.{has}
 use Rattle.fsl_forum.specs.declared.Fact.{Fact}
-use Rattle.fsl_forum.specs.Kept.{value_at, AreNexts, AreRight, IsWithin, IsClimb}
+use Rattle.fsl_order.specs.Maps.{value_at}
+use Rattle.fsl_forum.specs.Kept.{AreNexts, AreRight, IsWithin, IsClimb}
 use Rattle.fsl_forum.proofs.chains.follow.Given as goal
 
 -- the posts that were passed stand as broken, and lead to where the climb is

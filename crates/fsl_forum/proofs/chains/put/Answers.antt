@@ -1,4 +1,4 @@
-use Rattle.fsl_forum.proofs.Maps.{value_written}
+use Rattle.fsl_order.proofs.Maps.{value_written}
 use Rattle.fsl_forum.proofs.chains.put.Goals as goal
 
 pub returns-in-Ok-clause-value : goal.returns-in-Ok-clause-value

@@ -1,6 +1,6 @@
 use Rattle.std.proofs.Common.{◌≡◌, ℕ, List, Some, cond, take}
 use Rattle.fsl_order.specs.Names.{has}
-use Rattle.fsl_forum.specs.Kept.{value_at}
+use Rattle.fsl_order.specs.Maps.{value_at}
 use Rattle.fsl_forum.proofs.chains.put_each.Given as goal
 
 -- the end of the posts that were passed is in

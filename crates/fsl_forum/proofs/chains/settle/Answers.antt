@@ -2,7 +2,7 @@ use Rattle.std.proofs.Common.{ℕ, List, Some, cond, subst}
 use Rattle.std.specs.Prelude.{◌≡◌}
 use Rattle.std.proofs.lemmas.Result.{on_ok_weaker}
 use Rattle.fsl_order.specs.Names.{has}
-use Rattle.fsl_forum.specs.Kept.{value_at}
+use Rattle.fsl_order.specs.Maps.{value_at}
 use Rattle.fsl_forum.proofs.Climbs.{settled}
 use Rattle.fsl_forum.proofs.chains.settle.Goals as goal
 

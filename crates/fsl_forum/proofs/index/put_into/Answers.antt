@@ -5,7 +5,7 @@ use Rattle.std.specs.BTreeMap.{insert_entry}
 use Rattle.std.proofs.lemmas.Result.{on_ok_weaker}
 use Rattle.fsl_order.specs.Names.{dated_cmp}
 use Rattle.fsl_forum.specs.Threads.{shown}
-use Rattle.fsl_forum.proofs.Maps.{group_changed, group_begun}
+use Rattle.fsl_order.proofs.Maps.{group_changed, group_begun}
 use Rattle.fsl_forum.proofs.index.put_into.Goals as goal
 
 pub returns-in-Some : goal.returns-in-Some

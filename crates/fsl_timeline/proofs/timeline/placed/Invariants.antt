@@ -1,13 +1,13 @@
-use Rattle.std.proofs.Common.{◌≡◌, ◌≤◌, drop, length}
-use Rattle.fsl_timeline.proofs.Timelines as rows
+use Rattle.std.proofs.Common.{◌≡◌, ◌++◌, List, vec_len}
+use Rattle.fsl_order.specs.Names.{latest_first}
+use Rattle.fsl_order.specs.Rows.{keyed}
+use Rattle.fsl_timeline.specs.declared.Row.{Row}
 use Rattle.fsl_timeline.proofs.timeline.placed.Given as goal
 
 -- the rows behind those that are left are placed
-abbrev pub invariant-loop-left : goal.invariant-loop-left
-invariant-loop-left l = record {
-  done : l.tree.entries ≡ rows.placed (drop l.left l.rows);
-  within : l.left ≤ length l.rows;
-}
+abbrev pub invariant-loop-row : goal.invariant-loop-row
+invariant-loop-row l =
+    (done : List Row) × (l.left.items ++ done ≡ l.fn.rows) × (l.tree.entries ≡ keyed latest_first (λ r. (r.time, r.name)) done)
 
-abbrev pub decreases-loop-left : goal.decreases-loop-left
-decreases-loop-left l = l.left
+abbrev pub decreases-loop-row : goal.decreases-loop-row
+decreases-loop-row l = vec_len l.left

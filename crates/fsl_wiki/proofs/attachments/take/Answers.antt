@@ -1,8 +1,9 @@
 use Rattle.std.proofs.Common.{[], ap, sym, subst, ◌∙◌}
 use Rattle.std.specs.Option.{is_some, option_map_or}
 use Rattle.std.proofs.lemmas.Result.{on_ok_weaker}
-use Rattle.fsl_wiki.specs.Kept.{attached_cmp, value_at}
-use Rattle.fsl_wiki.proofs.Maps.{Keeps, group_kept, group_kept_first}
+use Rattle.fsl_order.specs.Maps.{value_at}
+use Rattle.fsl_wiki.specs.Kept.{attached_cmp}
+use Rattle.fsl_order.proofs.Maps.{Keeps, group_kept, group_kept_first}
 use Rattle.fsl_wiki.proofs.attachments.take.Goals as goal
 
 pub returns-in-Some : goal.returns-in-Some

@@ -2,7 +2,7 @@ use Rattle.std.proofs.Common.{sym, ap, ◌∙◌, false}
 use Rattle.std.specs.Option.{option_map_or}
 use Rattle.std.specs.Ordering.{is_lt}
 use Rattle.fsl_wiki.specs.Kept.{note_cmp}
-use Rattle.fsl_wiki.proofs.Maps.{kept_put}
+use Rattle.fsl_order.proofs.Maps.{kept_put}
 use Rattle.fsl_wiki.proofs.notes.take.Goals as goal
 
 pub returns-in-Ok : goal.returns-in-Ok

@@ -3,7 +3,7 @@ use Rattle.std.specs.Option.{option_map_or, is_some}
 use Rattle.std.specs.BTreeMap.{insert_entry}
 use Rattle.std.proofs.lemmas.Result.{on_ok_weaker}
 use Rattle.fsl_order.specs.Names.{dated_cmp}
-use Rattle.fsl_wiki.proofs.Maps.{group_changed, group_begun}
+use Rattle.fsl_order.proofs.Maps.{group_changed, group_begun}
 use Rattle.fsl_wiki.proofs.versions.take.Goals as goal
 
 pub returns-in-Some : goal.returns-in-Some

@@ -28,7 +28,7 @@ build-requires-3 c =
     = c.in_ok-links.ensures.facts ∙ ap (by_name (λ f. f.name)) (c.deref.ensures.value ∙ c.in_ok-of_items.ensures) ∙ links-by_name items rise in
     let tags : c.in_ok-tags.tags.facts ≡ tags_facts items
     = c.in_ok-tags.ensures.facts ∙ ap (by_name (λ f. f.name)) (c.deref-2.ensures.value ∙ c.in_ok-of_items-2.ensures ∙ ap (λ facts. filter_map (tags_fact_over facts) items) links) ∙ tags-by_name items rise in
-    subst (λ l. AreDistinct (map (λ f. f.name) l)) (sym (c.deref-3.ensures.value ∙ c.in_ok-of_items-3.ensures ∙ ap (λ facts. filter_map (leaves_fact_over facts) items) tags)) (leaves-distinct items rise)
+    subst (λ l. AreDistinct (map (λ f. f.name) l)) (sym (c.from_vec.ensures ∙ c.in_ok-facts.ensures ∙ ap (λ facts. filter_map (leaves_fact_over facts) items) tags)) (leaves-distinct items rise)
 
 pub returns-clause-links : goal.returns-clause-links
 returns-clause-links c =
@@ -54,5 +54,5 @@ returns-clause-leaves c =
     let tags : c.in_ok-tags.tags.facts ≡ tags_facts items
     = c.in_ok-tags.ensures.facts ∙ ap (by_name (λ f. f.name)) (c.deref-2.ensures.value ∙ c.in_ok-of_items-2.ensures ∙ ap (λ facts. filter_map (tags_fact_over facts) items) links) ∙ tags-by_name items c.requires in
     let leaves : c.in_ok-leaves.leaves.facts ≡ leaves_facts items
-    = c.in_ok-leaves.ensures.facts ∙ ap (by_name (λ f. f.name)) (c.deref-3.ensures.value ∙ c.in_ok-of_items-3.ensures ∙ ap (λ facts. filter_map (leaves_fact_over facts) items) tags) ∙ leaves-by_name items c.requires in
+    = c.in_ok-leaves.ensures.facts ∙ ap (by_name (λ f. f.name)) (c.from_vec.ensures ∙ c.in_ok-facts.ensures ∙ ap (λ facts. filter_map (leaves_fact_over facts) items) tags) ∙ leaves-by_name items c.requires in
     λ i. record { facts = leaves i; spare = c.in_ok-leaves.ensures.spare i }

@@ -9,6 +9,6 @@ pub returns-clause-facts : goal.returns-clause-facts
 returns-clause-facts c =
     let items = c.self.inside.items in
     let rise = c.self.invariant.rising in
-    ap (λ h. h.facts) c.self.invariant.threads
+    ap (λ h. h.facts) c.self.invariant.contents.threads
     ∙ sym (ap (λ set. by_name (λ f. f.name) (forum_facts set)) (set-rising items rise) ∙ forum-by_name items rise)
     ∙ ap (λ (s : Seen). by_name (λ f. f.name) (forum_facts (item_set s.items))) c.self.view_is

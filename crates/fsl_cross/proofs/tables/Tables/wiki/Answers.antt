@@ -10,6 +10,6 @@ pub returns-clause-facts : goal.returns-clause-facts
 returns-clause-facts c =
     let items = c.self.inside.items in
     let rise = c.self.invariant.rising in
-    ap (λ h. h.facts) c.self.invariant.pages
+    ap (λ h. h.facts) c.self.invariant.contents.pages
     ∙ sym (ap (λ set. by_name name_of (pages_facts set)) (set-rising items rise) ∙ pages-by_name items rise)
     ∙ ap (λ (s : Seen). by_name name_of (pages_facts (item_set s.items))) c.self.view_is

@@ -1,7 +1,8 @@
 use Rattle.std.proofs.Common.{Some, cond, ap, sym, ◌∙◌}
 use Rattle.std.specs.Str.{bytes_eq}
-use Rattle.fsl_forum.specs.Kept.{value_at, group_at, group_with}
-use Rattle.fsl_forum.proofs.Maps.{value_written}
+use Rattle.fsl_order.specs.Maps.{value_at, group_at}
+use Rattle.fsl_forum.specs.Kept.{group_with}
+use Rattle.fsl_order.proofs.Maps.{value_written}
 use Rattle.fsl_forum.proofs.Indexed.{post_taken}
 use Rattle.fsl_forum.proofs.index.Index.take.Goals as goal
 use Rattle.fsl_forum.proofs.index.Index.take.Goals.{in-Some+in_ok-put_into, in_default}

@@ -3,7 +3,7 @@ use Rattle.std.specs.Option.{option_map_or}
 use Rattle.std.proofs.lemmas.Result.{IfOk-weaker}
 use Rattle.fsl_order.specs.Rows.{by_name}
 use Rattle.fsl_wiki.specs.Pages as table
-use Rattle.fsl_wiki.specs.Kept.{value_at}
+use Rattle.fsl_order.specs.Maps.{value_at}
 use Rattle.fsl_wiki.proofs.Listed.{listed, none_listed}
 use Rattle.fsl_wiki.proofs.pages.Pages.attached.Goals as goal
 

@@ -1,6 +1,6 @@
--- Items in order, and what a function gives of them.
-use Rattle.std.specs.Prelude.{◌≡◌, List, [], ◌∷◌, true, false, Option, Some, None, map, filter_map, ⊤}
-use Rattle.std.proofs.Common.{refl, sym, ap, ◌∙◌}
+-- Items in order, what a function gives of them, and those of them that pass a test.
+use Rattle.std.specs.Prelude.{◌≡◌, ℕ, List, [], ◌∷◌, Bool, true, false, cond, Option, Some, None, map, filter, filter_map, ⊤, IsPermutation}
+use Rattle.std.proofs.Common.{refl, sym, ap, ◌∙◌, subst}
 use Rattle.std.specs.declared.cmp.Ordering.{Ordering}
 use Rattle.std.specs.declared.cmp.Ordering.TheVariants.{Less, Equal, Greater}
 use Rattle.std.specs.Ordering.{eq_by_cmp, is_eq, ordering_reverse}
@@ -8,7 +8,12 @@ use Rattle.std.specs.List.{IsDistinct, AllByRecursion, cons_option}
 use Rattle.std.specs.Cmp.{IsTotalOrder}
 use Rattle.std.specs.FinMap.{put}
 use Rattle.std.specs.FinMap.Entries.{by_order}
-use Rattle.fsl_order.specs.Rows.{keyed, in_order}
+use Rattle.std.specs.Str.{bytes_eq}
+use Rattle.std.specs.Cmp.Lexicographic.{texts_ties}
+use Rattle.fsl_order.specs.Names.{bytes_cmp}
+use Rattle.fsl_order.specs.Rows.{keyed, in_order, by_name, AreDistinct}
+use Rattle.fsl_order.proofs.Orders.{bytes_cmp-IsTotalOrder}
+use Rattle.fsl_order.proofs.MovedLemmas.{IsPermutation-by_name}
 
 module _ {K : Type 0} (R : K → K → Ordering) (o : IsTotalOrder R) where
   module _ {X : Type 0} where
@@ -127,3 +132,67 @@ module _ {K : Type 0} (R : K → K → Ordering) (o : IsTotalOrder R) where
       -- what is given of items in order is in order what is given of the items
       pub in_order-filter_map : (xs : List X) → IsDistinct (eq_by_cmp R) (map key xs) → in_order R own (filter_map h xs) ≡ filter_map h (in_order R key xs)
       in_order-filter_map xs d = ap (map (λ e. e.1)) (sym (keyed-kept xs d)) ∙ values-kept (keyed R key xs)
+
+-- ---- those that pass a test
+
+module _ {X : Type 0} (p : X → Bool) where
+  abbrev passing : X → Option X
+  passing x = cond (p x) (Some x) None
+
+  filter-is : (xs : List X) → filter p xs ≡ filter_map passing xs
+  filter-is [] = refl
+  filter-is (x ∷ xs) =
+      elim (p x) as (λ b. cond b (x ∷ filter p xs) (filter p xs) ≡ cons_option (cond b (Some x) None) (filter_map passing xs)) [
+        | true ↦ ap (λ l. x ∷ l) (filter-is xs)
+        | false ↦ filter-is xs
+      ]
+
+  module _ {K : Type 0} (key : X → K) where
+    passing-own : (x y : X) → passing x ≡ Some y → key y ≡ key x
+    passing-own x y e = elim (p x) as (λ b. cond b (Some x) None ≡ Some y → key y ≡ key x) [ true ↦ λ h. own h | false ↦ λ h. cc ] e
+      where
+        own : Some x ≡ Some y → key y ≡ key x
+        own h = let same : x ≡ y = cc in ap key (sym same)
+
+    -- those that pass a test, in order, are those in order that pass it
+    pub in_order-filter : (R : K → K → Ordering) → IsTotalOrder R → (xs : List X) → IsDistinct (eq_by_cmp R) (map key xs) → in_order R key (filter p xs) ≡ filter p (in_order R key xs)
+    in_order-filter R o xs d =
+        ap (in_order R key) (filter-is xs) ∙ in_order-filter_map R o passing key key passing-own xs d ∙ sym (filter-is (in_order R key xs))
+
+-- ---- what is given of items with distinct names
+
+module _ {X Y : Type 0} (give : X → Option Y) (name_of : X → List ℕ) (name : Y → List ℕ) (same : (x : X) (y : Y) → give x ≡ Some y → name y ≡ name_of x) where
+  away : (q : List ℕ) (xs : List X) → AllByRecursion (λ n. bytes_eq q n ≡ false) (map name_of xs) → AllByRecursion (λ n. bytes_eq q n ≡ false) (map name (filter_map give xs))
+  away q [] a = tt
+  away q (x ∷ xs) a =
+      elim (give x) as (λ p. give x ≡ p → AllByRecursion (λ n. bytes_eq q n ≡ false) (map name (cons_option p (filter_map give xs)))) [
+        | None ↦ λ _. away q xs a.1
+        | Some y ↦ λ e. (ap (bytes_eq q) (same x y e) ∙ a.0, away q xs a.1)
+      ] refl
+
+  -- it has distinct names
+  pub distinct-given : (xs : List X) → AreDistinct (map name_of xs) → AreDistinct (map name (filter_map give xs))
+  unfolding IsDistinct
+  distinct-given [] d = tt
+  distinct-given (x ∷ xs) d =
+      elim (give x) as (λ p. give x ≡ p → AreDistinct (map name (cons_option p (filter_map give xs)))) [
+        | None ↦ λ _. distinct-given xs d.1
+        | Some y ↦ λ e. (subst (λ n. AllByRecursion (λ q. bytes_eq n q ≡ false) (map name (filter_map give xs))) (sym (same x y e)) (away (name_of x) xs d.0), distinct-given xs d.1)
+      ] refl
+
+  -- it is the same, in another order, for the items by name
+  pub moved-given : (xs : List X) → AreDistinct (map name_of xs) → IsPermutation (filter_map give xs) (filter_map give (by_name name_of xs))
+  moved-given xs d =
+      let tied : bytes_eq ≡ eq_by_cmp bytes_cmp = λ i x y. texts_ties x y i in
+      subst (IsPermutation (filter_map give xs)) (in_order-filter_map bytes_cmp bytes_cmp-IsTotalOrder give name_of name same xs (subst (λ e. IsDistinct e (map name_of xs)) tied d))
+      (IsPermutation-by_name name (filter_map give xs) (distinct-given xs d))
+
+-- .. as those that pass a test
+module _ {X : Type 0} (p : X → Bool) (name : X → List ℕ) (xs : List X) (d : AreDistinct (map name xs)) where
+  pub distinct-filter : AreDistinct (map name (filter p xs))
+  distinct-filter = subst (λ l. AreDistinct (map name l)) (sym (filter-is p xs)) (distinct-given (passing p) name name (passing-own p name) xs d)
+
+  pub moved-filter : IsPermutation (filter p xs) (filter p (by_name name xs))
+  moved-filter =
+      subst (λ l. IsPermutation l (filter p (by_name name xs))) (sym (filter-is p xs))
+      (subst (IsPermutation (filter_map (passing p) xs)) (sym (filter-is p (by_name name xs))) (moved-given (passing p) name name (passing-own p name) xs d))

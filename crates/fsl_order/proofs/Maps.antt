@@ -1,25 +1,22 @@
--- What a write makes of a map, and of a map of maps.
-use Rattle.std.specs.Prelude.{◌≡◌, ◌&&◌, ℕ, List, [], ◌∷◌, true, false, cond, Option, Some, None, if◌then◌else◌}
+-- What a write makes of a map by text or name, and of a map of maps.
+use Rattle.std.specs.Prelude.{◌≡◌, ◌&&◌, ℕ, List, [], true, false, cond, Option, Some, None, if◌then◌else◌}
 use Rattle.std.proofs.Common.{refl, sym, ap, subst, ◌∙◌}
 use Rattle.std.specs.declared.cmp.Ordering.{Ordering}
-use Rattle.std.specs.declared.cmp.Ordering.TheVariants.{Less, Equal, Greater}
-use Rattle.std.specs.Ordering.{is_lt, match_ordering}
+use Rattle.std.specs.Ordering.{is_lt}
 use Rattle.std.specs.Option.{option_map_or}
-use Rattle.std.specs.BTreeMap.{BTreeMap, is_at, insert_entry}
+use Rattle.std.specs.BTreeMap.{BTreeMap, is_at}
 use Rattle.std.specs.Str.{bytes_eq}
 use Rattle.std.specs.Cmp.Lexicographic.{texts_ties, bytes_decides}
-use Rattle.std.specs.FinMap.{put}
-use Rattle.std.specs.FinMap.Entries.{by_order}
 use Rattle.fsl_order.specs.Names.{bytes_cmp}
 use Rattle.fsl_order.specs.Rows.{greater}
-use Rattle.fsl_wiki.specs.Kept.{value_at, group_at}
+use Rattle.fsl_order.specs.Maps.{value_at, group_at}
 
 -- the value of one key is written
 abbrev pub Writes : {X : Type 0} → List (List ℕ × X) → List (List ℕ × X) → List ℕ → X → Type 0
 Writes old new key x = (q : List ℕ) → value_at new q ≡ cond (is_at (bytes_cmp key) q) (Some x) (value_at old q)
 
 module _ {X : Type 0} where
-  value_written : (old new : List (List ℕ × X)) (key : List ℕ) (x : X) → Writes old new key x → (q : List ℕ) → value_at new q ≡ cond (bytes_eq key q) (Some x) (value_at old q)
+  pub value_written : (old new : List (List ℕ × X)) (key : List ℕ) (x : X) → Writes old new key x → (q : List ℕ) → value_at new q ≡ cond (bytes_eq key q) (Some x) (value_at old q)
   value_written old new key x written q = written q ∙ ap (λ b. cond b (Some x) (value_at old q)) (sym (texts_ties key q))
 
   module _ (R : X → X → Ordering) where
@@ -60,16 +57,6 @@ module _ {K X : Type 0} where
       → (q : List ℕ) → group_at new q ≡ cond (bytes_eq key q) (f (group_at old q)) (group_at old q)
   group_begun old mid new key k w f same own none written is =
       group_changed old new key w f (subst (λ k. Writes old new k w) own (subst (λ m. Writes m new k w) same written)) (is ∙ ap (λ o. f (option_map_or (λ g. g.entries) o [])) (sym none))
-
-  -- an insert is a put where equal keys are the same
-  pub put-insert : (R : K → K → Ordering) (k : K) (x : X) (es : List (K × X)) → put R k x es ≡ insert_entry R es k x
-  put-insert R k x [] = refl
-  put-insert R k x (e ∷ es) =
-      elim (R k e.0) as (λ r. by_order r ((k, x) ∷ e ∷ es) ((e.0, x) ∷ es) (e ∷ put R k x es) ≡ match_ordering r ((k, x) ∷ e ∷ es) ((e.0, x) ∷ es) (e ∷ insert_entry R es k x)) [
-        | Less ↦ refl
-        | Equal ↦ refl
-        | Greater ↦ ap (λ l. e ∷ l) (put-insert R k x es)
-      ]
 
 module _ {X : Type 0} (R : X → X → Ordering) where
   -- what a value of a key is to become, where it has a value already or not

@@ -1,0 +1,6 @@
+use Rattle.fsl_cross.proofs.derived.Derived.after.Goals as goal
+
+pub joined-requires-clause-contents : goal.joined-requires-clause-contents
+joined-requires-clause-contents c =
+    let told = c.in_ok-contents.ensures in
+    record { files = told.files; pages = told.pages; tickets = told.tickets; threads = told.threads; clusters = told.clusters }

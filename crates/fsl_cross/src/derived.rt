@@ -1,0 +1,81 @@
+//! The nine tables, beside the artifacts that they are made from.
+ghost use Rattle.std.specs.Prelude.{All, IfOk, map};
+ghost use Rattle.std.specs.List.Sorted.{IsStrictlySortedBy};
+ghost use Rattle.fsl_order.specs.Names.{bytes_cmp};
+ghost use Rattle.fsl_cross.specs.Tables.{IsItem};
+ghost use Rattle.fsl_cross.specs.Built.{IsHistoryOf, AreContentsOf, AreTablesOf};
+
+use super::contents::Contents;
+use super::history::History;
+use super::items::Items;
+use super::timeline;
+use fsl_text::{List, Memory, Text};
+use fsl_timeline::Timeline;
+use std::alloc::Global;
+
+/// What is told of a set of artifacts.
+#[derive(Drop)]
+pub(crate) struct Derived {
+    pub(crate) history: History,
+    pub(crate) contents: Contents,
+    pub(crate) timeline: Timeline,
+}
+
+impl Derived {
+    /// The tables of some artifacts, and of the configured fields of tickets. `Memory` is the only error.
+    pub(crate) fn build(
+        alloc: Global,
+        fields: &List<Text>,
+        items: &Items,
+    ) -> Result<Derived, Memory>
+        requires rising { IsStrictlySortedBy bytes_cmp (map (λ i. i.name) items.now) }
+        requires kinds { All IsItem items.now }
+        ensures { IfOk result (λ d. AreTablesOf fields.now items.now d) }
+    {
+        let history = History::build(alloc, items)?;
+        Derived::after(alloc, fields, items, history)
+    }
+
+    /// The tables, of which those of check-ins stand. It is a function of its own since each way out of it lets these tables go.
+    fn after(
+        alloc: Global,
+        fields: &List<Text>,
+        items: &Items,
+        history: History,
+    ) -> Result<Derived, Memory>
+        requires rising { IsStrictlySortedBy bytes_cmp (map (λ i. i.name) items.now) }
+        requires kinds { All IsItem items.now }
+        requires history { IsHistoryOf items.now history }
+        ensures { IfOk result (λ d. AreTablesOf fields.now items.now d) }
+    {
+        let contents = Contents::build(alloc, fields, items)?;
+        Derived::joined(alloc, fields, items, history, contents)
+    }
+
+    /// The tables, of which those of check-ins and those told from cards alone stand.
+    fn joined(
+        alloc: Global,
+        fields: &List<Text>,
+        items: &Items,
+        history: History,
+        contents: Contents,
+    ) -> Result<Derived, Memory>
+        requires rising { IsStrictlySortedBy bytes_cmp (map (λ i. i.name) items.now) }
+        requires history { IsHistoryOf items.now history }
+        requires contents { AreContentsOf fields.now items.now contents }
+        ensures { IfOk result (λ d. AreTablesOf fields.now items.now d) }
+    {
+        let timeline = timeline::table(
+            alloc,
+            &history.tags,
+            &contents.pages,
+            &contents.threads,
+            items,
+        )?;
+        Ok(Derived {
+            history,
+            contents,
+            timeline,
+        })
+    }
+}
