@@ -1,5 +1,5 @@
 //! Bytes that cards and messages can't hold as they are, written as two bytes.
-ghost use Rattle.std.specs.Prelude.{◌≡◌, ◌++◌, ◌∷◌, [], IfOk, OnOk, MatchOption};
+ghost use Rattle.std.specs.Prelude.{◌≡◌, ◌++◌, ◌∷◌, [], take, length, IfOk, OnErr, OnOk, MatchOption};
 ghost use Rattle.fsl_text.specs.Escapes.{escape, escaped_byte, unescape, byte_meant, UnescapesEscaped};
 
 use super::memory::Memory;
@@ -52,7 +52,8 @@ pub fn escape(alloc: Global, bytes: &[u8]) -> Result<Text, Memory>
 
 /// Puts one byte at the end of a text as it is written.
 fn append_byte(into: &mut Text, byte: u8) -> Result<(), Memory>
-    ensures { OnOk result (into.new ≡ into.old ++ escaped_byte byte) }
+    ensures ok { OnOk result (into.new ≡ into.old ++ escaped_byte byte) }
+    ensures err { OnErr result (into.new ≡ into.old) }
 {
     match letter_of(byte) {
         Some(letter) => into.append(&[b'\\', letter]),
@@ -60,10 +61,23 @@ fn append_byte(into: &mut Text, byte: u8) -> Result<(), Memory>
     }
 }
 
-/// Puts bytes at the end of a text as `escape` writes them. `Memory` is the only error; the text then may be
-/// longer than it was, and is of no use.
+/// Puts bytes at the end of a text as `escape` writes them. `Memory` is the only error, and leaves the text as it was.
 pub fn escape_into(into: &mut Text, bytes: &[u8]) -> Result<(), Memory>
-    ensures { OnOk result (into.new ≡ into.old ++ escape bytes.now) }
+    ensures ok { OnOk result (into.new ≡ into.old ++ escape bytes.now) }
+    ensures err { OnErr result (into.new ≡ into.old) }
+{
+    let length = into.bytes().len();
+    let written = append_escaped(into, bytes);
+    if written.is_err() {
+        into.truncate(length);
+    }
+    written
+}
+
+/// Puts bytes at the end of a text as `escape` writes them, all of them or some.
+fn append_escaped(into: &mut Text, bytes: &[u8]) -> Result<(), Memory>
+    ensures ok { OnOk result (into.new ≡ into.old ++ escape bytes.now) }
+    ensures err { OnErr result (take (length into.old) into.new ≡ into.old) }
 {
     for byte in bytes {
         append_byte(into, *byte)?;
