@@ -7,11 +7,9 @@ use Rattle.jiff_core.specs.Calendar.{days_of_months as their_days_of_months, day
 use Rattle.jiff_core.proofs.SignedLemmas.{signed_arith, signed_casts}
 use Rattle.jiff_core.proofs.MarchLemmas.{day_count-early}
 use Rattle.jiff_core.proofs.CalendarLemmas.{day_count-day_of_year, day_count-lt_year, days_from_civil-day_count, day_count_bounds}
-use Rattle.jiff_core.proofs.DateLemmas.{epoch_day_injective}
-use Rattle.jiff_core.specs.declared.civil.date.Date.{Date}
 use Rattle.fsl_date.specs.Calendar.{days_of_years, days_of_months, days_in_month, day_number}
 use Rattle.fsl_date.specs.Parts.{is_day}
-use Rattle.fsl_date.proofs.Conditions.{first_holds, second_holds, both_hold, le_from, le_to}
+use Rattle.fsl_date.proofs.Conditions.{both_hold, le_to}
 
 -- the days of the months of a year are the same
 pub days_of_months-same : (y n : ℕ) → their_days_of_months (pos y) n ≡ days_of_months y n
@@ -112,37 +110,3 @@ dated y m d n h small e =
       small = high;
       number = pos_same _ _ (sym (days_from_civil-day_number (unsigned_abs y) m d h.2.0) ∙ at_year);
     }
-
--- ---- a day has one number
-
-pub IsCivilDate-from : (y m d : ℕ) → is_day y m d ≡ true → IsCivilDate (pos y) m d
-IsCivilDate-from y m d h =
-    let h4 = first_holds (nat_le y 9999 && nat_le 1 m && nat_le m 12 && nat_le 1 d) (nat_le d (days_in_month y m)) h in
-    let h3 = first_holds (nat_le y 9999 && nat_le 1 m && nat_le m 12) (nat_le 1 d) h4 in
-    let h2 = first_holds (nat_le y 9999 && nat_le 1 m) (nat_le m 12) h3 in
-    let year = le_from y 9999 (first_holds (nat_le y 9999) (nat_le 1 m) h2) in (
-      (omega (arith, signed_arith), omega (arith, signed_arith, year)),
-      (le_from 1 m (second_holds (nat_le y 9999) (nat_le 1 m) h2), le_from m 12 (second_holds (nat_le y 9999 && nat_le 1 m) (nat_le m 12) h3)),
-      (
-        le_from 1 d (second_holds (nat_le y 9999 && nat_le 1 m && nat_le m 12) (nat_le 1 d) h4),
-        le_from d (days_in_month y m) (second_holds (nat_le y 9999 && nat_le 1 m && nat_le m 12 && nat_le 1 d) (nat_le d (days_in_month y m)) h),
-      ),
-    )
-
-date_of : (y m d : ℕ) → IsCivilDate (pos y) m d → Date
-date_of y m d h = record { year = pos y; month = m; day = d; year_in = h.0; month_in = h.1; day_in = h.2 }
-
-pub record IsSameDay (y m d y₂ m₂ d₂ : ℕ) : Type 0 where
-  pub year : y ≡ y₂
-  pub month : m ≡ m₂
-  pub day : d ≡ d₂
-
-pub same_day : (y m d y₂ m₂ d₂ : ℕ) → is_day y m d ≡ true → is_day y₂ m₂ d₂ ≡ true → day_number y m d ≡ day_number y₂ m₂ d₂ → IsSameDay y m d y₂ m₂ d₂
-unfolding date_of
-same_day y m d y₂ m₂ d₂ h k e =
-    let a = IsCivilDate-from y m d h in
-    let b = IsCivilDate-from y₂ m₂ d₂ k in
-    let same : days_from_civil (pos y) m d ≡ days_from_civil (pos y₂) m₂ d₂ =
-    omega (arith, signed_arith, e, days_from_civil-day_number y m d a.2.0, days_from_civil-day_number y₂ m₂ d₂ b.2.0) in
-    let parts = epoch_day_injective (date_of y m d a) (date_of y₂ m₂ d₂ b) same in
-    record { year = pos_same y y₂ parts.0; month = parts.1; day = parts.2 }

@@ -1,32 +1,32 @@
 -- Each moment has a text: each number of a day is that of a day of the calendar, counted up a day at a time.
-use Rattle.std.proofs.Common.{◌≡◌, ℕ, zero, suc, ◌+◌, ◌-◌, ◌/◌, ◌%◌, ◌<◌, ◌≤◌, true, inl, inr, refl, arith, pos}
+use Rattle.std.proofs.Common.{◌≡◌, ℕ, zero, suc, ◌+◌, ◌-◌, ◌/◌, ◌%◌, ◌<◌, ◌≤◌, true, List, inl, inr, refl, arith, pos}
 use Rattle.std.specs.Prelude.{◌&&◌, nat_le}
 use Rattle.std.proofs.lemmas.Bool.{cases_lt}
 use Rattle.jiff_core.proofs.SignedLemmas.{signed_arith}
 use Rattle.jiff_core.proofs.CalendarLemmas.{days_of_months_all, day_count-next_year}
 use Rattle.fsl_date.specs.Calendar.{days_in_month, days_of_months, days_of_years, day_number}
 use Rattle.fsl_date.specs.Parts.{is_day, is_time, time_ms}
-use Rattle.fsl_date.specs.Moment.{Civil, IsAlwaysPrinted, millis_text}
+use Rattle.fsl_date.specs.Moment.{Civil, IsMoment, IsPrinted, millis_text}
 use Rattle.fsl_date.proofs.Conditions.{both_hold, le_to}
 use Rattle.fsl_date.proofs.Days.{days_of_months-same, day_count-new_year}
 use Rattle.fsl_date.proofs.Printed.{printed_by}
 
--- the calendar has the day, of whatever year
-record IsDay (y m d n : ℕ) : Type 0 where
-  from_january : 1 ≤ m
-  to_december : m ≤ 12
-  from_first : 1 ≤ d
-  to_last : d ≤ days_in_month y m
-  number : day_number y m d ≡ n
+-- the calendar has the day, of whatever year, and this is its number
+pub record IsDay (y m d n : ℕ) : Type 0 where
+  pub from_january : 1 ≤ m
+  pub to_december : m ≤ 12
+  pub from_first : 1 ≤ d
+  pub to_last : d ≤ days_in_month y m
+  pub number : day_number y m d ≡ n
 
 abbrev SomeDay : ℕ → Type 0
 SomeDay n = (y : ℕ) × (m : ℕ) × (d : ℕ) × IsDay y m d n
 
-days_of_months-next : (y m : ℕ) → 1 ≤ m → days_of_months y m ≡ days_of_months y (m - 1) + days_in_month y m
+pub days_of_months-next : (y m : ℕ) → 1 ≤ m → days_of_months y m ≡ days_of_months y (m - 1) + days_in_month y m
 days_of_months-next y zero h = absurd (omega arith)
 days_of_months-next y (suc m) h = let e : suc m - 1 ≡ m = omega arith in rw e refl
 
-days_of_years-next : (y : ℕ) → days_of_years (y + 1) ≡ days_of_years y + days_of_months y 12
+pub days_of_years-next : (y : ℕ) → days_of_years (y + 1) ≡ days_of_years y + days_of_months y 12
 days_of_years-next y =
     let next = day_count-next_year (pos y) (pos (y + 1)) (omega (arith, signed_arith)) (omega (arith, signed_arith)) in
     omega (arith, next, day_count-new_year y, day_count-new_year (y + 1), days_of_months_all (pos y), days_of_months-same y 12)
@@ -101,8 +101,8 @@ is_time-by t h =
 time_ms-by : (t : ℕ) → time_ms (t / 3600000) (t / 60000 % 60) (t / 1000 % 60) (t % 1000) ≡ t
 time_ms-by t = omega arith
 
-pub always_printed : IsAlwaysPrinted
-always_printed ms h =
+pub some_text : (ms : ℕ) → IsMoment ms → (text : List ℕ) × IsPrinted ms text
+some_text ms h =
     let n : ℕ = ms / 86400000 in
     let t : ℕ = ms % 86400000 in
     let day = some_day (ms / 86400000) in

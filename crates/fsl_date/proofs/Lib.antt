@@ -7,4 +7,5 @@ pub mod Days
 pub mod Shapes
 pub mod Printed
 pub mod EachMoment
+pub mod MomentTexts
 pub mod OrderLemmas

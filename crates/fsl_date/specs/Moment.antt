@@ -1,8 +1,8 @@
 -- Moments and the texts of dates. Contracts see a moment as its milliseconds since 0000-01-01T00:00:00.000.
-use Rattle.std.specs.Prelude.{◌≡◌, ℕ, ◌<◌, ◌+◌, ◌*◌, ◌/◌, ◌%◌, ◌⊎◌, ◌==◌, ◌&&◌, ◌||◌, nat_le, Bool, List, [], ◌∷◌, ◌++◌, if◌then◌else◌, codes, slice_range, IsTrue, Option, Some, None}
+use Rattle.std.specs.Prelude.{◌≡◌, ℕ, ◌<◌, ◌+◌, ◌-◌, ◌*◌, ◌/◌, ◌%◌, ◌⊎◌, ◌==◌, ◌&&◌, ◌||◌, nat_le, Bool, List, [], ◌∷◌, ◌++◌, if◌then◌else◌, codes, slice_range, IsTrue, Option, Some, None}
 use Rattle.std.specs.Cmp.Lexicographic.{pointwise}
 use Rattle.fsl_text.specs.Decimals.{is_decimal_digit, decimal_value}
-use Rattle.fsl_date.specs.Calendar.{day_number, days_in_month}
+use Rattle.fsl_date.specs.Calendar.{day_number, days_in_month, year_of, month_of}
 
 -- a millisecond of the years 0 to 9999
 abbrev pub IsMoment : ℕ → Type 0
@@ -84,9 +84,25 @@ seconds_text c =
 abbrev pub millis_text : Civil → List ℕ
 millis_text c = seconds_text c ++ 46 ∷ three_digits c.milli
 
--- the text that a moment is printed as: that of its date and time of day
-abbrev pub IsPrinted : ℕ → List ℕ → Type 0
-IsPrinted ms text = (c : Civil) × IsTrue (is_civil c) × (civil_ms c ≡ ms) × (text ≡ millis_text c)
+-- the date and the time of day of a moment, by the number, the year and the month of its day
+abbrev pub civil_in_month : ℕ → ℕ → ℕ → ℕ → Civil
+civil_in_month ms day year month =
+    record {
+      year = year;
+      month = month;
+      day = day - day_number year month 1 + 1;
+      hour = ms / 3600000 % 24;
+      minute = ms / 60000 % 60;
+      second = ms / 1000 % 60;
+      milli = ms % 1000;
+    }
+
+abbrev pub civil_of : ℕ → Civil
+civil_of ms = let day = ms / 86400000 in let year = year_of day in civil_in_month ms day year (month_of year day)
+
+-- the text of a moment: YYYY-MM-DDTHH:MM:SS.SSS
+unfoldable pub moment_text : ℕ → List ℕ
+moment_text ms = millis_text (civil_of ms)
 
 -- ---- laws
 
@@ -101,10 +117,14 @@ pub record DatesReadAsWritten : Type 0 where
   pub read : (text : List ℕ) (ms : ℕ) → date_in text ≡ Some ms → IsDateText text ms
   pub written : (text : List ℕ) (ms : ℕ) → IsDateText text ms → date_in text ≡ Some ms
 
--- each moment has a date and a time of day, and so a text
-abbrev pub IsAlwaysPrinted : Type 0
-IsAlwaysPrinted = (ms : ℕ) → IsMoment ms → (text : List ℕ) × IsPrinted ms text
+-- a text is that of a date and a time of day with these milliseconds
+abbrev pub IsPrinted : ℕ → List ℕ → Type 0
+IsPrinted ms text = (c : Civil) × IsTrue (is_civil c) × (civil_ms c ≡ ms) × (text ≡ millis_text c)
 
--- and no other
+-- the text of a moment is that of a date and a time of day with its milliseconds
+abbrev pub IsAlwaysPrinted : Type 0
+IsAlwaysPrinted = (ms : ℕ) → IsMoment ms → IsPrinted ms (moment_text ms)
+
+-- and no other text is
 abbrev pub IsPrintedOnce : Type 0
-IsPrintedOnce = (ms : ℕ) (a b : List ℕ) → IsPrinted ms a → IsPrinted ms b → a ≡ b
+IsPrintedOnce = (ms : ℕ) (text : List ℕ) → IsPrinted ms text → text ≡ moment_text ms

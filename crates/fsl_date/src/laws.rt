@@ -1,7 +1,8 @@
 //! What holds of all dates. These calls do nothing; a proof takes their clauses.
 ghost use Rattle.fsl_date.specs.Moment.{DatesReadAsWritten, IsAlwaysPrinted, IsPrintedOnce};
 
-/// Each moment has a text, and no other; and each text of a date is read as its moment, and no other text.
+/// The text of each moment is that of its date and time of day, and no other text is; each text of a date is read as its moment, and
+/// no other text is read.
 pub fn dates_have_one_text()
     ensures printed { IsAlwaysPrinted }
     ensures once { IsPrintedOnce }

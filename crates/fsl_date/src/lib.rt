@@ -2,8 +2,8 @@
 //! the years 0000 to 9999 and without a zone. It is read in this form and in the one without milliseconds, and in no other.
 #![tactic(auto)]
 
-ghost use Rattle.std.specs.Prelude.{◌≡◌, ◌++◌, ◌+ℤ◌, ◌≤ℤ◌, ◌<ℤ◌, ◌↔◌, ◌⊎◌, ℕ, List, pos, neg_ℤ, IsSome, IsNone, IfSome, Some, codes, length};
-ghost use Rattle.fsl_date.specs.Moment.{date_in, IsMoment, IsPrinted, IsDateText};
+ghost use Rattle.std.specs.Prelude.{◌≡◌, ◌++◌, ◌+ℤ◌, ◌≤ℤ◌, ◌<ℤ◌, ◌↔◌, ◌⊎◌, ℕ, pos, neg_ℤ, IsSome, IsNone, IfSome, Some, codes, length};
+ghost use Rattle.fsl_date.specs.Moment.{date_in, moment_text, IsMoment, IsDateText};
 
 mod calendar;
 mod clock;
@@ -91,9 +91,9 @@ impl Moment {
 
     /// Prints the moment as `YYYY-MM-DDTHH:MM:SS.SSS`.
     pub fn text(&self) -> [u8; 23]
-        ensures printed { IsPrinted self.now result }
+        ensures value { result ≡ moment_text self.now }
         ensures again { date_in result ≡ Some self.now }
-        ensures only { (other : List ℕ) → IsPrinted self.now other → other ≡ result }
+        ensures moment { IsMoment self.now }
     {
         let day = Day::of_number(self.since_year_zero / MS_OF_DAY);
         let time = Time::of_ms(self.since_year_zero % MS_OF_DAY);

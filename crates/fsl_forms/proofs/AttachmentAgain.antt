@@ -8,7 +8,7 @@ use Rattle.fsl_text.specs.Escapes.{escape}
 use Rattle.fsl_text.proofs.Unescaping.{unescape-escape}
 use Rattle.fsl_name.specs.Name.{IsName, name_text}
 use Rattle.fsl_name.proofs.ReadAgain.{name_again}
-use Rattle.fsl_date.specs.Moment.{IsPrinted}
+use Rattle.fsl_date.specs.Moment.{IsMoment, moment_text}
 use Rattle.fsl_card.specs.declared.types.Card.{Card}
 use Rattle.fsl_card.specs.Cards.{IsTextOf, is_argument}
 use Rattle.fsl_grammar.specs.Letters.{attachment_letters}
@@ -18,16 +18,16 @@ use Rattle.fsl_grammar.proofs.Apart.{first_holds, second_holds}
 use Rattle.fsl_grammar.proofs.WrittenArguments.{both_hold, is_argument-date, is_argument-escape, is_argument-name}
 use Rattle.fsl_grammar.proofs.Blocks.{AreBlocks, at_most_one_if, one_block, single_block}
 use Rattle.fsl_grammar.proofs.FormsAgain.{date_again}
-use Rattle.fsl_forms.proofs.BlockLemmas.{by_form, letters_are, one_read, text_block, text_is, text_read, user_read}
+use Rattle.fsl_grammar.proofs.BlockLemmas.{by_form, letters_are, one_read, text_block, text_is, text_read, user_read}
 use Rattle.fsl_forms.specs.declared.attachment.Attachment.{Attachment}
 use Rattle.fsl_forms.specs.Kinds.{IsAttachment, attached_form}
 use Rattle.fsl_forms.specs.WellFormed.{is_attachment_well_formed}
 use Rattle.fsl_forms.specs.Writing.{IsAttachmentText, attached_card, attachment_cards}
 
 -- the cards before the Z card
-abbrev blocks : List ℕ → Attachment → List (ℕ × List Card)
-blocks date a =
-    (65, attached_card a ∷ []) ∷ (67, card_if 67 escape a.comment) ∷ (68, card 68 (date ∷ []) ∷ []) ∷ (78, card_if 78 escape a.mime) ∷ (85, card_if 85 escape a.user) ∷ []
+abbrev blocks : Attachment → List (ℕ × List Card)
+blocks a =
+    (65, attached_card a ∷ []) ∷ (67, card_if 67 escape a.comment) ∷ (68, card 68 (moment_text a.date ∷ []) ∷ []) ∷ (78, card_if 78 escape a.mime) ∷ (85, card_if 85 escape a.user) ∷ []
 
 regroup : (c n u : List Card) (a d : Card) → a ∷ (c ++ (d ∷ (n ++ (u ++ [])))) ≡ ((a ∷ c) ++ (d ∷ n)) ++ u
 regroup c n u a d = simp (append_assoc, append-nil)
@@ -41,7 +41,7 @@ source_argument : (source : Option (List ℕ)) → AllByRecursion IsName (option
 source_argument None h = refl
 source_argument (Some name) h = both_hold _ _ (is_argument-name name h.0) refl
 
-module _ (a : Attachment) (named : AllByRecursion IsName (option_to_list a.source)) (w : is_attachment_well_formed a ≡ true) where
+module _ (a : Attachment) (named : AllByRecursion IsName (option_to_list a.source)) (moment : IsMoment a.date) (w : is_attachment_well_formed a ≡ true) where
   w3 : (not (is_empty a.file) && not (is_empty a.target) && is_filled a.comment && is_filled a.mime) ≡ true
   w3 = first_holds _ (is_filled a.user) w
 
@@ -56,13 +56,13 @@ module _ (a : Attachment) (named : AllByRecursion IsName (option_to_list a.sourc
       both_hold _ _ (is_argument-escape a.file (first_holds _ (not (is_empty a.target)) w1))
       (both_hold _ _ (is_argument-escape a.target (second_holds (not (is_empty a.file)) _ w1)) (source_argument a.source named))
 
-  are_blocks : (date : List ℕ) → IsPrinted a.date date → AreBlocks (blocks date a)
-  are_blocks date printed = (
+  are_blocks : AreBlocks (blocks a)
+  are_blocks = (
     one_block 65 (escape a.file ∷ escape a.target ∷ written_if name_text a.source) refl arguments_fit,
     (
       text_block 67 a.comment refl (second_holds (not (is_empty a.file) && not (is_empty a.target)) _ w2),
       (
-        single_block 68 date refl (is_argument-date a.date date printed),
+        single_block 68 (moment_text a.date) refl (is_argument-date a.date),
         (
           text_block 78 a.mime refl (second_holds (not (is_empty a.file) && not (is_empty a.target) && is_filled a.comment) _ w3),
           (text_block 85 a.user refl (second_holds (not (is_empty a.file) && not (is_empty a.target) && is_filled a.comment && is_filled a.mime) _ w), tt),
@@ -73,19 +73,19 @@ module _ (a : Attachment) (named : AllByRecursion IsName (option_to_list a.sourc
 
   pub attachment_again : (text : List ℕ) → IsAttachmentText text a → IsTextOf IsAttachment text a
   attachment_again text made =
-      let date = made.0 in
-      let b = are_blocks date made.1 in
+      let date = moment_text a.date in
+      let b = are_blocks in
       let same = regroup (card_if 67 escape a.comment) (card_if 78 escape a.mime) (card_if 85 escape a.user) (attached_card a) (card 68 (date ∷ [])) in
-      text_is (blocks date a) b IsAttachment a text (attachment_cards date a) refl same made.2 (record {
-        letters = letters_are (blocks date a) b attachment_letters (record {
+      text_is (blocks a) b IsAttachment a text (attachment_cards a) refl same made (record {
+        letters = letters_are (blocks a) b attachment_letters (record {
           once = refl;
           optional = both_hold _ _ (at_most_one_if 67 escape a.comment) (both_hold _ _ (at_most_one_if 78 escape a.mime) (both_hold _ _ (at_most_one_if 85 escape a.user) refl));
           some = refl;
           known = refl;
         });
-        attached = by_form (blocks date a) b 65 attached_form _ (one_read attached_form (attached_card a).args (record { file = a.file; target = a.target; source = a.source }) (attached_again a.file a.target a.source named));
-        comment = by_form (blocks date a) b 67 text_form _ (text_read 67 a.comment);
-        date = by_form (blocks date a) b 68 date_form _ (one_read date_form (date ∷ []) a.date (date_again a.date date made.1));
-        mime = by_form (blocks date a) b 78 text_form _ (text_read 78 a.mime);
-        user = by_form (blocks date a) b 85 user_form _ (user_read 85 a.user);
+        attached = by_form (blocks a) b 65 attached_form _ (one_read attached_form (attached_card a).args (record { file = a.file; target = a.target; source = a.source }) (attached_again a.file a.target a.source named));
+        comment = by_form (blocks a) b 67 text_form _ (text_read 67 a.comment);
+        date = by_form (blocks a) b 68 date_form _ (one_read date_form (date ∷ []) a.date (date_again a.date moment));
+        mime = by_form (blocks a) b 78 text_form _ (text_read 78 a.mime);
+        user = by_form (blocks a) b 85 user_form _ (user_read 85 a.user);
       })

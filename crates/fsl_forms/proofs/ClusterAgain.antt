@@ -12,7 +12,7 @@ use Rattle.fsl_grammar.proofs.Apart.{first_holds, second_holds}
 use Rattle.fsl_grammar.proofs.WrittenArguments.{both_hold, is_argument-name}
 use Rattle.fsl_grammar.proofs.Blocks.{AreBlocks, block_each, plain_card}
 use Rattle.fsl_grammar.proofs.FormsAgain.{hash_again, read_each}
-use Rattle.fsl_forms.proofs.BlockLemmas.{by_form, letters_are, some_cards, text_is}
+use Rattle.fsl_grammar.proofs.BlockLemmas.{by_form, letters_are, some_cards, text_is}
 use Rattle.fsl_forms.specs.declared.cluster.Cluster.{Cluster}
 use Rattle.fsl_forms.specs.Kinds.{IsCluster}
 use Rattle.fsl_forms.specs.WellFormed.{is_cluster_well_formed}

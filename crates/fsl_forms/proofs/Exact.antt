@@ -9,6 +9,8 @@ use Rattle.fsl_grammar.specs.declared.TagCard.{TagCard}
 use Rattle.fsl_grammar.specs.Letters.{Letters, cluster_letters, control_letters, has_letters, letter_count, ticket_letters}
 use Rattle.fsl_grammar.specs.Forms.{HasAtMostOne, HasEach, HasOne, arguments, hash_form, is_filled, is_tag_written, tag_form, text_form, user_form}
 use Rattle.fsl_grammar.proofs.Apart.{first_holds, second_holds}
+use Rattle.fsl_grammar.proofs.LetterOrder.{all_of_it, kept_in_order, of_it}
+use Rattle.fsl_grammar.proofs.ReadValues.{all_true, each_given, filled, fit_arguments, optional_filled, some_given, tag_read, text_filled, user_filled}
 use Rattle.fsl_grammar.proofs.WrittenArguments.{both_hold}
 use Rattle.fsl_forms.specs.declared.attachment.Attachment.{Attachment}
 use Rattle.fsl_forms.specs.declared.cluster.Cluster.{Cluster}
@@ -19,8 +21,8 @@ use Rattle.fsl_forms.specs.declared.ticket.Ticket.{Ticket}
 use Rattle.fsl_forms.specs.declared.wiki.Wiki.{Wiki}
 use Rattle.fsl_forms.specs.Kinds.{IsAttachment, IsCluster, IsControl, IsForum, IsTechnote, IsTicket, IsWiki, Attached, attached_form, change_form}
 use Rattle.fsl_forms.specs.WellFormed.{is_attachment_well_formed, is_change_written, is_cluster_well_formed, is_control_well_formed, is_forum_well_formed, is_technote_well_formed, is_ticket_well_formed, is_wiki_well_formed}
-use Rattle.fsl_forms.proofs.KeptOrder.{all_of_it, kept_in_order, of_it, rises_from}
-use Rattle.fsl_forms.proofs.ReadLemmas.{all_true, attached_read, change_read, each_given, filled, fit_arguments, optional_filled, some_given, tag_read, text_filled, user_filled}
+use Rattle.fsl_forms.proofs.MemberOrder.{rises_from}
+use Rattle.fsl_forms.proofs.FormReadLemmas.{attached_read, change_read}
 
 -- the one letter that a kind has one time or more
 some_of : (kind : Letters) (letter : ℕ) (cards : List Card) → kind.some ≡ letter ∷ [] → has_letters kind cards ≡ true → nat_le 1 (letter_count cards letter) ≡ true

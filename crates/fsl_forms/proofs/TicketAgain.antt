@@ -6,7 +6,7 @@ use Rattle.fsl_text.specs.Bytes.{is_empty}
 use Rattle.fsl_text.specs.Escapes.{escape, unescape}
 use Rattle.fsl_text.proofs.Unescaping.{unescape-escape}
 use Rattle.fsl_name.specs.Name.{IsName, name_text}
-use Rattle.fsl_date.specs.Moment.{IsPrinted}
+use Rattle.fsl_date.specs.Moment.{IsMoment, moment_text}
 use Rattle.fsl_card.specs.declared.types.Card.{Card}
 use Rattle.fsl_card.specs.Cards.{IsCard, IsTextOf, are_field_arguments, in_order, is_argument}
 use Rattle.fsl_grammar.specs.Letters.{ticket_letters}
@@ -16,7 +16,7 @@ use Rattle.fsl_grammar.proofs.Apart.{first_holds, second_holds}
 use Rattle.fsl_grammar.proofs.WrittenArguments.{both_hold, is_argument-date, is_argument-escape, is_argument-name}
 use Rattle.fsl_grammar.proofs.Blocks.{AreBlocks, block_each, single_block}
 use Rattle.fsl_grammar.proofs.FormsAgain.{date_again, hash_again, read_each, user_again}
-use Rattle.fsl_forms.proofs.BlockLemmas.{all_hold, by_form, letters_are, one_read, some_cards, text_is}
+use Rattle.fsl_grammar.proofs.BlockLemmas.{all_hold, by_form, letters_are, one_read, some_cards, text_is}
 use Rattle.fsl_forms.specs.declared.ticket.TicketChange.{TicketChange}
 use Rattle.fsl_forms.specs.declared.ticket.Ticket.{Ticket}
 use Rattle.fsl_forms.specs.Kinds.{IsTicket, change_form, change_in}
@@ -80,20 +80,20 @@ changes_ordered (a ∷ b ∷ changes) = changes_ordered (b ∷ changes)
 -- ---- all cards
 
 -- the cards before the Z card
-abbrev blocks : List ℕ → Ticket → List (ℕ × List Card)
-blocks date t =
-    (68, card 68 (date ∷ []) ∷ []) ∷ (74, map change_card t.changes) ∷ (75, card 75 (name_text t.id ∷ []) ∷ []) ∷ (85, card 85 (escape t.user ∷ []) ∷ []) ∷ []
+abbrev blocks : Ticket → List (ℕ × List Card)
+blocks t =
+    (68, card 68 (moment_text t.date ∷ []) ∷ []) ∷ (74, map change_card t.changes) ∷ (75, card 75 (name_text t.id ∷ []) ∷ []) ∷ (85, card 85 (escape t.user ∷ []) ∷ []) ∷ []
 
-module _ (t : Ticket) (named : IsName t.id) (w : is_ticket_well_formed t ≡ true) where
+module _ (t : Ticket) (named : IsName t.id) (moment : IsMoment t.date) (w : is_ticket_well_formed t ≡ true) where
   begin : (not (is_empty t.changes) && list_all is_change_written t.changes) ≡ true
   begin = first_holds _ (not (is_empty t.user)) w
 
   fit : AllByRecursion (λ c. is_change_written c ≡ true) t.changes
   fit = all_hold is_change_written t.changes (second_holds (not (is_empty t.changes)) _ begin)
 
-  are_blocks : (date : List ℕ) → IsPrinted t.date date → AreBlocks (blocks date t)
-  are_blocks date printed = (
-    single_block 68 date refl (is_argument-date t.date date printed),
+  are_blocks : AreBlocks (blocks t)
+  are_blocks = (
+    single_block 68 (moment_text t.date) refl (is_argument-date t.date),
     (
       block_each 74 change_card (λ c. is_change_written c ≡ true) (λ c. refl) whole t.changes fit (changes_ordered t.changes),
       (
@@ -105,17 +105,17 @@ module _ (t : Ticket) (named : IsName t.id) (w : is_ticket_well_formed t ≡ tru
 
   pub ticket_again : (text : List ℕ) → IsTicketText text t → IsTextOf IsTicket text t
   ticket_again text made =
-      let date = made.0 in
-      let b = are_blocks date made.1 in
-      text_is (blocks date t) b IsTicket t text (ticket_cards date t) refl refl made.2 (record {
-        letters = letters_are (blocks date t) b ticket_letters (record {
+      let date = moment_text t.date in
+      let b = are_blocks in
+      text_is (blocks t) b IsTicket t text (ticket_cards t) refl refl made (record {
+        letters = letters_are (blocks t) b ticket_letters (record {
           once = refl;
           optional = refl;
           some = both_hold _ _ (some_cards change_card t.changes (first_holds _ (list_all is_change_written t.changes) begin)) refl;
           known = refl;
         });
-        date = by_form (blocks date t) b 68 date_form _ (one_read date_form (date ∷ []) t.date (date_again t.date date made.1));
-        changes = by_form (blocks date t) b 74 change_form _ (read_each change_card change_form (λ c. is_change_written c ≡ true) change_again t.changes fit);
-        id = by_form (blocks date t) b 75 hash_form _ (one_read hash_form (name_text t.id ∷ []) t.id (hash_again t.id named));
-        user = by_form (blocks date t) b 85 user_form _ (one_read user_form (escape t.user ∷ []) t.user (user_again t.user));
+        date = by_form (blocks t) b 68 date_form _ (one_read date_form (date ∷ []) t.date (date_again t.date moment));
+        changes = by_form (blocks t) b 74 change_form _ (read_each change_card change_form (λ c. is_change_written c ≡ true) change_again t.changes fit);
+        id = by_form (blocks t) b 75 hash_form _ (one_read hash_form (name_text t.id ∷ []) t.id (hash_again t.id named));
+        user = by_form (blocks t) b 85 user_form _ (one_read user_form (escape t.user ∷ []) t.user (user_again t.user));
       })

@@ -5,7 +5,7 @@ use Rattle.std.specs.List.{AllByRecursion}
 use Rattle.fsl_text.specs.Bytes.{is_empty}
 use Rattle.fsl_text.specs.Escapes.{escape}
 use Rattle.fsl_name.specs.Name.{IsName, name_in}
-use Rattle.fsl_date.specs.Moment.{IsPrinted}
+use Rattle.fsl_date.specs.Moment.{IsMoment, moment_text}
 use Rattle.fsl_card.specs.declared.types.Card.{Card}
 use Rattle.fsl_card.specs.Cards.{IsTextOf}
 use Rattle.fsl_grammar.specs.Letters.{wiki_letters}
@@ -15,25 +15,25 @@ use Rattle.fsl_grammar.proofs.Apart.{first_holds, second_holds}
 use Rattle.fsl_grammar.proofs.WrittenArguments.{both_hold, is_argument-date, is_argument-escape}
 use Rattle.fsl_grammar.proofs.Blocks.{AreBlocks, at_most_one_if, single_block}
 use Rattle.fsl_grammar.proofs.FormsAgain.{at_most_one_parents, date_again, parents_again, parents_block, text_again, user_again}
-use Rattle.fsl_forms.proofs.BlockLemmas.{body_again, body_block, by_form, letters_are, no_bodies-if, no_bodies-parents, of_letter, one_read, text_block, text_is, text_read}
+use Rattle.fsl_grammar.proofs.BlockLemmas.{body_again, body_block, by_form, letters_are, no_bodies-if, no_bodies-parents, of_letter, one_read, text_block, text_is, text_read}
 use Rattle.fsl_forms.specs.declared.wiki.Wiki.{Wiki}
 use Rattle.fsl_forms.specs.Kinds.{IsWiki}
 use Rattle.fsl_forms.specs.WellFormed.{is_wiki_well_formed}
 use Rattle.fsl_forms.specs.Writing.{IsWikiText, wiki_cards}
 
 -- the cards before the W card, and before the Z card
-abbrev front : List ℕ → Wiki → List (ℕ × List Card)
-front date w =
-    (67, card_if 67 escape w.comment) ∷ (68, card 68 (date ∷ []) ∷ []) ∷ (76, card 76 (escape w.title ∷ []) ∷ []) ∷ (78, card_if 78 escape w.mime)
+abbrev front : Wiki → List (ℕ × List Card)
+front w =
+    (67, card_if 67 escape w.comment) ∷ (68, card 68 (moment_text w.date ∷ []) ∷ []) ∷ (76, card 76 (escape w.title ∷ []) ∷ []) ∷ (78, card_if 78 escape w.mime)
     ∷ (80, parents_card w.parents) ∷ (85, card 85 (escape w.user ∷ []) ∷ []) ∷ []
 
-abbrev blocks : List ℕ → Wiki → List (ℕ × List Card)
-blocks date w = front date w ++ (87, body_card w.text ∷ []) ∷ []
+abbrev blocks : Wiki → List (ℕ × List Card)
+blocks w = front w ++ (87, body_card w.text ∷ []) ∷ []
 
 regroup : (c n p t : List Card) (d l : Card) → c ++ (d ∷ (l ∷ (n ++ (p ++ t)))) ≡ ((c ++ (d ∷ l ∷ n)) ++ p) ++ t
 regroup c n p t d l = simp append_assoc
 
-module _ (w : Wiki) (named : AllByRecursion IsName w.parents) (long : length w.text < 2 ^ 64) (written : is_wiki_well_formed w ≡ true) where
+module _ (w : Wiki) (named : AllByRecursion IsName w.parents) (moment : IsMoment w.date) (long : length w.text < 2 ^ 64) (written : is_wiki_well_formed w ≡ true) where
   w3 : (is_filled w.comment && not (is_empty w.title) && is_filled w.mime && all_differ w.parents) ≡ true
   w3 = first_holds _ (not (is_empty w.user)) written
 
@@ -43,11 +43,11 @@ module _ (w : Wiki) (named : AllByRecursion IsName w.parents) (long : length w.t
   w1 : (is_filled w.comment && not (is_empty w.title)) ≡ true
   w1 = first_holds _ (is_filled w.mime) w2
 
-  are_blocks : (date : List ℕ) → IsPrinted w.date date → AreBlocks (blocks date w)
-  are_blocks date printed = (
+  are_blocks : AreBlocks (blocks w)
+  are_blocks = (
     text_block 67 w.comment refl (first_holds _ (not (is_empty w.title)) w1),
     (
-      single_block 68 date refl (is_argument-date w.date date printed),
+      single_block 68 (moment_text w.date) refl (is_argument-date w.date),
       (
         single_block 76 (escape w.title) refl (is_argument-escape w.title (second_holds (is_filled w.comment) _ w1)),
         (
@@ -66,24 +66,24 @@ module _ (w : Wiki) (named : AllByRecursion IsName w.parents) (long : length w.t
 
   pub wiki_again : (text : List ℕ) → IsWikiText text w → IsTextOf IsWiki text w
   wiki_again text made =
-      let date = made.0 in
-      let b = are_blocks date made.1 in
+      let date = moment_text w.date in
+      let b = are_blocks in
       let same = regroup (card_if 67 escape w.comment) (card_if 78 escape w.mime) (parents_card w.parents) (card 85 (escape w.user ∷ []) ∷ body_card w.text ∷ []) (card 68 (date ∷ [])) (card 76 (escape w.title ∷ [])) in
-      text_is (blocks date w) b IsWiki w text (wiki_cards date w) refl same made.2 (record {
-        letters = letters_are (blocks date w) b wiki_letters (record {
+      text_is (blocks w) b IsWiki w text (wiki_cards w) refl same made (record {
+        letters = letters_are (blocks w) b wiki_letters (record {
           once = refl;
           optional = both_hold _ _ (at_most_one_if 67 escape w.comment) (both_hold _ _ (at_most_one_if 78 escape w.mime) (both_hold _ _ (at_most_one_parents w.parents) refl));
           some = refl;
           known = refl;
         });
-        comment = by_form (blocks date w) b 67 text_form _ (text_read 67 w.comment);
-        date = by_form (blocks date w) b 68 date_form _ (one_read date_form (date ∷ []) w.date (date_again w.date date made.1));
-        title = by_form (blocks date w) b 76 text_form _ (one_read text_form (escape w.title ∷ []) w.title (text_again w.title));
-        mime = by_form (blocks date w) b 78 text_form _ (text_read 78 w.mime);
+        comment = by_form (blocks w) b 67 text_form _ (text_read 67 w.comment);
+        date = by_form (blocks w) b 68 date_form _ (one_read date_form (date ∷ []) w.date (date_again w.date moment));
+        title = by_form (blocks w) b 76 text_form _ (one_read text_form (escape w.title ∷ []) w.title (text_again w.title));
+        mime = by_form (blocks w) b 78 text_form _ (text_read 78 w.mime);
         parents = record {
-          names = ap (λ (found : List (List (List ℕ))). map name_in (flat_map (λ args. args) found)) (of_letter (blocks date w) b 80) ∙ parents_again w.parents named;
+          names = ap (λ (found : List (List (List ℕ))). map name_in (flat_map (λ args. args) found)) (of_letter (blocks w) b 80) ∙ parents_again w.parents named;
           differ = second_holds (is_filled w.comment && not (is_empty w.title) && is_filled w.mime) _ w3;
         };
-        user = by_form (blocks date w) b 85 user_form _ (one_read user_form (escape w.user ∷ []) w.user (user_again w.user));
-        text = body_again (front date w) w.text (no_bodies-if 67 escape w.comment, (refl, (refl, (no_bodies-if 78 escape w.mime, (no_bodies-parents w.parents, (refl, tt))))));
+        user = by_form (blocks w) b 85 user_form _ (one_read user_form (escape w.user ∷ []) w.user (user_again w.user));
+        text = body_again (front w) w.text (no_bodies-if 67 escape w.comment, (refl, (refl, (no_bodies-if 78 escape w.mime, (no_bodies-parents w.parents, (refl, tt))))));
       })

@@ -9,7 +9,7 @@ use Rattle.fsl_forms.specs.WellFormed.{is_cluster_well_formed, is_control_well_f
 use Rattle.std.specs.Prelude.{◌≡◌, ◌↔◌, ℕ, ◌<◌, ◌^◌, List, [], ◌∷◌, ◌++◌, length, map, if◌then◌else◌}
 use Rattle.fsl_text.specs.Escapes.{escape}
 use Rattle.fsl_name.specs.Name.{name_text}
-use Rattle.fsl_date.specs.Moment.{IsMoment, IsPrinted}
+use Rattle.fsl_date.specs.Moment.{IsMoment, moment_text}
 use Rattle.fsl_card.specs.declared.types.Card.{Card}
 use Rattle.fsl_forms.specs.declared.cluster.Cluster.{Cluster}
 use Rattle.fsl_forms.specs.declared.control.Control.{Control}
@@ -25,42 +25,41 @@ use Rattle.fsl_grammar.specs.Writing.{card, written_if, card_if, parents_card, b
 abbrev pub cluster_cards : Cluster → List Card
 cluster_cards c = map (λ name. card 77 (name_text name ∷ [])) c.members
 
-abbrev pub control_cards : List ℕ → Control → List Card
-control_cards date c = card 68 (date ∷ []) ∷ map tag_card c.tags ++ card 85 (escape c.user ∷ []) ∷ []
+abbrev pub control_cards : Control → List Card
+control_cards c = card 68 (moment_text c.date ∷ []) ∷ map tag_card c.tags ++ card 85 (escape c.user ∷ []) ∷ []
 
-abbrev pub wiki_cards : List ℕ → Wiki → List Card
-wiki_cards date w =
-    card_if 67 escape w.comment ++ card 68 (date ∷ []) ∷ card 76 (escape w.title ∷ []) ∷ card_if 78 escape w.mime
+abbrev pub wiki_cards : Wiki → List Card
+wiki_cards w =
+    card_if 67 escape w.comment ++ card 68 (moment_text w.date ∷ []) ∷ card 76 (escape w.title ∷ []) ∷ card_if 78 escape w.mime
     ++ parents_card w.parents ++ card 85 (escape w.user ∷ []) ∷ body_card w.text ∷ []
 
 -- a `+` stands before a field that is appended to
 abbrev pub change_card : TicketChange → Card
 change_card c = card 74 (escape (if c.append then 43 ∷ c.field else c.field) ∷ written_if escape c.value)
 
-abbrev pub ticket_cards : List ℕ → Ticket → List Card
-ticket_cards date t =
-    card 68 (date ∷ []) ∷ map change_card t.changes ++ card 75 (name_text t.id ∷ []) ∷ card 85 (escape t.user ∷ []) ∷ []
+abbrev pub ticket_cards : Ticket → List Card
+ticket_cards t =
+    card 68 (moment_text t.date ∷ []) ∷ map change_card t.changes ++ card 75 (name_text t.id ∷ []) ∷ card 85 (escape t.user ∷ []) ∷ []
 
 abbrev pub attached_card : Attachment → Card
 attached_card a = card 65 (escape a.file ∷ escape a.target ∷ written_if name_text a.source)
 
-abbrev pub attachment_cards : List ℕ → Attachment → List Card
-attachment_cards date a =
+abbrev pub attachment_cards : Attachment → List Card
+attachment_cards a =
     attached_card a ∷ card_if 67 escape a.comment
-    ++ card 68 (date ∷ []) ∷ card_if 78 escape a.mime ++ card_if 85 escape a.user
+    ++ card 68 (moment_text a.date ∷ []) ∷ card_if 78 escape a.mime ++ card_if 85 escape a.user
 
 abbrev pub event_card : List ℕ → List ℕ → Card
 event_card time id = card 69 (time ∷ name_text id ∷ [])
 
--- `time` is the text of the note's time
-abbrev pub technote_cards : List ℕ → List ℕ → Technote → List Card
-technote_cards date time n =
-    card_if 67 escape n.comment ++ card 68 (date ∷ []) ∷ event_card time n.id ∷ card_if 78 escape n.mime
+abbrev pub technote_cards : Technote → List Card
+technote_cards n =
+    card_if 67 escape n.comment ++ card 68 (moment_text n.date ∷ []) ∷ event_card (moment_text n.time) n.id ∷ card_if 78 escape n.mime
     ++ parents_card n.parents ++ map tag_card n.tags ++ card_if 85 escape n.user ++ body_card n.text ∷ []
 
-abbrev pub forum_cards : List ℕ → Forum → List Card
-forum_cards date f =
-    card 68 (date ∷ []) ∷ card_if 71 name_text f.root ++ card_if 72 escape f.title ++ card_if 73 name_text f.reply
+abbrev pub forum_cards : Forum → List Card
+forum_cards f =
+    card 68 (moment_text f.date ∷ []) ∷ card_if 71 name_text f.root ++ card_if 72 escape f.title ++ card_if 73 name_text f.reply
     ++ card_if 78 escape f.mime ++ card_if 80 name_text f.prior ++ card 85 (escape f.user ∷ []) ∷ body_card f.text ∷ []
 
 -- ---- texts
@@ -69,25 +68,24 @@ abbrev pub IsClusterText : List ℕ → Cluster → Type 0
 IsClusterText text c = text ≡ sealed_text (cluster_cards c)
 
 abbrev pub IsControlText : List ℕ → Control → Type 0
-IsControlText text c = (date : List ℕ) × IsPrinted c.date date × (text ≡ sealed_text (control_cards date c))
+IsControlText text c = text ≡ sealed_text (control_cards c)
 
 abbrev pub IsWikiText : List ℕ → Wiki → Type 0
-IsWikiText text w = (date : List ℕ) × IsPrinted w.date date × (text ≡ sealed_text (wiki_cards date w))
+IsWikiText text w = text ≡ sealed_text (wiki_cards w)
 
 abbrev pub IsTicketText : List ℕ → Ticket → Type 0
-IsTicketText text t = (date : List ℕ) × IsPrinted t.date date × (text ≡ sealed_text (ticket_cards date t))
+IsTicketText text t = text ≡ sealed_text (ticket_cards t)
 
 abbrev pub IsAttachmentText : List ℕ → Attachment → Type 0
-IsAttachmentText text a = (date : List ℕ) × IsPrinted a.date date × (text ≡ sealed_text (attachment_cards date a))
+IsAttachmentText text a = text ≡ sealed_text (attachment_cards a)
 
 abbrev pub IsForumText : List ℕ → Forum → Type 0
-IsForumText text f = (date : List ℕ) × IsPrinted f.date date × (text ≡ sealed_text (forum_cards date f))
+IsForumText text f = text ≡ sealed_text (forum_cards f)
 
 abbrev pub IsTechnoteText : List ℕ → Technote → Type 0
-IsTechnoteText text n =
-    (date time : List ℕ) × IsPrinted n.date date × IsPrinted n.time time × (text ≡ sealed_text (technote_cards date time n))
+IsTechnoteText text n = text ≡ sealed_text (technote_cards n)
 
--- ---- a law, to be proved
+-- ---- laws
 
 -- names are names, as their type keeps it, and a text has fewer than 2^64 bytes, as memory does
 abbrev pub AreNames : List (List ℕ) → Type 0
@@ -99,12 +97,12 @@ targets tags = flat_map (λ t. option_to_list t.target) tags
 -- what is written reads back
 pub record AreReadBack : Type 0 where
   pub cluster : (c : Cluster) (text : List ℕ) → AreNames c.members → IsTrue (is_cluster_well_formed c) → IsClusterText text c → IsTextOf IsCluster text c
-  pub control : (c : Control) (text : List ℕ) → AreNames (targets c.tags) → IsTrue (is_control_well_formed c) → IsControlText text c → IsTextOf IsControl text c
-  pub wiki : (w : Wiki) (text : List ℕ) → AreNames w.parents → length w.text < 2 ^ 64 → IsTrue (is_wiki_well_formed w) → IsWikiText text w → IsTextOf IsWiki text w
-  pub ticket : (t : Ticket) (text : List ℕ) → IsName t.id → IsTrue (is_ticket_well_formed t) → IsTicketText text t → IsTextOf IsTicket text t
-  pub attachment : (a : Attachment) (text : List ℕ) → AreNames (option_to_list a.source) → IsTrue (is_attachment_well_formed a) → IsAttachmentText text a → IsTextOf IsAttachment text a
-  pub technote : (n : Technote) (text : List ℕ) → AreNames (n.id ∷ n.parents ++ targets n.tags) → length n.text < 2 ^ 64 → IsTrue (is_technote_well_formed n) → IsTechnoteText text n → IsTextOf IsTechnote text n
-  pub forum : (f : Forum) (text : List ℕ) → AreNames (option_to_list f.root ++ option_to_list f.reply ++ option_to_list f.prior) → length f.text < 2 ^ 64 → IsTrue (is_forum_well_formed f) → IsForumText text f → IsTextOf IsForum text f
+  pub control : (c : Control) (text : List ℕ) → AreNames (targets c.tags) → IsMoment c.date → IsTrue (is_control_well_formed c) → IsControlText text c → IsTextOf IsControl text c
+  pub wiki : (w : Wiki) (text : List ℕ) → AreNames w.parents → IsMoment w.date → length w.text < 2 ^ 64 → IsTrue (is_wiki_well_formed w) → IsWikiText text w → IsTextOf IsWiki text w
+  pub ticket : (t : Ticket) (text : List ℕ) → IsName t.id → IsMoment t.date → IsTrue (is_ticket_well_formed t) → IsTicketText text t → IsTextOf IsTicket text t
+  pub attachment : (a : Attachment) (text : List ℕ) → AreNames (option_to_list a.source) → IsMoment a.date → IsTrue (is_attachment_well_formed a) → IsAttachmentText text a → IsTextOf IsAttachment text a
+  pub technote : (n : Technote) (text : List ℕ) → AreNames (n.id ∷ n.parents ++ targets n.tags) → IsMoment n.date → IsMoment n.time → length n.text < 2 ^ 64 → IsTrue (is_technote_well_formed n) → IsTechnoteText text n → IsTextOf IsTechnote text n
+  pub forum : (f : Forum) (text : List ℕ) → AreNames (option_to_list f.root ++ option_to_list f.reply ++ option_to_list f.prior) → IsMoment f.date → length f.text < 2 ^ 64 → IsTrue (is_forum_well_formed f) → IsForumText text f → IsTextOf IsForum text f
 
 -- each value can be written exactly where some text is it
 pub record AreWrittenExactly : Type 0 where

@@ -1,16 +1,17 @@
 //! Files that are attached to pages, tickets and technotes.
-ghost use Rattle.std.specs.Prelude.{◌≡◌, ◌++◌, List, ℕ, IfOk, IsTrue, OnOk};
+ghost use Rattle.std.specs.Prelude.{◌≡◌, ◌++◌, IfOk, IsTrue, OnOk};
 ghost use Rattle.fsl_card.specs.Cards.{IsReading, IsTextOf, card_text, text_of};
-ghost use Rattle.fsl_date.specs.Moment.{IsPrinted};
+ghost use Rattle.fsl_date.specs.Moment.{IsMoment};
 ghost use Rattle.fsl_forms.specs.Kinds.{IsAttachment, attached_form};
 ghost use Rattle.fsl_forms.specs.WellFormed.{is_attachment_well_formed};
 ghost use Rattle.fsl_forms.specs.Writing.{IsAttachmentText, attached_card, attachment_cards};
+ghost use Rattle.fsl_grammar.specs.Reading.{IsRead};
 
 use fsl_card::{Card, Cards, finish};
 use fsl_date::Moment;
 use fsl_grammar::{
-    DateForm, Form, TextForm, UserForm, at_most_one, begin_card, end_card, has_attachment_letters,
-    is_filled, know_name, one, read_hash, write_card, write_optional_name,
+    DateForm, Form, TextForm, Unread, UserForm, at_most_one, begin_card, end_card,
+    has_attachment_letters, is_filled, know_name, one, read_hash, write_card, write_optional_name,
     write_optional_text_card, write_text,
 };
 use fsl_name::Name;
@@ -43,7 +44,11 @@ impl Attachment {
     pub fn read(alloc: Global, cards: &Cards) -> Result<Option<Attachment>, Memory>
         ensures { IfOk result (IsReading IsAttachment cards.now) }
     {
-        read_cards(alloc, cards.items())
+        match read_cards(alloc, cards.items()) {
+            Ok(attachment) => Ok(Some(attachment)),
+            Err(Unread::Form) => Ok(None),
+            Err(Unread::Memory) => Err(Memory),
+        }
     }
 
     /// Whether the attachment can be written: the file, the target, and the comment, the type and the user where they are there have a
@@ -73,7 +78,7 @@ impl Attachment {
 
     /// Puts all cards but the Z card at the end of a text.
     fn write_cards(&self, into: &mut Text) -> Result<(), Memory>
-        ensures { OnOk result ((date : List ℕ) × IsPrinted self.now.date date × (into.new ≡ into.old ++ text_of (attachment_cards date self.now))) }
+        ensures { OnOk result (IsMoment self.now.date × (into.new ≡ into.old ++ text_of (attachment_cards self.now))) }
     {
         self.write_attached(into)?;
         write_optional_text_card(into, b'C', &self.comment)?;
@@ -94,28 +99,18 @@ impl Attachment {
     }
 }
 
-fn read_cards(alloc: Global, cards: &[Card]) -> Result<Option<Attachment>, Memory>
-    ensures { IfOk result (IsReading IsAttachment cards.now) }
+fn read_cards(alloc: Global, cards: &[Card]) -> Result<Attachment, Unread>
+    ensures { IsRead IsAttachment cards.now result }
 {
     if !has_attachment_letters(cards) {
-        return Ok(None);
+        return Err(Unread::Form);
     }
-    let Some(attached) = one::<AttachedForm>(alloc, cards, b'A')? else {
-        return Ok(None);
-    };
-    let Some(comment) = at_most_one::<TextForm>(alloc, cards, b'C')? else {
-        return Ok(None);
-    };
-    let Some(date) = one::<DateForm>(alloc, cards, b'D')? else {
-        return Ok(None);
-    };
-    let Some(mime) = at_most_one::<TextForm>(alloc, cards, b'N')? else {
-        return Ok(None);
-    };
-    let Some(user) = at_most_one::<UserForm>(alloc, cards, b'U')? else {
-        return Ok(None);
-    };
-    Ok(Some(Attachment {
+    let attached = one::<AttachedForm>(alloc, cards, b'A')?;
+    let comment = at_most_one::<TextForm>(alloc, cards, b'C')?;
+    let date = one::<DateForm>(alloc, cards, b'D')?;
+    let mime = at_most_one::<TextForm>(alloc, cards, b'N')?;
+    let user = at_most_one::<UserForm>(alloc, cards, b'U')?;
+    Ok(Attachment {
         file: attached.file,
         target: attached.target,
         source: attached.source,
@@ -123,7 +118,7 @@ fn read_cards(alloc: Global, cards: &[Card]) -> Result<Option<Attachment>, Memor
         date,
         mime,
         user,
-    }))
+    })
 }
 
 /// A file, a target and behind them a hash, which may be missing.
@@ -134,24 +129,19 @@ impl Form for AttachedForm {
 
     ghost form = { attached_form };
 
-    fn read(alloc: Global, args: &[Text]) -> Result<Option<Attached>, Memory> {
+    fn read(alloc: Global, args: &[Text]) -> Result<Attached, Unread> {
         match args {
-            [file, target] => Ok(Some(Attached {
+            [file, target] => Ok(Attached {
                 file: unescape(alloc, file.bytes())?,
                 target: unescape(alloc, target.bytes())?,
                 source: None,
-            })),
-            [file, target, source] => {
-                let Some(source) = read_hash(source.bytes()) else {
-                    return Ok(None);
-                };
-                Ok(Some(Attached {
-                    file: unescape(alloc, file.bytes())?,
-                    target: unescape(alloc, target.bytes())?,
-                    source: Some(source),
-                }))
-            }
-            _ => Ok(None),
+            }),
+            [file, target, source] => Ok(Attached {
+                source: Some(read_hash(source.bytes()).ok_or(Unread::Form)?),
+                file: unescape(alloc, file.bytes())?,
+                target: unescape(alloc, target.bytes())?,
+            }),
+            _ => Err(Unread::Form),
         }
     }
 }

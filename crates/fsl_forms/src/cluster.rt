@@ -5,10 +5,11 @@ ghost use Rattle.fsl_forms.specs.Kinds.{IsCluster};
 ghost use Rattle.fsl_forms.specs.WellFormed.{is_cluster_well_formed};
 ghost use Rattle.fsl_forms.specs.Writing.{IsClusterText, cluster_cards};
 ghost use Rattle.fsl_forms.specs.Parts.{is_before_first};
+ghost use Rattle.fsl_grammar.specs.Reading.{IsRead};
 ghost use Rattle.fsl_order.specs.Rows.{rises};
 
 use fsl_card::{Card, Cards, finish};
-use fsl_grammar::{HashForm, each, has_cluster_letters, know_names, write_name_card};
+use fsl_grammar::{HashForm, Unread, each, has_cluster_letters, know_names, write_name_card};
 use fsl_name::Name;
 use fsl_text::{List, Memory, Text};
 use std::alloc::Global;
@@ -25,7 +26,11 @@ impl Cluster {
     pub fn read(alloc: Global, cards: &Cards) -> Result<Option<Cluster>, Memory>
         ensures { IfOk result (IsReading IsCluster cards.now) }
     {
-        read_cards(alloc, cards.items())
+        match read_cards(alloc, cards.items()) {
+            Ok(cluster) => Ok(Some(cluster)),
+            Err(Unread::Form) => Ok(None),
+            Err(Unread::Memory) => Err(Memory),
+        }
     }
 
     /// Whether the cluster can be written: there are members, and they rise by their bytes. It takes no memory.
@@ -60,16 +65,14 @@ impl Cluster {
     }
 }
 
-fn read_cards(alloc: Global, cards: &[Card]) -> Result<Option<Cluster>, Memory>
-    ensures { IfOk result (IsReading IsCluster cards.now) }
+fn read_cards(alloc: Global, cards: &[Card]) -> Result<Cluster, Unread>
+    ensures { IsRead IsCluster cards.now result }
 {
     if !has_cluster_letters(cards) {
-        return Ok(None);
+        return Err(Unread::Form);
     }
-    let Some(members) = each::<HashForm>(alloc, cards, b'M')? else {
-        return Ok(None);
-    };
-    Ok(Some(Cluster { members }))
+    let members = each::<HashForm>(alloc, cards, b'M')?;
+    Ok(Cluster { members })
 }
 
 /// Whether names rise by their bytes.

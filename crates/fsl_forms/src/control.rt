@@ -1,19 +1,20 @@
 //! Control artifacts, which assert tags of other artifacts.
-ghost use Rattle.std.specs.Prelude.{◌≡◌, ◌++◌, List, ℕ, IfOk, IsTrue, OnOk};
+ghost use Rattle.std.specs.Prelude.{◌≡◌, ◌++◌, IfOk, IsTrue, OnOk};
 ghost use Rattle.std.specs.List.{list_all};
 ghost use Rattle.fsl_card.specs.Cards.{IsReading, IsTextOf, text_of};
-ghost use Rattle.fsl_date.specs.Moment.{IsPrinted};
+ghost use Rattle.fsl_date.specs.Moment.{IsMoment};
 ghost use Rattle.fsl_forms.specs.Kinds.{IsControl, names_target};
 ghost use Rattle.fsl_forms.specs.Parts.{HasTargetedTags};
 ghost use Rattle.fsl_forms.specs.WellFormed.{is_control_well_formed};
 ghost use Rattle.fsl_forms.specs.Writing.{IsControlText, control_cards};
 ghost use Rattle.fsl_grammar.specs.Forms.{is_tag_written};
+ghost use Rattle.fsl_grammar.specs.Reading.{IsRead};
 
 use fsl_card::{Card, Cards, finish};
 use fsl_date::Moment;
 use fsl_grammar::{
-    DateForm, TagCard, TagForm, UserForm, each, has_control_letters, is_tag_written, know_tags,
-    one, write_card, write_tags, write_text_card,
+    DateForm, TagCard, TagForm, Unread, UserForm, each, has_control_letters, is_tag_written,
+    know_tags, one, write_card, write_tags, write_text_card,
 };
 use fsl_text::{List, Memory, Text};
 use std::alloc::Global;
@@ -32,7 +33,11 @@ impl Control {
     pub fn read(alloc: Global, cards: &Cards) -> Result<Option<Control>, Memory>
         ensures { IfOk result (IsReading IsControl cards.now) }
     {
-        read_cards(alloc, cards.items())
+        match read_cards(alloc, cards.items()) {
+            Ok(control) => Ok(Some(control)),
+            Err(Unread::Form) => Ok(None),
+            Err(Unread::Memory) => Err(Memory),
+        }
     }
 
     /// Whether the control artifact can be written: there are tags, each with a name and a target, and where it has a value with a byte in
@@ -62,7 +67,7 @@ impl Control {
 
     /// Puts all cards but the Z card at the end of a text.
     fn write_cards(&self, into: &mut Text) -> Result<(), Memory>
-        ensures { OnOk result ((date : List ℕ) × IsPrinted self.now.date date × (into.new ≡ into.old ++ text_of (control_cards date self.now))) }
+        ensures { OnOk result (IsMoment self.now.date × (into.new ≡ into.old ++ text_of (control_cards self.now))) }
     {
         write_card(into, b'D', &self.date.text())?;
         write_tags(into, self.tags.items())?;
@@ -70,35 +75,27 @@ impl Control {
     }
 }
 
-fn read_cards(alloc: Global, cards: &[Card]) -> Result<Option<Control>, Memory>
-    ensures { IfOk result (IsReading IsControl cards.now) }
+fn read_cards(alloc: Global, cards: &[Card]) -> Result<Control, Unread>
+    ensures { IsRead IsControl cards.now result }
 {
     if !has_control_letters(cards) {
-        return Ok(None);
+        return Err(Unread::Form);
     }
-    let Some(date) = one::<DateForm>(alloc, cards, b'D')? else {
-        return Ok(None);
-    };
-    let Some(tags) = read_tags(alloc, cards)? else {
-        return Ok(None);
-    };
-    let Some(user) = one::<UserForm>(alloc, cards, b'U')? else {
-        return Ok(None);
-    };
-    Ok(Some(Control { date, tags, user }))
+    let date = one::<DateForm>(alloc, cards, b'D')?;
+    let tags = read_tags(alloc, cards)?;
+    let user = one::<UserForm>(alloc, cards, b'U')?;
+    Ok(Control { date, tags, user })
 }
 
-/// The tags of the T cards, or None where one hasn't its form or doesn't name its target.
-fn read_tags(alloc: Global, cards: &[Card]) -> Result<Option<List<TagCard>>, Memory>
-    ensures { IfOk result (IsReading HasTargetedTags cards.now) }
+/// The tags of the T cards. `Form` where one hasn't its form or doesn't name its target.
+fn read_tags(alloc: Global, cards: &[Card]) -> Result<List<TagCard>, Unread>
+    ensures { IsRead HasTargetedTags cards.now result }
 {
-    let Some(tags) = each::<TagForm>(alloc, cards, b'T')? else {
-        return Ok(None);
-    };
+    let tags = each::<TagForm>(alloc, cards, b'T')?;
     if all_targeted(tags.items()) {
-        Ok(Some(tags))
+        Ok(tags)
     } else {
-        Ok(None)
+        Err(Unread::Form)
     }
 }
 

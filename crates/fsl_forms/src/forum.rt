@@ -1,19 +1,20 @@
 //! Posts in forums.
-ghost use Rattle.std.specs.Prelude.{◌≡◌, ◌++◌, List, ℕ, IfOk, IsTrue, OnOk, is_some};
+ghost use Rattle.std.specs.Prelude.{◌≡◌, ◌++◌, IfOk, IsTrue, OnOk, is_some};
 ghost use Rattle.fsl_card.specs.Cards.{IsReading, IsTextOf, text_of};
-ghost use Rattle.fsl_date.specs.Moment.{IsPrinted};
+ghost use Rattle.fsl_date.specs.Moment.{IsMoment};
 ghost use Rattle.fsl_forms.specs.Kinds.{IsForum};
 ghost use Rattle.fsl_forms.specs.Parts.{HasPlace, is_place};
 ghost use Rattle.fsl_forms.specs.WellFormed.{is_forum_well_formed};
 ghost use Rattle.fsl_forms.specs.Writing.{IsForumText, forum_cards};
+ghost use Rattle.fsl_grammar.specs.Reading.{IsRead};
 
 use super::known::know_length;
 use fsl_card::{Card, Cards, finish};
 use fsl_date::Moment;
 use fsl_grammar::{
-    DateForm, HashForm, TextForm, UserForm, at_most_one, body, has_forum_letters, is_filled,
-    know_name, one, write_body, write_card, write_optional_name_card, write_optional_text_card,
-    write_text_card,
+    DateForm, HashForm, TextForm, Unread, UserForm, at_most_one, body, has_forum_letters,
+    is_filled, know_name, one, write_body, write_card, write_optional_name_card,
+    write_optional_text_card, write_text_card,
 };
 use fsl_name::Name;
 use fsl_text::{Memory, Text};
@@ -46,7 +47,11 @@ impl Forum {
     pub fn read(alloc: Global, cards: &Cards) -> Result<Option<Forum>, Memory>
         ensures { IfOk result (IsReading IsForum cards.now) }
     {
-        read_cards(alloc, cards.items())
+        match read_cards(alloc, cards.items()) {
+            Ok(forum) => Ok(Some(forum)),
+            Err(Unread::Form) => Ok(None),
+            Err(Unread::Memory) => Err(Memory),
+        }
     }
 
     /// Whether the post can be written: the user, and the title and the type where they are there have a byte, and it has a title and
@@ -82,7 +87,7 @@ impl Forum {
 
     /// Puts all cards but the Z card at the end of a text.
     fn write_cards(&self, alloc: Global, into: &mut Text) -> Result<(), Memory>
-        ensures { OnOk result ((date : List ℕ) × IsPrinted self.now.date date × (into.new ≡ into.old ++ text_of (forum_cards date self.now))) }
+        ensures { OnOk result (IsMoment self.now.date × (into.new ≡ into.old ++ text_of (forum_cards self.now))) }
     {
         write_card(into, b'D', &self.date.text())?;
         write_optional_name_card(into, b'G', &self.root)?;
@@ -95,31 +100,19 @@ impl Forum {
     }
 }
 
-fn read_cards(alloc: Global, cards: &[Card]) -> Result<Option<Forum>, Memory>
-    ensures { IfOk result (IsReading IsForum cards.now) }
+fn read_cards(alloc: Global, cards: &[Card]) -> Result<Forum, Unread>
+    ensures { IsRead IsForum cards.now result }
 {
     if !has_forum_letters(cards) {
-        return Ok(None);
+        return Err(Unread::Form);
     }
-    let Some(date) = one::<DateForm>(alloc, cards, b'D')? else {
-        return Ok(None);
-    };
-    let Some(place) = read_place(alloc, cards)? else {
-        return Ok(None);
-    };
-    let Some(mime) = at_most_one::<TextForm>(alloc, cards, b'N')? else {
-        return Ok(None);
-    };
-    let Some(prior) = at_most_one::<HashForm>(alloc, cards, b'P')? else {
-        return Ok(None);
-    };
-    let Some(user) = one::<UserForm>(alloc, cards, b'U')? else {
-        return Ok(None);
-    };
-    let Some(text) = body(alloc, cards)? else {
-        return Ok(None);
-    };
-    Ok(Some(Forum {
+    let date = one::<DateForm>(alloc, cards, b'D')?;
+    let place = read_place(alloc, cards)?;
+    let mime = at_most_one::<TextForm>(alloc, cards, b'N')?;
+    let prior = at_most_one::<HashForm>(alloc, cards, b'P')?;
+    let user = one::<UserForm>(alloc, cards, b'U')?;
+    let text = body(alloc, cards)?;
+    Ok(Forum {
         date,
         root: place.root,
         title: place.title,
@@ -128,26 +121,20 @@ fn read_cards(alloc: Global, cards: &[Card]) -> Result<Option<Forum>, Memory>
         prior,
         user,
         text,
-    }))
+    })
 }
 
-/// Where the G, H and I cards put a post, or None where one of them hasn't its form, or they don't stand together.
-fn read_place(alloc: Global, cards: &[Card]) -> Result<Option<Place>, Memory>
-    ensures { IfOk result (IsReading HasPlace cards.now) }
+/// Where the G, H and I cards put a post. `Form` where one of them hasn't its form, or they don't stand together.
+fn read_place(alloc: Global, cards: &[Card]) -> Result<Place, Unread>
+    ensures { IsRead HasPlace cards.now result }
 {
-    let Some(root) = at_most_one::<HashForm>(alloc, cards, b'G')? else {
-        return Ok(None);
-    };
-    let Some(title) = at_most_one::<TextForm>(alloc, cards, b'H')? else {
-        return Ok(None);
-    };
-    let Some(reply) = at_most_one::<HashForm>(alloc, cards, b'I')? else {
-        return Ok(None);
-    };
+    let root = at_most_one::<HashForm>(alloc, cards, b'G')?;
+    let title = at_most_one::<TextForm>(alloc, cards, b'H')?;
+    let reply = at_most_one::<HashForm>(alloc, cards, b'I')?;
     if is_place(root.is_some(), title.is_some(), reply.is_some()) {
-        Ok(Some(Place { root, title, reply }))
+        Ok(Place { root, title, reply })
     } else {
-        Ok(None)
+        Err(Unread::Form)
     }
 }
 

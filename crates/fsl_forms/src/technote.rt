@@ -1,19 +1,20 @@
 //! Notes at moments.
-ghost use Rattle.std.specs.Prelude.{◌≡◌, ◌++◌, List, ℕ, IfOk, IsTrue, OnOk};
+ghost use Rattle.std.specs.Prelude.{◌≡◌, ◌++◌, IfOk, IsTrue, OnOk};
 ghost use Rattle.std.specs.List.{list_all};
 ghost use Rattle.fsl_card.specs.Cards.{IsReading, IsTextOf, card_text, text_of};
-ghost use Rattle.fsl_date.specs.Moment.{IsPrinted};
+ghost use Rattle.fsl_date.specs.Moment.{IsMoment};
 ghost use Rattle.fsl_forms.specs.Kinds.{IsTechnote, event_form, event_in, is_own_tag};
 ghost use Rattle.fsl_forms.specs.Parts.{HasOwnTags};
 ghost use Rattle.fsl_forms.specs.WellFormed.{is_technote_well_formed};
 ghost use Rattle.fsl_forms.specs.Writing.{IsTechnoteText, event_card, technote_cards};
+ghost use Rattle.fsl_grammar.specs.Reading.{IsRead};
 
 use super::control::all_tags_written;
 use super::known::know_length;
 use fsl_card::{Card, Cards, finish};
 use fsl_date::Moment;
 use fsl_grammar::{
-    DateForm, Form, Prefix, TagCard, TagForm, TextForm, UserForm, all_differ, at_most_one,
+    DateForm, Form, Prefix, TagCard, TagForm, TextForm, Unread, UserForm, all_differ, at_most_one,
     begin_card, body, each, end_card, has_technote_letters, is_filled, know_names, know_tags, one,
     parents, read_hash, write_argument, write_body, write_card, write_name,
     write_optional_text_card, write_parents, write_tags,
@@ -49,7 +50,11 @@ impl Technote {
     pub fn read(alloc: Global, cards: &Cards) -> Result<Option<Technote>, Memory>
         ensures { IfOk result (IsReading IsTechnote cards.now) }
     {
-        read_cards(alloc, cards.items())
+        match read_cards(alloc, cards.items()) {
+            Ok(technote) => Ok(Some(technote)),
+            Err(Unread::Form) => Ok(None),
+            Err(Unread::Memory) => Err(Memory),
+        }
     }
 
     /// Whether the technote can be written: the comment, the type and the user where they are there have a byte, the parents differ, and
@@ -84,7 +89,7 @@ impl Technote {
 
     /// Puts all cards but the Z card at the end of a text.
     fn write_cards(&self, alloc: Global, into: &mut Text) -> Result<(), Memory>
-        ensures { OnOk result ((date : List ℕ) × (time : List ℕ) × IsPrinted self.now.date date × IsPrinted self.now.time time × (into.new ≡ into.old ++ text_of (technote_cards date time self.now))) }
+        ensures { OnOk result (IsMoment self.now.date × IsMoment self.now.time × (into.new ≡ into.old ++ text_of (technote_cards self.now))) }
     {
         write_optional_text_card(into, b'C', &self.comment)?;
         write_card(into, b'D', &self.date.text())?;
@@ -97,37 +102,21 @@ impl Technote {
     }
 }
 
-fn read_cards(alloc: Global, cards: &[Card]) -> Result<Option<Technote>, Memory>
-    ensures { IfOk result (IsReading IsTechnote cards.now) }
+fn read_cards(alloc: Global, cards: &[Card]) -> Result<Technote, Unread>
+    ensures { IsRead IsTechnote cards.now result }
 {
     if !has_technote_letters(cards) {
-        return Ok(None);
+        return Err(Unread::Form);
     }
-    let Some(comment) = at_most_one::<TextForm>(alloc, cards, b'C')? else {
-        return Ok(None);
-    };
-    let Some(date) = one::<DateForm>(alloc, cards, b'D')? else {
-        return Ok(None);
-    };
-    let Some(event) = one::<EventForm>(alloc, cards, b'E')? else {
-        return Ok(None);
-    };
-    let Some(mime) = at_most_one::<TextForm>(alloc, cards, b'N')? else {
-        return Ok(None);
-    };
-    let Some(parents) = parents(alloc, cards)? else {
-        return Ok(None);
-    };
-    let Some(tags) = read_tags(alloc, cards)? else {
-        return Ok(None);
-    };
-    let Some(user) = at_most_one::<UserForm>(alloc, cards, b'U')? else {
-        return Ok(None);
-    };
-    let Some(text) = body(alloc, cards)? else {
-        return Ok(None);
-    };
-    Ok(Some(Technote {
+    let comment = at_most_one::<TextForm>(alloc, cards, b'C')?;
+    let date = one::<DateForm>(alloc, cards, b'D')?;
+    let event = one::<EventForm>(alloc, cards, b'E')?;
+    let mime = at_most_one::<TextForm>(alloc, cards, b'N')?;
+    let parents = parents(alloc, cards)?;
+    let tags = read_tags(alloc, cards)?;
+    let user = at_most_one::<UserForm>(alloc, cards, b'U')?;
+    let text = body(alloc, cards)?;
+    Ok(Technote {
         comment,
         date,
         time: event.time,
@@ -137,20 +126,18 @@ fn read_cards(alloc: Global, cards: &[Card]) -> Result<Option<Technote>, Memory>
         tags,
         user,
         text,
-    }))
+    })
 }
 
-/// The tags of the T cards, or None where one hasn't its form or isn't `+` on the note itself.
-fn read_tags(alloc: Global, cards: &[Card]) -> Result<Option<List<TagCard>>, Memory>
-    ensures { IfOk result (IsReading HasOwnTags cards.now) }
+/// The tags of the T cards. `Form` where one hasn't its form or isn't `+` on the note itself.
+fn read_tags(alloc: Global, cards: &[Card]) -> Result<List<TagCard>, Unread>
+    ensures { IsRead HasOwnTags cards.now result }
 {
-    let Some(tags) = each::<TagForm>(alloc, cards, b'T')? else {
-        return Ok(None);
-    };
+    let tags = each::<TagForm>(alloc, cards, b'T')?;
     if all_own(tags.items()) {
-        Ok(Some(tags))
+        Ok(tags)
     } else {
-        Ok(None)
+        Err(Unread::Form)
     }
 }
 
@@ -175,10 +162,10 @@ impl Form for EventForm {
 
     ghost form = { event_form };
 
-    fn read(_alloc: Global, args: &[Text]) -> Result<Option<Event>, Memory> {
+    fn read(_alloc: Global, args: &[Text]) -> Result<Event, Unread> {
         match args {
-            [date, hash] => Ok(read_event(date.bytes(), hash.bytes())),
-            _ => Ok(None),
+            [date, hash] => read_event(date.bytes(), hash.bytes()).ok_or(Unread::Form),
+            _ => Err(Unread::Form),
         }
     }
 }

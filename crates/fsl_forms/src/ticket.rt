@@ -1,18 +1,19 @@
 //! Changes of tickets.
-ghost use Rattle.std.specs.Prelude.{◌≡◌, ◌++◌, List, ℕ, map, IfOk, IsTrue, OnOk};
+ghost use Rattle.std.specs.Prelude.{◌≡◌, ◌++◌, map, IfOk, IsTrue, OnOk};
 ghost use Rattle.std.specs.List.{list_all};
 ghost use Rattle.fsl_card.specs.Cards.{IsReading, IsTextOf, card_text, text_of};
-ghost use Rattle.fsl_date.specs.Moment.{IsPrinted};
+ghost use Rattle.fsl_date.specs.Moment.{IsMoment};
 ghost use Rattle.fsl_forms.specs.Kinds.{IsTicket, change_form, change_in};
 ghost use Rattle.fsl_forms.specs.WellFormed.{is_change_written, is_ticket_well_formed};
 ghost use Rattle.fsl_forms.specs.Writing.{IsTicketText, change_card, ticket_cards};
+ghost use Rattle.fsl_grammar.specs.Reading.{IsGiven, IsRead};
 ghost use Rattle.fsl_text.specs.Escapes.{unescape};
 
 use fsl_card::{Card, Cards, finish};
 use fsl_date::Moment;
 use fsl_grammar::{
-    DateForm, Form, HashForm, UserForm, begin_card, each, end_card, has_ticket_letters, one,
-    write_card, write_name_card, write_optional_text, write_signed_text, write_text,
+    DateForm, Form, HashForm, Unread, UserForm, begin_card, each, end_card, has_ticket_letters,
+    one, write_card, write_name_card, write_optional_text, write_signed_text, write_text,
     write_text_card,
 };
 use fsl_name::Name;
@@ -43,7 +44,11 @@ impl Ticket {
     pub fn read(alloc: Global, cards: &Cards) -> Result<Option<Ticket>, Memory>
         ensures { IfOk result (IsReading IsTicket cards.now) }
     {
-        read_cards(alloc, cards.items())
+        match read_cards(alloc, cards.items()) {
+            Ok(ticket) => Ok(Some(ticket)),
+            Err(Unread::Form) => Ok(None),
+            Err(Unread::Memory) => Err(Memory),
+        }
     }
 
     /// Whether the ticket change can be written: there are changes, each of a field with a byte, which doesn't begin with `+` where it is
@@ -71,7 +76,7 @@ impl Ticket {
 
     /// Puts all cards but the Z card at the end of a text.
     fn write_cards(&self, into: &mut Text) -> Result<(), Memory>
-        ensures { OnOk result ((date : List ℕ) × IsPrinted self.now.date date × (into.new ≡ into.old ++ text_of (ticket_cards date self.now))) }
+        ensures { OnOk result (IsMoment self.now.date × (into.new ≡ into.old ++ text_of (ticket_cards self.now))) }
     {
         write_card(into, b'D', &self.date.text())?;
         write_changes(into, self.changes.items())?;
@@ -80,30 +85,22 @@ impl Ticket {
     }
 }
 
-fn read_cards(alloc: Global, cards: &[Card]) -> Result<Option<Ticket>, Memory>
-    ensures { IfOk result (IsReading IsTicket cards.now) }
+fn read_cards(alloc: Global, cards: &[Card]) -> Result<Ticket, Unread>
+    ensures { IsRead IsTicket cards.now result }
 {
     if !has_ticket_letters(cards) {
-        return Ok(None);
+        return Err(Unread::Form);
     }
-    let Some(date) = one::<DateForm>(alloc, cards, b'D')? else {
-        return Ok(None);
-    };
-    let Some(changes) = each::<ChangeForm>(alloc, cards, b'J')? else {
-        return Ok(None);
-    };
-    let Some(id) = one::<HashForm>(alloc, cards, b'K')? else {
-        return Ok(None);
-    };
-    let Some(user) = one::<UserForm>(alloc, cards, b'U')? else {
-        return Ok(None);
-    };
-    Ok(Some(Ticket {
+    let date = one::<DateForm>(alloc, cards, b'D')?;
+    let changes = each::<ChangeForm>(alloc, cards, b'J')?;
+    let id = one::<HashForm>(alloc, cards, b'K')?;
+    let user = one::<UserForm>(alloc, cards, b'U')?;
+    Ok(Ticket {
         date,
         changes,
         id,
         user,
-    }))
+    })
 }
 
 /// A field, with `+` before it where it is appended to, and behind it the value, which may be missing.
@@ -114,44 +111,40 @@ impl Form for ChangeForm {
 
     ghost form = { change_form };
 
-    fn read(alloc: Global, args: &[Text]) -> Result<Option<TicketChange>, Memory> {
+    fn read(alloc: Global, args: &[Text]) -> Result<TicketChange, Unread> {
         match args {
             [name] => read_change(alloc, name.bytes(), None),
             [name, value] => {
                 let value = unescape(alloc, value.bytes())?;
                 read_change(alloc, name.bytes(), Some(value))
             }
-            _ => Ok(None),
+            _ => Err(Unread::Form),
         }
     }
 }
 
-fn read_change(
-    alloc: Global,
-    name: &[u8],
-    value: Option<Text>,
-) -> Result<Option<TicketChange>, Memory>
-    ensures { IfOk result (λ change. change ≡ change_in (unescape name.now) value) }
+fn read_change(alloc: Global, name: &[u8], value: Option<Text>) -> Result<TicketChange, Unread>
+    ensures { IsGiven (change_in (unescape name.now) value) result }
 {
     let name = unescape(alloc, name)?;
     let Some((first, rest)) = name.bytes().split_first() else {
-        return Ok(None);
+        return Err(Unread::Form);
     };
     if *first != b'+' {
-        return Ok(Some(TicketChange {
+        return Ok(TicketChange {
             append: false,
             field: name,
             value,
-        }));
+        });
     }
     if rest.is_empty() {
-        return Ok(None);
+        return Err(Unread::Form);
     }
-    Ok(Some(TicketChange {
+    Ok(TicketChange {
         append: true,
         field: Text::of(alloc, rest)?,
         value,
-    }))
+    })
 }
 
 fn all_changes_written(changes: &[TicketChange]) -> bool

@@ -1,18 +1,19 @@
 //! Versions of wiki pages.
-ghost use Rattle.std.specs.Prelude.{◌≡◌, ◌++◌, List, ℕ, IfOk, IsTrue, OnOk};
+ghost use Rattle.std.specs.Prelude.{◌≡◌, ◌++◌, IfOk, IsTrue, OnOk};
 ghost use Rattle.fsl_card.specs.Cards.{IsReading, IsTextOf, text_of};
-ghost use Rattle.fsl_date.specs.Moment.{IsPrinted};
+ghost use Rattle.fsl_date.specs.Moment.{IsMoment};
 ghost use Rattle.fsl_forms.specs.Kinds.{IsWiki};
 ghost use Rattle.fsl_forms.specs.WellFormed.{is_wiki_well_formed};
 ghost use Rattle.fsl_forms.specs.Writing.{IsWikiText, wiki_cards};
+ghost use Rattle.fsl_grammar.specs.Reading.{IsRead};
 
 use super::known::know_length;
 use fsl_card::{Card, Cards, finish};
 use fsl_date::Moment;
 use fsl_grammar::{
-    DateForm, TextForm, UserForm, all_differ, at_most_one, body, has_wiki_letters, is_filled,
-    know_names, one, parents, write_body, write_card, write_optional_text_card, write_parents,
-    write_text_card,
+    DateForm, TextForm, Unread, UserForm, all_differ, at_most_one, body, has_wiki_letters,
+    is_filled, know_names, one, parents, write_body, write_card, write_optional_text_card,
+    write_parents, write_text_card,
 };
 use fsl_name::Name;
 use fsl_text::{List, Memory, Text};
@@ -36,7 +37,11 @@ impl Wiki {
     pub fn read(alloc: Global, cards: &Cards) -> Result<Option<Wiki>, Memory>
         ensures { IfOk result (IsReading IsWiki cards.now) }
     {
-        read_cards(alloc, cards.items())
+        match read_cards(alloc, cards.items()) {
+            Ok(wiki) => Ok(Some(wiki)),
+            Err(Unread::Form) => Ok(None),
+            Err(Unread::Memory) => Err(Memory),
+        }
     }
 
     /// Whether the page can be written: the title, the user, and the comment and the type where they are there have a byte, and the
@@ -67,7 +72,7 @@ impl Wiki {
 
     /// Puts all cards but the Z card at the end of a text.
     fn write_cards(&self, alloc: Global, into: &mut Text) -> Result<(), Memory>
-        ensures { OnOk result ((date : List ℕ) × IsPrinted self.now.date date × (into.new ≡ into.old ++ text_of (wiki_cards date self.now))) }
+        ensures { OnOk result (IsMoment self.now.date × (into.new ≡ into.old ++ text_of (wiki_cards self.now))) }
     {
         write_optional_text_card(into, b'C', &self.comment)?;
         write_card(into, b'D', &self.date.text())?;
@@ -79,34 +84,20 @@ impl Wiki {
     }
 }
 
-fn read_cards(alloc: Global, cards: &[Card]) -> Result<Option<Wiki>, Memory>
-    ensures { IfOk result (IsReading IsWiki cards.now) }
+fn read_cards(alloc: Global, cards: &[Card]) -> Result<Wiki, Unread>
+    ensures { IsRead IsWiki cards.now result }
 {
     if !has_wiki_letters(cards) {
-        return Ok(None);
+        return Err(Unread::Form);
     }
-    let Some(comment) = at_most_one::<TextForm>(alloc, cards, b'C')? else {
-        return Ok(None);
-    };
-    let Some(date) = one::<DateForm>(alloc, cards, b'D')? else {
-        return Ok(None);
-    };
-    let Some(title) = one::<TextForm>(alloc, cards, b'L')? else {
-        return Ok(None);
-    };
-    let Some(mime) = at_most_one::<TextForm>(alloc, cards, b'N')? else {
-        return Ok(None);
-    };
-    let Some(parents) = parents(alloc, cards)? else {
-        return Ok(None);
-    };
-    let Some(user) = one::<UserForm>(alloc, cards, b'U')? else {
-        return Ok(None);
-    };
-    let Some(text) = body(alloc, cards)? else {
-        return Ok(None);
-    };
-    Ok(Some(Wiki {
+    let comment = at_most_one::<TextForm>(alloc, cards, b'C')?;
+    let date = one::<DateForm>(alloc, cards, b'D')?;
+    let title = one::<TextForm>(alloc, cards, b'L')?;
+    let mime = at_most_one::<TextForm>(alloc, cards, b'N')?;
+    let parents = parents(alloc, cards)?;
+    let user = one::<UserForm>(alloc, cards, b'U')?;
+    let text = body(alloc, cards)?;
+    Ok(Wiki {
         comment,
         date,
         title,
@@ -114,5 +105,5 @@ fn read_cards(alloc: Global, cards: &[Card]) -> Result<Option<Wiki>, Memory>
         parents,
         user,
         text,
-    }))
+    })
 }

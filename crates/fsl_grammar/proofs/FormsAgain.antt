@@ -11,8 +11,8 @@ use Rattle.fsl_text.specs.Escapes.{escape, unescape}
 use Rattle.fsl_text.proofs.Unescaping.{unescape-escape}
 use Rattle.fsl_name.specs.Name.{IsName, name_in, name_text, are_digits, bytes_of_digits, is_name_digit}
 use Rattle.fsl_name.proofs.ReadAgain.{name_again, bytes_again, digits_all, length_digits}
-use Rattle.fsl_date.specs.Moment.{IsPrinted, date_in}
-use Rattle.fsl_date.proofs.Printed.{printed_is_read}
+use Rattle.fsl_date.specs.Moment.{IsMoment, moment_text}
+use Rattle.fsl_date.proofs.MomentTexts.{is_read}
 use Rattle.fsl_card.specs.Cards.{in_order, is_argument}
 use Rattle.fsl_card.specs.declared.types.Card.{Card}
 use Rattle.fsl_grammar.specs.declared.Prefix.{Prefix}
@@ -35,17 +35,13 @@ user_again text = ap Some (unescape-escape text)
 pub hash_again : (name : List ℕ) → IsName name → hash_form (name_text name ∷ []) ≡ Some name
 hash_again name h = name_again name h
 
-pub date_again : (ms : ℕ) (date : List ℕ) → IsPrinted ms date → date_form (date ∷ []) ≡ Some ms
-date_again ms date h = printed_is_read ms date h
+pub date_again : (ms : ℕ) → IsMoment ms → date_form (moment_text ms ∷ []) ≡ Some ms
+date_again ms h = is_read ms h (moment_text ms) refl
 
 pub checksum_again : (bytes : List ℕ) → length bytes ≡ 16 → AreBytes bytes → checksum_form (encode_lower bytes ∷ []) ≡ Some bytes
 checksum_again bytes long each =
     let count : eqb (length (encode_lower bytes)) 32 ≡ true = eq-eqb _ _ (length_digits bytes ∙ ap (λ n. 2 * n) long) in
     rw (count, digits_all bytes each) (ap Some (bytes_again bytes each))
-
-pub optional_again : (o : Option (List ℕ)) → AllByRecursion IsName (option_to_list o) → optional name_in (option_map name_text o) ≡ Some o
-optional_again None h = refl
-optional_again (Some name) h = ap (option_map Some) (name_again name h.0)
 
 -- ---- optional cards and lists of cards
 

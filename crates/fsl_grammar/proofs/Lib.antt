@@ -8,3 +8,9 @@ pub mod WritingLemmas
 pub mod WrittenArguments
 pub mod Blocks
 pub mod FormsAgain
+pub mod DecimalLemmas
+pub mod BlockLemmas
+pub mod NameLists
+pub mod SealingLemmas
+pub mod LetterOrder
+pub mod ReadValues

@@ -8,7 +8,7 @@ use Rattle.fsl_text.specs.Bytes.{AreBytes, is_empty}
 use Rattle.fsl_text.specs.Escapes.{escape, escaped_byte}
 use Rattle.fsl_name.specs.Name.{IsName, is_name_digit, name_text}
 use Rattle.fsl_name.proofs.ReadAgain.{digits_all, length_digits}
-use Rattle.fsl_date.specs.Moment.{IsPrinted}
+use Rattle.fsl_date.specs.Moment.{moment_text}
 use Rattle.fsl_card.specs.Cards.{is_argument, is_argument_byte}
 use Rattle.fsl_grammar.proofs.Apart.{first_holds, second_holds}
 
@@ -89,5 +89,6 @@ is_argument-checksum bytes long each = digits_argument 15 bytes long each
 
 -- ---- dates
 
-pub is_argument-date : (ms : ℕ) (date : List ℕ) → IsPrinted ms date → is_argument date ≡ true
-is_argument-date ms date h = rw (h.3) (simp digit_byte)
+pub is_argument-date : (ms : ℕ) → is_argument (moment_text ms) ≡ true
+unfolding moment_text
+is_argument-date ms = simp digit_byte

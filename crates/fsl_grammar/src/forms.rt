@@ -1,14 +1,15 @@
 //! The forms of arguments that several kinds share.
-ghost use Rattle.std.specs.Prelude.{◌≡◌, IfOk, option_map};
+ghost use Rattle.std.specs.Prelude.{◌≡◌, option_map};
 ghost use Rattle.fsl_grammar.specs.Forms.{checksum_form, date_form, hash_form, optional, prefix_in, tag_form, tag_in, target_in, text_form, user_form};
+ghost use Rattle.fsl_grammar.specs.Reading.{IsGiven};
 ghost use Rattle.fsl_name.specs.Name.{name_in};
 ghost use Rattle.fsl_text.specs.Escapes.{unescape};
 
 use super::digits::read_checksum;
-use crate::{Prefix, TagCard};
+use crate::{Prefix, TagCard, Unread};
 use fsl_date::Moment;
 use fsl_name::Name;
-use fsl_text::{Memory, Text, unescape};
+use fsl_text::{Text, unescape};
 use std::alloc::Global;
 
 /// A form of the arguments of one card.
@@ -20,9 +21,9 @@ pub trait Form {
 
     ghost form: { List (List ℕ) → Option Self.Value };
 
-    /// What the arguments stand for, or None where they haven't the form.
-    fn read(alloc: Global, args: &[Text]) -> Result<Option<Self::Value>, Memory>
-        ensures { IfOk result (λ value. value ≡ form args.now) };
+    /// What the arguments stand for. `Form` where they haven't the form.
+    fn read(alloc: Global, args: &[Text]) -> Result<Self::Value, Unread>
+        ensures { IsGiven (form args.now) result };
 }
 
 /// One argument, the 40 lower-case digits of a name.
@@ -33,10 +34,10 @@ impl Form for HashForm {
 
     ghost form = { hash_form };
 
-    fn read(_alloc: Global, args: &[Text]) -> Result<Option<Name>, Memory> {
+    fn read(_alloc: Global, args: &[Text]) -> Result<Name, Unread> {
         match args {
-            [arg] => Ok(read_hash(arg.bytes())),
-            _ => Ok(None),
+            [arg] => read_hash(arg.bytes()).ok_or(Unread::Form),
+            _ => Err(Unread::Form),
         }
     }
 }
@@ -49,10 +50,10 @@ impl Form for TextForm {
 
     ghost form = { text_form };
 
-    fn read(alloc: Global, args: &[Text]) -> Result<Option<Text>, Memory> {
+    fn read(alloc: Global, args: &[Text]) -> Result<Text, Unread> {
         match args {
-            [arg] => Ok(Some(unescape(alloc, arg.bytes())?)),
-            _ => Ok(None),
+            [arg] => Ok(unescape(alloc, arg.bytes())?),
+            _ => Err(Unread::Form),
         }
     }
 }
@@ -65,10 +66,10 @@ impl Form for DateForm {
 
     ghost form = { date_form };
 
-    fn read(_alloc: Global, args: &[Text]) -> Result<Option<Moment>, Memory> {
+    fn read(_alloc: Global, args: &[Text]) -> Result<Moment, Unread> {
         match args {
-            [arg] => Ok(Moment::read(arg.bytes())),
-            _ => Ok(None),
+            [arg] => Moment::read(arg.bytes()).ok_or(Unread::Form),
+            _ => Err(Unread::Form),
         }
     }
 }
@@ -81,10 +82,10 @@ impl Form for ChecksumForm {
 
     ghost form = { checksum_form };
 
-    fn read(_alloc: Global, args: &[Text]) -> Result<Option<[u8; 16]>, Memory> {
+    fn read(_alloc: Global, args: &[Text]) -> Result<[u8; 16], Unread> {
         match args {
-            [arg] => Ok(read_checksum(arg.bytes())),
-            _ => Ok(None),
+            [arg] => read_checksum(arg.bytes()).ok_or(Unread::Form),
+            _ => Err(Unread::Form),
         }
     }
 }
@@ -97,11 +98,11 @@ impl Form for UserForm {
 
     ghost form = { user_form };
 
-    fn read(alloc: Global, args: &[Text]) -> Result<Option<Text>, Memory> {
+    fn read(alloc: Global, args: &[Text]) -> Result<Text, Unread> {
         match args {
-            [] => Ok(Some(Text::of(alloc, b"anonymous")?)),
-            [arg] => Ok(Some(unescape(alloc, arg.bytes())?)),
-            _ => Ok(None),
+            [] => Ok(Text::of(alloc, b"anonymous")?),
+            [arg] => Ok(unescape(alloc, arg.bytes())?),
+            _ => Err(Unread::Form),
         }
     }
 }
@@ -114,14 +115,14 @@ impl Form for TagForm {
 
     ghost form = { tag_form };
 
-    fn read(alloc: Global, args: &[Text]) -> Result<Option<TagCard>, Memory> {
+    fn read(alloc: Global, args: &[Text]) -> Result<TagCard, Unread> {
         match args {
             [tag, target] => read_tag(alloc, tag.bytes(), target.bytes(), None),
             [tag, target, value] => {
                 let value = unescape(alloc, value.bytes())?;
                 read_tag(alloc, tag.bytes(), target.bytes(), Some(value))
             }
-            _ => Ok(None),
+            _ => Err(Unread::Form),
         }
     }
 }
@@ -179,26 +180,22 @@ fn read_tag(
     tag: &[u8],
     target: &[u8],
     value: Option<Text>,
-) -> Result<Option<TagCard>, Memory>
-    ensures { IfOk result (λ found. found ≡ tag_in (unescape tag.now) target.now value) }
+) -> Result<TagCard, Unread>
+    ensures { IsGiven (tag_in (unescape tag.now) target.now value) result }
 {
     let tag = unescape(alloc, tag)?;
     let Some((sign, tag)) = tag.bytes().split_first() else {
-        return Ok(None);
+        return Err(Unread::Form);
     };
-    let Some(prefix) = read_prefix(*sign) else {
-        return Ok(None);
-    };
-    let Some(target) = read_target(target) else {
-        return Ok(None);
-    };
+    let prefix = read_prefix(*sign).ok_or(Unread::Form)?;
+    let target = read_target(target).ok_or(Unread::Form)?;
     if tag.is_empty() {
-        return Ok(None);
+        return Err(Unread::Form);
     }
-    Ok(Some(TagCard {
+    Ok(TagCard {
         prefix,
         tag: Text::of(alloc, tag)?,
         target,
         value,
-    }))
+    })
 }

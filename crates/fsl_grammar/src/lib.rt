@@ -1,6 +1,9 @@
 //! What the kinds of structural artifacts share: which letters their cards have, the forms of the arguments, tags, and how values become cards.
 #![tactic(auto)]
 
+ghost use Rattle.std.specs.Prelude.{◌≡◌};
+ghost use Rattle.fsl_grammar.specs.declared.Unread.TheVariants as unread;
+
 mod digits;
 mod forms;
 mod known;
@@ -14,7 +17,7 @@ pub use forms::{
     read_optional_hash,
 };
 use fsl_name::Name;
-use fsl_text::Text;
+use fsl_text::{Memory, Text};
 pub use known::{know_name, know_names, know_tags};
 pub use letters::{
     has_attachment_letters, has_cluster_letters, has_control_letters, has_forum_letters,
@@ -46,4 +49,21 @@ pub struct TagCard {
     pub tag: Text,
     pub target: Option<Name>,
     pub value: Option<Text>,
+}
+
+/// Why cards, or the arguments of one, give no value.
+#[derive(Clone, Copy, Debug, PartialEq, Eq)]
+pub enum Unread {
+    /// They haven't the form.
+    Form,
+    /// There was no memory.
+    Memory,
+}
+
+impl From<Memory> for Unread {
+    ghost from_gives = { λ _ why. why ≡ unread.Memory };
+
+    fn from(_: Memory) -> Self {
+        Unread::Memory
+    }
 }

@@ -1,98 +1,87 @@
 //! The values that the cards of one letter give.
 ghost use Rattle.std.specs.Prelude.{◌≡◌, ◌++◌, IfOk, IsTrue, flat_map, is_some, map};
 ghost use Rattle.std.specs.List.{list_all};
-ghost use Rattle.fsl_card.specs.Cards.{IsReading};
 ghost use Rattle.fsl_grammar.specs.Forms.{HasOne, HasAtMostOne, HasEach, HasParents, HasBody, all_differ, arguments};
+ghost use Rattle.fsl_grammar.specs.Reading.{IsRead};
 ghost use Rattle.fsl_name.specs.Name.{name_in};
 
 use super::forms::{Form, read_hash};
+use crate::Unread;
 use fsl_card::Card;
 use fsl_name::Name;
 use fsl_text::{List, Memory, Text};
 use std::alloc::Global;
 
-/// The values of all cards of a letter, in order, or None where one of them hasn't the form.
+/// The values of all cards of a letter, in order. `Form` where one of them hasn't the form.
 pub fn each<F: Form>(
     alloc: Global,
     cards: &[Card],
     letter: u8,
-) -> Result<Option<List<F::Value>>, Memory>
-    ensures { IfOk result (IsReading (λ cards xs. HasEach cards letter F.form xs) cards.now) }
+) -> Result<List<F::Value>, Unread>
+    ensures { IsRead (λ cards xs. HasEach cards letter F.form xs) cards.now result }
 {
     let mut values = List::new(alloc);
     for card in cards {
         if card.letter == letter {
-            match F::read(alloc, card.args.items())? {
-                Some(value) => {
-                    if values.push(value).is_err() {
-                        return Err(Memory);
-                    }
-                }
-                None => return Ok(None),
+            let value = F::read(alloc, card.args.items())?;
+            if values.push(value).is_err() {
+                return Err(Unread::Memory);
             }
         }
     }
-    Ok(Some(values))
+    Ok(values)
 }
 
-/// The value of the card of a letter, where there is one, or None where there are several, or it hasn't the form.
+/// The value of the card of a letter, where there is one. `Form` where there are several, or it hasn't the form.
 pub fn at_most_one<F: Form>(
     alloc: Global,
     cards: &[Card],
     letter: u8,
-) -> Result<Option<Option<F::Value>>, Memory>
-    ensures { IfOk result (IsReading (λ cards o. HasAtMostOne cards letter F.form o) cards.now) }
+) -> Result<Option<F::Value>, Unread>
+    ensures { IsRead (λ cards o. HasAtMostOne cards letter F.form o) cards.now result }
 {
     let mut found = None;
     for card in cards {
         if card.letter == letter {
             if found.is_some() {
-                return Ok(None);
+                return Err(Unread::Form);
             }
-            match F::read(alloc, card.args.items())? {
-                Some(value) => found = Some(value),
-                None => return Ok(None),
-            }
+            found = Some(F::read(alloc, card.args.items())?);
         }
     }
-    Ok(Some(found))
-}
-
-/// The value of the one card of a letter, or None where there isn't one, or it hasn't the form.
-pub fn one<F: Form>(alloc: Global, cards: &[Card], letter: u8) -> Result<Option<F::Value>, Memory>
-    ensures { IfOk result (IsReading (λ cards x. HasOne cards letter F.form x) cards.now) }
-{
-    let Some(found) = at_most_one::<F>(alloc, cards, letter)? else {
-        return Ok(None);
-    };
     Ok(found)
 }
 
-/// The names of the P card, or none where there is no such card. None where one of the arguments is no name, or two of them are the same.
-pub fn parents(alloc: Global, cards: &[Card]) -> Result<Option<List<Name>>, Memory>
-    ensures { IfOk result (IsReading HasParents cards.now) }
+/// The value of the one card of a letter. `Form` where there isn't one, or it hasn't the form.
+pub fn one<F: Form>(alloc: Global, cards: &[Card], letter: u8) -> Result<F::Value, Unread>
+    ensures { IsRead (λ cards x. HasOne cards letter F.form x) cards.now result }
 {
-    let Some(names) = parent_names(alloc, cards)? else {
-        return Ok(None);
-    };
+    at_most_one::<F>(alloc, cards, letter)?.ok_or(Unread::Form)
+}
+
+/// The names of the P card, or none where there is no such card. `Form` where one of the arguments is no name, or two of them are the same.
+pub fn parents(alloc: Global, cards: &[Card]) -> Result<List<Name>, Unread>
+    ensures { IsRead HasParents cards.now result }
+{
+    let names = parent_names(alloc, cards)?;
     if names_differ(alloc, names.items())? {
-        Ok(Some(names))
+        Ok(names)
     } else {
-        Ok(None)
+        Err(Unread::Form)
     }
 }
 
-/// The names of the P cards, or None where one of the arguments is no name.
-fn parent_names(alloc: Global, cards: &[Card]) -> Result<Option<List<Name>>, Memory>
-    ensures { IfOk result (IsReading (λ cards names. map name_in (flat_map (λ args. args) (arguments cards 80)) ≡ map Some names) cards.now) }
+/// The names of the P cards. `Form` where one of the arguments is no name.
+fn parent_names(alloc: Global, cards: &[Card]) -> Result<List<Name>, Unread>
+    ensures { IsRead (λ cards names. map name_in (flat_map (λ args. args) (arguments cards 80)) ≡ map Some names) cards.now result }
 {
     let mut names = List::new(alloc);
     for card in cards {
         if card.letter == b'P' && !push_names(&mut names, card.args.items())? {
-            return Ok(None);
+            return Err(Unread::Form);
         }
     }
-    Ok(Some(names))
+    Ok(names)
 }
 
 /// Puts the names that arguments are at the end of others, and says whether all of them are names.
@@ -123,21 +112,21 @@ fn names_differ(alloc: Global, names: &[Name]) -> Result<bool, Memory>
     Ok(sorted.len() == names.len())
 }
 
-/// The body of the one card that has one, or None where there isn't one.
-pub fn body(alloc: Global, cards: &[Card]) -> Result<Option<Text>, Memory>
-    ensures { IfOk result (IsReading HasBody cards.now) }
+/// The body of the one card that has one. `Form` where there isn't one.
+pub fn body(alloc: Global, cards: &[Card]) -> Result<Text, Unread>
+    ensures { IsRead HasBody cards.now result }
 {
     let mut found = None;
     for card in cards {
         if let Some(body) = &card.body {
             if found.is_some() {
-                return Ok(None);
+                return Err(Unread::Form);
             }
             found = Some(body);
         }
     }
     match found {
-        Some(body) => Ok(Some(Text::of(alloc, body.bytes())?)),
-        None => Ok(None),
+        Some(body) => Ok(Text::of(alloc, body.bytes())?),
+        None => Err(Unread::Form),
     }
 }

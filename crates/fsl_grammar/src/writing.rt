@@ -1,5 +1,6 @@
-//! How values become cards, at the end of a text. Where memory is wanting the text may be longer than it was, and is of no use.
-ghost use Rattle.std.specs.Prelude.{◌≡◌, ◌++◌, ◌∷◌, [], OnOk, decimal, flat_map, length, map};
+//! How values become cards, at the end of a text. For want of memory the text stays as it was: what is written in several steps is cut
+//! back to where it began.
+ghost use Rattle.std.specs.Prelude.{◌≡◌, ◌++◌, ◌∷◌, [], OnErr, OnOk, decimal, flat_map, length, map, take};
 ghost use Rattle.fsl_card.specs.Cards.{card_text, text_of};
 ghost use Rattle.fsl_grammar.specs.Writing.{body_card, card, card_if, parents_card, sign_of, tag_card, target_text, written_if};
 ghost use Rattle.fsl_name.specs.Name.{name_text};
@@ -10,23 +11,47 @@ use fsl_name::Name;
 use fsl_text::{Memory, Text, escape_into};
 use std::alloc::Global;
 
+/// Cuts a text back to a length where something was written in part alone.
+fn whole(into: &mut Text, length: usize, written: Result<(), Memory>) -> Result<(), Memory>
+    ensures same { result ≡ written }
+    ensures ok { OnOk written (into.new ≡ into.old) }
+    ensures err { OnErr written (into.new ≡ take length into.old) }
+{
+    if written.is_err() {
+        into.truncate(length);
+    }
+    written
+}
+
 /// Begins a card with its letter.
 pub fn begin_card(into: &mut Text, letter: u8) -> Result<(), Memory>
-    ensures { OnOk result (into.new ≡ into.old ++ letter ∷ []) }
+    ensures ok { OnOk result (into.new ≡ into.old ++ letter ∷ []) }
+    ensures err { OnErr result (into.new ≡ into.old) }
 {
     into.append(&[letter])
 }
 
 /// Ends the line of a card.
 pub fn end_card(into: &mut Text) -> Result<(), Memory>
-    ensures { OnOk result (into.new ≡ into.old ++ 10 ∷ []) }
+    ensures ok { OnOk result (into.new ≡ into.old ++ 10 ∷ []) }
+    ensures err { OnErr result (into.new ≡ into.old) }
 {
     into.append(b"\n")
 }
 
 /// An argument, as it is.
 pub fn write_argument(into: &mut Text, argument: &[u8]) -> Result<(), Memory>
-    ensures { OnOk result (into.new ≡ into.old ++ 32 ∷ argument.now) }
+    ensures ok { OnOk result (into.new ≡ into.old ++ 32 ∷ argument.now) }
+    ensures err { OnErr result (into.new ≡ into.old) }
+{
+    let length = into.bytes().len();
+    let written = add_argument(into, argument);
+    whole(into, length, written)
+}
+
+fn add_argument(into: &mut Text, argument: &[u8]) -> Result<(), Memory>
+    ensures ok { OnOk result (into.new ≡ into.old ++ 32 ∷ argument.now) }
+    ensures err { OnErr result (take (length into.old) into.new ≡ into.old) }
 {
     into.append(b" ")?;
     into.append(argument)
@@ -34,7 +59,17 @@ pub fn write_argument(into: &mut Text, argument: &[u8]) -> Result<(), Memory>
 
 /// A text as an argument, escaped.
 pub fn write_text(into: &mut Text, text: &[u8]) -> Result<(), Memory>
-    ensures { OnOk result (into.new ≡ into.old ++ 32 ∷ escape text.now) }
+    ensures ok { OnOk result (into.new ≡ into.old ++ 32 ∷ escape text.now) }
+    ensures err { OnErr result (into.new ≡ into.old) }
+{
+    let length = into.bytes().len();
+    let written = add_text(into, text);
+    whole(into, length, written)
+}
+
+fn add_text(into: &mut Text, text: &[u8]) -> Result<(), Memory>
+    ensures ok { OnOk result (into.new ≡ into.old ++ 32 ∷ escape text.now) }
+    ensures err { OnErr result (take (length into.old) into.new ≡ into.old) }
 {
     into.append(b" ")?;
     escape_into(into, text)
@@ -42,14 +77,25 @@ pub fn write_text(into: &mut Text, text: &[u8]) -> Result<(), Memory>
 
 /// A name as an argument, in its 40 digits.
 pub fn write_name(into: &mut Text, name: &Name) -> Result<(), Memory>
-    ensures { OnOk result (into.new ≡ into.old ++ 32 ∷ name_text name.now) }
+    ensures ok { OnOk result (into.new ≡ into.old ++ 32 ∷ name_text name.now) }
+    ensures err { OnErr result (into.new ≡ into.old) }
 {
     write_argument(into, &name.text())
 }
 
 /// A sign and a text behind it as one argument.
 pub fn write_signed_text(into: &mut Text, sign: u8, text: &[u8]) -> Result<(), Memory>
-    ensures { OnOk result (into.new ≡ into.old ++ 32 ∷ sign ∷ escape text.now) }
+    ensures ok { OnOk result (into.new ≡ into.old ++ 32 ∷ sign ∷ escape text.now) }
+    ensures err { OnErr result (into.new ≡ into.old) }
+{
+    let length = into.bytes().len();
+    let written = add_signed_text(into, sign, text);
+    whole(into, length, written)
+}
+
+fn add_signed_text(into: &mut Text, sign: u8, text: &[u8]) -> Result<(), Memory>
+    ensures ok { OnOk result (into.new ≡ into.old ++ 32 ∷ sign ∷ escape text.now) }
+    ensures err { OnErr result (take (length into.old) into.new ≡ into.old) }
 {
     into.append(&[b' ', sign])?;
     escape_into(into, text)
@@ -57,7 +103,8 @@ pub fn write_signed_text(into: &mut Text, sign: u8, text: &[u8]) -> Result<(), M
 
 /// A text as an argument, where there is one.
 pub fn write_optional_text(into: &mut Text, text: &Option<Text>) -> Result<(), Memory>
-    ensures { OnOk result (into.new ≡ into.old ++ flat_map (λ arg. 32 ∷ arg) (written_if escape text.now)) }
+    ensures ok { OnOk result (into.new ≡ into.old ++ flat_map (λ arg. 32 ∷ arg) (written_if escape text.now)) }
+    ensures err { OnErr result (into.new ≡ into.old) }
 {
     match text {
         Some(text) => write_text(into, text.bytes()),
@@ -67,7 +114,8 @@ pub fn write_optional_text(into: &mut Text, text: &Option<Text>) -> Result<(), M
 
 /// A name as an argument, where there is one.
 pub fn write_optional_name(into: &mut Text, name: &Option<Name>) -> Result<(), Memory>
-    ensures { OnOk result (into.new ≡ into.old ++ flat_map (λ arg. 32 ∷ arg) (written_if name_text name.now)) }
+    ensures ok { OnOk result (into.new ≡ into.old ++ flat_map (λ arg. 32 ∷ arg) (written_if name_text name.now)) }
+    ensures err { OnErr result (into.new ≡ into.old) }
 {
     match name {
         Some(name) => write_name(into, name),
@@ -77,7 +125,17 @@ pub fn write_optional_name(into: &mut Text, name: &Option<Name>) -> Result<(), M
 
 /// A card with one argument, as it is.
 pub fn write_card(into: &mut Text, letter: u8, argument: &[u8]) -> Result<(), Memory>
-    ensures { OnOk result (into.new ≡ into.old ++ card_text (card letter (argument.now ∷ []))) }
+    ensures ok { OnOk result (into.new ≡ into.old ++ card_text (card letter (argument.now ∷ []))) }
+    ensures err { OnErr result (into.new ≡ into.old) }
+{
+    let length = into.bytes().len();
+    let written = add_card(into, letter, argument);
+    whole(into, length, written)
+}
+
+fn add_card(into: &mut Text, letter: u8, argument: &[u8]) -> Result<(), Memory>
+    ensures ok { OnOk result (into.new ≡ into.old ++ card_text (card letter (argument.now ∷ []))) }
+    ensures err { OnErr result (take (length into.old) into.new ≡ into.old) }
 {
     begin_card(into, letter)?;
     write_argument(into, argument)?;
@@ -86,7 +144,17 @@ pub fn write_card(into: &mut Text, letter: u8, argument: &[u8]) -> Result<(), Me
 
 /// A card with a text, escaped.
 pub fn write_text_card(into: &mut Text, letter: u8, text: &[u8]) -> Result<(), Memory>
-    ensures { OnOk result (into.new ≡ into.old ++ card_text (card letter (escape text.now ∷ []))) }
+    ensures ok { OnOk result (into.new ≡ into.old ++ card_text (card letter (escape text.now ∷ []))) }
+    ensures err { OnErr result (into.new ≡ into.old) }
+{
+    let length = into.bytes().len();
+    let written = add_text_card(into, letter, text);
+    whole(into, length, written)
+}
+
+fn add_text_card(into: &mut Text, letter: u8, text: &[u8]) -> Result<(), Memory>
+    ensures ok { OnOk result (into.new ≡ into.old ++ card_text (card letter (escape text.now ∷ []))) }
+    ensures err { OnErr result (take (length into.old) into.new ≡ into.old) }
 {
     begin_card(into, letter)?;
     write_text(into, text)?;
@@ -95,7 +163,8 @@ pub fn write_text_card(into: &mut Text, letter: u8, text: &[u8]) -> Result<(), M
 
 /// A card with a name.
 pub fn write_name_card(into: &mut Text, letter: u8, name: &Name) -> Result<(), Memory>
-    ensures { OnOk result (into.new ≡ into.old ++ card_text (card letter (name_text name.now ∷ []))) }
+    ensures ok { OnOk result (into.new ≡ into.old ++ card_text (card letter (name_text name.now ∷ []))) }
+    ensures err { OnErr result (into.new ≡ into.old) }
 {
     write_card(into, letter, &name.text())
 }
@@ -106,7 +175,8 @@ pub fn write_optional_text_card(
     letter: u8,
     text: &Option<Text>,
 ) -> Result<(), Memory>
-    ensures { OnOk result (into.new ≡ into.old ++ text_of (card_if letter escape text.now)) }
+    ensures ok { OnOk result (into.new ≡ into.old ++ text_of (card_if letter escape text.now)) }
+    ensures err { OnErr result (into.new ≡ into.old) }
 {
     match text {
         Some(text) => write_text_card(into, letter, text.bytes()),
@@ -120,7 +190,8 @@ pub fn write_optional_name_card(
     letter: u8,
     name: &Option<Name>,
 ) -> Result<(), Memory>
-    ensures { OnOk result (into.new ≡ into.old ++ text_of (card_if letter name_text name.now)) }
+    ensures ok { OnOk result (into.new ≡ into.old ++ text_of (card_if letter name_text name.now)) }
+    ensures err { OnErr result (into.new ≡ into.old) }
 {
     match name {
         Some(name) => write_name_card(into, letter, name),
@@ -130,18 +201,29 @@ pub fn write_optional_name_card(
 
 /// The P card of some parents. Without parents there is none.
 pub fn write_parents(into: &mut Text, parents: &[Name]) -> Result<(), Memory>
-    ensures { OnOk result (into.new ≡ into.old ++ text_of (parents_card parents.now)) }
+    ensures ok { OnOk result (into.new ≡ into.old ++ text_of (parents_card parents.now)) }
+    ensures err { OnErr result (into.new ≡ into.old) }
+{
+    let length = into.bytes().len();
+    let written = add_parents(into, parents);
+    whole(into, length, written)
+}
+
+fn add_parents(into: &mut Text, parents: &[Name]) -> Result<(), Memory>
+    ensures ok { OnOk result (into.new ≡ into.old ++ text_of (parents_card parents.now)) }
+    ensures err { OnErr result (take (length into.old) into.new ≡ into.old) }
 {
     if parents.is_empty() {
         return Ok(());
     }
     begin_card(into, b'P')?;
-    write_names(into, parents)?;
+    add_names(into, parents)?;
     end_card(into)
 }
 
-fn write_names(into: &mut Text, names: &[Name]) -> Result<(), Memory>
-    ensures { OnOk result (into.new ≡ into.old ++ flat_map (λ name. 32 ∷ name_text name) names.now) }
+fn add_names(into: &mut Text, names: &[Name]) -> Result<(), Memory>
+    ensures ok { OnOk result (into.new ≡ into.old ++ flat_map (λ name. 32 ∷ name_text name) names.now) }
+    ensures err { OnErr result (take (length into.old) into.new ≡ into.old) }
 {
     for name in names {
         write_name(into, name)?;
@@ -151,7 +233,17 @@ fn write_names(into: &mut Text, names: &[Name]) -> Result<(), Memory>
 
 /// The T cards of some tags, in their order.
 pub fn write_tags(into: &mut Text, tags: &[TagCard]) -> Result<(), Memory>
-    ensures { OnOk result (into.new ≡ into.old ++ text_of (map tag_card tags.now)) }
+    ensures ok { OnOk result (into.new ≡ into.old ++ text_of (map tag_card tags.now)) }
+    ensures err { OnErr result (into.new ≡ into.old) }
+{
+    let length = into.bytes().len();
+    let written = add_tags(into, tags);
+    whole(into, length, written)
+}
+
+fn add_tags(into: &mut Text, tags: &[TagCard]) -> Result<(), Memory>
+    ensures ok { OnOk result (into.new ≡ into.old ++ text_of (map tag_card tags.now)) }
+    ensures err { OnErr result (take (length into.old) into.new ≡ into.old) }
 {
     for tag in tags {
         write_tag(into, tag)?;
@@ -161,7 +253,17 @@ pub fn write_tags(into: &mut Text, tags: &[TagCard]) -> Result<(), Memory>
 
 /// The T card of a tag.
 pub fn write_tag(into: &mut Text, tag: &TagCard) -> Result<(), Memory>
-    ensures { OnOk result (into.new ≡ into.old ++ card_text (tag_card tag.now)) }
+    ensures ok { OnOk result (into.new ≡ into.old ++ card_text (tag_card tag.now)) }
+    ensures err { OnErr result (into.new ≡ into.old) }
+{
+    let length = into.bytes().len();
+    let written = add_tag(into, tag);
+    whole(into, length, written)
+}
+
+fn add_tag(into: &mut Text, tag: &TagCard) -> Result<(), Memory>
+    ensures ok { OnOk result (into.new ≡ into.old ++ card_text (tag_card tag.now)) }
+    ensures err { OnErr result (take (length into.old) into.new ≡ into.old) }
 {
     begin_card(into, b'T')?;
     write_signed_text(into, sign_of(tag.prefix), tag.tag.bytes())?;
@@ -181,7 +283,8 @@ fn sign_of(prefix: Prefix) -> u8
 }
 
 fn write_target(into: &mut Text, target: &Option<Name>) -> Result<(), Memory>
-    ensures { OnOk result (into.new ≡ into.old ++ 32 ∷ target_text target.now) }
+    ensures ok { OnOk result (into.new ≡ into.old ++ 32 ∷ target_text target.now) }
+    ensures err { OnErr result (into.new ≡ into.old) }
 {
     match target {
         Some(name) => write_name(into, name),
@@ -191,7 +294,17 @@ fn write_target(into: &mut Text, target: &Option<Name>) -> Result<(), Memory>
 
 /// The W card of a text: the text stands behind its size in bytes.
 pub fn write_body(alloc: Global, into: &mut Text, text: &[u8]) -> Result<(), Memory>
-    ensures { OnOk result (into.new ≡ into.old ++ card_text (body_card text.now)) }
+    ensures ok { OnOk result (into.new ≡ into.old ++ card_text (body_card text.now)) }
+    ensures err { OnErr result (into.new ≡ into.old) }
+{
+    let length = into.bytes().len();
+    let written = add_body(alloc, into, text);
+    whole(into, length, written)
+}
+
+fn add_body(alloc: Global, into: &mut Text, text: &[u8]) -> Result<(), Memory>
+    ensures ok { OnOk result (into.new ≡ into.old ++ card_text (body_card text.now)) }
+    ensures err { OnErr result (take (length into.old) into.new ≡ into.old) }
 {
     begin_card(into, b'W')?;
     write_size(alloc, into, text.len())?;
@@ -201,7 +314,8 @@ pub fn write_body(alloc: Global, into: &mut Text, text: &[u8]) -> Result<(), Mem
 }
 
 fn write_size(alloc: Global, into: &mut Text, size: usize) -> Result<(), Memory>
-    ensures { OnOk result (into.new ≡ into.old ++ 32 ∷ decimal size) }
+    ensures ok { OnOk result (into.new ≡ into.old ++ 32 ∷ decimal size) }
+    ensures err { OnErr result (into.new ≡ into.old) }
 {
     let digits = format!(in alloc; "{size}")?;
     write_argument(into, digits.as_bytes())

@@ -1,104 +1,27 @@
 -- Where some cards are a manifest, the manifest can be written.
-use Rattle.std.proofs.Common.{◌≡◌, ℕ, ◌<◌, ◌≤◌, Bool, true, false, not, cond, eqb, List, [], ◌∷◌, ◌++◌, map, filter, Option, Some, None, refl, sym, ap, subst, ◌∙◌, inl, inr, arith}
-use Rattle.std.specs.Prelude.{◌&&◌, ◌||◌, ◌==◌, nat_lt, is_some, option_map, option_to_list, codes}
+use Rattle.std.proofs.Common.{◌≡◌, ℕ, Bool, true, false, cond, List, [], ◌∷◌, map, Option, Some, None, refl, sym, ap, subst, ◌∙◌}
+use Rattle.std.specs.Prelude.{◌&&◌, ◌||◌, ◌==◌, nat_lt, is_some, option_map, option_to_list}
 use Rattle.std.specs.List.{list_all, AllByRecursion}
 use Rattle.std.specs.Str.{bytes_eq}
-use Rattle.std.proofs.lemmas.Bool.{cases_lt, eq-eqb, eqb-true, false≢true, ne_eqb}
-use borrow.Author.Tests.{ltb-true}
 use Rattle.fsl_order.specs.Names.{is_before}
-use Rattle.fsl_text.specs.Bytes.{is_empty}
-use Rattle.fsl_text.specs.Escapes.{unescape, byte_meant}
+use Rattle.fsl_text.specs.Escapes.{unescape}
 use Rattle.fsl_text.specs.Paths.{path_ok}
 use Rattle.fsl_name.specs.Name.{name_in}
 use Rattle.fsl_card.specs.declared.types.Card.{Card}
-use Rattle.fsl_card.specs.Cards.{IsCard, IsCards, IsTextOf, are_arguments, in_order, is_argument, may_follow, may_repeat, first_of, first_argument}
+use Rattle.fsl_card.specs.Cards.{IsCards, in_order, is_argument, may_follow, may_repeat, first_of, first_argument}
 use Rattle.fsl_card.specs.Writing.{sealed_text}
-use Rattle.fsl_date.proofs.EachMoment.{always_printed}
-use Rattle.fsl_grammar.specs.declared.TagCard.{TagCard}
-use Rattle.fsl_grammar.specs.Forms.{◌>>=◌, all_differ, arguments, given, is_filled, is_tag_written, optional, prefix_in, tag_form, tag_in, target_in, text_form, user_form}
+use Rattle.fsl_grammar.specs.Forms.{arguments, is_tag_written, optional, tag_form, text_form, user_form}
 use Rattle.fsl_grammar.proofs.Apart.{first_holds, second_holds}
+use Rattle.fsl_grammar.proofs.LetterOrder.{all_of_it, kept_in_order, of_it}
+use Rattle.fsl_grammar.proofs.ReadValues.{all_true, each_given, filled, fit_arguments, given_is, optional_filled, step, tag_read, text_filled, user_filled}
 use Rattle.fsl_grammar.proofs.WrittenArguments.{both_hold}
 use Rattle.fsl_manifest.specs.declared.Perm.{Perm}
 use Rattle.fsl_manifest.specs.declared.Perm.TheVariants.{Plain, Writable, Exec, Symlink}
 use Rattle.fsl_manifest.specs.declared.FileCard.{FileCard}
 use Rattle.fsl_manifest.specs.declared.Manifest.{Manifest}
-use Rattle.fsl_manifest.specs.Manifests.{IsManifest, file_form, file_in, files_rise, has_hashes, is_file_written, is_perm_placed, is_well_formed, path_in, perm_in, perm_or_plain}
+use Rattle.fsl_manifest.specs.Manifests.{IsManifest, file_form, file_in, files_rise, is_file_written, is_perm_placed, is_well_formed, path_in, perm_in, perm_or_plain}
 use Rattle.fsl_manifest.specs.Writing.{IsWrittenExactly, manifest_cards}
 use Rattle.fsl_manifest.proofs.ReadBack.{is_read_back}
-
--- ---- arguments
-
--- the arguments of one card
-abbrev AreFit : List (List ℕ) → Type 0
-AreFit args = list_all is_argument args ≡ true
-
--- an argument stands for a text that has a byte
-unescape_filled : (arg : List ℕ) → is_argument arg ≡ true → not (is_empty (unescape arg)) ≡ true
-unescape_filled [] h = absurd cc
-unescape_filled (b ∷ []) h = refl
-unescape_filled (b ∷ c ∷ rest) h = by (b == 92)
-  where
-    by : (t : Bool) → not (is_empty (cond t (byte_meant c ∷ unescape rest) (b ∷ unescape (c ∷ rest)))) ≡ true
-    by true = refl
-    by false = refl
-
--- the cards of a letter that isn't J have arguments that are fit
-fit_arguments : (cards : List Card) (letter : ℕ) → eqb letter 74 ≡ false → AllByRecursion IsCard cards → AllByRecursion AreFit (arguments cards letter)
-fit_arguments [] letter other h = tt
-fit_arguments (c ∷ cards) letter other h = by (eqb c.letter letter) refl (fit_arguments cards letter other h.1)
-  where
-    by : (t : Bool) → eqb c.letter letter ≡ t → AllByRecursion AreFit (arguments cards letter) → AllByRecursion AreFit (map (λ card. card.args) (cond t (c ∷ filter (λ card. eqb card.letter letter) cards) (filter (λ card. eqb card.letter letter) cards)))
-    by true e more =
-        let other_letter : eqb c.letter 74 ≡ false = ap (λ (l : ℕ). eqb l 74) (eqb-true c.letter letter e) ∙ other in
-        (rw other_letter at h.0.arguments, more)
-    by false e more = more
-
--- what a form gives of fit arguments
-module _ {X : Type 0} (form : List (List ℕ) → Option X) (P : X → Type 0) (gives : (args : List (List ℕ)) (x : X) → AreFit args → form args ≡ Some x → P x) where
-  abbrev some_all : List X → List (Option X)
-  some_all xs = map Some xs
-
-  each_given : (found : List (List (List ℕ))) (xs : List X) → AllByRecursion AreFit found → map form found ≡ some_all xs → AllByRecursion P xs
-  each_given [] [] h e = tt
-  each_given [] (x ∷ xs) h e = absurd cc
-  each_given (args ∷ found) [] h e = absurd cc
-  each_given (args ∷ found) (x ∷ xs) h e = (gives args x h.0 (first e), each_given found xs h.1 (rest e))
-    where
-      first : form args ∷ map form found ≡ Some x ∷ some_all xs → form args ≡ Some x
-      first f = cc
-
-      rest : form args ∷ map form found ≡ Some x ∷ some_all xs → map form found ≡ some_all xs
-      rest f = cc
-
--- ---- forms
-
-abbrev filled : List ℕ → Type 0
-filled text = not (is_empty text) ≡ true
-
-text_filled : (args : List (List ℕ)) (text : List ℕ) → AreFit args → text_form args ≡ Some text → filled text
-text_filled [] text h e = absurd cc
-text_filled (arg ∷ []) text h e = subst filled (inside e) (unescape_filled arg (first_holds _ true h))
-  where
-    inside : Some (unescape arg) ≡ Some text → unescape arg ≡ text
-    inside f = cc
-text_filled (a ∷ b ∷ args) text h e = absurd cc
-
-user_filled : (args : List (List ℕ)) (text : List ℕ) → AreFit args → user_form args ≡ Some text → filled text
-user_filled [] text h e = subst filled (inside e) refl
-  where
-    inside : Some (codes "anonymous") ≡ Some text → codes "anonymous" ≡ text
-    inside f = cc
-user_filled (a ∷ args) text h e = text_filled (a ∷ args) text h e
-
--- a step that gives a value had one to go on with
-module _ {A B : Type 0} where
-  step : (o : Option A) (f : A → Option B) (b : B) → (o >>= f) ≡ Some b → (a : A) × (o ≡ Some a) × (f a ≡ Some b)
-  step None f b e = absurd cc
-  step (Some a) f b e = (a, refl, e)
-
-given_is : {A : Type 0} (t : Bool) (x y : A) → given t x ≡ Some y → (t ≡ true) × (x ≡ y)
-given_is true x y e = (refl, cc)
-given_is false x y e = absurd cc
 
 -- ---- files
 
@@ -193,85 +116,7 @@ file_read (path ∷ hash ∷ perm ∷ []) f e = file_of path (Some hash) (Some p
 file_read (path ∷ hash ∷ perm ∷ former ∷ []) f e = file_of path (Some hash) (Some perm) (Some former) f (λ k. k) (λ k. absurd cc) e
 file_read (a ∷ b ∷ c ∷ d ∷ x ∷ args) f e = absurd cc
 
--- ---- tags
-
-tag_of : (bytes target : List ℕ) (value : Option (List ℕ)) (t : TagCard) → is_filled value ≡ true → tag_in bytes target value ≡ Some t → is_tag_written t ≡ true
-tag_of [] target value t h e = absurd cc
-tag_of (sign ∷ tag) target value t h e =
-    let p = step (prefix_in sign) _ t e in
-    let to = step (target_in target) _ t p.2 in
-    let g = given_is (not (is_empty tag)) (record { prefix = p.0; tag = tag; target = to.0; value = value }) t to.2 in
-    subst (λ (t : TagCard). is_tag_written t ≡ true) g.1 (both_hold _ _ g.0 h)
-
-tag_read : (args : List (List ℕ)) (t : TagCard) → AreFit args → tag_form args ≡ Some t → is_tag_written t ≡ true
-tag_read [] t h e = absurd cc
-tag_read (tag ∷ []) t h e = absurd cc
-tag_read (tag ∷ target ∷ []) t h e = tag_of (unescape tag) target None t refl e
-tag_read (tag ∷ target ∷ value ∷ []) t h e =
-    tag_of (unescape tag) target (Some (unescape value)) t
-    (unescape_filled value (first_holds _ true (second_holds (is_argument target) _ (second_holds (is_argument tag) _ h)))) e
-tag_read (a ∷ b ∷ c ∷ d ∷ args) t h e = absurd cc
-
 -- ---- the order of files
-
-letters_grow : (a b : Card) → may_follow a b ≡ true → a.letter ≤ b.letter
-letters_grow a b h = by (nat_lt a.letter b.letter) (eqb a.letter b.letter) refl refl h
-  where
-    by : (s t : Bool) → nat_lt a.letter b.letter ≡ s → eqb a.letter b.letter ≡ t → (s || (t && may_repeat a.letter a b)) ≡ true → a.letter ≤ b.letter
-    by true t less same k = let lt : a.letter < b.letter = ltb-true a.letter b.letter less in omega arith
-    by false true less same k = let e : a.letter ≡ b.letter = eqb-true a.letter b.letter same in omega arith
-    by false false less same k = absurd cc
-
-rest_in_order : (a : Card) (cards : List Card) → in_order (a ∷ cards) ≡ true → in_order cards ≡ true
-rest_in_order a [] h = refl
-rest_in_order a (b ∷ cards) h = second_holds (may_follow a b) _ h
-
-module _ (letter : ℕ) where
-  -- the cards of the letter
-  abbrev of_it : List Card → List Card
-  of_it cards = filter (λ card. eqb card.letter letter) cards
-
-  none_above : (a : Card) (cards : List Card) → letter < a.letter → in_order (a ∷ cards) ≡ true → of_it (a ∷ cards) ≡ []
-  none_above a [] above h = rw (ne_eqb a.letter letter (λ e. absurd (omega arith))) refl
-  none_above a (b ∷ cards) above h =
-      let next : a.letter ≤ b.letter = letters_grow a b (first_holds _ (in_order (b ∷ cards)) h) in
-      let higher : letter < b.letter = omega arith in
-      rw (ne_eqb a.letter letter (λ e. absurd (omega arith))) (none_above b cards higher (second_holds (may_follow a b) _ h))
-
-  kept_behind : (a : Card) (cards : List Card) → a.letter ≡ letter → in_order (a ∷ cards) ≡ true → in_order (a ∷ of_it cards) ≡ true
-  kept_behind a [] same h = refl
-  kept_behind a (b ∷ cards) same h = by (eqb b.letter letter) refl (kept_behind b cards)
-    where
-      by : (t : Bool) → eqb b.letter letter ≡ t → (b.letter ≡ letter → in_order (b ∷ cards) ≡ true → in_order (b ∷ of_it cards) ≡ true) → in_order (a ∷ cond t (b ∷ of_it cards) (of_it cards)) ≡ true
-      by true e more = both_hold _ _ (first_holds _ (in_order (b ∷ cards)) h) (more (eqb-true b.letter letter e) (second_holds (may_follow a b) _ h))
-      by false e more =
-          let next : a.letter ≤ b.letter = letters_grow a b (first_holds _ (in_order (b ∷ cards)) h) in
-          let other : b.letter ≡ letter → ⊥ = λ k. false≢true (sym e ∙ eq-eqb b.letter letter k) in
-          let none : of_it (b ∷ cards) ≡ [] = none_above b cards (above (b.letter) next other) (second_holds (may_follow a b) _ h) in
-          let none_here : of_it cards ≡ [] = (rw e at none) in
-          rw none_here refl
-        where
-          above : (n : ℕ) → a.letter ≤ n → (n ≡ letter → ⊥) → letter < n
-          above n le ne = elim (cases_lt letter n) [
-            | inl lt ↦ lt
-            | inr ge ↦ absurd (ne (omega (arith, same, le, ge)))
-          ]
-
-  kept_in_order : (cards : List Card) → in_order cards ≡ true → in_order (of_it cards) ≡ true
-  kept_in_order [] h = refl
-  kept_in_order (c ∷ cards) h = by (eqb c.letter letter) refl (kept_in_order cards (rest_in_order c cards h))
-    where
-      by : (t : Bool) → eqb c.letter letter ≡ t → in_order (of_it cards) ≡ true → in_order (cond t (c ∷ of_it cards) (of_it cards)) ≡ true
-      by true e more = kept_behind c cards (eqb-true c.letter letter e) h
-      by false e more = more
-
-  all_of_it : (cards : List Card) → AllByRecursion (λ card. card.letter ≡ letter) (of_it cards)
-  all_of_it [] = tt
-  all_of_it (c ∷ cards) = by (eqb c.letter letter) refl (all_of_it cards)
-    where
-      by : (t : Bool) → eqb c.letter letter ≡ t → AllByRecursion (λ card. card.letter ≡ letter) (of_it cards) → AllByRecursion (λ card. card.letter ≡ letter) (cond t (c ∷ of_it cards) (of_it cards))
-      by true e more = (eqb-true c.letter letter e, more)
-      by false e more = more
 
 path_before : (a b : Card) → a.letter ≡ 70 → b.letter ≡ 70 → may_follow a b ≡ true → is_before (unescape (first_argument a)) (unescape (first_argument b)) ≡ true
 path_before a b ea eb h = by (a.letter) (b.letter) ea eb h
@@ -304,21 +149,13 @@ rise_from (a ∷ b ∷ cards) (f ∷ g ∷ files) letters h e =
 
 -- ---- the whole
 
-all_true : {X : Type 0} (p : X → Bool) (xs : List X) → AllByRecursion (λ x. p x ≡ true) xs → list_all p xs ≡ true
-all_true p [] h = refl
-all_true p (x ∷ xs) h = both_hold _ _ h.0 (all_true p xs h.1)
-
-optional_filled : (o : Option (List ℕ)) → AllByRecursion filled (option_to_list o) → is_filled o ≡ true
-optional_filled None h = refl
-optional_filled (Some text) h = h.0
-
 pub well_formed_from : (text : List ℕ) (cards : List Card) (m : Manifest) → IsCards text cards → IsManifest cards m → is_well_formed m ≡ true
 well_formed_from text cards m is h =
-    let comment = each_given text_form filled text_filled (arguments cards 67) (m.comment ∷ []) (fit_arguments cards 67 refl is.each) h.comment in
-    let user = each_given user_form filled user_filled (arguments cards 85) (m.user ∷ []) (fit_arguments cards 85 refl is.each) h.user in
-    let mime = each_given text_form filled text_filled (arguments cards 78) (option_to_list m.mime) (fit_arguments cards 78 refl is.each) h.mime in
-    let files = each_given file_form (λ f. is_file_written f ≡ true) (λ args f fit e. (file_read args f e).written) (arguments cards 70) m.files (fit_arguments cards 70 refl is.each) h.files in
-    let tags = each_given tag_form (λ t. is_tag_written t ≡ true) tag_read (arguments cards 84) m.tags (fit_arguments cards 84 refl is.each) h.tags in
+    let comment = each_given (λ args. list_all is_argument args ≡ true) text_form filled text_filled (arguments cards 67) (m.comment ∷ []) (fit_arguments cards 67 is.each) h.comment in
+    let user = each_given (λ args. list_all is_argument args ≡ true) user_form filled user_filled (arguments cards 85) (m.user ∷ []) (fit_arguments cards 85 is.each) h.user in
+    let mime = each_given (λ args. list_all is_argument args ≡ true) text_form filled text_filled (arguments cards 78) (option_to_list m.mime) (fit_arguments cards 78 is.each) h.mime in
+    let files = each_given (λ args. list_all is_argument args ≡ true) file_form (λ f. is_file_written f ≡ true) (λ args f fit e. (file_read args f e).written) (arguments cards 70) m.files (fit_arguments cards 70 is.each) h.files in
+    let tags = each_given (λ args. list_all is_argument args ≡ true) tag_form (λ t. is_tag_written t ≡ true) tag_read (arguments cards 84) m.tags (fit_arguments cards 84 is.each) h.tags in
     let rise = rise_from (of_it 70 cards) m.files (all_of_it 70 cards) (kept_in_order 70 cards is.ordered) h.files in
     both_hold _ _ (both_hold _ _ (both_hold _ _ (both_hold _ _ (both_hold _ _ (both_hold _ _ (both_hold _ _
     comment.0 user.0) (optional_filled m.mime mime)) (all_true is_file_written m.files files)) rise) h.hashes) h.parents.differ) (all_true is_tag_written m.tags tags)
@@ -326,9 +163,6 @@ well_formed_from text cards m is h =
 -- a manifest can be written exactly where some text is it
 pub is_exact : IsWrittenExactly
 is_exact m typed moment = (
-  λ w.
-      let date = always_printed m.date moment in
-      let text = sealed_text (manifest_cards date.0 m) in
-      (text, is_read_back m text typed w (date.0, date.1, refl)),
+  λ w. let text = sealed_text (manifest_cards m) in (text, is_read_back m text typed moment w refl),
   λ t. well_formed_from t.0 t.1.0 m t.1.1 t.1.2,
 )

@@ -1,16 +1,15 @@
 -- Files and picks are read again as they are written.
-use Rattle.std.proofs.Common.{◌≡◌, ℕ, Bool, true, false, not, List, [], ◌∷◌, ◌++◌, map, Option, Some, None, refl, sym, ap, ◌∙◌}
-use Rattle.std.specs.Prelude.{◌&&◌, if◌then◌else◌, is_some, option_map, option_to_list}
+use Rattle.std.proofs.Common.{◌≡◌, ℕ, Bool, true, false, not, List, [], ◌∷◌, ◌++◌, map, Option, Some, None, refl}
+use Rattle.std.specs.Prelude.{◌&&◌, if◌then◌else◌, is_some, option_to_list}
 use Rattle.std.specs.List.{list_all, AllByRecursion}
 use Rattle.fsl_order.specs.Names.{is_before}
 use Rattle.fsl_text.specs.Bytes.{is_empty}
-use Rattle.fsl_text.specs.Escapes.{escape, unescape}
+use Rattle.fsl_text.specs.Escapes.{escape}
 use Rattle.fsl_text.specs.Paths.{path_ok}
 use Rattle.fsl_text.proofs.Unescaping.{unescape-escape}
-use Rattle.fsl_name.specs.Name.{IsName, name_in, name_text}
+use Rattle.fsl_name.specs.Name.{IsName, name_text}
 use Rattle.fsl_name.proofs.ReadAgain.{name_again}
 use Rattle.fsl_card.specs.Cards.{in_order, is_argument}
-use Rattle.fsl_grammar.specs.Forms.{optional}
 use Rattle.fsl_grammar.specs.Writing.{written_if}
 use Rattle.fsl_grammar.proofs.Apart.{first_holds, second_holds}
 use Rattle.fsl_grammar.proofs.WrittenArguments.{both_hold, is_argument-escape, is_argument-name}
@@ -19,7 +18,7 @@ use Rattle.fsl_manifest.specs.declared.Perm.{Perm}
 use Rattle.fsl_manifest.specs.declared.Perm.TheVariants.{Plain, Writable, Exec, Symlink}
 use Rattle.fsl_manifest.specs.declared.FileCard.{FileCard}
 use Rattle.fsl_manifest.specs.declared.Pick.{Pick}
-use Rattle.fsl_manifest.specs.Manifests.{file_form, file_in, path_in, perm_in, pick_form, pick_in, back_in, is_file_written, is_perm_placed, files_rise}
+use Rattle.fsl_manifest.specs.Manifests.{file_form, path_in, pick_form, is_file_written, is_perm_placed, files_rise}
 use Rattle.fsl_manifest.specs.Writing.{file_card, perm_arguments, pick_card}
 
 -- ---- files

@@ -2,7 +2,7 @@
 use Rattle.std.specs.Prelude.{◌≡◌, ◌↔◌, ℕ, List, [], ◌∷◌, ◌++◌, map, Option, codes, if◌then◌else◌}
 use Rattle.fsl_text.specs.Escapes.{escape}
 use Rattle.fsl_name.specs.Name.{name_text, IsName}
-use Rattle.fsl_date.specs.Moment.{IsMoment, IsPrinted}
+use Rattle.fsl_date.specs.Moment.{IsMoment, moment_text}
 use Rattle.hex.specs.Hex.{encode_lower}
 use Rattle.fsl_card.specs.declared.types.Card.{Card}
 use Rattle.fsl_manifest.specs.declared.Perm.{Perm}
@@ -31,16 +31,16 @@ file_card f = card 70 (escape f.path ∷ written_if name_text f.hash ++ perm_arg
 abbrev pub pick_card : Pick → Card
 pick_card p = card 81 (((if p.back then 45 else 43) ∷ name_text p.target) ∷ written_if name_text p.other)
 
--- the cards before the Z card; `date` is the text of its moment
-abbrev pub manifest_cards : List ℕ → Manifest → List Card
-manifest_cards date m =
-    card_if 66 name_text m.baseline ++ card 67 (escape m.comment ∷ []) ∷ card 68 (date ∷ []) ∷ map file_card m.files
+-- the cards before the Z card
+abbrev pub manifest_cards : Manifest → List Card
+manifest_cards m =
+    card_if 66 name_text m.baseline ++ card 67 (escape m.comment ∷ []) ∷ card 68 (moment_text m.date ∷ []) ∷ map file_card m.files
     ++ card_if 78 escape m.mime ++ parents_card m.parents ++ map pick_card m.picks ++ card_if 82 encode_lower m.checksum
     ++ map tag_card m.tags ++ card 85 (escape m.user ∷ []) ∷ []
 
 -- the text that a manifest is written as
 abbrev pub IsManifestText : List ℕ → Manifest → Type 0
-IsManifestText text m = (date : List ℕ) × IsPrinted m.date date × (text ≡ sealed_text (manifest_cards date m))
+IsManifestText text m = text ≡ sealed_text (manifest_cards m)
 
 -- ---- laws
 
@@ -55,7 +55,7 @@ IsOfType m = AllByRecursion IsName (all_names m) × AllByRecursion (λ c. (lengt
 
 -- what is written reads back
 abbrev pub IsReadBack : Type 0
-IsReadBack = (m : Manifest) (text : List ℕ) → IsOfType m → IsTrue (is_well_formed m) → IsManifestText text m → IsTextOf IsManifest text m
+IsReadBack = (m : Manifest) (text : List ℕ) → IsOfType m → IsMoment m.date → IsTrue (is_well_formed m) → IsManifestText text m → IsTextOf IsManifest text m
 
 -- a manifest can be written exactly where some text is it
 abbrev pub IsWrittenExactly : Type 0

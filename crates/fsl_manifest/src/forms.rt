@@ -1,11 +1,12 @@
 //! The forms of F and Q cards.
-ghost use Rattle.std.specs.Prelude.{◌≡◌, IfOk, option_map};
+ghost use Rattle.std.specs.Prelude.{◌≡◌, option_map};
 ghost use Rattle.fsl_grammar.specs.Forms.{optional};
+ghost use Rattle.fsl_grammar.specs.Reading.{IsGiven};
 ghost use Rattle.fsl_manifest.specs.Manifests.{back_in, file_form, file_in, path_in, perm_in, perm_or_plain, pick_form, pick_in};
 
 use crate::{FileCard, Perm, Pick};
-use fsl_grammar::{Form, read_hash, read_optional_hash};
-use fsl_text::{Memory, Text, path_ok, unescape};
+use fsl_grammar::{Form, Unread, read_hash, read_optional_hash};
+use fsl_text::{Text, path_ok, unescape};
 use std::alloc::Global;
 
 /// A path, and behind it a hash, a permission and a former path, each of which may be missing with what follows it.
@@ -16,7 +17,7 @@ impl Form for FileForm {
 
     ghost form = { file_form };
 
-    fn read(alloc: Global, args: &[Text]) -> Result<Option<FileCard>, Memory> {
+    fn read(alloc: Global, args: &[Text]) -> Result<FileCard, Unread> {
         match args {
             [path] => read_file(alloc, path, None, None, None),
             [path, hash] => read_file(alloc, path, Some(hash), None, None),
@@ -24,7 +25,7 @@ impl Form for FileForm {
             [path, hash, perm, former] => {
                 read_file(alloc, path, Some(hash), Some(perm), Some(former))
             }
-            _ => Ok(None),
+            _ => Err(Unread::Form),
         }
     }
 }
@@ -37,11 +38,11 @@ impl Form for PickForm {
 
     ghost form = { pick_form };
 
-    fn read(_alloc: Global, args: &[Text]) -> Result<Option<Pick>, Memory> {
+    fn read(_alloc: Global, args: &[Text]) -> Result<Pick, Unread> {
         match args {
-            [target] => Ok(read_pick(target.bytes(), None)),
-            [target, other] => Ok(read_pick(target.bytes(), Some(other))),
-            _ => Ok(None),
+            [target] => read_pick(target.bytes(), None),
+            [target, other] => read_pick(target.bytes(), Some(other)),
+            _ => Err(Unread::Form),
         }
     }
 }
@@ -52,49 +53,38 @@ fn read_file(
     hash: Option<&Text>,
     perm: Option<&Text>,
     former: Option<&Text>,
-) -> Result<Option<FileCard>, Memory>
-    ensures { IfOk result (λ file. file ≡ file_in path.now (option_map (λ text. text.now) hash.entry) (option_map (λ text. text.now) perm.entry) (option_map (λ text. text.now) former.entry)) }
+) -> Result<FileCard, Unread>
+    ensures { IsGiven (file_in path.now (option_map (λ text. text.now) hash.entry) (option_map (λ text. text.now) perm.entry) (option_map (λ text. text.now) former.entry)) result }
 {
-    let Some(path) = read_path(alloc, path.bytes())? else {
-        return Ok(None);
-    };
-    let Some(hash) = read_optional_hash(hash) else {
-        return Ok(None);
-    };
-    let Some(perm) = read_optional_perm(perm) else {
-        return Ok(None);
-    };
-    let Some(former) = read_optional_path(alloc, former)? else {
-        return Ok(None);
-    };
-    Ok(Some(FileCard {
+    let path = read_path(alloc, path.bytes())?;
+    let hash = read_optional_hash(hash).ok_or(Unread::Form)?;
+    let perm = read_optional_perm(perm).ok_or(Unread::Form)?;
+    let former = read_optional_path(alloc, former)?;
+    Ok(FileCard {
         path,
         hash,
         perm,
         former,
-    }))
+    })
 }
 
 /// The path that an argument stands for.
-fn read_path(alloc: Global, arg: &[u8]) -> Result<Option<Text>, Memory>
-    ensures { IfOk result (λ path. path ≡ path_in arg.now) }
+fn read_path(alloc: Global, arg: &[u8]) -> Result<Text, Unread>
+    ensures { IsGiven (path_in arg.now) result }
 {
     let path = unescape(alloc, arg)?;
     if path_ok(path.bytes()) {
-        Ok(Some(path))
+        Ok(path)
     } else {
-        Ok(None)
+        Err(Unread::Form)
     }
 }
 
-fn read_optional_path(alloc: Global, arg: Option<&Text>) -> Result<Option<Option<Text>>, Memory>
-    ensures { IfOk result (λ path. path ≡ optional path_in (option_map (λ text. text.now) arg.entry)) }
+fn read_optional_path(alloc: Global, arg: Option<&Text>) -> Result<Option<Text>, Unread>
+    ensures { IsGiven (optional path_in (option_map (λ text. text.now) arg.entry)) result }
 {
-    let Some(arg) = arg else {
-        return Ok(Some(None));
-    };
-    match read_path(alloc, arg.bytes())? {
-        Some(path) => Ok(Some(Some(path))),
+    match arg {
+        Some(arg) => Ok(Some(read_path(alloc, arg.bytes())?)),
         None => Ok(None),
     }
 }
@@ -133,14 +123,14 @@ fn read_back(sign: u8) -> Option<bool>
     }
 }
 
-fn read_pick(target: &[u8], other: Option<&Text>) -> Option<Pick>
-    ensures { result ≡ pick_in target.now (option_map (λ text. text.now) other.entry) }
+fn read_pick(target: &[u8], other: Option<&Text>) -> Result<Pick, Unread>
+    ensures { IsGiven (pick_in target.now (option_map (λ text. text.now) other.entry)) result }
 {
-    let (sign, hash) = target.split_first()?;
-    let back = read_back(*sign)?;
-    let target = read_hash(hash)?;
-    let other = read_optional_hash(other)?;
-    Some(Pick {
+    let (sign, hash) = target.split_first().ok_or(Unread::Form)?;
+    let back = read_back(*sign).ok_or(Unread::Form)?;
+    let target = read_hash(hash).ok_or(Unread::Form)?;
+    let other = read_optional_hash(other).ok_or(Unread::Form)?;
+    Ok(Pick {
         back,
         target,
         other,

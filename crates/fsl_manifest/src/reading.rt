@@ -1,6 +1,7 @@
 //! The manifest that cards are.
 ghost use Rattle.std.specs.Prelude.{IfOk};
 ghost use Rattle.fsl_card.specs.Cards.{IsReading};
+ghost use Rattle.fsl_grammar.specs.Reading.{IsRead};
 ghost use Rattle.fsl_manifest.specs.Manifests.{IsManifest};
 ghost use Rattle.fsl_manifest.specs.Parts.{HasFields};
 
@@ -8,7 +9,7 @@ use crate::Manifest;
 use crate::forms::{FileForm, PickForm};
 use fsl_card::{Card, Cards};
 use fsl_grammar::{
-    ChecksumForm, DateForm, HashForm, TagForm, TextForm, UserForm, at_most_one, each,
+    ChecksumForm, DateForm, HashForm, TagForm, TextForm, Unread, UserForm, at_most_one, each,
     has_manifest_letters, one, parents,
 };
 use fsl_text::Memory;
@@ -20,55 +21,43 @@ impl Manifest {
     pub fn read(alloc: Global, cards: &Cards) -> Result<Option<Manifest>, Memory>
         ensures { IfOk result (IsReading IsManifest cards.now) }
     {
-        if !has_manifest_letters(cards.items()) {
-            return Ok(None);
-        }
-        let Some(manifest) = read_fields(alloc, cards.items())? else {
-            return Ok(None);
-        };
-        if manifest.has_hashes() {
-            Ok(Some(manifest))
-        } else {
-            Ok(None)
+        match read_cards(alloc, cards.items()) {
+            Ok(manifest) => Ok(Some(manifest)),
+            Err(Unread::Form) => Ok(None),
+            Err(Unread::Memory) => Err(Memory),
         }
     }
 }
 
-/// The manifest whose fields cards give, or None where there is none.
-fn read_fields(alloc: Global, cards: &[Card]) -> Result<Option<Manifest>, Memory>
-    ensures { IfOk result (IsReading HasFields cards.now) }
+fn read_cards(alloc: Global, cards: &[Card]) -> Result<Manifest, Unread>
+    ensures { IsRead IsManifest cards.now result }
 {
-    let Some(baseline) = at_most_one::<HashForm>(alloc, cards, b'B')? else {
-        return Ok(None);
-    };
-    let Some(comment) = one::<TextForm>(alloc, cards, b'C')? else {
-        return Ok(None);
-    };
-    let Some(date) = one::<DateForm>(alloc, cards, b'D')? else {
-        return Ok(None);
-    };
-    let Some(files) = each::<FileForm>(alloc, cards, b'F')? else {
-        return Ok(None);
-    };
-    let Some(mime) = at_most_one::<TextForm>(alloc, cards, b'N')? else {
-        return Ok(None);
-    };
-    let Some(parents) = parents(alloc, cards)? else {
-        return Ok(None);
-    };
-    let Some(picks) = each::<PickForm>(alloc, cards, b'Q')? else {
-        return Ok(None);
-    };
-    let Some(checksum) = at_most_one::<ChecksumForm>(alloc, cards, b'R')? else {
-        return Ok(None);
-    };
-    let Some(tags) = each::<TagForm>(alloc, cards, b'T')? else {
-        return Ok(None);
-    };
-    let Some(user) = one::<UserForm>(alloc, cards, b'U')? else {
-        return Ok(None);
-    };
-    Ok(Some(Manifest {
+    if !has_manifest_letters(cards) {
+        return Err(Unread::Form);
+    }
+    let manifest = read_fields(alloc, cards)?;
+    if manifest.has_hashes() {
+        Ok(manifest)
+    } else {
+        Err(Unread::Form)
+    }
+}
+
+/// The manifest whose fields cards give.
+fn read_fields(alloc: Global, cards: &[Card]) -> Result<Manifest, Unread>
+    ensures { IsRead HasFields cards.now result }
+{
+    let baseline = at_most_one::<HashForm>(alloc, cards, b'B')?;
+    let comment = one::<TextForm>(alloc, cards, b'C')?;
+    let date = one::<DateForm>(alloc, cards, b'D')?;
+    let files = each::<FileForm>(alloc, cards, b'F')?;
+    let mime = at_most_one::<TextForm>(alloc, cards, b'N')?;
+    let parents = parents(alloc, cards)?;
+    let picks = each::<PickForm>(alloc, cards, b'Q')?;
+    let checksum = at_most_one::<ChecksumForm>(alloc, cards, b'R')?;
+    let tags = each::<TagForm>(alloc, cards, b'T')?;
+    let user = one::<UserForm>(alloc, cards, b'U')?;
+    Ok(Manifest {
         baseline,
         comment,
         date,
@@ -79,5 +68,5 @@ fn read_fields(alloc: Global, cards: &[Card]) -> Result<Option<Manifest>, Memory
         checksum,
         tags,
         user,
-    }))
+    })
 }

@@ -1,7 +1,7 @@
 //! The text of a manifest.
-ghost use Rattle.std.specs.Prelude.{◌≡◌, ◌++◌, ◌∷◌, List, ℕ, IfOk, IsTrue, OnOk, flat_map, map};
+ghost use Rattle.std.specs.Prelude.{◌≡◌, ◌++◌, ◌∷◌, IfOk, IsTrue, OnOk, flat_map, map};
 ghost use Rattle.fsl_card.specs.Cards.{IsTextOf, card_text, text_of};
-ghost use Rattle.fsl_date.specs.Moment.{IsPrinted};
+ghost use Rattle.fsl_date.specs.Moment.{IsMoment};
 ghost use Rattle.fsl_grammar.specs.Writing.{card_if};
 ghost use Rattle.fsl_manifest.specs.Manifests.{IsManifest, is_well_formed};
 ghost use Rattle.fsl_manifest.specs.Writing.{IsManifestText, file_card, manifest_cards, perm_arguments, pick_card};
@@ -33,7 +33,7 @@ impl Manifest {
 
     /// Puts all cards but the Z card at the end of a text.
     fn write_cards(&self, into: &mut Text) -> Result<(), Memory>
-        ensures { OnOk result ((date : List ℕ) × IsPrinted self.now.date date × (into.new ≡ into.old ++ text_of (manifest_cards date self.now))) }
+        ensures { OnOk result (IsMoment self.now.date × (into.new ≡ into.old ++ text_of (manifest_cards self.now))) }
     {
         write_optional_name_card(into, b'B', &self.baseline)?;
         write_text_card(into, b'C', self.comment.bytes())?;

@@ -1,10 +1,11 @@
 use Rattle.std.proofs.Common.{rules, arith, ◌≡◌, refl}
 use Rattle.fsl_date.specs.Moment.{Civil, two_digits, three_digits, four_digits}
-use Rattle.fsl_date.proofs.Printed.{printed_by, printed_is_one, printed_is_read}
+use Rattle.fsl_date.proofs.Printed.{printed_by}
+use Rattle.fsl_date.proofs.MomentTexts.{is_read, printed_once}
 use Rattle.fsl_date.proofs.Moment.text.Goals as goal
 
-pub returns-clause-printed : goal.returns-clause-printed
-returns-clause-printed c =
+pub returns-clause-value : goal.returns-clause-value
+returns-clause-value c =
     let day = c.of_number-day in
     let time = c.of_ms-time in
     let civil : Civil = record { year = day.result.year; month = day.result.month; day = day.result.day; hour = time.result.hour; minute = time.result.minute; second = time.result.second; milli = time.result.milli } in
@@ -15,11 +16,9 @@ returns-clause-printed c =
     let minute : c.copy_from_slice-5.new.self ≡ two_digits time.result.minute = search rules in
     let second : c.copy_from_slice-6.new.self ≡ two_digits time.result.second = search rules in
     let milli : c.copy_from_slice-7.new.self ≡ three_digits time.result.milli = search rules in
-    printed_by civil c.args.self.now day.ensures.civil time.ensures.civil (omega (arith, day.ensures.value, time.ensures.value)) _
-    (rw (year, month, day_is, hour, minute, second, milli) refl)
+    printed_once c.args.self.now _
+    (printed_by civil c.args.self.now day.ensures.civil time.ensures.civil (omega (arith, day.ensures.value, time.ensures.value)) _
+    (rw (year, month, day_is, hour, minute, second, milli) refl))
 
 pub returns-clause-again : goal.returns-clause-again
-returns-clause-again c = printed_is_read c.args.self.now _ (returns-clause-printed c)
-
-pub returns-clause-only : goal.returns-clause-only
-returns-clause-only c other h = printed_is_one c.args.self.now other _ h (returns-clause-printed c)
+returns-clause-again c = is_read c.args.self.now (search rules) _ (returns-clause-value c)

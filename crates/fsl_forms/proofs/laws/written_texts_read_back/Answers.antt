@@ -1,30 +1,5 @@
-use Rattle.std.proofs.Common.{◌∷◌, ◌++◌}
-use Rattle.std.specs.Prelude.{option_to_list}
-use Rattle.fsl_grammar.specs.declared.TagCard.{TagCard}
-use Rattle.fsl_name.specs.Name.{IsName}
-use Rattle.fsl_forms.specs.Writing.{targets}
-use Rattle.fsl_forms.proofs.AttachmentAgain.{attachment_again}
-use Rattle.fsl_forms.proofs.ClusterAgain.{cluster_again}
-use Rattle.fsl_forms.proofs.ControlAgain.{control_again}
-use Rattle.fsl_forms.proofs.ForumAgain.{forum_again}
-use Rattle.fsl_forms.proofs.NameLists.{each_holds, front_holds, rest_holds}
-use Rattle.fsl_forms.proofs.TechnoteAgain.{technote_again}
-use Rattle.fsl_forms.proofs.TicketAgain.{ticket_again}
-use Rattle.fsl_forms.proofs.WikiAgain.{wiki_again}
+use Rattle.fsl_forms.proofs.ReadBack.{read_back}
 use Rattle.fsl_forms.proofs.laws.written_texts_read_back.Goals as goal
 
 pub returns : goal.returns
-returns c = record {
-  cluster = λ c text named w made. cluster_again c named w text made;
-  control = λ c text named w made. control_again c (each_holds IsName (λ (t : TagCard). option_to_list t.target) c.tags named) w text made;
-  wiki = λ w text named long written made. wiki_again w named long written text made;
-  ticket = λ t text named w made. ticket_again t named w text made;
-  attachment = λ a text named w made. attachment_again a named w text made;
-  technote = λ n text named long w made.
-      let parents = front_holds IsName (n.id ∷ n.parents) (targets n.tags) named in
-      technote_again n parents.0 parents.1 (each_holds IsName (λ (t : TagCard). option_to_list t.target) n.tags (rest_holds IsName (n.id ∷ n.parents) (targets n.tags) named)) long w text made;
-  forum = λ f text named long w made.
-      let two = front_holds IsName (option_to_list f.root ++ option_to_list f.reply) (option_to_list f.prior) named in
-      forum_again f (front_holds IsName (option_to_list f.root) (option_to_list f.reply) two) (rest_holds IsName (option_to_list f.root) (option_to_list f.reply) two)
-      (rest_holds IsName (option_to_list f.root ++ option_to_list f.reply) (option_to_list f.prior) named) long w text made;
-}
+returns c = read_back

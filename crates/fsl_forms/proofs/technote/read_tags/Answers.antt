@@ -6,6 +6,6 @@ use Rattle.fsl_grammar.proofs.Determined.{somes_are}
 use Rattle.fsl_forms.proofs.technote.read_tags.Goals as goal
 
 pub returns-else-all_own : goal.returns-else-all_own
-returns-else-all_own c xs h =
-    let same = somes_are xs c.in-Some.tags (sym h.tags ∙ rw c.in-Some.is at c.in_ok-tags.ensures) in
+returns-else-all_own c why xs h =
+    let same = somes_are xs c.in_ok-tags.tags (sym h.tags ∙ c.in_ok-tags.ensures) in
     false≢true (c.if-all_own.ensures ∙ ap (list_all is_own_tag) (c.items.ensures ∙ sym same) ∙ h.own)

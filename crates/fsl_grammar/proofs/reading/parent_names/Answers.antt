@@ -5,7 +5,7 @@ use Rattle.fsl_grammar.proofs.ReadingLemmas.{missing_behind, names-at}
 use Rattle.fsl_grammar.proofs.reading.parent_names.Goals as goal
 
 pub returns-then-not-branch : goal.returns-then-not-branch
-returns-then-not-branch c xs h =
+returns-then-not-branch c why xs h =
     let cards = c.args.cards.now in
     let i = c.loop-card.card-index in
     missing_behind name_in c.loop-card.names c.items.result.now (map name_in (flat_map (λ args. args) (arguments (drop (i + 1) cards) 80))) xs

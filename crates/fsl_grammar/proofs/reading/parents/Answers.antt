@@ -5,9 +5,9 @@ use Rattle.fsl_grammar.proofs.Determined.{somes_are}
 use Rattle.fsl_grammar.proofs.reading.parents.Goals as goal
 
 pub returns-else-branch : goal.returns-else-branch
-returns-else-branch c xs h =
-    let read = rw c.in-Some.is at c.in_ok-names.ensures in
-    let same = somes_are xs c.in-Some.names (sym h.names ∙ read) in
+returns-else-branch c why xs h =
+    let read = c.in_ok-names.ensures in
+    let same = somes_are xs c.in_ok-names.names (sym h.names ∙ read) in
     let differ = rw same at h.differ in
-    let other : all_differ c.in-Some.names ≡ false = ap all_differ (sym c.items.ensures) ∙ sym c.in_ok-names_differ.ensures ∙ c.if-branch.false in
+    let other : all_differ c.in_ok-names.names ≡ false = ap all_differ (sym c.items.ensures) ∙ sym c.in_ok-names_differ.ensures ∙ c.if-branch.false in
     false≢true (sym other ∙ differ)

@@ -1,4 +1,3 @@
-use Rattle.std.proofs.Common.{subst}
 use Rattle.fsl_manifest.proofs.TypeLemmas.{typed}
 use Rattle.fsl_manifest.proofs.Manifest.know_type.Goals as goal
 

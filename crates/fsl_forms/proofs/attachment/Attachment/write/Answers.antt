@@ -1,11 +1,11 @@
 use Rattle.fsl_forms.specs.Writing.{IsAttachmentText, attachment_cards}
 use Rattle.fsl_forms.proofs.AttachmentAgain.{attachment_again}
-use Rattle.fsl_forms.proofs.SealingLemmas.{sealed}
+use Rattle.fsl_grammar.proofs.SealingLemmas.{sealed}
 use Rattle.fsl_forms.proofs.attachment.Attachment.write.Goals as goal
 
 pub returns : goal.returns
 returns c =
     let v = c.args.self.now in
     let made = c.in_ok-write_cards.ensures in
-    let text : IsAttachmentText c.finish.new.lines v = (made.0, made.1, sealed _ _ _ (attachment_cards made.0 v) c.empty-lines.ensures made.2 c.in_ok-finish.ensures.ok) in
-    record { written = text; read = attachment_again v c.know_name.ensures c.requires c.finish.new.lines text }
+    let text : IsAttachmentText c.finish.new.lines v = sealed _ _ _ (attachment_cards v) c.empty-lines.ensures made.1 c.in_ok-finish.ensures.ok in
+    record { written = text; read = attachment_again v c.know_name.ensures made.0 c.requires c.finish.new.lines text }

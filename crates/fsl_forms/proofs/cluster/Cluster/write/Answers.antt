@@ -1,6 +1,6 @@
 use Rattle.fsl_forms.specs.Writing.{IsClusterText, cluster_cards}
 use Rattle.fsl_forms.proofs.ClusterAgain.{cluster_again}
-use Rattle.fsl_forms.proofs.SealingLemmas.{sealed}
+use Rattle.fsl_grammar.proofs.SealingLemmas.{sealed}
 use Rattle.fsl_forms.proofs.cluster.Cluster.write.Goals as goal
 
 pub returns : goal.returns

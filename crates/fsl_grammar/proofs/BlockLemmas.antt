@@ -16,7 +16,7 @@ use Rattle.fsl_grammar.proofs.Apart.{first_holds, second_holds}
 use Rattle.fsl_grammar.proofs.WrittenArguments.{both_hold, is_argument-escape, is_argument-name}
 use Rattle.fsl_grammar.proofs.FormsAgain.{hash_again, read_if, text_again, user_again}
 use Rattle.fsl_grammar.proofs.Blocks.{AreBlocks, HaveLetters, IsBlock, arguments-joined, block_if, blocks_rise, given, has_letters-joined, is_plain_letter, joined, joined-push, seal_block, sealed_blocks}
-use Rattle.fsl_forms.proofs.DecimalLemmas.{decimal_is, is_argument-decimal}
+use Rattle.fsl_grammar.proofs.DecimalLemmas.{decimal_is, is_argument-decimal}
 
 -- ---- the Z card behind blocks
 

@@ -1,13 +1,14 @@
 -- The text of a moment is the one that it is printed as: a day's number gives the year, the month and the day back.
-use Rattle.std.proofs.Common.{◌≡◌, ℕ, zero, suc, ◌+◌, ◌-◌, ◌*◌, ◌/◌, ◌%◌, ◌<◌, ◌≤◌, Bool, true, false, not, List, inl, inr, refl, sym, ap, subst, ◌∙◌, arith}
+use Rattle.std.proofs.Common.{◌≡◌, ℕ, zero, suc, ◌+◌, ◌-◌, ◌*◌, ◌/◌, ◌%◌, ◌<◌, ◌≤◌, Bool, true, false, not, List, inl, inr, refl, sym, ap, subst, ◌∙◌, arith, Some}
 use Rattle.std.specs.Prelude.{◌&&◌, ◌||◌, ◌==◌, nat_le, cond, count_by}
 use Rattle.std.specs.List.{range_with_len}
 use Rattle.std.proofs.lemmas.Bool.{cases_lt, le-leb, lt-leb, eqb-true, eqb-false, and_parts, leb-true}
 use Rattle.std.proofs.lemmas.List.Sums.{sum_by-cons}
 use Rattle.std.proofs.Common.{eq-eqb}
-use Rattle.fsl_date.specs.Calendar.{is_leap_year, days_in_month, days_of_months, days_of_years, day_number}
-use Rattle.fsl_date.specs.Moment.{Civil, is_civil, civil_ms, millis_text, IsPrinted}
-use Rattle.fsl_query.specs.Dates.{has_begun, near_year, year_of, month_of, civil_of, moment_text}
+use Rattle.fsl_date.specs.Calendar.{is_leap_year, days_in_month, days_of_months, days_of_years, day_number, has_begun, near_year, year_of, month_of}
+use Rattle.fsl_date.specs.Moment.{Civil, is_civil, civil_ms, civil_of, millis_text, date_in, moment_text, IsMoment, IsPrinted, IsAlwaysPrinted, IsPrintedOnce}
+use Rattle.fsl_date.proofs.Printed.{printed_is_read}
+use Rattle.fsl_date.proofs.EachMoment.{IsDay, days_of_months-next, days_of_years-next, some_text}
 
 -- ---- how many of some numbers that rise are reached
 
@@ -51,18 +52,7 @@ days_of_months-rises y m (suc n) h =
       | inr more ↦ let before = days_of_months-rises y m n more in omega (arith, before)
     ]
 
-days_of_months-next : (y m : ℕ) → 1 ≤ m → days_of_months y m ≡ days_of_months y (m - 1) + days_in_month y m
-days_of_months-next y zero h = absurd (omega arith)
-days_of_months-next y (suc m) h = let e : suc m - 1 ≡ m = omega arith in rw e refl
-
--- the calendar has the day, of whatever year
-record IsDay (y m d : ℕ) : Type 0 where
-  from_january : 1 ≤ m
-  to_december : m ≤ 12
-  from_first : 1 ≤ d
-  to_last : d ≤ days_in_month y m
-
-month-is : (y m d : ℕ) → IsDay y m d → month_of y (day_number y m d) ≡ m
+month-is : (y m d : ℕ) → IsDay y m d (day_number y m d) → month_of y (day_number y m d) ≡ m
 unfolding reached
 month-is y m d h =
     let low : (k : ℕ) → k ≤ m → day_number y k 1 ≤ day_number y m d =
@@ -75,42 +65,9 @@ month-is y m d h =
 
 -- ---- years
 
--- one where a year begins a further period of so many years
-leaps-4 : (y : ℕ) (b : Bool) → (y % 4 == 0) ≡ b → (suc y + 3) / 4 ≡ (y + 3) / 4 + cond b 1 0
-leaps-4 y true h = let e = eqb-true (y % 4) 0 h in omega (arith, e)
-leaps-4 y false h = let e = eqb-false (y % 4) 0 h in omega (arith, e)
-
-leaps-100 : (y : ℕ) (b : Bool) → (y % 100 == 0) ≡ b → (suc y + 99) / 100 ≡ (y + 99) / 100 + cond b 1 0
-leaps-100 y true h = let e = eqb-true (y % 100) 0 h in omega (arith, e)
-leaps-100 y false h = let e = eqb-false (y % 100) 0 h in omega (arith, e)
-
-leaps-400 : (y : ℕ) (b : Bool) → (y % 400 == 0) ≡ b → (suc y + 399) / 400 ≡ (y + 399) / 400 + cond b 1 0
-leaps-400 y true h = let e = eqb-true (y % 400) 0 h in omega (arith, e)
-leaps-400 y false h = let e = eqb-false (y % 400) 0 h in omega (arith, e)
-
--- of the three tests of a leap year each later one holds where the ones before do
-leaps-sum : (p q r : Bool) → (q ≡ true → p ≡ true) → (r ≡ true → q ≡ true) → cond p 1 0 + cond r 1 0 ≡ cond q 1 0 + cond (p && (not q || r)) 1 0
-leaps-sum true true true h k = refl
-leaps-sum true true false h k = refl
-leaps-sum true false true h k = absurd (cc (k refl))
-leaps-sum true false false h k = refl
-leaps-sum false true r h k = absurd (cc (h refl))
-leaps-sum false false true h k = absurd (cc (k refl))
-leaps-sum false false false h k = refl
-
-leap_day : (y : ℕ) → cond (y % 4 == 0) 1 0 + cond (y % 400 == 0) 1 0 ≡ cond (y % 100 == 0) 1 0 + cond (is_leap_year y) 1 0
-leap_day y =
-    leaps-sum (y % 4 == 0) (y % 100 == 0) (y % 400 == 0)
-    (λ h. let e = eqb-true (y % 100) 0 h in eq-eqb (y % 4) 0 (omega (arith, e)))
-    (λ h. let e = eqb-true (y % 400) 0 h in eq-eqb (y % 100) 0 (omega (arith, e)))
-
 year_days : (y : ℕ) (b : Bool) → is_leap_year y ≡ b → days_of_months y 12 ≡ 365 + cond b 1 0
 year_days y true h = omega (arith, ap {B = ℕ} (λ (b : Bool). cond b 29 28) h)
 year_days y false h = omega (arith, ap {B = ℕ} (λ (b : Bool). cond b 29 28) h)
-
-days_of_years-next : (y : ℕ) → days_of_years (suc y) ≡ days_of_years y + days_of_months y 12
-days_of_years-next y =
-    omega (arith, leaps-4 y (y % 4 == 0) refl, leaps-100 y (y % 100 == 0) refl, leaps-400 y (y % 400 == 0) refl, leap_day y, year_days y (is_leap_year y) refl)
 
 year_most : (y : ℕ) (b : Bool) → is_leap_year y ≡ b → days_of_months y 12 ≤ 366
 year_most y true h = omega (arith, year_days y true h)
@@ -152,7 +109,7 @@ near-is n y g begun next after low high =
       ]
     ]
 
-in_year : (y m d : ℕ) → IsDay y m d → day_number y m d < days_of_years y + days_of_months y 12
+in_year : (y m d : ℕ) → IsDay y m d (day_number y m d) → day_number y m d < days_of_years y + days_of_months y 12
 in_year y m d h =
     omega (arith, h.from_january, h.from_first, h.to_last, days_of_months-next y m h.from_january, days_of_months-rises y m 12 h.to_december)
 
@@ -162,7 +119,7 @@ begins y n h = le-leb (day_number y 1 1) n (omega arith)
 not_begun : (y n : ℕ) → n < days_of_years y → has_begun n y ≡ false
 not_begun y n h = lt-leb (day_number y 1 1) n (omega arith)
 
-year-is : (y m d : ℕ) → IsDay y m d → year_of (day_number y m d) ≡ y
+year-is : (y m d : ℕ) → IsDay y m d (day_number y m d) → year_of (day_number y m d) ≡ y
 year-is y m d h =
     let n : ℕ = day_number y m d in
     let first : days_of_years y ≤ day_number y m d = omega arith in
@@ -182,14 +139,14 @@ year-is y m d h =
 
 -- what the parts of a date and a time of day are at most
 record IsCivil (c : Civil) : Type 0 where
-  day_in : IsDay c.year c.month c.day
+  day_in : IsDay c.year c.month c.day (day_number c.year c.month c.day)
   hour_in : c.hour ≤ 23
   minute_in : c.minute ≤ 59
   second_in : c.second ≤ 59
   milli_in : c.milli ≤ 999
 
-is_civil-parts : (c : Civil) → is_civil c ≡ true → IsCivil c
-is_civil-parts c h =
+civil_parts : (c : Civil) → is_civil c ≡ true → IsCivil c
+civil_parts c h =
     let h8 = and_parts (nat_le c.year 9999 && nat_le 1 c.month && nat_le c.month 12 && nat_le 1 c.day && nat_le c.day (days_in_month c.year c.month) && nat_le c.hour 23 && nat_le c.minute 59 && nat_le c.second 59) (nat_le c.milli 999) h in
     let h7 = and_parts (nat_le c.year 9999 && nat_le 1 c.month && nat_le c.month 12 && nat_le 1 c.day && nat_le c.day (days_in_month c.year c.month) && nat_le c.hour 23 && nat_le c.minute 59) (nat_le c.second 59) h8.0 in
     let h6 = and_parts (nat_le c.year 9999 && nat_le 1 c.month && nat_le c.month 12 && nat_le 1 c.day && nat_le c.day (days_in_month c.year c.month) && nat_le c.hour 23) (nat_le c.minute 59) h7.0 in
@@ -204,6 +161,7 @@ is_civil-parts c h =
         to_december = leb-true c.month 12 h2.1;
         from_first = leb-true 1 c.day h3.1;
         to_last = leb-true c.day (days_in_month c.year c.month) h4.1;
+        number = refl;
       };
       hour_in = leb-true c.hour 23 h5.1;
       minute_in = leb-true c.minute 59 h6.1;
@@ -237,7 +195,15 @@ civil_again c ms h e =
     let day : ms / 86400000 - day_number (year_of (ms / 86400000)) (month_of (year_of (ms / 86400000)) (ms / 86400000)) 1 + 1 ≡ c.day = (λ i. p.day i - day_number (year i) (month i) 1 + 1) ∙ last in
     λ i. record { year = year i; month = month i; day = day i; hour = p.hour i; minute = p.minute i; second = p.second i; milli = p.milli i }
 
--- the text that a moment is printed as is the one of the lines
-pub printed-is : (ms : ℕ) (text : List ℕ) → IsPrinted ms text → text ≡ moment_text ms
+-- a text that is printed is the text of the moment
+pub printed_once : IsPrintedOnce
 unfolding moment_text
-printed-is ms text h = h.3 ∙ ap millis_text (sym (civil_again h.0 ms (is_civil-parts h.0 h.1) h.2))
+printed_once ms text h = h.3 ∙ ap millis_text (sym (civil_again h.0 ms (civil_parts h.0 h.1) h.2))
+
+-- and each moment has one
+pub always_printed : IsAlwaysPrinted
+always_printed ms h = let text = some_text ms h in subst (λ (t : List ℕ). IsPrinted ms t) (printed_once ms text.0 text.1) text.1
+
+-- the text of a moment is read as it
+pub is_read : (ms : ℕ) → IsMoment ms → (text : List ℕ) → text ≡ moment_text ms → date_in text ≡ Some ms
+is_read ms h text e = ap date_in e ∙ printed_is_read ms (moment_text ms) (always_printed ms h)

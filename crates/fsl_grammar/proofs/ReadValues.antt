@@ -1,23 +1,19 @@
--- What is known of values that the cards of a structural text are.
+-- What is known of values that the cards of a structural text give.
 use Rattle.std.proofs.Common.{◌≡◌, ℕ, Bool, true, false, not, cond, eqb, List, [], ◌∷◌, length, map, filter, Option, Some, None, refl, sym, ap, subst, ◌∙◌}
-use Rattle.std.specs.Prelude.{◌&&◌, ◌==◌, nat_le, option_map, option_to_list, codes}
+use Rattle.std.specs.Prelude.{◌&&◌, ◌==◌, nat_le, option_to_list, codes}
 use Rattle.std.specs.List.{list_all, AllByRecursion}
 use Rattle.std.proofs.lemmas.Bool.{eqb-true}
 use Rattle.std.proofs.lemmas.List.{length-map}
 use Rattle.std.proofs.lemmas.List.Sums.{length-filter}
 use Rattle.fsl_text.specs.Bytes.{is_empty}
 use Rattle.fsl_text.specs.Escapes.{unescape, byte_meant}
-use Rattle.fsl_name.specs.Name.{name_in}
 use Rattle.fsl_card.specs.declared.types.Card.{Card}
-use Rattle.fsl_card.specs.Cards.{IsCard, are_arguments, are_field_arguments, is_argument}
+use Rattle.fsl_card.specs.Cards.{IsCard, are_arguments, is_argument}
 use Rattle.fsl_grammar.specs.declared.TagCard.{TagCard}
 use Rattle.fsl_grammar.specs.Letters.{letter_count}
 use Rattle.fsl_grammar.specs.Forms.{◌>>=◌, arguments, given, is_filled, is_tag_written, prefix_in, tag_form, tag_in, target_in, text_form, user_form}
 use Rattle.fsl_grammar.proofs.Apart.{first_holds, second_holds}
 use Rattle.fsl_grammar.proofs.WrittenArguments.{both_hold}
-use Rattle.fsl_forms.specs.declared.ticket.TicketChange.{TicketChange}
-use Rattle.fsl_forms.specs.Kinds.{Attached, attached_form, change_form, change_in}
-use Rattle.fsl_forms.specs.WellFormed.{is_change_written}
 
 -- ---- the arguments of a letter
 
@@ -107,11 +103,11 @@ all_true p (x ∷ xs) h = both_hold _ _ h.0 (all_true p xs h.1)
 -- ---- tags
 
 -- a step that gives a value had one to go on with
-step : {A B : Type 0} (o : Option A) (f : A → Option B) (b : B) → (o >>= f) ≡ Some b → (a : A) × (o ≡ Some a) × (f a ≡ Some b)
+pub step : {A B : Type 0} (o : Option A) (f : A → Option B) (b : B) → (o >>= f) ≡ Some b → (a : A) × (o ≡ Some a) × (f a ≡ Some b)
 step None f b e = absurd cc
 step (Some a) f b e = (a, refl, e)
 
-given_is : {A : Type 0} (t : Bool) (x y : A) → given t x ≡ Some y → (t ≡ true) × (x ≡ y)
+pub given_is : {A : Type 0} (t : Bool) (x y : A) → given t x ≡ Some y → (t ≡ true) × (x ≡ y)
 given_is true x y e = (refl, cc)
 given_is false x y e = absurd cc
 
@@ -131,49 +127,3 @@ tag_read (tag ∷ target ∷ value ∷ []) t h e =
     tag_of (unescape tag) target (Some (unescape value)) t
     (unescape_filled value (first_holds _ true (second_holds (is_argument target) _ (second_holds (is_argument tag) _ h)))) e
 tag_read (a ∷ b ∷ c ∷ d ∷ args) t h e = absurd cc
-
--- ---- the changes of a ticket
-
-change_of : (name : List ℕ) (value : Option (List ℕ)) (c : TicketChange) → change_in name value ≡ Some c → is_change_written c ≡ true
-change_of [] value c e = absurd cc
-change_of (b ∷ rest) value c e = by (b == 43) refl e
-  where
-    by : (t : Bool) → (b == 43) ≡ t → cond t (given {A = TicketChange} (not (is_empty rest)) (record { append = true; field = rest; value = value })) (Some (record { append = false; field = b ∷ rest; value = value })) ≡ Some c → is_change_written c ≡ true
-    by true k f =
-        let g = given_is {A = TicketChange} (not (is_empty rest)) (record { append = true; field = rest; value = value }) c f in
-        subst (λ (c : TicketChange). is_change_written c ≡ true) g.1 (both_hold _ _ g.0 refl)
-    by false k f = subst (λ (c : TicketChange). is_change_written c ≡ true) (inside f) (rw k refl)
-      where
-        inside : Some (record { append = false; field = b ∷ rest; value = value }) ≡ Some c → ◌≡◌ {A = TicketChange} (record { append = false; field = b ∷ rest; value = value }) c
-        inside k = cc
-
-pub change_read : (args : List (List ℕ)) (c : TicketChange) → are_field_arguments args ≡ true → change_form args ≡ Some c → is_change_written c ≡ true
-change_read [] c h e = absurd cc
-change_read (name ∷ []) c h e = change_of (unescape name) None c e
-change_read (name ∷ value ∷ []) c h e = change_of (unescape name) (Some (unescape value)) c e
-change_read (a ∷ b ∷ d ∷ args) c h e = absurd cc
-
--- ---- the file and the target of an attachment
-
-abbrev with_source : List ℕ → List ℕ → List ℕ → Attached
-with_source file target name = record { file = unescape file; target = unescape target; source = Some name }
-
-pub attached_read : (args : List (List ℕ)) (a : Attached) → ArePlain args → attached_form args ≡ Some a → (not (is_empty a.file) && not (is_empty a.target)) ≡ true
-attached_read [] a h e = absurd cc
-attached_read (file ∷ []) a h e = absurd cc
-attached_read (file ∷ target ∷ []) a h e = subst (λ (a : Attached). (not (is_empty a.file) && not (is_empty a.target)) ≡ true) (inside e) (both_hold _ _ (unescape_filled file (first_holds _ (is_argument target && true) h)) (unescape_filled target (first_holds _ true (second_holds (is_argument file) _ h))))
-  where
-    inside : Some (record { file = unescape file; target = unescape target; source = None }) ≡ Some a → ◌≡◌ {A = Attached} (record { file = unescape file; target = unescape target; source = None }) a
-    inside f = cc
-attached_read (file ∷ target ∷ source ∷ []) a h e = by (name_in source) e
-  where
-    two : (not (is_empty (unescape file)) && not (is_empty (unescape target))) ≡ true
-    two = both_hold _ _ (unescape_filled file (first_holds _ (is_argument target && (is_argument source && true)) h)) (unescape_filled target (first_holds _ (is_argument source && true) (second_holds (is_argument file) _ h)))
-
-    by : (o : Option (List ℕ)) → option_map (with_source file target) o ≡ Some a → (not (is_empty a.file) && not (is_empty a.target)) ≡ true
-    by None f = absurd cc
-    by (Some name) f = subst (λ (a : Attached). (not (is_empty a.file) && not (is_empty a.target)) ≡ true) (inside f) two
-      where
-        inside : Some (record { file = unescape file; target = unescape target; source = Some name }) ≡ Some a → ◌≡◌ {A = Attached} (record { file = unescape file; target = unescape target; source = Some name }) a
-        inside g = cc
-attached_read (a ∷ b ∷ c ∷ d ∷ args) r h e = absurd cc
