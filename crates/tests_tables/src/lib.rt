@@ -2,22 +2,10 @@
 #![tactic(auto)]
 
 #[cfg(test)]
-mod cluster;
+mod circles;
 #[cfg(test)]
 mod cross;
 #[cfg(test)]
-mod files;
-#[cfg(test)]
-mod forum;
-#[cfg(test)]
-mod leaves;
-#[cfg(test)]
-mod links;
+mod names;
 #[cfg(test)]
 mod tags;
-#[cfg(test)]
-mod ticket;
-#[cfg(test)]
-mod timeline;
-#[cfg(test)]
-mod wiki;

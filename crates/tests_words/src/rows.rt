@@ -5,6 +5,7 @@ use fsl_name::Name;
 use fsl_rows::*;
 use fsl_text::Memory;
 use std::alloc::Global;
+use std::process::Abort;
 
 /// A row with a number.
 #[derive(Drop)]
@@ -44,16 +45,13 @@ fn rows_of(alloc: Global, letters: &[(u8, u64)]) -> Result<Rows<Numbered>, Memor
     Ok(rows)
 }
 
-/// Whether the rows are those of these letters and numbers, in this order.
-fn are(rows: &Rows<Numbered>, wanted: &[(u8, u64)]) -> bool {
-    let mut left = wanted.iter();
+/// The first bytes of the names, and the numbers, in the order of the rows.
+fn shown(alloc: Global, rows: &Rows<Numbered>) -> Result<Vec<(u8, u64)>, Memory> {
+    let mut shown = Vec::new(alloc);
     for row in rows.iter() {
-        match left.next() {
-            Some((byte, number)) if row.name == letter(*byte) && row.number == *number => (),
-            _ => return false,
-        }
+        shown.push((row.name.bytes()[0], row.number))?;
     }
-    left.next().is_none()
+    Ok(shown)
 }
 
 /// The number of a letter.
@@ -64,16 +62,22 @@ fn number(rows: &Rows<Numbered>, byte: u8) -> Option<u64> {
     }
 }
 
+fn check_rows<R: Abort + AllocGlobal>(rt: &R, rows: &Rows<Numbered>) -> Result<(), Memory> {
+    let found = shown(rt.alloc(), rows)?;
+    assert_eq!(rt; found.as_slice(), [(0x11, 3), (0x13, 4), (0x22, 1), (0x86, 5)].as_slice());
+    let numbers = [number(rows, b'a'), number(rows, b'q'), number(rows, b'b')];
+    assert_eq!(rt; numbers, [Some(5), Some(1), None]);
+    Ok(())
+}
+
 #[test]
-fn rows_stand_by_name_and_the_last_of_a_name_is_kept(rt: HostRuntime) {
-    let alloc = rt.alloc();
-    let Ok(rows) = rows_of(alloc, &[(b'a', 2), (b'x', 3), (b'k', 4), (b'a', 5)]) else {
-        assert!(rt; false);
-        return;
-    };
-    assert!(rt; are(&rows, &[(b'x', 3), (b'k', 4), (b'q', 1), (b'a', 5)]));
-    assert!(rt; number(&rows, b'a') == Some(5));
-    assert!(rt; number(&rows, b'q') == Some(1));
-    assert!(rt; number(&rows, b'b') == None);
-    assert!(rt; are(&Rows::new(alloc), &[]));
+fn rows_stand_by_name_and_the_last_of_a_name_is_kept(rt: HostRuntime) -> Result<(), Memory> {
+    let rows = rows_of(rt.alloc(), &[(b'a', 2), (b'x', 3), (b'k', 4), (b'a', 5)])?;
+    check_rows(&rt, &rows)
+}
+
+#[test]
+fn no_rows_have_no_name(rt: HostRuntime) {
+    let rows: Rows<Numbered> = Rows::new(rt.alloc());
+    assert_eq!(rt; number(&rows, b'a'), None);
 }

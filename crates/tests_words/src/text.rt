@@ -6,132 +6,68 @@ use std::cmp::Ordering;
 use std::marker::Brand;
 use std::sync::ledger::{Blank, Ledger};
 
-fn holds(text: Result<Text, Memory>, want: &[u8]) -> bool {
-    match text {
-        Ok(text) => text.bytes() == want,
-        Err(_) => false,
-    }
+#[test]
+fn writes_and_reads_escapes(rt: HostRuntime) -> Result<(), Memory> {
+    let bytes = b" \n\\\t\r\x0B\x0C\0";
+    let text = escape(rt.alloc(), bytes)?;
+    assert_eq!(rt; text.bytes(), b"\\s\\n\\\\\\t\\r\\v\\f\\0".as_slice());
+    let again = unescape(rt.alloc(), text.bytes())?;
+    assert_eq!(rt; again.bytes(), bytes.as_slice());
+    Ok(())
 }
 
 #[test]
-fn writes_and_reads_escapes(rt: HostRuntime) {
-    let pairs: [(&[u8], &[u8]); 5] = [
-        (b"", b""),
-        (b"hello world", b"hello\\sworld"),
-        (b" \n\\\t\r\x0B\x0C\0", b"\\s\\n\\\\\\t\\r\\v\\f\\0"),
-        (b"a\\", b"a\\\\"),
-        (b"A\xFF\x01-", b"A\xFF\x01-"),
-    ];
-    for (bytes, text) in pairs {
-        assert!(rt; holds(escape(rt.alloc(), bytes), text));
-        assert!(rt; holds(unescape(rt.alloc(), text), bytes));
+fn reads_decimals_and_paths(rt: HostRuntime) {
+    assert_eq!(rt; decimal(b"0018446744073709551615"), Ok(u64::MAX));
+    assert_eq!(rt; decimal(b"18446744073709551616"), Err(DecimalFault::Range));
+    assert_eq!(rt; decimal(b"99999999999999999999a"), Err(DecimalFault::Digit { at: 20 }));
+    assert_eq!(rt; decimal(b""), Err(DecimalFault::Empty));
+    assert_eq!(rt; (path_ok(b"a/..b/.c"), path_ok(b"a/../b")), (true, false));
+}
+
+/// Where the tokens of a line begin and end.
+fn spans(alloc: Global, line: &[u8]) -> Result<Vec<u64>, Memory> {
+    let mut spans = Vec::new(alloc);
+    for span in tokens(alloc, line)?.items() {
+        spans.push(span.from)?;
+        spans.push(span.to)?;
     }
-    let lenient: [(&[u8], &[u8]); 5] = [
-        (b"a\\", b"a\\"),
-        (b"\\\\\\", b"\\\\"),
-        (b"\\x\\-\\S\\ ", b"x-S "),
-        (b"\\\\s", b"\\s"),
-        (b"a b\n", b"a b\n"),
-    ];
-    for (text, bytes) in lenient {
-        assert!(rt; holds(unescape(rt.alloc(), text), bytes));
-    }
+    Ok(spans)
 }
 
 #[test]
-fn reads_decimals(rt: HostRuntime) {
-    let long = [b'9'; 1000];
-    let mut bad = long;
-    bad[999] = b'a';
-    let table: [(&[u8], Result<u64, DecimalFault>); 13] = [
-        (b"0", Ok(0)),
-        (b"4096", Ok(4096)),
-        (b"0007", Ok(7)),
-        (b"18446744073709551615", Ok(18446744073709551615)),
-        (b"000000000018446744073709551615", Ok(18446744073709551615)),
-        (b"18446744073709551616", Err(DecimalFault::Range)),
-        (&long, Err(DecimalFault::Range)),
-        (&bad, Err(DecimalFault::Digit { at: 999 })),
-        (b"", Err(DecimalFault::Empty)),
-        (b"a12", Err(DecimalFault::Digit { at: 0 })),
-        (b"12a", Err(DecimalFault::Digit { at: 2 })),
-        (b"-1", Err(DecimalFault::Digit { at: 0 })),
-        (b"1:/", Err(DecimalFault::Digit { at: 1 })),
-    ];
-    for (text, want) in table {
-        assert_eq!(rt; decimal(text), want);
-    }
+fn finds_tokens(rt: HostRuntime) -> Result<(), Memory> {
+    let found = spans(rt.alloc(), b" file \t a  3\r")?;
+    assert_eq!(rt; found.as_slice(), [1, 5, 8, 9, 11, 12].as_slice());
+    Ok(())
+}
+
+/// Appends to a text, and appends an escape.
+fn grow(text: &mut Text) -> Result<(), Memory> {
+    text.append(b"ab")?;
+    text.append(b"c")?;
+    escape_into(text, b" d")
 }
 
 #[test]
-fn tells_paths(rt: HostRuntime) {
-    let table: [(&[u8], bool); 13] = [
-        (b"a/b", true),
-        (b"src/main.c", true),
-        (b"...", true),
-        (b"a/..b/.c", true),
-        (b"", false),
-        (b".", false),
-        (b"..", false),
-        (b"a//b", false),
-        (b"/a", false),
-        (b"a/", false),
-        (b"a/./b", false),
-        (b"a/../b", false),
-        (b"a/..", false),
-    ];
-    for (path, want) in table {
-        assert_eq!(rt; path_ok(path), want);
-    }
-}
-
-fn spans_are(spans: Result<List<Span>, Memory>, want: &[(u64, u64)]) -> bool {
-    let Ok(spans) = spans else {
-        return false;
-    };
-    spans.items().len() == want.len()
-        && spans
-            .items()
-            .iter()
-            .zip(want.iter())
-            .all(|(span, want)| span.from == want.0 && span.to == want.1)
-}
-
-#[test]
-fn finds_tokens(rt: HostRuntime) {
-    let table: [(&[u8], &[(u64, u64)]); 6] = [
-        (b"", &[]),
-        (b" \t\r ", &[]),
-        (b"file", &[(0, 4)]),
-        (b" file \t a  3\r", &[(1, 5), (8, 9), (11, 12)]),
-        (b"\tab\rc\n d", &[(1, 3), (4, 6), (7, 8)]),
-        (b"a b", &[(0, 1), (2, 3)]),
-    ];
-    for (line, want) in table {
-        assert!(rt; spans_are(tokens(rt.alloc(), line), want));
-    }
-}
-
-#[test]
-fn keeps_texts_and_lists(rt: HostRuntime) {
+fn keeps_texts(rt: HostRuntime) -> Result<(), Memory> {
+    let copy = Text::of(rt.alloc(), b"abc")?;
+    let longer = Text::of(rt.alloc(), b"abcd")?;
     let mut text = Text::empty(rt.alloc());
-    assert!(rt; text.append(b"ab").is_ok() && text.append(b"c").is_ok());
-    assert!(rt; text.bytes() == b"abc".as_slice());
-    let copy = Text::of(rt.alloc(), b"abc").unwrap_or(Text::empty(rt.alloc()));
-    assert!(rt; text == copy);
-    assert_eq!(rt; text.cmp(&copy), Ordering::Equal);
-    let longer = Text::of(rt.alloc(), b"abcd").unwrap_or(Text::empty(rt.alloc()));
-    assert!(rt; text < longer);
-    assert!(rt; escape_into(&mut text, b" d").is_ok());
-    assert!(rt; text.bytes() == b"abc\\sd".as_slice());
+    grow(&mut text)?;
+    assert_eq!(rt; text.bytes(), b"abc\\sd".as_slice());
     text.truncate(3);
-    assert!(rt; text == copy);
+    let order = (text == copy, text.cmp(&copy), text < longer);
+    assert_eq!(rt; order, (true, Ordering::Equal, true));
+    Ok(())
+}
 
+#[test]
+fn keeps_lists(rt: HostRuntime) {
     let mut list: List<u32> = List::new(rt.alloc());
-    assert!(rt; list.push(7).is_ok() && list.push(8).is_ok());
-    assert!(rt; list.items() == [7, 8].as_slice());
+    let pushed = (list.push(7), list.push(8));
     let list = List::from_vec(list.into_vec());
-    assert_eq!(rt; list.items().len(), 2);
+    assert_eq!(rt; (pushed, list.items()), ((Ok(()), Ok(())), [7, 8].as_slice()));
 }
 
 fn counted<L: Ledger>(blank: Blank) -> bool

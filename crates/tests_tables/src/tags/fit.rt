@@ -1,30 +1,14 @@
 //! Whether a table can be built from facts.
-ghost use Rattle.std.specs.Prelude.{◌≡◌, IsTrue, All, map, not, false};
+ghost use Rattle.std.specs.Prelude.{◌≡◌, IsTrue, All, map, false};
 ghost use Rattle.std.specs.List.{AllByRecursion};
 ghost use Rattle.std.specs.List.Sorted.{IsStrictlyIncreasing};
 ghost use Rattle.std.specs.Option.{option_map_or};
 ghost use Rattle.std.specs.Str.{bytes_eq};
-ghost use Rattle.fsl_order.specs.Names.{has};
 ghost use Rattle.fsl_order.specs.Rows.{AreDistinct, named};
 ghost use Rattle.fsl_tags.specs.Tags.{AreTagFacts, IsTagFact};
 
-use super::*;
-
-fn is_name_of_none(facts: &[Fact], name: &Name) -> bool
-    ensures { result ≡ not (has (map (λ f. f.name) facts.now) name.now) }
-{
-    facts.iter().all(|fact| *name != fact.name)
-}
-
-fn are_distinct(facts: &[Fact]) -> bool
-    ensures { IsTrue result → AreDistinct (map (λ f. f.name) facts.now) }
-{
-    if facts.is_empty() {
-        return true;
-    }
-    let rest = &facts[1..];
-    is_name_of_none(rest, &facts[0].name) && are_distinct(rest)
-}
+use fsl_name::Name;
+use fsl_tags::{Assertion, Fact};
 
 fn is_named(fact: &Fact, name: Name) -> bool
     ensures { result ≡ bytes_eq fact.now.name name }
@@ -93,7 +77,8 @@ fn each_is_fit(facts: &[Fact]) -> bool
 }
 
 pub fn are_fit(facts: &[Fact]) -> bool
+    requires { AreDistinct (map (λ f. f.name) facts.now) }
     ensures { IsTrue result → AreTagFacts facts.now }
 {
-    are_distinct(facts) && each_is_fit(facts)
+    each_is_fit(facts)
 }

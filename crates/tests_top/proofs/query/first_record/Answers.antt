@@ -1,16 +1,16 @@
-use Rattle.std.proofs.Common.{◌≡◌, ℕ, List, [], ◌∷◌, length, codes, refl, sym, subst, arith, rules}
+use Rattle.std.proofs.Common.{◌≡◌, ℕ, List, [], ◌∷◌, length, refl, sym, subst, arith, rules}
 use Rattle.std.specs.List.{IsDistinct}
 use Rattle.fsl_record.specs.declared.Record.{Record}
 use Rattle.fsl_record.specs.declared.Record.TheVariants as record_of
 use Rattle.fsl_record.specs.Records.{AreRecords, AreFields}
 use Rattle.tests_top.proofs.query.first_record.Goals as goal
 
-two_fields : (fields : List (List ℕ)) → fields ≡ codes "comment" ∷ codes "status" ∷ [] → AreFields fields
+no_fields : (fields : List (List ℕ)) → fields ≡ [] → AreFields fields
 unfolding IsDistinct
-two_fields fields e = subst AreFields (sym e) record { few = omega arith; formed = refl; differ = ((refl, tt), (tt, tt)) }
+no_fields fields e = subst AreFields (sym e) record { few = omega arith; formed = refl; differ = tt }
 
-alone : (records : List Record) (project server : List ℕ) (fields : List (List ℕ)) → records ≡ record_of.Config (record { project = project; server = server; fields = fields }) ∷ [] → length project ≡ 20 → length server ≡ 20 → fields ≡ codes "comment" ∷ codes "status" ∷ [] → AreRecords records
-alone records project server fields is p s f = subst AreRecords (sym is) (refl, refl, (((p, s), two_fields fields f), tt))
+alone : (records : List Record) (project server : List ℕ) (fields : List (List ℕ)) → records ≡ record_of.Config (record { project = project; server = server; fields = fields }) ∷ [] → length project ≡ 20 → length server ≡ 20 → fields ≡ [] → AreRecords records
+alone records project server fields is p s f = subst AreRecords (sym is) (refl, refl, (((p, s), no_fields fields f), tt))
 
 pub returns : goal.returns
-returns c = alone c.from_vec.result c.of.result c.of-2.result c.in_ok-fields.field-0 (search rules) c.of.ensures.named.0 c.of-2.ensures.named.0 c.in_ok-fields.ensures
+returns c = alone c.from_vec.result c.of.result c.of-2.result c.new.result (search rules) c.of.ensures.named.0 c.of-2.ensures.named.0 c.new.ensures

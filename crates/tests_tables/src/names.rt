@@ -1,0 +1,59 @@
+//! Names of one letter each. In rising order the letters are x k q z d f r p e m c a y n b.
+ghost use Rattle.std.specs.Prelude.{◌≡◌, IsTrue, not};
+ghost use Rattle.fsl_order.specs.Names.{has};
+ghost use Rattle.fsl_order.specs.Rows.{AreDistinct};
+
+use fsl_name::Name;
+use fsl_text::{List, Memory, Text};
+use std::alloc::Global;
+
+pub fn letter(byte: u8) -> Name {
+    Name::of(&[byte])
+}
+
+pub fn names_of(alloc: Global, letters: &[u8]) -> Result<List<Name>, Memory> {
+    let mut names = Vec::new(alloc);
+    for byte in letters {
+        names.push(letter(*byte))?;
+    }
+    Ok(List::from_vec(names))
+}
+
+fn is_none_of(names: &[Name], name: &Name) -> bool
+    ensures { result ≡ not (has names.now name.now) }
+{
+    names.iter().all(|other| *name != *other)
+}
+
+/// Whether no name stands twice.
+pub fn are_distinct(names: &[Name]) -> bool
+    ensures { IsTrue result → AreDistinct names.now }
+{
+    if names.is_empty() {
+        return true;
+    }
+    let rest = &names[1..];
+    is_none_of(rest, &names[0]) && are_distinct(rest)
+}
+
+/// Adds a word behind a space.
+pub fn add(into: &mut Text, word: &[u8]) -> Result<(), Memory> {
+    into.append(b" ")?;
+    into.append(word)
+}
+
+/// Adds the first digits of a name, or `-` for none.
+pub fn add_name(into: &mut Text, name: Option<Name>) -> Result<(), Memory> {
+    match name {
+        Some(name) => add(into, &name.text()[..4]),
+        None => add(into, b"-"),
+    }
+}
+
+/// Adds the first digits of each name.
+pub fn add_names(into: &mut Text, names: &[Name]) -> Result<(), Memory> {
+    for name in names {
+        add_name(into, Some(*name))?;
+    }
+    Ok(())
+}
