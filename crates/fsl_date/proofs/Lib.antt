@@ -1,4 +1,3 @@
-mod Examples
 mod Conditions
 pub mod ReadAgain
 pub mod ReadOnly
@@ -8,4 +7,3 @@ pub mod Shapes
 pub mod Printed
 pub mod EachMoment
 pub mod MomentTexts
-pub mod OrderLemmas

@@ -1,5 +1,4 @@
 pub mod Items
-pub mod Dates
 pub mod Lines
 pub mod Reports
 pub mod Refusals

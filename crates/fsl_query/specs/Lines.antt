@@ -1,6 +1,7 @@
 -- The lines of reports.
 use Rattle.std.specs.Prelude.{ℕ, List, [], ◌∷◌, ◌++◌, if◌then◌else◌, codes}
 use Rattle.std.specs.Option.{option_map_or}
+use Rattle.fsl_date.specs.Moment.{moment_text}
 use Rattle.fsl_text.specs.Bytes.{is_empty}
 use Rattle.fsl_text.specs.Escapes.{escape}
 use Rattle.fsl_name.specs.Name.{name_text}
@@ -19,7 +20,6 @@ use Rattle.fsl_wiki.specs.declared.Attached.{Attached}
 use Rattle.fsl_forum.specs.declared.PostKind.{PostKind}
 use Rattle.fsl_forum.specs.declared.PostKind.TheVariants.{Start, Edit, Reply}
 use Rattle.fsl_forum.specs.declared.Post.{Post}
-use Rattle.fsl_query.specs.Dates.{moment_text}
 
 -- words with one space between them, and a newline
 abbrev pub spaced : List (List ℕ) → List ℕ

@@ -7,7 +7,6 @@ ghost use Rattle.fsl_query.specs.declared.QueryFault.TheVariants as query_fault;
 
 mod answering;
 mod attachments;
-mod dates;
 mod files;
 mod finding;
 mod leaves;
@@ -21,7 +20,6 @@ mod tip;
 mod wiki;
 
 pub use answering::answer;
-pub use dates::prints_moments;
 pub use finding::content;
 use fsl_name::Name;
 use fsl_text::{Memory, Text};

@@ -1,7 +1,7 @@
 //! The lines of reports.
 ghost use Rattle.std.specs.Prelude.{◌≡◌, ◌∷◌, ◌++◌, [], OnOk};
+ghost use Rattle.fsl_date.specs.Moment.{moment_text};
 ghost use Rattle.fsl_name.specs.Name.{name_text};
-ghost use Rattle.fsl_query.specs.Dates.{moment_text};
 ghost use Rattle.fsl_query.specs.Lines as line;
 ghost use Rattle.fsl_query.specs.Lines.{shown, valued_line, leaf_line, tag_line, tip_line, timeline_line, file_line, change_line, page_line, attachment_line, post_line};
 
