@@ -112,7 +112,7 @@ module _ (facts : List Fact) (es : List ((ℕ × List ℕ) × Fact)) (d : AreDis
     changes_filtered q =
         let same = facts_kept dated_cmp place dated_cmp-IsTotalOrder dated_cmp-IsAntisymmetric name other facts es d is in
         ap (λ l. changes l q) (facts_grouped ∙ sym same)
-        ∙ in_order-filter (λ f. bytes_eq f.id q) place dated_cmp dated_cmp-IsTotalOrder (by_name (λ f. f.name) (values_of es)) 
+        ∙ in_order-filter (λ f. bytes_eq f.id q) place dated_cmp dated_cmp-IsTotalOrder (by_name (λ f. f.name) (values_of es))
         (distinct_kept dated_cmp place dated_cmp-IsTotalOrder dated_cmp-IsAntisymmetric name other facts es d is)
         ∙ ap (filter (λ f. bytes_eq f.id q)) (sym (order_kept dated_cmp place dated_cmp-IsTotalOrder dated_cmp-IsAntisymmetric name other facts es d is))
 
