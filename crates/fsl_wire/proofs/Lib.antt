@@ -1,0 +1,8 @@
+pub mod OneWay
+pub mod ReadBack
+pub mod TokenLemmas
+mod NameLemmas
+mod FrontLemmas
+mod ReadLemmas
+mod CountLemmas
+mod WriteLemmas

@@ -1,0 +1,9 @@
+use Rattle.std.proofs.Common.{◌≡◌, ◌++◌, OnOk, sym, subst}
+use Rattle.fsl_wire.specs.declared.WireCard.{WireCard}
+use Rattle.fsl_wire.specs.Writing.{card_bytes}
+use Rattle.fsl_wire.proofs.writing.append_card.Goals as goal
+
+pub returns-in-SendPrivate-clause-written : goal.returns-in-SendPrivate-clause-written
+returns-in-SendPrivate-clause-written c =
+    subst (λ (card : WireCard). OnOk c.append_line-in-SendPrivate.result (c.append_line-in-SendPrivate.new.into ≡ c.args.into.now ++ card_bytes card)) (sym c.in-SendPrivate.is)
+    c.append_line-in-SendPrivate.ensures

@@ -1,0 +1,7 @@
+pub mod Lines
+pub mod Messages
+pub mod Writing
+pub mod Meanings
+pub mod Fronts
+pub mod Drafts
+pub mod Counts

@@ -1,0 +1,145 @@
+//! Messages of a sync: lines, some of which are cards, and the contents of files between them.
+//!
+//! `read` reads the cards of a message, or tells the first line that doesn't read and why. `write` writes a message
+//! that reads back, and `line_of` tells on which line a card stands. Each reads its bytes once from front to back.
+#![tactic(auto)]
+
+ghost use Rattle.std.specs.Prelude.{◌≡◌};
+
+mod arguments;
+mod drafts;
+mod fronts;
+mod laws;
+mod meaning;
+mod operators;
+mod places;
+mod reading;
+mod tokens;
+mod writing;
+
+pub use arguments::{Arguments, arguments_of};
+use fsl_name::Name;
+use fsl_text::{List, Text};
+pub use laws::{reads_back, reads_one_way};
+pub use places::line_of;
+pub use reading::read;
+use std::marker::Model;
+pub use tokens::first_token;
+pub use writing::{
+    append_error, append_file, append_gimme, append_igot, append_line, append_seqno, write,
+};
+
+/// One card of a message.
+#[derive(Debug, Drop)]
+pub enum WireCard {
+    /// `login USER NONCE SIGNATURE`: the user is unescaped. The tail is the SHA-1 of all bytes behind the newline of
+    /// the card's line, and the line is counted from 1.
+    Login {
+        user: Text,
+        nonce: Text,
+        signature: Text,
+        tail: Name,
+        line: u64,
+    },
+    /// `push SERVER PROJECT`: the codes of a server and of a project, as they are written.
+    Push {
+        server: Text,
+        project: Text,
+    },
+    /// `pull SERVER PROJECT`, likewise.
+    Pull {
+        server: Text,
+        project: Text,
+    },
+    /// `clone`, or `clone VERSION SEQUENCE`.
+    Clone {
+        from: Option<(u64, u64)>,
+    },
+    /// `clone_seqno NUMBER`.
+    CloneSeqno {
+        next: u64,
+    },
+    /// `file NAME SIZE`, with the content that follows its line.
+    File {
+        name: Name,
+        bytes: Text,
+    },
+    /// `private`: the next file is private.
+    Private,
+    /// `igot NAME`, with `0` or `1` behind it: the sender has the artifact, which is private where the flag is `1`.
+    Igot {
+        name: Name,
+        private: bool,
+    },
+    /// `gimme NAME`: the sender asks for the artifact.
+    Gimme {
+        name: Name,
+    },
+    /// `error TEXT`, unescaped.
+    Error {
+        text: Text,
+    },
+    /// `message TEXT`, unescaped.
+    Message {
+        text: Text,
+    },
+    /// `pragma send-private`: the sender asks for private artifacts too.
+    SendPrivate,
+}
+
+/// Why a message doesn't read. The line is the first that doesn't read, counted from 1; contents aren't counted.
+#[derive(Clone, Copy, Debug, PartialEq, Eq)]
+pub enum WireFault {
+    /// Another operator.
+    Unknown { line: u64 },
+    /// A wrong number or form of arguments.
+    Args { line: u64 },
+    /// A file card of three arguments.
+    Delta { line: u64 },
+    /// A size that is no decimal number of 64 bits.
+    Size { line: u64 },
+    /// Fewer bytes than the size says, or no newline behind the file's line.
+    Short { line: u64 },
+    /// There was no memory for the cards.
+    Memory,
+}
+
+/// The cards of a message, in order.
+#[derive(Debug, Drop)]
+pub struct Message {
+    cards: List<WireCard>,
+}
+
+impl Model for Message {
+    ghost use Rattle.std.specs.Prelude.{List};
+    ghost use Rattle.fsl_wire.specs.declared.WireCard.{WireCard};
+
+    ghost Value = { List WireCard };
+
+    ghost view = { λ m. m.cards };
+}
+
+impl Message {
+    /// The message of these cards, whatever they are. Takes no memory.
+    pub fn of(cards: List<WireCard>) -> Message
+        ensures { result ≡ cards }
+    {
+        Message { cards }
+    }
+
+    /// The cards, in order.
+    pub fn cards(&self) -> &[WireCard]
+        ensures { result.now ≡ self.now }
+    {
+        self.cards.items()
+    }
+}
+
+/// What a user may do: pull, push, clone, and send and get private artifacts.
+#[derive(Clone, Copy, Debug, PartialEq, Eq)]
+pub struct Caps {
+    pub pull: bool,
+    pub push: bool,
+    pub clone: bool,
+    pub private: bool,
+}
