@@ -1,18 +1,14 @@
 -- What stands in an index doesn't depend on the order of the posts.
-use Rattle.std.specs.Prelude.{◌≡◌, ◌&&◌, ◌+◌, ℕ, List, [], ◌∷◌, Bool, true, false, cond, Some, None, is_none, if◌then◌else◌, unwrap_or, map, filter, filter_map, slice_get, length, option_map, option_and_then, IsPermutation}
-use Rattle.std.proofs.Common.{refl, sym, ap, ◌∙◌, subst}
-use Rattle.std.specs.declared.cmp.Ordering.{Ordering}
-use Rattle.std.specs.declared.cmp.Ordering.TheVariants.{Less, Equal, Greater}
-use Rattle.std.specs.Ordering.{eq_by_cmp, is_eq, ordering_then, nat_cmp}
+use Rattle.std.specs.Prelude.{◌≡◌, ◌&&◌, ◌+◌, ℕ, List, Bool, true, Some, None, is_none, if◌then◌else◌, unwrap_or, map, filter, filter_map, slice_get, length, option_map, option_and_then}
+use Rattle.std.proofs.Common.{sym, ap, ◌∙◌}
 use Rattle.std.specs.Option.{option_or, option_map_or}
-use Rattle.std.specs.List.{IsDistinct, AllByRecursion, range_with_len}
+use Rattle.std.specs.List.{range_with_len}
 use Rattle.std.specs.BTreeMap.{BTreeMap}
 use Rattle.std.specs.Str.{bytes_eq}
-use Rattle.std.specs.Cmp.Lexicographic.{texts_ties}
 use Rattle.std.proofs.lemmas.List.Sorted.{length_permutation}
-use Rattle.fsl_order.specs.Names.{bytes_cmp, dated_cmp}
+use Rattle.fsl_order.specs.Names.{dated_cmp}
 use Rattle.fsl_order.specs.Rows.{keyed, by_name, steps_on, AreDistinct}
-use Rattle.fsl_order.proofs.Orders.{bytes_cmp-IsTotalOrder, dated_cmp-IsTotalOrder, dated_cmp-IsAntisymmetric}
+use Rattle.fsl_order.proofs.Orders.{dated_cmp-IsTotalOrder, dated_cmp-IsAntisymmetric}
 use Rattle.fsl_order.proofs.RowLemmas.{keyed-permutation}
 use Rattle.fsl_order.proofs.MovedLemmas.{IsPermutation-by_name}
 use Rattle.fsl_order.proofs.NamedLemmas.{named-by_name}

@@ -1,10 +1,9 @@
 -- What the maps of the table keep.
-use Rattle.std.specs.Prelude.{◌≡◌, ◌⊎◌, ℕ, suc, List, [], true, cond, ◌&&◌, if◌then◌else◌, Option, Some, None, is_some, unwrap_or, map, filter, option_map}
+use Rattle.std.specs.Prelude.{◌≡◌, ◌⊎◌, ℕ, suc, List, true, cond, ◌&&◌, if◌then◌else◌, Option, Some, None, is_some, unwrap_or, map, filter, option_map}
 use Rattle.std.specs.Option.{option_or, option_map_or}
-use Rattle.std.specs.Map.{lookup}
-use Rattle.std.specs.BTreeMap.{BTreeMap, is_at, insert_entry}
+use Rattle.std.specs.BTreeMap.{BTreeMap, insert_entry}
 use Rattle.std.specs.Str.{bytes_eq}
-use Rattle.fsl_order.specs.Names.{bytes_cmp, dated_cmp, has}
+use Rattle.fsl_order.specs.Names.{dated_cmp, has}
 use Rattle.fsl_order.specs.Rows.{keyed, steps_on}
 use Rattle.fsl_order.specs.Maps.{value_at, group_at}
 use Rattle.fsl_forum.specs.declared.Fact.{Fact}

@@ -1,17 +1,10 @@
 -- Rows by their places, as an ordered map has them.
-use Rattle.std.proofs.Common.{◌≡◌, ℕ, ◌+◌, ◌-◌, ◌<◌, false, List, [], ◌∷◌, ◌++◌, map, take, drop, length, get_or, refl, sym, ap, ◌∙◌, arith}
-use Rattle.std.specs.declared.cmp.Ordering.{Ordering}
-use Rattle.std.specs.declared.cmp.Ordering.TheVariants.{Less, Equal, Greater}
-use Rattle.std.specs.Ordering.{eq_by_cmp, match_ordering, is_eq, ordering_then, nat_cmp}
-use Rattle.std.specs.List.{IsDistinct, AllByRecursion}
+use Rattle.std.proofs.Common.{◌≡◌, ℕ, ◌+◌, false, List, [], ◌++◌, map, take, length, sym, ap, ◌∙◌, arith}
+use Rattle.std.specs.Ordering.{eq_by_cmp}
 use Rattle.std.specs.Map.{values_of}
-use Rattle.std.specs.BTreeMap.{insert_entry}
 use Rattle.std.specs.Str.{bytes_eq}
-use Rattle.std.specs.Cmp.Lexicographic.{texts_ties}
-use Rattle.std.specs.FinMap.{put}
-use Rattle.std.specs.FinMap.Entries.{by_order}
-use Rattle.std.proofs.lemmas.List.{drop_more, append-nil, take_all, take_at}
-use Rattle.fsl_order.specs.Names.{bytes_cmp, latest_first}
+use Rattle.std.proofs.lemmas.List.{append-nil, take_all, take_at}
+use Rattle.fsl_order.specs.Names.{latest_first}
 use Rattle.fsl_order.specs.Rows.{keyed, by_name, AreDistinct}
 use Rattle.fsl_order.proofs.Orders.{latest_first-IsTotalOrder, latest_first-IsAntisymmetric}
 use Rattle.fsl_order.proofs.Places.{latest-other, facts_kept as by_name_kept, order_kept as in_order_kept}

@@ -1,23 +1,21 @@
 -- What stands in an index doesn't depend on the order of the facts.
 use Rattle.std.specs.Prelude.{◌≡◌, ◌&&◌, ℕ, List, [], ◌∷◌, Bool, true, false, cond, Option, Some, None, map, filter, filter_map, Contains, IsPermutation}
 use Rattle.std.proofs.Common.{refl, sym, ap, ◌∙◌, subst, arith}
-use Rattle.std.specs.declared.cmp.Ordering.{Ordering}
-use Rattle.std.specs.declared.cmp.Ordering.TheVariants.{Less, Equal, Greater}
+use Rattle.std.specs.declared.cmp.Ordering.TheVariants.{Equal}
 use Rattle.std.specs.Cmp.{on_total}
-use Rattle.std.specs.Ordering.{eq_by_cmp, is_eq, ordering_then, nat_cmp, on}
-use Rattle.std.specs.List.{IsDistinct, AllByRecursion, cons_option}
+use Rattle.std.specs.Ordering.{on}
+use Rattle.std.specs.List.{cons_option}
 use Rattle.std.specs.Map.{lookup, keys_of}
 use Rattle.std.specs.BTreeMap.{BTreeMap}
 use Rattle.std.specs.Str.{bytes_eq}
-use Rattle.std.specs.Cmp.Lexicographic.{texts_ties, nat_list_eq_equiv}
+use Rattle.std.specs.Cmp.Lexicographic.{nat_list_eq_equiv}
 use Rattle.std.proofs.lemmas.List.{length-map, get_or-map}
 use Rattle.std.proofs.lemmas.List.Sorted.{Contains-permutation, IsPermutation-sym}
 use Rattle.std.proofs.lemmas.Map.Views.{lookup-from_Contains}
-use Rattle.fsl_order.specs.Names.{bytes_cmp, dated_cmp}
+use Rattle.fsl_order.specs.Names.{dated_cmp}
 use Rattle.fsl_order.specs.Rows.{keyed, by_name, greatest, AreDistinct}
-use Rattle.fsl_order.proofs.Orders.{bytes_cmp-IsTotalOrder, dated_cmp-IsTotalOrder, dated_cmp-IsAntisymmetric}
+use Rattle.fsl_order.proofs.Orders.{dated_cmp-IsTotalOrder, dated_cmp-IsAntisymmetric}
 use Rattle.fsl_order.proofs.RowLemmas.{pairs, keyed-permutation}
-use Rattle.fsl_order.proofs.MovedLemmas.{IsPermutation-by_name}
 use Rattle.fsl_order.proofs.GreatestLemmas.{greatest-alike}
 use Rattle.fsl_order.proofs.Gathered.{distinct-given, moved-given}
 use Rattle.fsl_order.proofs.Places.{distinct-places, dated-other}

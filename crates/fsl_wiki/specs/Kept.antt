@@ -1,12 +1,10 @@
 -- What the maps of the table keep.
-use Rattle.std.specs.Prelude.{◌≡◌, ℕ, List, [], Option, filter, filter_map}
+use Rattle.std.specs.Prelude.{◌≡◌, ℕ, List, filter, filter_map}
 use Rattle.std.specs.declared.cmp.Ordering.{Ordering}
-use Rattle.std.specs.Option.{option_map_or}
 use Rattle.std.specs.Ordering.{on}
-use Rattle.std.specs.Map.{lookup}
-use Rattle.std.specs.BTreeMap.{BTreeMap, is_at}
+use Rattle.std.specs.BTreeMap.{BTreeMap}
 use Rattle.std.specs.Str.{bytes_eq}
-use Rattle.fsl_order.specs.Names.{bytes_cmp, dated_cmp}
+use Rattle.fsl_order.specs.Names.{dated_cmp}
 use Rattle.fsl_order.specs.Rows.{keyed}
 use Rattle.fsl_order.specs.Maps.{value_at, group_at}
 use Rattle.fsl_wiki.specs.declared.Page.{Page}
