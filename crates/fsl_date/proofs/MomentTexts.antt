@@ -1,10 +1,9 @@
 -- The text of a moment is the one that it is printed as: a day's number gives the year, the month and the day back.
-use Rattle.std.proofs.Common.{◌≡◌, ℕ, zero, suc, ◌+◌, ◌-◌, ◌*◌, ◌/◌, ◌%◌, ◌<◌, ◌≤◌, Bool, true, false, not, List, inl, inr, refl, sym, ap, subst, ◌∙◌, arith, Some}
-use Rattle.std.specs.Prelude.{◌&&◌, ◌||◌, ◌==◌, nat_le, cond, count_by}
+use Rattle.std.proofs.Common.{◌≡◌, ℕ, zero, suc, ◌+◌, ◌-◌, ◌*◌, ◌/◌, ◌%◌, ◌<◌, ◌≤◌, Bool, true, false, List, inl, inr, refl, sym, ap, subst, ◌∙◌, arith, Some}
+use Rattle.std.specs.Prelude.{◌&&◌, nat_le, cond, count_by}
 use Rattle.std.specs.List.{range_with_len}
-use Rattle.std.proofs.lemmas.Bool.{cases_lt, le-leb, lt-leb, eqb-true, eqb-false, and_parts, leb-true}
+use Rattle.std.proofs.lemmas.Bool.{cases_lt, le-leb, lt-leb, and_parts, leb-true}
 use Rattle.std.proofs.lemmas.List.Sums.{sum_by-cons}
-use Rattle.std.proofs.Common.{eq-eqb}
 use Rattle.fsl_date.specs.Calendar.{is_leap_year, days_in_month, days_of_months, days_of_years, day_number, has_begun, near_year, year_of, month_of}
 use Rattle.fsl_date.specs.Moment.{Civil, is_civil, civil_ms, civil_of, millis_text, date_in, moment_text, IsMoment, IsPrinted, IsAlwaysPrinted, IsPrintedOnce}
 use Rattle.fsl_date.proofs.Printed.{printed_is_read}

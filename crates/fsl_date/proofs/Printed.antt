@@ -1,5 +1,5 @@
 -- The text of a day and a time of day.
-use Rattle.std.proofs.Common.{◌≡◌, ℕ, ◌+◌, ◌*◌, ◌<◌, ◌≤◌, Bool, true, false, List, Some, refl, sym, ap, ◌∙◌, arith, inl}
+use Rattle.std.proofs.Common.{◌≡◌, ℕ, ◌+◌, ◌*◌, Bool, true, false, List, Some, refl, ◌∙◌, arith, inl}
 use Rattle.std.specs.Prelude.{◌&&◌, nat_le}
 use Rattle.fsl_date.specs.Calendar.{day_number}
 use Rattle.fsl_date.specs.Parts.{is_day, is_time, time_ms}

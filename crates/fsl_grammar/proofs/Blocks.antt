@@ -1,14 +1,13 @@
 -- Cards in blocks, each of one letter, the letters rising from block to block.
-use Rattle.std.proofs.Common.{◌≡◌, ℕ, Bool, true, false, not, eqb, cond, List, [], ◌∷◌, ◌++◌, length, map, filter, refl, sym, ap, ◌∙◌, subst}
-use Rattle.std.specs.Prelude.{◌&&◌, ◌||◌, ◌==◌, nat_le, nat_lt, Option, Some, None}
+use Rattle.std.proofs.Common.{◌≡◌, ℕ, Bool, true, false, not, eqb, cond, List, [], ◌∷◌, ◌++◌, length, map, filter, refl, sym, ap, ◌∙◌}
+use Rattle.std.specs.Prelude.{◌&&◌, ◌==◌, nat_le, nat_lt, Option, Some, None}
 use Rattle.std.specs.List.{list_all, list_any, AllByRecursion}
-use Rattle.std.proofs.lemmas.Bool.{eq-eqb}
 use Rattle.std.proofs.lemmas.List.{append-nil, append_assoc, map-append, length-map}
 use Rattle.std.proofs.lemmas.List.Folds.{list_all-append}
 use Rattle.std.proofs.lemmas.List.Elements.{filter-append}
 use Rattle.fsl_card.specs.declared.types.Card.{Card}
-use Rattle.fsl_card.specs.Cards.{IsCard, IsCards, BodyFits, in_order, is_argument, may_follow, may_repeat, seal}
-use Rattle.fsl_card.specs.Writing.{is_before_seal, sealed_text}
+use Rattle.fsl_card.specs.Cards.{IsCard, IsCards, BodyFits, in_order, is_argument, may_follow, seal}
+use Rattle.fsl_card.specs.Writing.{sealed_text}
 use Rattle.fsl_card.proofs.SealLemmas.{is_read_back, IsCard-seal}
 use Rattle.std.proofs.lemmas.List.Sums.{length-filter}
 use Rattle.fsl_grammar.specs.Letters.{Letters, has_letters, letter_count}

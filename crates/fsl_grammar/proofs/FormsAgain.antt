@@ -1,6 +1,6 @@
 -- What is written as an argument is read again.
-use Rattle.std.proofs.Common.{◌≡◌, ℕ, ◌*◌, Bool, true, false, not, eqb, cond, List, [], ◌∷◌, ◌++◌, length, map, flat_map, Option, Some, None, refl, sym, ap, ◌∙◌, arith}
-use Rattle.std.specs.Prelude.{◌&&◌, nat_le, option_map, option_to_list, codes}
+use Rattle.std.proofs.Common.{◌≡◌, ℕ, ◌*◌, Bool, true, false, not, eqb, List, [], ◌∷◌, ◌++◌, length, map, flat_map, Option, Some, None, refl, ap, ◌∙◌, arith}
+use Rattle.std.specs.Prelude.{nat_le, option_map, option_to_list, codes}
 use Rattle.std.specs.List.{list_all, AllByRecursion}
 use Rattle.std.specs.Str.{bytes_eq}
 use Rattle.std.specs.Cmp.Lexicographic.{bytes_decides}
@@ -9,7 +9,7 @@ use Rattle.hex.specs.Hex.{encode_lower}
 use Rattle.fsl_text.specs.Bytes.{AreBytes, is_empty}
 use Rattle.fsl_text.specs.Escapes.{escape, unescape}
 use Rattle.fsl_text.proofs.Unescaping.{unescape-escape}
-use Rattle.fsl_name.specs.Name.{IsName, name_in, name_text, are_digits, bytes_of_digits, is_name_digit}
+use Rattle.fsl_name.specs.Name.{IsName, name_in, name_text}
 use Rattle.fsl_name.proofs.ReadAgain.{name_again, bytes_again, digits_all, length_digits}
 use Rattle.fsl_date.specs.Moment.{IsMoment, moment_text}
 use Rattle.fsl_date.proofs.MomentTexts.{is_read}
@@ -18,8 +18,8 @@ use Rattle.fsl_card.specs.declared.types.Card.{Card}
 use Rattle.fsl_grammar.specs.declared.Prefix.{Prefix}
 use Rattle.fsl_grammar.specs.declared.Prefix.TheVariants.{Once, Cancel, Propagate}
 use Rattle.fsl_grammar.specs.declared.TagCard.{TagCard}
-use Rattle.fsl_grammar.specs.Forms.{text_form, hash_form, date_form, checksum_form, checksum_in, user_form, tag_form, tag_in, target_in, prefix_in, is_filled, is_tag_written, optional, given}
-use Rattle.fsl_grammar.specs.Writing.{card, written_if, card_if, parents_card, sign_of, tag_card, target_text}
+use Rattle.fsl_grammar.specs.Forms.{text_form, hash_form, date_form, checksum_form, user_form, tag_form, tag_in, target_in, prefix_in, is_filled, is_tag_written}
+use Rattle.fsl_grammar.specs.Writing.{written_if, card_if, parents_card, sign_of, tag_card, target_text}
 use Rattle.fsl_grammar.proofs.Apart.{first_holds, second_holds}
 use Rattle.fsl_grammar.proofs.Blocks.{IsBlock, block_each, no_block, one_block, plain_card}
 use Rattle.fsl_grammar.proofs.WrittenArguments.{both_hold, is_argument-escape, is_argument-name}

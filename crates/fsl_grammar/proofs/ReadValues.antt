@@ -1,6 +1,6 @@
 -- What is known of values that the cards of a structural text give.
 use Rattle.std.proofs.Common.{◌≡◌, ℕ, Bool, true, false, not, cond, eqb, List, [], ◌∷◌, length, map, filter, Option, Some, None, refl, sym, ap, subst, ◌∙◌}
-use Rattle.std.specs.Prelude.{◌&&◌, ◌==◌, nat_le, option_to_list, codes}
+use Rattle.std.specs.Prelude.{◌==◌, nat_le, option_to_list, codes}
 use Rattle.std.specs.List.{list_all, AllByRecursion}
 use Rattle.std.proofs.lemmas.Bool.{eqb-true}
 use Rattle.std.proofs.lemmas.List.{length-map}

@@ -13,11 +13,7 @@ use fsl_text::{List, Memory, Text};
 use std::alloc::Global;
 
 /// The values of all cards of a letter, in order. `Form` where one of them hasn't the form.
-pub fn each<F: Form>(
-    alloc: Global,
-    cards: &[Card],
-    letter: u8,
-) -> Result<List<F::Value>, Unread>
+pub fn each<F: Form>(alloc: Global, cards: &[Card], letter: u8) -> Result<List<F::Value>, Unread>
     ensures { IsRead (λ cards xs. HasEach cards letter F.form xs) cards.now result }
 {
     let mut values = List::new(alloc);

@@ -1,4 +1,4 @@
-use Rattle.std.proofs.Common.{◌≡◌, List, ◌++◌, map, drop, Some}
+use Rattle.std.proofs.Common.{◌≡◌, ◌++◌, map, drop, Some}
 use Rattle.std.specs.Prelude.{option_to_list}
 use Rattle.fsl_grammar.specs.Forms.{arguments}
 use Rattle.fsl_grammar.proofs.reading.at_most_one.Given as goal

@@ -1,4 +1,4 @@
-use Rattle.std.proofs.Common.{◌≡◌, List, ◌++◌, map, drop, Some}
+use Rattle.std.proofs.Common.{◌≡◌, ◌++◌, map, drop, Some}
 use Rattle.fsl_grammar.specs.Forms.{arguments}
 use Rattle.fsl_grammar.proofs.reading.each.Given as goal
 
