@@ -1,0 +1,5 @@
+pub mod OneReading
+pub mod Fronts
+mod LineLemmas
+mod FileLemmas
+mod LoginLemmas

@@ -1,0 +1,5 @@
+pub mod UserFiles
+pub mod Logins
+pub mod OneReading
+pub mod Reading
+pub mod Judging

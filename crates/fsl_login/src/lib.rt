@@ -1,0 +1,76 @@
+//! Users of a repository, and what their logins allow.
+//!
+//! A users file has a line for each user. `Users::read` reads it, and `granted` says what the logins of a message allow
+//! together, or which of them isn't accepted and why.
+#![tactic(auto)]
+
+ghost use Rattle.std.specs.Prelude.{◌≡◌};
+ghost use Rattle.fsl_login.specs.UserFiles.{AreUsers};
+
+mod laws;
+mod lines;
+mod logins;
+mod reading;
+
+use fsl_text::{List, Text};
+use fsl_wire::Caps;
+pub use laws::{fronts_tell, users_read_one_way};
+pub use logins::granted;
+use std::marker::Model;
+
+/// A user: a name, what the user may do, and the secret that signs logins.
+#[derive(Debug, Drop)]
+pub struct User {
+    pub name: Text,
+    pub caps: Caps,
+    pub secret: Text,
+}
+
+/// The users of a file, in its order. Their names differ, and each has at most 2^20 bytes.
+#[derive(Debug, Drop)]
+pub struct Users {
+    items: List<User>,
+}
+
+impl Model for Users {
+    ghost use Rattle.std.specs.Prelude.{List};
+    ghost use Rattle.fsl_login.specs.declared.User.{User};
+
+    ghost Value = { List User };
+
+    ghost use Rattle.fsl_login.specs.UserFiles.{AreUsers};
+
+    ghost view = { λ u. u.items };
+
+    ghost invariant = { λ u. AreUsers u.items };
+}
+
+impl Users {
+    /// The users, in order.
+    pub fn items(&self) -> &[User]
+        ensures value { result.now ≡ self.now }
+        ensures users { AreUsers self.now }
+    {
+        self.items.items()
+    }
+}
+
+/// Why a users file doesn't read.
+#[derive(Clone, Copy, Debug, PartialEq, Eq)]
+pub enum UsersFault {
+    /// The first line, counted from 1, that is out of form, names a user a second time, or reaches past 2^20 bytes.
+    Line { line: u64 },
+    /// There was no memory for the users.
+    Memory,
+}
+
+/// Why a login isn't accepted, with the line of its message.
+#[derive(Clone, Copy, Debug, PartialEq, Eq)]
+pub enum LoginFault {
+    /// The nonce isn't that of the message.
+    Nonce { line: u64 },
+    /// No such user may log in.
+    NoUser { line: u64 },
+    /// The signature isn't that of the nonce and the user's secret.
+    Signature { line: u64 },
+}

@@ -1,0 +1,148 @@
+//! What the logins of a message allow.
+ghost use Rattle.std.specs.Prelude.{◌≡◌, ◌++◌, None, Some, IfOk, IfErr, option_copied};
+ghost use Rattle.std.specs.Str.{bytes_eq};
+ghost use Rattle.fsl_name.specs.Name.{name_of, name_text};
+ghost use Rattle.fsl_wire.specs.declared.WireCard.TheVariants as card_is;
+ghost use Rattle.fsl_login.specs.Logins.{nobody, user_named, caps_or_none, both, granted};
+ghost use Rattle.fsl_login.specs.Judging.{IsJudged};
+
+use crate::{LoginFault, User, Users};
+use fsl_name::Name;
+use fsl_wire::{Caps, Message, WireCard};
+use sha1::Sha1;
+
+/// The user whose line every message has.
+const NOBODY: &[u8] = b"nobody";
+
+fn no_caps() -> Caps
+    ensures { result ≡ caps_or_none None }
+{
+    Caps {
+        pull: false,
+        push: false,
+        clone: false,
+        private: false,
+    }
+}
+
+/// The user of a name.
+fn user_named<'a>(users: &'a [User], name: &[u8]) -> Option<&'a User>
+    ensures { option_copied result ≡ user_named users.now name.now }
+{
+    users.iter().find(|user| user.name.bytes() == name)
+}
+
+/// What the user of a name may do; nothing, where there is none.
+fn caps_named(users: &[User], name: &[u8]) -> Caps
+    ensures { result ≡ caps_or_none (user_named users.now name.now) }
+{
+    match user_named(users, name) {
+        Some(user) => user.caps,
+        None => no_caps(),
+    }
+}
+
+fn is_nobody(name: &[u8]) -> bool
+    ensures { result ≡ bytes_eq name.now nobody }
+{
+    name == NOBODY
+}
+
+/// Whether a text is the 40 digits of a name.
+fn is_name_text(text: &[u8], name: Name) -> bool
+    ensures { result ≡ bytes_eq text.now (name_text name) }
+{
+    text == name.text().as_slice()
+}
+
+/// Whether a signature is the digits of the SHA-1 of a nonce followed by a secret.
+fn is_signed(nonce: &[u8], secret: &[u8], signature: &[u8]) -> bool
+    ensures { result ≡ bytes_eq signature.now (name_text (name_of (nonce.now ++ secret.now))) }
+{
+    let mut hasher = Sha1::new();
+    hasher.update(nonce);
+    hasher.update(secret);
+    is_name_text(signature, Name::from_bytes(hasher.finalize()))
+}
+
+/// What a login allows, or why it isn't accepted: its nonce is tested first, then its user, then its signature.
+fn login_caps(
+    users: &[User],
+    user: &[u8],
+    nonce: &[u8],
+    signature: &[u8],
+    tail: Name,
+    line: u64,
+) -> Result<Caps, LoginFault>
+    ensures { IsJudged users.now (card_is.Login user.now nonce.now signature.now tail line) result }
+{
+    if !is_name_text(nonce, tail) {
+        return Err(LoginFault::Nonce { line });
+    }
+    if is_nobody(user) {
+        return Err(LoginFault::NoUser { line });
+    }
+    let Some(found) = user_named(users, user) else {
+        return Err(LoginFault::NoUser { line });
+    };
+    if is_signed(nonce, found.secret.bytes(), signature) {
+        Ok(found.caps)
+    } else {
+        Err(LoginFault::Signature { line })
+    }
+}
+
+/// What a card adds to what is allowed: nothing, where it is no login.
+fn card_caps(users: &[User], card: &WireCard) -> Result<Caps, LoginFault>
+    ensures { IsJudged users.now card.now result }
+{
+    match card {
+        WireCard::Login {
+            user,
+            nonce,
+            signature,
+            tail,
+            line,
+        } => login_caps(
+            users,
+            user.bytes(),
+            nonce.bytes(),
+            signature.bytes(),
+            *tail,
+            *line,
+        ),
+        _ => Ok(no_caps()),
+    }
+}
+
+/// What either of two allows.
+fn both(a: Caps, b: Caps) -> Caps
+    ensures { result ≡ both a b }
+{
+    Caps {
+        pull: a.pull || b.pull,
+        push: a.push || b.push,
+        clone: a.clone || b.clone,
+        private: a.private || b.private,
+    }
+}
+
+/// What a message allows: what `nobody` has, and what its logins add.
+///
+/// The nonce of a login is the 40 digits of its tail, and its signature those of the SHA-1 of the nonce followed by the
+/// user's secret. Takes no memory. Each login costs a look over all users and one hash.
+///
+/// # Errors
+///
+/// At the first login that isn't accepted, with its line: `Nonce` where the nonce is another one, else `NoUser` for
+/// `nobody` and for a name without a line, else `Signature`.
+pub fn granted(users: &Users, message: &Message) -> Result<Caps, LoginFault>
+    ensures { result ≡ granted users.now message.now }
+{
+    let users = users.items();
+    let mut caps = caps_named(users, NOBODY);
+    for card in message.cards() {
+        caps = both(caps, card_caps(users, card)?);
+    }
+    Ok(caps)
+}

@@ -1,0 +1,77 @@
+//! Users files and logins. Digits are those of `sha1sum`.
+use fsl_login::{LoginFault, Users, UsersFault, granted};
+use fsl_wire::{Caps, read};
+use std::alloc::Global;
+
+/// What the logins of a message allow, by a file of one user.
+fn granted_by(alloc: Global, bytes: &[u8]) -> Option<Result<Caps, LoginFault>> {
+    let Ok(users) = Users::read(alloc, b"alice oigx s3cret\n# bob\n") else {
+        return None;
+    };
+    match read(alloc, bytes) {
+        Ok(message) => Some(granted(&users, &message)),
+        Err(_) => None,
+    }
+}
+
+#[test]
+fn grants_what_logins_prove(rt: HostRuntime) {
+    let all = Caps {
+        pull: true,
+        push: true,
+        clone: true,
+        private: true,
+    };
+    let none = Caps {
+        pull: false,
+        push: false,
+        clone: false,
+        private: false,
+    };
+    let rows: [(&[u8], Result<Caps, LoginFault>); 6] = [
+        (b"clone\n", Ok(none)),
+        (
+            b"login alice 057a7bfbd78975f1bc6dde15b95e3af7a16ca86c 48452617329d0fbea98d82658220c4b531bc240f\nclone\n",
+            Ok(all),
+        ),
+        (
+            b"login alice 057a7bfbd78975f1bc6dde15b95e3af7a16ca86c 48452617329d0fbea98d82658220c4b531bc240f\nclone\n\n",
+            Err(LoginFault::Nonce { line: 1 }),
+        ),
+        (
+            b"login bob 057a7bfbd78975f1bc6dde15b95e3af7a16ca86c 48452617329d0fbea98d82658220c4b531bc240f\nclone\n",
+            Err(LoginFault::NoUser { line: 1 }),
+        ),
+        (
+            b"login nobody 057a7bfbd78975f1bc6dde15b95e3af7a16ca86c 48452617329d0fbea98d82658220c4b531bc240f\nclone\n",
+            Err(LoginFault::NoUser { line: 1 }),
+        ),
+        (
+            b"\nlogin alice 057a7bfbd78975f1bc6dde15b95e3af7a16ca86c c0627a62dcb47a904ce09bdbfe326c8f329fe3c5\nclone\n",
+            Err(LoginFault::Signature { line: 2 }),
+        ),
+    ];
+    for (bytes, want) in rows {
+        assert!(rt; granted_by(rt.alloc(), bytes) == Some(want));
+    }
+}
+
+fn first_bad_line(alloc: Global, bytes: &[u8]) -> Option<u64> {
+    match Users::read(alloc, bytes) {
+        Ok(_) | Err(UsersFault::Memory) => None,
+        Err(UsersFault::Line { line }) => Some(line),
+    }
+}
+
+#[test]
+fn tells_the_first_bad_line_of_a_users_file(rt: HostRuntime) {
+    let rows: [(&[u8], Option<u64>); 4] = [
+        (b"", None),
+        (b"a o s\n \t\r\n # b\nb  i\tt", None),
+        (b"a o s\nb i\n", Some(2)),
+        (b"a o s\n\na i t", Some(3)),
+    ];
+    for (bytes, want) in rows {
+        assert!(rt; first_bad_line(rt.alloc(), bytes) == want);
+    }
+}
