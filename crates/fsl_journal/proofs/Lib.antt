@@ -8,5 +8,6 @@ mod Opening
 mod Pending
 mod Walking
 mod Records
+pub mod SomeFile
 pub mod Unique
 mod WorkedRows

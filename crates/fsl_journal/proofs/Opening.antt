@@ -4,13 +4,15 @@ use Rattle.std.proofs.lemmas.List.{take_all, take_at}
 use Rattle.fsl_disk.specs.Disk.{DiskState, IsModelled, Told, Begins, Keeps, Calls, CutShort, Same, Quiet, Only, LeavesOnly}
 use Rattle.fsl_disk.proofs.Moments.{goes_on, keeps_on, quiet_call, quiet_on, quiet_moments, told_before, told_contents, modelled_before}
 use Rattle.fsl_disk.proofs.Pieces.{cut_whole}
+use Rattle.fsl_order.specs.Causes.{Rose}
 use Rattle.fsl_record.specs.declared.Record.{Record}
 use Rattle.fsl_journal.specs.declared.LoadFault.{LoadFault}
 use Rattle.fsl_journal.specs.declared.LoadFault.TheVariants as load_fault
 use Rattle.fsl_journal.specs.File.{header, IsFileOf, FailsAt}
 use Rattle.fsl_journal.specs.Journal.{Belongs, LoadFailed}
-use Rattle.fsl_journal.specs.Reading.{FileFailed}
+use Rattle.fsl_journal.specs.Reading.{FileFailed, ReadFailed}
 use Rattle.fsl_journal.specs.Log.{Log, IsLog, IsBetween, StandsBetween}
+use Rattle.fsl_journal.proofs.Failing.{no_file}
 use Rattle.fsl_journal.proofs.Files.{laid, is_log, groups_bytes}
 use Rattle.fsl_journal.proofs.Gate.{some_same}
 use Rattle.fsl_journal.proofs.Unique.{one_file}
@@ -119,8 +121,18 @@ module _ (s0 s1 s2 s3 : DiskState) (file : List ℕ) (records : List Record) (pl
       now_held : (now : List ℕ) → s3.contents ≡ Some now → (held : List ℕ) → s0.contents ≡ Some held → now ≡ take (place + 1) held
       now_held now told held before = some_same (sym told ∙ cut held (so_far.contents ∙ before))
 
--- a file that doesn't read
-pub load_failed : (fault : LoadFault) (s0 s2 : DiskState) (file : List ℕ) → s2.contents ≡ s0.contents → s2.faults ≡ s0.faults → Told s0 (λ held. file ≡ held) → FileFailed file fault → LoadFailed fault s0 s2
-load_failed load_fault.Disk s0 s2 file contents faults told fails = absurd fails
-load_failed (load_fault.NotRepository at) s0 s2 file contents faults told fails = (record { contents = contents; faults = faults }, (file, told, fails))
-load_failed load_fault.Memory s0 s2 file contents faults told fails = record { contents = contents; faults = faults }
+-- a file that doesn't read, or no memory for what it holds
+pub load_failed : (fault : LoadFault) (s0 s2 : DiskState) (file : List ℕ) → Quiet s0 s2 → s2.faults ≡ s0.faults → Told s0 (λ held. file ≡ held) → FileFailed file fault → LoadFailed fault s0 s2
+load_failed load_fault.Disk s0 s2 file quiet faults told fails = absurd fails
+load_failed (load_fault.NotRepository at) s0 s2 file quiet faults told fails = (record { contents = quiet.contents; faults = faults }, quiet, (file, told, fails))
+load_failed load_fault.Memory s0 s2 file quiet faults told fails = (record { contents = quiet.contents; faults = faults }, quiet)
+
+-- no memory for what was to be read
+pub read_failed : (fault : LoadFault) (s0 s1 s2 : DiskState) → Quiet s0 s1 → s1.faults ≡ s0.faults → Quiet s1 s2 → ReadFailed fault s1 s2 → LoadFailed fault s0 s2
+read_failed load_fault.Disk s0 s1 s2 first faults second failed = subst (λ (n : ℕ). Rose n s2.faults) faults failed
+read_failed (load_fault.NotRepository at) s0 s1 s2 first faults second failed = absurd failed
+read_failed load_fault.Memory s0 s1 s2 first faults second failed = let quiet = quiet_on s0 s1 s2 first second in (record { contents = quiet.contents; faults = failed ∙ faults }, quiet)
+
+-- a file that stands for records doesn't fail to
+pub not_refused : (X : Type 0) (records : List Record) (place : ℕ) (file held : List ℕ) → IsLog records place file → file ≡ held → (at : ℕ) → FailsAt held at → X
+not_refused X records place file held log is at fails = absurd (no_file held at records fails (subst (λ (f : List ℕ). IsFileOf f records) is log.file))

@@ -1,6 +1,6 @@
 -- When a disk belongs to a journal, and what the answers of its calls say.
 use Rattle.std.specs.Prelude.{◌≡◌, ◌⊎◌, ℕ, ◌+◌, ◌≤◌, ◌<◌, None, Some, List, [], ◌∷◌, length, IsTrue}
-use Rattle.fsl_disk.specs.Disk.{DiskState, IsModelled, Told, Begins}
+use Rattle.fsl_disk.specs.Disk.{DiskState, IsModelled, Told, Begins, Quiet}
 use Rattle.fsl_order.specs.Causes.{Rose}
 use Rattle.fsl_record.specs.declared.Config.{Config}
 use Rattle.fsl_record.specs.declared.Record.TheVariants as record_of
@@ -49,8 +49,8 @@ pub record IsLeft (before after : DiskState) : Type 0 where
 -- an opening that answers a fault
 abbrev pub LoadFailed : LoadFault → DiskState → DiskState → Type 0
 LoadFailed load_fault.Disk before after = Rose before.faults after.faults
-LoadFailed (load_fault.NotRepository at) before after = IsLeft before after × OfBytes before (λ bytes. FailsAt bytes at)
-LoadFailed load_fault.Memory before after = IsLeft before after
+LoadFailed (load_fault.NotRepository at) before after = IsLeft before after × Quiet before after × OfBytes before (λ bytes. FailsAt bytes at)
+LoadFailed load_fault.Memory before after = IsLeft before after × Quiet before after
 
 -- a file that is no repository, or one with this Config alone
 abbrev pub NothingOr : Config → List ℕ → Type 0
@@ -58,9 +58,9 @@ NothingOr config bytes = IsNoFile bytes ⊎ IsFileOf bytes (record_of.Config con
 
 -- the making of a file that answers a fault
 abbrev pub CreateFailed : CreateFault → DiskState → DiskState → Type 0
-CreateFailed (create_fault.NotEmpty len) before after = IsLeft before after × (0 < len) × Told before (λ held. len ≡ length held)
+CreateFailed (create_fault.NotEmpty len) before after = IsLeft before after × (0 < len) × Told before (λ held. len ≡ length held) × Quiet before after
 CreateFailed create_fault.Disk before after = Rose before.faults after.faults
-CreateFailed create_fault.Memory before after = IsLeft before after × Told before (λ held. held ≡ [])
+CreateFailed create_fault.Memory before after = IsLeft before after × Told before (λ held. held ≡ []) × Quiet before after
 
 -- the making of a file that answers Ok: it was empty, and stands for this Config alone
 pub record IsMade (config : Config) (before after : DiskState) : Type 0 where

@@ -1,5 +1,5 @@
 -- Laws of files.
-use Rattle.std.specs.Prelude.{◌≡◌, ℕ, List}
+use Rattle.std.specs.Prelude.{◌≡◌, ◌⊎◌, ℕ, List}
 use Rattle.fsl_record.specs.declared.Record.{Record}
 use Rattle.fsl_journal.specs.File.{IsFileOf, FailsAt}
 
@@ -14,3 +14,7 @@ FailsOnce = (bytes : List ℕ) (one other : ℕ) → FailsAt bytes one → Fails
 -- bytes that fail to be a file stand for no records
 abbrev pub IsNoFileThere : Type 0
 IsNoFileThere = (bytes : List ℕ) (at : ℕ) (records : List Record) → FailsAt bytes at → ¬ (IsFileOf bytes records)
+
+-- bytes fail to be a file at some place, or stand for some records
+abbrev pub IsSomeFile : Type 0
+IsSomeFile = (bytes : List ℕ) → ((at : ℕ) × FailsAt bytes at) ⊎ ((records : List Record) × IsFileOf bytes records)

@@ -1,7 +1,7 @@
 //! Makes a repository's file: the header and a closed gate, and then a group with the Config.
 ghost use Rattle.std.specs.Prelude.{◌≡◌, ◌≢◌, ◌⊎◌, ◌∷◌, ◌++◌, [], ◌≤◌, ◌<◌, ◌^◌, ℕ, List, length, Some, IsTrue, IfErr, IfOk, OnOk};
 ghost use Rattle.fsl_order.specs.Causes.{HasCause};
-ghost use Rattle.fsl_disk.specs.Disk.{DiskState, IsModelled, Told, Keeps, Only, LeavesOnly};
+ghost use Rattle.fsl_disk.specs.Disk.{DiskState, IsModelled, Told, Keeps, Quiet, Only, LeavesOnly};
 ghost use Rattle.fsl_record.specs.Records.{AreFields, record_bytes, IsFit};
 ghost use Rattle.fsl_record.specs.declared.Record.TheVariants as record_of;
 ghost use Rattle.fsl_journal.specs.Create.{new_file, IsShort};
@@ -61,8 +61,8 @@ pub fn create<D: Disk>(alloc: Global, disk: &mut D, config: &Config) -> Result<(
     requires { AreFields config.now.fields }
     ensures made { OnOk result (IsMade config.now (D.state disk.old) (D.state disk.new)) }
     ensures fault { IfErr result (λ fault. CreateFailed fault (D.state disk.old) (D.state disk.new)) }
-    // What was there stays.
-    ensures untouched { Told (D.state disk.old) (λ held. (held ≡ []) ⊎ ((D.state disk.new).contents ≡ (D.state disk.old).contents)) }
+    // What was there stays, at each moment.
+    ensures untouched { Told (D.state disk.old) (λ held. (held ≡ []) ⊎ Quiet (D.state disk.old) (D.state disk.new)) }
     ensures keeps { Keeps (D.state disk.old) (D.state disk.new) }
 
     // Where each image is empty at its start, a crash leaves no repository, or the one with the Config alone; after Ok the latter.

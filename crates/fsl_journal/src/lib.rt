@@ -25,7 +25,7 @@ pub use creating::create;
 use fsl_outside::Failed;
 use fsl_text::Memory;
 pub use journal::Journal;
-pub use laws::{fails_once, is_no_file, is_one_file};
+pub use laws::{fails_once, is_no_file, is_one_file, some_file};
 use std::alloc::AllocError;
 use thiserror::Error;
 

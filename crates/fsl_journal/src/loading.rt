@@ -2,7 +2,7 @@
 ghost use Rattle.std.specs.Prelude.{◌≡◌, ◌+◌, ◌<◌, ◌≤◌, ◌^◌, ℕ, List, length, take, None, Some, IsTrue, IfOk, OnOk, IfErr};
 ghost use Rattle.fsl_order.specs.Causes.{HasCause};
 ghost use Rattle.fsl_disk.specs.Disk.{DiskState, IsModelled, Told, Keeps, Calls, CutShort, Quiet, Only, LeavesOnly};
-ghost use Rattle.fsl_journal.specs.File.{IsFileOf};
+ghost use Rattle.fsl_journal.specs.File.{IsFileOf, FailsAt};
 ghost use Rattle.fsl_record.specs.declared.Record.{Record};
 ghost use Rattle.fsl_journal.specs.Log.{Log, IsBetween, StandsBetween, IsLoaded};
 ghost use Rattle.fsl_journal.specs.Journal.{Belongs, OfBytes, LoadFailed};
@@ -62,6 +62,8 @@ impl Journal {
         ensures count { OnOk result ((D.state disk.new).faults ≡ (D.state disk.old).faults) }
         ensures fault { IfErr result (λ fault. LoadFailed fault (D.state disk.old) (D.state disk.new)) }
         ensures keeps { Keeps (D.state disk.old) (D.state disk.new) }
+        // A file that fails to stand for records stays, at each moment, whatever the answer.
+        ensures refused { Told (D.state disk.old) (λ held. (at : ℕ) → FailsAt held at → Quiet (D.state disk.old) (D.state disk.new)) }
 
         // Where each image stands for records between two lists, each does so at each moment, and so do the records.
         ensures any_moment { IsModelled (D.state disk.old) → (low high : List Record) → ((c : List ℕ) → (D.state disk.old).images c → StandsBetween low high c)

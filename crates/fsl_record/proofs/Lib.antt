@@ -5,3 +5,5 @@ pub mod GroupLists
 pub mod Fronts
 pub mod Exclusive
 pub mod OneFault
+pub mod Deciding
+pub mod FirstRecord

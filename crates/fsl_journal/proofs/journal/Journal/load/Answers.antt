@@ -1,17 +1,33 @@
 use Rattle.std.proofs.Common.{◌≡◌, ◌∙◌, sym, subst, List, ℕ, rules}
-use Rattle.fsl_disk.proofs.Moments.{told_contents}
+use Rattle.fsl_disk.proofs.Moments.{quiet_call, quiet_on, told_contents}
 use Rattle.fsl_record.specs.declared.Record.{Record}
 use Rattle.fsl_journal.specs.File.{IsFileOf, FailsAt}
 use Rattle.fsl_journal.specs.Log.{IsLog, IsBetween}
 use Rattle.fsl_journal.specs.Reading.{FileFailed}
 use Rattle.fsl_journal.proofs.Failing.{no_file}
-use Rattle.fsl_journal.proofs.Opening.{LoadRun, resumed_log, records_between, load_moments, belongs_loaded, loaded_durable, load_failed}
+use Rattle.fsl_journal.proofs.Opening.{LoadRun, resumed_log, records_between, load_moments, belongs_loaded, loaded_durable, load_failed, not_refused}
 use Rattle.fsl_journal.proofs.journal.Journal.load.Goals as goal
 
 pub returns-in-Err-clause-fault : goal.returns-in-Err-clause-fault
 returns-in-Err-clause-fault g c =
-    load_failed c.in-Err.fault (g.D.Disk.state c.args.disk.now) (g.D.Disk.state c.read_all.new.disk) c.deref.result.now (c.read_all.ensures.quiet.contents ∙ c.sync.ensures.contents) (c.in_ok-file.ensures.count ∙ c.in_ok-sync.ensures.cause.same)
+    load_failed c.in-Err.fault (g.D.Disk.state c.args.disk.now) (g.D.Disk.state c.read_all.new.disk) c.deref.result.now (quiet_on _ _ _ (quiet_call _ _ c.sync.ensures.call c.sync.ensures.contents) c.read_all.ensures.quiet) (c.in_ok-file.ensures.count ∙ c.in_ok-sync.ensures.cause.same)
     (λ held told. c.deref.ensures.value ∙ c.in_ok-file.ensures.file.1 held (c.sync.ensures.contents ∙ told)) c.in-Err.ensures.fault
+
+pub returns-in-Err-clause-refused : goal.returns-in-Err-clause-refused
+returns-in-Err-clause-refused g c = λ held told at fails. quiet_on _ _ _ (quiet_call _ _ c.sync.ensures.call c.sync.ensures.contents) c.read_all.ensures.quiet
+
+pub returns-in_err-sync-clause-refused : goal.returns-in_err-sync-clause-refused
+returns-in_err-sync-clause-refused g c = λ held told at fails. quiet_call _ _ c.sync.ensures.call c.sync.ensures.contents
+
+pub returns-in_err-file-clause-refused : goal.returns-in_err-file-clause-refused
+returns-in_err-file-clause-refused g c = λ held told at fails. quiet_on _ _ _ (quiet_call _ _ c.sync.ensures.call c.sync.ensures.contents) c.read_all.ensures.quiet
+
+pub returns-in_err-journal-in-Ok-clause-refused : goal.returns-in_err-journal-in-Ok-clause-refused
+returns-in_err-journal-in-Ok-clause-refused g c = λ held told at fails. quiet_on _ _ _ (quiet_call _ _ c.sync.ensures.call c.sync.ensures.contents) c.read_all.ensures.quiet
+
+pub returns-in_err-cut_behind-in-Ok-clause-refused : goal.returns-in_err-cut_behind-in-Ok-clause-refused
+returns-in_err-cut_behind-in-Ok-clause-refused g c = λ held told.
+    not_refused _ c.in-Ok.records.items c.in-Ok.place c.in_ok-file.file.items held (subst (IsLog c.in-Ok.records.items c.in-Ok.place) c.deref.ensures.value c.in-Ok.ensures.ok) (c.in_ok-file.ensures.file.1 held (c.sync.ensures.contents ∙ told))
 
 pub returns-in-Err-clause-stays : goal.returns-in-Err-clause-stays
 returns-in-Err-clause-stays g c = λ at is modelled low high between.
@@ -55,6 +71,7 @@ returns g c =
       count = search rules;
       fault = tt;
       keeps = search rules;
+      refused = λ held told. not_refused _ c.in-Ok.records.items c.in-Ok.place c.in_ok-file.file.items held run.log (c.in_ok-file.ensures.file.1 held (c.sync.ensures.contents ∙ told));
       any_moment = λ modelled.
           load_moments _ _ _ _ c.in_ok-file.file.items c.in-Ok.records.items c.in-Ok.place run modelled
           (λ held told. g.met.D.Disk.reads_as_image c.args.disk.now held modelled.model told) (λ f left. g.met.D.Disk.only_now c.args.disk.now f modelled.model left);
