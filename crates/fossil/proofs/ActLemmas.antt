@@ -1,98 +1,142 @@
--- What the commands did, by the rules of their outcomes.
-use Rattle.std.proofs.Common.{◌≡◌, inl, inr, ℕ, Bool, false, List, Option, Some, None, Result, Ok, Err, IsTrue, refl, sym, subst, arith}
+-- What the commands did that load the file.
+use Rattle.std.proofs.Common.{◌≡◌, ◌⊎◌, inl, inr, ℕ, List, [], Some, Result, Ok, Err, IsTrue, refl, sym, subst, arith}
+use Rattle.fsl_order.specs.Causes.{Rose}
 use Rattle.fsl_record.specs.declared.Record.{Record}
-use Rattle.fsl_disk.specs.Disk.{DiskState, Keeps}
-use Rattle.fsl_journal.specs.File.{FailsAt}
-use Rattle.fsl_journal.specs.Journal.{OfBytes}
+use Rattle.fsl_disk.specs.Disk.{DiskState}
+use Rattle.fsl_outside.specs.Streams.{SourceState}
+use Rattle.fsl_journal.specs.File.{IsFileOf}
 use Rattle.fsl_journal.specs.declared.LoadFault.{LoadFault}
 use Rattle.fsl_journal.specs.declared.LoadFault.TheVariants as load_fault
+use Rattle.fsl_words.specs.declared.Command.{Command}
+use Rattle.fsl_words.specs.declared.Command.TheVariants as command_of
+use Rattle.fsl_words.specs.declared.Question.{Question}
+use Rattle.std.specs.Prelude.{Option}
 use Rattle.fossil.specs.declared.fault.Fault.{Fault}
 use Rattle.fossil.specs.declared.fault.Fault.TheVariants as fault_is
-use Rattle.fossil.specs.Ingest as ingest
-use Rattle.fossil.specs.Outcome.{Outcome, IsLoaded, printed_of, not_repository}
-use Rattle.fossil.specs.Run.{Ruled, Stream, StreamRose, Agrees}
-use Rattle.fossil.specs.Acts.{Acts, IsUnopened, IsNotLoadedAnswer, HasOutcome, IsUnread, KeepsContents, KeepsImages}
+use Rattle.fossil.specs.Printed.{Printed}
+use Rattle.fossil.specs.Outcome.{Outcome, printed_of, not_repository, IsSaidOutcome}
+use Rattle.fossil.specs.Run.{Input, Agrees, reads, IsInputFault}
+use Rattle.fossil.specs.Acts.{ActsBy, HasActed, Touches, IsUnopened, IsNotLoadedAnswer, IsUnread, KeepsContents, KeepsImages}
 use Rattle.fossil.proofs.InputLemmas.{some_bytes}
-use Rattle.fossil.proofs.FileLemmas.{kept_contents, kept_moments, kept_failed}
+use Rattle.fossil.proofs.FileLemmas.{both, Loads, agrees, left_failed, loaded_left, loaded_touches}
+use Rattle.fossil.proofs.SomeOutcome.{some_said_outcome}
 
--- the bytes of a file that was read agree with those that are told
-pub agrees : (told : Option (List ℕ)) (bytes : List ℕ) → ((held : List ℕ) → told ≡ Some held → bytes ≡ held) → Agrees told bytes
-agrees None bytes h = tt
-agrees (Some held) bytes h = h held refl
+pub put_loads : Loads (Some command_of.Put)
+put_loads = record { opened = refl; old = λ old bytes are. are; refused = λ bytes refused. refused; fails = λ read bytes at fails. inl (at, fails, refl) }
 
--- ---- a file that isn't loaded
+pub ask_loads : (question : Question) → Loads (Some (command_of.Ask question))
+ask_loads question = record { opened = refl; old = λ old bytes are. are; refused = λ bytes refused. refused; fails = λ read bytes at fails. inl (at, fails, refl) }
 
-module _ (ByInput : List ℕ → List Record → Outcome → Type 0) (reads : Bool) (input : Stream) (file left : DiskState) (fault_reads : (held : List ℕ) → IsTrue left.is_model → left.contents ≡ Some held → left.images held) where
-  abbrev Rule : Ruled
-  Rule read bytes o = IsLoaded (ByInput read) bytes o
+-- ---- faults, by what was read
+
+module _ (command : Option Command) (loads : Loads command) (input : Input) (file left : DiskState) (read bytes : List ℕ) (o : Outcome)
+    (input_told : Agrees input.before.left read) (file_told : Agrees file.contents bytes) (outcome : IsSaidOutcome command read bytes o) (touches : Touches command (both file left) bytes o) where
+  pub memory_by : KeepsContents file left → ActsBy command input (both file left) (Err fault_is.Memory) read bytes o
+  memory_by contents = record {
+    input_told = input_told;
+    file_told = file_told;
+    outcome = outcome;
+    answer = tt;
+    plain = tt;
+    cause = tt;
+    end = λ z. absurd (cc);
+    contents = loaded_left command loads file left bytes o 9 (λ z. absurd (cc)) contents;
+    touches = touches;
+    durable = λ z. absurd (cc);
+  }
+
+  input_by : IsInputFault command input bytes → KeepsContents file left → ActsBy command input (both file left) (Err fault_is.Input) read bytes o
+  input_by cause contents = record {
+    input_told = input_told;
+    file_told = file_told;
+    outcome = outcome;
+    answer = tt;
+    plain = tt;
+    cause = cause;
+    end = λ z. absurd (cc);
+    contents = loaded_left command loads file left bytes o 5 (λ z. absurd (cc)) contents;
+    touches = touches;
+    durable = λ z. absurd (cc);
+  }
+
+  pub disk_by : Rose file.faults left.faults → (input.after ≡ input.before) ⊎ (o.commits ≡ [] → ⊥) → ((held : List ℕ) → IsTrue left.is_model → left.contents ≡ Some held → left.images held)
+      → ActsBy command input (both file left) (Err fault_is.Disk) read bytes o
+  disk_by rose moment reads = record {
+    input_told = input_told;
+    file_told = file_told;
+    outcome = outcome;
+    answer = tt;
+    plain = tt;
+    cause = record { opened = loads.opened; rose = rose; moment = moment };
+    end = λ z. absurd (cc);
+    contents = left_failed command file left bytes o touches.keeps reads touches.any_moment;
+    touches = touches;
+    durable = λ z. absurd (cc);
+  }
 
   -- the place at which the file fails is told
-  pub fails_answer : (at : ℕ) → OfBytes file (λ bytes. FailsAt bytes at) → HasOutcome Rule input file (printed_of (not_repository at))
-  fails_answer at fails =
-      let some = some_bytes input.before in
-      (some.0, fails.0, not_repository at, some.1, agrees file.contents fails.0 fails.1, inl (at, fails.2, refl), refl)
-
-  -- a place, and a status that isn't 0
-  pub not_repository_acts : (at : ℕ) → IsUnopened file left (load_fault.NotRepository at) → Acts Rule reads false input file left (Ok (printed_of (not_repository at)))
-  not_repository_acts at un = record {
-    answer = fails_answer at un.cause;
+  nowhere_by : (at : ℕ) → o ≡ not_repository at → KeepsContents file left → KeepsImages file left → ActsBy command input (both file left) (Ok (printed_of (not_repository at))) read bytes o
+  nowhere_by at is contents images = record {
+    input_told = input_told;
+    file_told = file_told;
+    outcome = outcome;
+    answer = λ i. printed_of (sym is i);
     plain = omega arith;
     cause = tt;
     end = λ z. absurd (cc);
-    kept = kept_contents Rule input.before file left 2 (λ z. absurd (cc)) (un.contents (λ e. cc));
-    any_moment = kept_moments Rule input.before file left un.any_moment;
+    contents = loaded_left command loads file left bytes o 2 (λ z. absurd (cc)) contents;
+    touches = touches;
     durable = λ z. absurd (cc);
-    keeps = un.keeps;
   }
-
-  -- want of memory, while the file stands for what it stood for
-  pub memory_acts : KeepsContents file left → KeepsImages file left → Keeps file left → Acts Rule reads false input file left (Err fault_is.Memory)
-  memory_acts contents images keeps = record {
-    answer = tt;
-    plain = tt;
-    cause = tt;
-    end = λ z. absurd (cc);
-    kept = kept_contents Rule input.before file left 9 (λ z. absurd (cc)) contents;
-    any_moment = kept_moments Rule input.before file left images;
-    durable = λ z. absurd (cc);
-    keeps = keeps;
-  }
-
-  pub input_acts : StreamRose input → KeepsContents file left → KeepsImages file left → Keeps file left → Acts Rule reads false input file left (Err fault_is.Input)
-  input_acts rose contents images keeps = record {
-    answer = tt;
-    plain = tt;
-    cause = rose;
-    end = λ z. absurd (cc);
-    kept = kept_contents Rule input.before file left 5 (λ z. absurd (cc)) contents;
-    any_moment = kept_moments Rule input.before file left images;
-    durable = λ z. absurd (cc);
-    keeps = keeps;
-  }
-
-  disk_acts : IsUnopened file left load_fault.Disk → Acts Rule reads false input file left (Err fault_is.Disk)
-  disk_acts un = record {
-    answer = tt;
-    plain = tt;
-    cause = un.cause;
-    end = λ z. absurd (cc);
-    kept = kept_failed Rule false input.before file left 4 refl un.keeps fault_reads (kept_moments Rule input.before file left un.any_moment);
-    any_moment = kept_moments Rule input.before file left un.any_moment;
-    durable = λ z. absurd (cc);
-    keeps = un.keeps;
-  }
-
-  -- the file wasn't loaded
-  pub not_loaded_acts : (fault : LoadFault) (result : Result ingest.Outcome Fault) → IsUnopened file left fault → IsNotLoadedAnswer fault result → Acts Rule reads false input file left result
-  not_loaded_acts load_fault.Disk result un is = subst (λ (r : Result ingest.Outcome Fault). Acts Rule reads false input file left r) (sym is) (disk_acts un)
-  not_loaded_acts (load_fault.NotRepository at) result un (inl is) = subst (λ (r : Result ingest.Outcome Fault). Acts Rule reads false input file left r) (sym is) (not_repository_acts at un)
-  not_loaded_acts (load_fault.NotRepository at) result un (inr is) =
-      subst (λ (r : Result ingest.Outcome Fault). Acts Rule reads false input file left r) (sym is) (memory_acts (un.contents (λ e. cc)) un.any_moment un.keeps)
-  not_loaded_acts load_fault.Memory result un is =
-      subst (λ (r : Result ingest.Outcome Fault). Acts Rule reads false input file left r) (sym is) (memory_acts (un.contents (λ e. cc)) un.any_moment un.keeps)
 
   -- the input wasn't read
-  pub unread_acts : (fault : Fault) → IsUnread fault input → KeepsContents file left → KeepsImages file left → Keeps file left → Acts Rule reads false input file left (Err fault)
-  unread_acts fault_is.Disk un contents images keeps = absurd un
-  unread_acts fault_is.Input un contents images keeps = input_acts un contents images keeps
-  unread_acts fault_is.Memory un contents images keeps = memory_acts contents images keeps
+  pub unread_by : (fault : Fault) → IsUnread fault input → IsTrue (reads command) → (records : List Record) → IsFileOf bytes records → KeepsContents file left
+      → ActsBy command input (both file left) (Err fault) read bytes o
+  unread_by fault_is.Disk un reads_it records is contents = absurd un
+  unread_by fault_is.Input un reads_it records is contents = input_by (record { read = reads_it; rose = un; file = λ opened. (records, is) }) contents
+  unread_by fault_is.Memory un reads_it records is contents = memory_by contents
+
+-- ---- a file that isn't loaded
+
+module _ (command : Option Command) (loads : Loads command) (source : SourceState) (file left : DiskState) (file_reads : (held : List ℕ) → IsTrue left.is_model → left.contents ≡ Some held → left.images held) where
+  abbrev input : Input
+  input = record { before = source; after = source }
+
+  abbrev Acted : Result Printed Fault → Type 0
+  Acted result = HasActed command input (record { before = file; after = left }) result
+
+  not_repository_acted : (at : ℕ) → IsUnopened file left (load_fault.NotRepository at) → Acted (Ok (printed_of (not_repository at)))
+  not_repository_acted at un =
+      let read = some_bytes source.left in
+      let o = not_repository at in (
+        read.0,
+        un.cause.0,
+        o,
+        nowhere_by command loads input file left read.0 un.cause.0 o read.1 (agrees file.contents un.cause.0 un.cause.1) (loads.fails read.0 un.cause.0 at un.cause.2)
+            (loaded_touches command loads file left un.cause.0 o un.unreadable un.any_moment un.keeps) at refl (un.contents (λ e. cc)) un.any_moment,
+      )
+
+  module _ (fault : LoadFault) (un : IsUnopened file left fault) where
+    read : (bytes : List ℕ) × Agrees source.left bytes
+    read = some_bytes source.left
+
+    held : (bytes : List ℕ) × Agrees file.contents bytes
+    held = some_bytes file.contents
+
+    outcome : (o : Outcome) × IsSaidOutcome command read.0 held.0 o
+    outcome = some_said_outcome command read.0 held.0
+
+    touches : Touches command (both file left) held.0 outcome.0
+    touches = loaded_touches command loads file left held.0 outcome.0 un.unreadable un.any_moment un.keeps
+
+    memory_acted : (fault ≡ load_fault.Disk → ⊥) → Acted (Err fault_is.Memory)
+    memory_acted other = (read.0, held.0, outcome.0, memory_by command loads input file left read.0 held.0 outcome.0 read.1 held.1 outcome.1 touches (un.contents other))
+
+    disk_acted : Rose file.faults left.faults → Acted (Err fault_is.Disk)
+    disk_acted rose = (read.0, held.0, outcome.0, disk_by command loads input file left read.0 held.0 outcome.0 read.1 held.1 outcome.1 touches rose (inl refl) file_reads)
+
+  pub not_loaded_acted : (fault : LoadFault) (result : Result Printed Fault) → IsUnopened file left fault → IsNotLoadedAnswer fault result → Acted result
+  not_loaded_acted load_fault.Disk result un is = subst Acted (sym is) (disk_acted load_fault.Disk un un.cause)
+  not_loaded_acted (load_fault.NotRepository at) result un (inl is) = subst Acted (sym is) (not_repository_acted at un)
+  not_loaded_acted (load_fault.NotRepository at) result un (inr is) = subst Acted (sym is) (memory_acted (load_fault.NotRepository at) un (λ e. cc))
+  not_loaded_acted load_fault.Memory result un is = subst Acted (sym is) (memory_acted load_fault.Memory un (λ e. cc))

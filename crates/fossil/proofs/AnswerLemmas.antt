@@ -1,5 +1,5 @@
 -- What a message comes to, by its files.
-use Rattle.std.proofs.Common.{◌≡◌, ℕ, Bool, List, [], ◌++◌, map, Option, Some, None, Result, Ok, Err, IfOk, MatchOption, sym, ap, subst, ◌∙◌, inl, inr, refl}
+use Rattle.std.proofs.Common.{◌≡◌, ℕ, Bool, List, [], ◌++◌, map, Option, Some, None, Result, Ok, Err, IfOk, MatchOption, sym, ap, subst, ◌∙◌, inr, refl}
 use Rattle.std.specs.Prelude.{MatchBool}
 use Rattle.std.specs.Option.{option_map}
 use Rattle.std.specs.List.{AllZip}
@@ -13,14 +13,15 @@ use Rattle.fsl_journal.specs.Log.{Log}
 use Rattle.fossil.specs.declared.load.Loaded.{Loaded}
 use Rattle.fossil.specs.declared.message.File.{File}
 use Rattle.fossil.specs.declared.refused.Refused.{Refused}
-use Rattle.fossil.specs.FileLines.{IsFileList, IsBadLine}
+use Rattle.fossil.specs.FileLines.{IsFileList}
 use Rattle.fossil.specs.Sets.{Sent, set_of, IsItemSent, report}
-use Rattle.fossil.specs.Ingest.{Outcome, IsTakenBySize, IsReported, IsRead, first_refusal, bad_line, too_long}
+use Rattle.fossil.specs.Printed.{Printed, first_refusal, too_long}
+use Rattle.fossil.specs.Ingest.{IsFirstRefusedOr, IsReported, IsRead}
 use Rattle.fossil.specs.Put.{put_files, IsPutFiles, IsPutRead}
 use Rattle.fossil.specs.Files.{sent_in}
 use Rattle.fossil.specs.Taking.{refused_as}
 use Rattle.fossil.specs.Acts.{IsInput, IsMessagePut, IsIngestRun, IsPutRun}
-use Rattle.fossil.specs.Run.{Stream}
+use Rattle.fossil.specs.Run.{Input}
 use Rattle.fossil.proofs.SentLemmas.{facts_are}
 
 -- the refusal that was found, of the files that were read
@@ -30,11 +31,11 @@ found_by message files items o p same is e = ap (option_map refused_as) (sym e) 
 
 -- ---- ingest
 
-taken_by : (files : List Sent) (o : Option Outcome) (a : Outcome) → o ≡ first_refusal files → MatchOption o (IsReported IsKind files a) (λ refusal. a ≡ refusal) → IsTakenBySize IsKind files a
-taken_by files o a e h = let P : Option Outcome → Type 0 = λ r. MatchOption r (IsReported IsKind files a) (λ refusal. a ≡ refusal) in subst P e h
+taken_by : (files : List Sent) (o : Option Printed) (a : Printed) → o ≡ first_refusal files → MatchOption o (IsReported IsKind files a) (λ refusal. a ≡ refusal) → IsFirstRefusedOr IsKind files a
+taken_by files o a e h = let P : Option Printed → Type 0 = λ r. MatchOption r (IsReported IsKind files a) (λ refusal. a ≡ refusal) in subst P e h
 
 -- the first file that isn't taken is refused
-pub refused_read : (message : List ℕ) (files items : List File) (o : Option Refused) (refused : Refused) (r : Result Outcome Memory) → IsFileList message (map (sent_in message) files) → items ≡ files
+pub refused_read : (message : List ℕ) (files items : List File) (o : Option Refused) (refused : Refused) (r : Result Printed Memory) → IsFileList message (map (sent_in message) files) → items ≡ files
     → option_map refused_as o ≡ first_refusal (map (sent_in message) items) → o ≡ Some refused → IfOk r (λ a. a ≡ refused_as refused) → IfOk r (λ a. IsRead IsKind message a)
 refused_read message files items o refused (Ok a) list same is e refusal =
     inr (map (sent_in message) files, list, taken_by (map (sent_in message) files) (Some (refused_as refused)) a (found_by message files items o (Some refused) same is e) refusal)
@@ -56,23 +57,19 @@ report_read message text files items placed set o list same is e here each print
 
 -- ---- put
 
-abbrev IsPutBy : List Sent → List Record → Outcome → List Record → Option Outcome → Type 0
+abbrev IsPutBy : List Sent → List Record → Printed → List Record → Option Printed → Type 0
 IsPutBy files old printed appended o =
     MatchOption o ((printed ≡ record { status = 0; text = (put_files old files).text }) × (appended ≡ (put_files old files).records))
     (λ refusal. (printed ≡ refusal) × (appended ≡ []))
 
-put_by : (files : List Sent) (old : List Record) (printed : Outcome) (appended : List Record) (o : Option Outcome) → o ≡ first_refusal files → IsPutBy files old printed appended o → IsPutFiles files old printed appended
+put_by : (files : List Sent) (old : List Record) (printed : Printed) (appended : List Record) (o : Option Printed) → o ≡ first_refusal files → IsPutBy files old printed appended o → IsPutFiles files old printed appended
 put_by files old printed appended o e h = subst (IsPutBy files old printed appended) e h
 
 -- nothing is appended
 pub none_appended : (log : Log) → log ≡ record log { records = log.records ++ [] }
 none_appended log = λ i. record log { records = sym (append-nil log.records) i }
 
-pub bad_put : (message : List ℕ) (l : Loaded) (n : ℕ) (r : Result Outcome Memory) → IsBadLine message n → IfOk r (λ a. a ≡ bad_line n) → IfOk r (λ a. IsMessagePut message l l a)
-bad_put message l n (Ok a) bad is = record { appended = []; put = inl (n, bad, is, refl); journal = none_appended l.journal }
-bad_put message l n (Err x) bad is = tt
-
-pub refused_put : (message : List ℕ) (l : Loaded) (files items : List File) (o : Option Refused) (refused : Refused) (r : Result Outcome Memory) → IsFileList message (map (sent_in message) files) → items ≡ files
+pub refused_put : (message : List ℕ) (l : Loaded) (files items : List File) (o : Option Refused) (refused : Refused) (r : Result Printed Memory) → IsFileList message (map (sent_in message) files) → items ≡ files
     → option_map refused_as o ≡ first_refusal (map (sent_in message) items) → o ≡ Some refused → IfOk r (λ a. a ≡ refused_as refused) → IfOk r (λ a. IsMessagePut message l l a)
 refused_put message l files items o refused (Ok a) list same is e refusal = record {
   appended = [];
@@ -105,7 +102,7 @@ taken_put message text before after files items placed o list same is e here pri
 
 -- ---- the input of a message
 
-pub ingest_run : (input : Stream) (o : Option (List ℕ)) (message bytes : List ℕ) (a : Outcome) → IsInput input o → o ≡ Some message → bytes ≡ message → IsRead IsKind bytes a → IsIngestRun input a
+pub ingest_run : (input : Input) (o : Option (List ℕ)) (message bytes : List ℕ) (a : Printed) → IsInput input o → o ≡ Some message → bytes ≡ message → IsRead IsKind bytes a → IsIngestRun input a
 ingest_run input o message bytes a is e same read =
     let whole : IsInput input (Some message) = subst (IsInput input) e is in
     record {
@@ -115,7 +112,7 @@ ingest_run input o message bytes a is e same read =
       end = λ z. whole.1;
     }
 
-pub put_run : (input : Stream) (o : Option (List ℕ)) (message bytes : List ℕ) (before after : Loaded) (a : Outcome) → IsInput input o → o ≡ Some message → bytes ≡ message → IsMessagePut bytes before after a
+pub put_run : (input : Input) (o : Option (List ℕ)) (message bytes : List ℕ) (before after : Loaded) (a : Printed) → IsInput input o → o ≡ Some message → bytes ≡ message → IsMessagePut bytes before after a
     → IsPutRun input before after a
 put_run input o message bytes before after a is e same put =
     let whole : IsInput input (Some message) = subst (IsInput input) e is in

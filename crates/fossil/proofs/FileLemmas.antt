@@ -1,25 +1,29 @@
 -- What a file stands for after a command.
-use Rattle.std.proofs.Common.{◌≡◌, ℕ, Bool, true, false, List, [], ◌∷◌, ◌++◌, length, Option, Some, None, is_some, IsTrue, refl, sym, ap, subst, ◌∙◌, arith}
+use Rattle.std.proofs.Common.{◌≡◌, inl, inr, ℕ, Bool, true, false, List, [], ◌∷◌, ◌++◌, length, Option, Some, None, is_some, IsTrue, refl, sym, ap, subst, ◌∙◌, arith}
 use Rattle.std.specs.Prelude.{◌==◌, MatchBool}
 use Rattle.std.proofs.lemmas.List.{append-nil}
 use Rattle.fsl_record.specs.declared.Record.{Record}
-use Rattle.fsl_disk.specs.Disk.{DiskState, IsModelled, Keeps, LeavesOnly}
+use Rattle.fsl_disk.specs.Disk.{DiskState, IsModelled, Keeps, Quiet, LeavesOnly}
 use Rattle.fsl_disk.proofs.Moments.{started, weaker}
-use Rattle.fsl_journal.specs.File.{IsFileOf}
-use Rattle.fossil.specs.Outcome.{Outcome, one_commit}
-use Rattle.fossil.specs.Run.{Ruled, Agrees, StandsFor, StandsForAll, StandsForSome, AreOldBy, AreImagesBy, IsLeft, IsFileLeftBy, ByOutcomeBy, after_commits}
-use Rattle.fossil.specs.Acts.{KeepsContents, KeepsImages}
+use Rattle.fsl_journal.specs.File.{IsFileOf, FailsAt}
+use Rattle.fsl_journal.specs.Journal.{OfBytes}
+use Rattle.fsl_journal.proofs.Failing.{no_file}
+use Rattle.fsl_words.specs.declared.Command.{Command}
+use Rattle.fossil.specs.Outcome.{Outcome, one_commit, not_repository, IsSaidOutcome}
+use Rattle.fossil.specs.Run.{File, Agrees, opens, begins, StandsFor, StandsForAll, StandsForSome, AreOldBy, AreOld, AreImages, IsLeft, IsFileLeft, IsNoRepository, IsRefused, IsWholeAtAnyMoment, IsDurable, after_commits}
+use Rattle.fossil.specs.Acts.{KeepsContents, KeepsImages, KeepsUnreadable, Touches}
 
 -- a file stands for some records
 pub stands : (old : List Record) (bytes : List ℕ) → IsFileOf bytes old → StandsFor old bytes
 stands [] bytes is = absurd is.fit
 stands (r ∷ old) bytes is = is
 
-empty_file : (records : List Record) → IsFileOf [] records → ⊥
+pub empty_file : (records : List Record) → IsFileOf [] records → ⊥
 empty_file records is = let layout = is.layout in cc
 
 pub old_stands : (begins : Bool) (old : List Record) (bytes : List ℕ) → AreOldBy begins old bytes → StandsFor old bytes
-old_stands true old bytes h = subst (λ (rs : List Record). StandsFor rs bytes) (sym h.0) (subst (λ (b : List ℕ). StandsFor [] b) (sym h.1) empty_file)
+old_stands true old bytes (inl h) = subst (λ (rs : List Record). StandsFor rs bytes) (sym h.0) (subst (λ (b : List ℕ). StandsFor [] b) (sym h.1) empty_file)
+old_stands true old bytes (inr h) = stands old bytes h
 old_stands false old bytes h = stands old bytes h
 
 -- ---- commits
@@ -72,71 +76,99 @@ agreed (Some told) read bytes h e = h ∙ same
     same : told ≡ bytes
     same = cc
 
--- ---- a command by the rule of its outcome
+-- bytes that were read agree with those that are told
+pub agrees : (told : Option (List ℕ)) (bytes : List ℕ) → ((held : List ℕ) → told ≡ Some held → bytes ≡ held) → Agrees told bytes
+agrees None bytes h = tt
+agrees (Some held) bytes h = h held refl
 
-module _ (IsRuled : Ruled) (begins : Bool) (input : Option (List ℕ)) (file left : DiskState) where
-  -- a status after which nothing was to commit
-  abbrev pub AppendsNone : ℕ → Type 0
-  AppendsNone status = status ≡ 0 → (read bytes : List ℕ) (o : Outcome) → IsRuled read bytes o → o.commits ≡ []
+-- ---- a file before and after
 
-  pub kept_stays : (status : ℕ) → AppendsNone status
-      → ((bytes held : List ℕ) → file.contents ≡ Some bytes → left.contents ≡ Some held → (old : List Record) → AreOldBy begins old bytes → StandsFor old held)
-      → IsFileLeftBy IsRuled begins input file left.contents status
-  kept_stays status none stay read bytes held told file_told left_told o old is are known =
-      left_old status old o.commits held (λ z. none z read bytes o is) (stay bytes held file_told left_told old are)
+-- calls that aren't made write nothing
+pub quiet_none : (file : DiskState) → Quiet file file
+quiet_none file = record {
+  keeps = record { tells = refl; model = refl };
+  contents = refl;
+  later = λ model. omega arith;
+  images = λ model c image. image;
+  since = λ model t c le past. inl past;
+}
 
-  pub moments_stay : ((old : List Record) → AreImagesBy begins old file.images → LeavesOnly file left (StandsFor old))
-      → ByOutcomeBy IsRuled begins input file.contents file.images (λ old commits. LeavesOnly file left (StandsForSome old commits))
-  moments_stay stay read bytes told file_told o old is are = weaker file left (StandsFor old) (StandsForSome old o.commits) (none_committed old o.commits) (stay old are)
+abbrev pub both : DiskState → DiskState → File
+both file left = record { before = file; after = left }
 
-  pub durable_stays : (status : ℕ) → status ≡ 0 → AppendsNone status → ((old : List Record) → AreImagesBy begins old file.images → LeavesOnly file left (StandsFor old))
-      → ByOutcomeBy IsRuled begins input file.contents file.images (λ old commits. (c : List ℕ) → left.images c → StandsForAll old commits c)
-  durable_stays status z none stay read bytes told file_told o old is are c image =
-      none_is_all old o.commits c (none z read bytes o is) ((stay old are).now c image)
+module _ (command : Option Command) (file left : DiskState) (bytes : List ℕ) (o : Outcome) where
+  -- contents that stand for the old records
+  pub left_stands : (status : ℕ) → (status ≡ 0 → o.commits ≡ [])
+      → ((old : List Record) (held : List ℕ) → file.contents ≡ Some bytes → left.contents ≡ Some held → AreOld command old bytes → StandsFor old held) → IsFileLeft command (both file left) status bytes o
+  left_stands status none stay old held file_told left_told are known = left_old status old o.commits held none (stay old held file_told left_told are)
+
+  -- contents that stay
+  pub left_same : (status : ℕ) → (status ≡ 0 → o.commits ≡ []) → left.contents ≡ file.contents → IsFileLeft command (both file left) status bytes o
+  left_same status none same =
+      left_stands status none
+      (λ old held file_told left_told are. old_stands (begins command) old held (subst (λ (b : List ℕ). AreOld command old b) (some_same (sym file_told ∙ sym same ∙ left_told)) are))
 
   -- a disk that failed holds what an image may hold
-  pub kept_failed : (status : ℕ) → status ≡ 4 → Keeps file left → ((held : List ℕ) → IsTrue left.is_model → left.contents ≡ Some held → left.images held)
-      → (IsModelled file → ByOutcomeBy IsRuled begins input file.contents file.images (λ old commits. LeavesOnly file left (StandsForSome old commits)))
-      → IsFileLeftBy IsRuled begins input file left.contents status
-  kept_failed status four keeps reads moments read bytes held told file_told left_told o old is are known =
-      let k = known four in
+  pub left_failed : Keeps file left → ((held : List ℕ) → IsTrue left.is_model → left.contents ≡ Some held → left.images held) → IsWholeAtAnyMoment command (both file left) o → IsFileLeft command (both file left) 4 bytes o
+  left_failed keeps reads moments old held file_told left_told are known =
+      let k = known refl in
       let modelled : IsModelled file = record { tells = ap is_some file_told; model = k.0 } in
-      subst (λ (n : ℕ). IsLeft n old o.commits held) (sym four)
-      ((moments modelled read bytes told file_told o old is k.1).now held (reads held (keeps.model ∙ k.0) left_told))
+      (moments modelled old k.1).now held (reads held (keeps.model ∙ k.0) left_told)
 
--- ---- files that stay
+  -- moments of the old records
+  pub whole_of_old : (IsModelled file → (old : List Record) → AreImages command old file.images → LeavesOnly file left (StandsFor old)) → IsWholeAtAnyMoment command (both file left) o
+  whole_of_old stay modelled old are = weaker file left (StandsFor old) (StandsForSome old o.commits) (none_committed old o.commits) (stay modelled old are)
 
-module _ (IsRuled : Ruled) (input : Option (List ℕ)) (file left : DiskState) where
-  -- where the contents stay
-  pub kept_contents : (status : ℕ) → AppendsNone IsRuled false input file left status → KeepsContents file left → IsFileLeftBy IsRuled false input file left.contents status
-  kept_contents status none stay =
-      kept_stays IsRuled false input file left status none (λ bytes held file_told left_told old are. stands old held (stay bytes file_told old are held left_told))
+  pub durable_of_old : o.commits ≡ [] → (IsModelled file → (old : List Record) → AreImages command old file.images → LeavesOnly file left (StandsFor old)) → IsDurable command (both file left) o
+  durable_of_old none stay modelled old are c image = none_is_all old o.commits c none ((stay modelled old are).now c image)
 
-  pub images_stay : KeepsImages file left → IsModelled file → (old : List Record) → AreImagesBy false old file.images → LeavesOnly file left (StandsFor old)
-  images_stay stay modelled old are = weaker file left (λ c. IsFileOf c old) (StandsFor old) (stands old) (stay modelled old are)
+-- ---- a file that isn't touched
 
-  pub kept_moments : KeepsImages file left → IsModelled file → ByOutcomeBy IsRuled false input file.contents file.images (λ old commits. LeavesOnly file left (StandsForSome old commits))
-  kept_moments stay modelled = moments_stay IsRuled false input file left (images_stay stay modelled)
+module _ (command : Option Command) (file : DiskState) (no_other : IsTrue file.is_model → (c : List ℕ) → file.since file.moment c → file.images c) (bytes : List ℕ) (o : Outcome) where
+  idle_images : IsModelled file → (old : List Record) → AreImages command old file.images → LeavesOnly file file (StandsFor old)
+  idle_images modelled old are = started file (StandsFor old) (no_other modelled.model) (λ c image. old_stands (begins command) old c (are c image))
 
-  pub kept_durable : (status : ℕ) → status ≡ 0 → AppendsNone IsRuled false input file left status → KeepsImages file left → IsModelled file
-      → ByOutcomeBy IsRuled false input file.contents file.images (λ old commits. (c : List ℕ) → left.images c → StandsForAll old commits c)
-  kept_durable status z none stay modelled = durable_stays IsRuled false input file left status z none (images_stay stay modelled)
+  pub idle_touches : Touches command (both file file) bytes o
+  idle_touches = record {
+    kept = λ told refused. quiet_none file;
+    any_moment = whole_of_old command file file bytes o idle_images;
+    keeps = record { tells = refl; model = refl };
+  }
 
--- ---- commands that don't touch the file
+  pub idle_left : (status : ℕ) → (status ≡ 0 → o.commits ≡ []) → IsFileLeft command (both file file) status bytes o
+  idle_left status none = left_same command file file bytes o status none refl
 
-module _ (IsRuled : Ruled) (begins : Bool) (input : Option (List ℕ)) (file : DiskState) where
-  idle_images : (IsTrue file.is_model → (c : List ℕ) → file.since file.moment c → file.images c) → IsModelled file → (old : List Record) → AreImagesBy begins old file.images → LeavesOnly file file (StandsFor old)
-  idle_images no_other modelled old are = started file (StandsFor old) (no_other modelled.model) (λ c image. old_stands begins old c (are c image))
+  pub idle_durable : o.commits ≡ [] → IsDurable command (both file file) o
+  idle_durable none = durable_of_old command file file bytes o none idle_images
 
-  pub idle_kept : (status : ℕ) → AppendsNone IsRuled begins input file file status → IsFileLeftBy IsRuled begins input file file.contents status
-  idle_kept status none =
-      kept_stays IsRuled begins input file file status none
-      (λ bytes held file_told left_told old are. old_stands begins old held (subst (λ (b : List ℕ). AreOldBy begins old b) (some_same (sym file_told ∙ left_told)) are))
+-- ---- a file that is loaded
 
-  pub idle_moments : (IsTrue file.is_model → (c : List ℕ) → file.since file.moment c → file.images c) → IsModelled file
-      → ByOutcomeBy IsRuled begins input file.contents file.images (λ old commits. LeavesOnly file file (StandsForSome old commits))
-  idle_moments no_other modelled = moments_stay IsRuled begins input file file (idle_images no_other modelled)
+-- a command that loads the file
+pub record Loads (command : Option Command) : Type 0 where
+  pub opened : IsTrue (opens command)
+  pub old : (old : List Record) (bytes : List ℕ) → AreOld command old bytes → IsFileOf bytes old
+  pub refused : (bytes : List ℕ) → IsRefused command bytes → IsNoRepository bytes
+  pub fails : (read bytes : List ℕ) (at : ℕ) → FailsAt bytes at → IsSaidOutcome command read bytes (not_repository at)
 
-  pub idle_durable : (IsTrue file.is_model → (c : List ℕ) → file.since file.moment c → file.images c) → (status : ℕ) → status ≡ 0 → AppendsNone IsRuled begins input file file status → IsModelled file
-      → ByOutcomeBy IsRuled begins input file.contents file.images (λ old commits. (c : List ℕ) → file.images c → StandsForAll old commits c)
-  idle_durable no_other status z none modelled = durable_stays IsRuled begins input file file status z none (idle_images no_other modelled)
+module _ (command : Option Command) (loads : Loads command) (file left : DiskState) (bytes : List ℕ) (o : Outcome) where
+  -- what the contents stand for stays
+  pub loaded_left : (status : ℕ) → (status ≡ 0 → o.commits ≡ []) → KeepsContents file left → IsFileLeft command (both file left) status bytes o
+  loaded_left status none stay =
+      left_stands command file left bytes o status none (λ old held file_told left_told are. stands old held (stay bytes file_told old (loads.old old bytes are) held left_told))
+
+  loaded_images : KeepsImages file left → IsModelled file → (old : List Record) → AreImages command old file.images → LeavesOnly file left (StandsFor old)
+  loaded_images stay modelled old are = weaker file left (λ c. IsFileOf c old) (StandsFor old) (stands old) (stay modelled old (λ c image. loads.old old c (are c image)))
+
+  pub loaded_touches : KeepsUnreadable file left → KeepsImages file left → Keeps file left → Touches command (both file left) bytes o
+  loaded_touches unreadable stay keeps = record {
+    kept = λ told refused. let fails = loads.refused bytes refused in unreadable bytes told fails.0 fails.1;
+    any_moment = whole_of_old command file left bytes o (loaded_images stay);
+    keeps = keeps;
+  }
+
+  pub loaded_durable : o.commits ≡ [] → KeepsImages file left → IsDurable command (both file left) o
+  loaded_durable none stay = durable_of_old command file left bytes o none (loaded_images stay)
+
+-- bytes that stand for records aren't unreadable
+pub readable : (file left : DiskState) → OfBytes file (λ bytes. (records : List Record) × IsFileOf bytes records) → KeepsUnreadable file left
+readable file left stands bytes told at fails = absurd (no_file bytes at stands.2.0 fails (subst (λ (b : List ℕ). IsFileOf b stands.2.0) (stands.1 bytes told) stands.2.1))

@@ -17,7 +17,7 @@ use Rattle.fsl_blobs.specs.declared.BlobState.TheVariants as blob
 use Rattle.fsl_blobs.proofs.KeptLemmas.{is_same-means, turned, shown, blob-get, publish-get, shun-get}
 use Rattle.fossil.specs.declared.load.Loaded.{Loaded}
 use Rattle.fossil.specs.Sets.{Sent, name_line}
-use Rattle.fossil.specs.Put.{Taken, taken}
+use Rattle.fossil.specs.Put.{TextAndRecords, text_and_records_of}
 use Rattle.fossil.specs.Taking.{taken_as, IsFileTaken}
 
 -- ---- held names aren't shunned
@@ -85,7 +85,7 @@ taken_by name bytes false (Some a) h =
     cond (not p || false) (record { text = name_line (codes "present") name; records = [] }) (record { text = name_line (codes "published") name; records = record_of.Publish name ∷ [] })
     ≡ taken_as (cond p (blob.Private (length a.bytes)) (blob.Public (length a.bytes))) (public name bytes)) [ true ↦ refl | false ↦ refl ]
 
-taken_is : (records : List Record) (name bytes : List ℕ) → taken (contents records) (public name bytes) ≡ taken_as (state_of (contents records) name) (public name bytes)
+taken_is : (records : List Record) (name bytes : List ℕ) → text_and_records_of (contents records) (public name bytes) ≡ taken_as (state_of (contents records) name) (public name bytes)
 taken_is records name bytes = taken_by name bytes (set.contains (contents records).shunned name) (map_of.get (contents records).held name) (apart records name)
 
 -- a file was taken by what its name was
@@ -93,10 +93,10 @@ pub file_taken : (name bytes : List ℕ) (before after : Loaded) (text_before te
     → before.blobs.records ≡ before.journal.records → after.journal ≡ record before.journal { records = before.journal.records ++ (taken_as state (public name bytes)).records }
     → after.blobs.records ≡ after.journal.records → text_after ≡ text_before ++ (taken_as state (public name bytes)).text → IsFileTaken (public name bytes) before after text_before text_after
 file_taken name bytes before after text_before text_after was state is by same journal blobs text =
-    let e : taken_as state (public name bytes) ≡ taken (contents before.journal.records) (public name bytes) =
+    let e : taken_as state (public name bytes) ≡ text_and_records_of (contents before.journal.records) (public name bytes) =
     ap (λ (s : BlobState). taken_as s (public name bytes)) (sym by ∙ is ∙ ap (λ (rs : List Record). state_of (contents rs) name) same) ∙ sym (taken_is before.journal.records name bytes) in
     record {
-      journal = journal ∙ ap (λ (t : Taken). record before.journal { records = before.journal.records ++ t.records }) e;
+      journal = journal ∙ ap (λ (t : TextAndRecords). record before.journal { records = before.journal.records ++ t.records }) e;
       blobs = blobs;
-      text = text ∙ ap (λ (t : Taken). text_before ++ t.text) e;
+      text = text ∙ ap (λ (t : TextAndRecords). text_before ++ t.text) e;
     }

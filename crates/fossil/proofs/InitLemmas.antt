@@ -1,23 +1,27 @@
 -- What `init` did.
-use Rattle.std.proofs.Common.{◌≡◌, inl, inr, ℕ, ◌<◌, Bool, true, false, cond, List, [], ◌∷◌, ◌++◌, length, Option, Some, None, Ok, Err, IsTrue, refl, sym, ap, subst, ◌∙◌, arith}
+use Rattle.std.proofs.Common.{◌≡◌, ◌≢◌, ◌⊎◌, inl, inr, ⊎_elim, ℕ, ◌<◌, Bool, true, false, cond, List, [], ◌∷◌, ◌++◌, length, Option, Some, None, Result, Ok, Err, IsTrue, refl, sym, ap, subst, ◌∙◌, arith}
 use Rattle.std.specs.Prelude.{◌==◌, codes, decimal, replicate}
 use Rattle.std.proofs.lemmas.List.{length-replicate}
 use Rattle.fsl_order.specs.Causes.{Rose}
+use Rattle.fsl_outside.specs.Streams.{SourceState}
 use Rattle.fsl_record.specs.declared.Config.{Config}
 use Rattle.fsl_record.specs.declared.Record.{Record}
 use Rattle.fsl_record.specs.declared.Record.TheVariants as record_of
-use Rattle.fsl_disk.specs.Disk.{DiskState, IsModelled, Told, Keeps, LeavesOnly}
-use Rattle.fsl_disk.proofs.Moments.{weaker}
+use Rattle.fsl_disk.specs.Disk.{DiskState, IsModelled, Told, Keeps, Quiet, LeavesOnly}
+use Rattle.fsl_disk.proofs.Moments.{weaker, quiet_moments, told_contents}
 use Rattle.fsl_journal.specs.File.{IsFileOf}
 use Rattle.fsl_journal.specs.Journal.{NothingOr, IsMade}
+use Rattle.fsl_words.specs.declared.Command.{Command}
+use Rattle.fsl_words.specs.declared.Command.TheVariants as command_of
+use Rattle.fossil.specs.declared.fault.Fault.{Fault}
 use Rattle.fossil.specs.declared.fault.Fault.TheVariants as fault_is
-use Rattle.fossil.specs.Ingest as ingest
-use Rattle.fossil.specs.Outcome.{Outcome, begun, unchanged, one_commit, printed_of}
-use Rattle.fossil.specs.Run.{Ruled, Stream, Agrees, StandsFor, StandsForAll, StandsForSome, AreOldBy, IsFileLeftBy, ByOutcomeBy}
-use Rattle.fossil.specs.Acts.{Acts}
+use Rattle.fossil.specs.Printed.{Printed}
+use Rattle.fossil.specs.Printed as printing
+use Rattle.fossil.specs.Outcome.{Outcome, init_outcome, without_commit, one_commit, printed_of}
+use Rattle.fossil.specs.Run.{Input, Agrees, StandsFor, StandsForAll, StandsForSome, AreOldBy, AreImages, IsFileLeft, IsWholeAtAnyMoment}
+use Rattle.fossil.specs.Acts.{ActsBy, HasActed, IsCaused, Touches, result_status}
 use Rattle.fossil.proofs.InputLemmas.{some_bytes}
-use Rattle.fossil.proofs.FileLemmas.{some_same, old_stands, none_committed, all_committed, one_is_all, kept_stays, kept_failed}
-use Rattle.fossil.proofs.ActLemmas.{agrees}
+use Rattle.fossil.proofs.FileLemmas.{both, some_same, agrees, agreed, empty_file, old_stands, none_committed, all_committed, one_is_all, left_same, left_failed}
 
 -- some bytes of a length, or those that are told
 of_length : (told : Option (List ℕ)) (len : ℕ) → ((held : List ℕ) → told ≡ Some held → len ≡ length held) → (bytes : List ℕ) × Agrees told bytes × (length bytes ≡ len)
@@ -27,17 +31,28 @@ of_length (Some held) len h = (held, refl, sym (h held refl))
 no_zero : (n : ℕ) → 0 < n → (n == 0) ≡ false
 no_zero n h = grind (arith)
 
-module _ (config : Config) (input : Stream) (file left : DiskState) (keeps : Keeps file left) (moments : IsModelled file → ((c : List ℕ) → file.images c → c ≡ []) → LeavesOnly file left (NothingOr config))
-    (file_reads : (held : List ℕ) → IsTrue file.is_model → file.contents ≡ Some held → file.images held) where
-  abbrev Rule : Ruled
-  Rule read bytes o = o ≡ begun config.project config.server config.fields (length bytes)
+is_empty : (bytes : List ℕ) → (bytes ≡ []) ⊎ (bytes ≢ [])
+is_empty [] = inl refl
+is_empty (b ∷ bytes) = inr (λ e. cc)
+
+module _ (config : Config) (source : SourceState) (file left : DiskState) (keeps : Keeps file left) (moments : IsModelled file → ((c : List ℕ) → file.images c → c ≡ []) → LeavesOnly file left (NothingOr config))
+    (file_reads : (held : List ℕ) → IsTrue file.is_model → file.contents ≡ Some held → file.images held) (untouched : Told file (λ held. (held ≡ []) ⊎ Quiet file left))
+    (only_now : IsTrue file.is_model → (c : List ℕ) → file.since file.moment c → file.images c) where
+  abbrev command : Option Command
+  command = Some (command_of.Init config.project config.server config.fields)
+
+  abbrev input : Input
+  input = record { before = source; after = source }
+
+  abbrev outcome : List ℕ → Outcome
+  outcome bytes = init_outcome config.project config.server config.fields (length bytes)
 
   abbrev first : List Record
   first = record_of.Config config ∷ []
 
   -- over an empty file the outcome is the one commit of the Config
-  one_config : (bytes : List ℕ) (o : Outcome) → bytes ≡ [] → o ≡ begun config.project config.server config.fields (length bytes) → o.commits ≡ one_commit first
-  one_config bytes o empty is = ap (λ (x : Outcome). x.commits) (is ∙ ap (λ (b : List ℕ). begun config.project config.server config.fields (length b)) empty)
+  one_config : (bytes : List ℕ) → bytes ≡ [] → (outcome bytes).commits ≡ one_commit first
+  one_config bytes empty = ap (λ (b : List ℕ). (outcome b).commits) empty
 
   all_stand : (old : List Record) (commits : List (List Record)) (bytes : List ℕ) → old ≡ [] → commits ≡ one_commit first → IsFileOf bytes first → StandsForAll old commits bytes
   all_stand old commits bytes none one is =
@@ -47,90 +62,133 @@ module _ (config : Config) (input : Stream) (file left : DiskState) (keeps : Kee
   some_stand old commits bytes none one (inl nothing) = none_committed old commits bytes (subst (λ (rs : List Record). StandsFor rs bytes) (sym none) nothing)
   some_stand old commits bytes none one (inr is) = all_committed old commits bytes (all_stand old commits bytes none one is)
 
-  all_moments : IsModelled file → ByOutcomeBy Rule true input.before file.contents file.images (λ old commits. LeavesOnly file left (StandsForSome old commits))
-  all_moments modelled read bytes told file_told o old is are =
-      let here = are bytes (file_reads bytes modelled.model file_told) in
-      let one = one_config bytes o here.1 is in
-      weaker file left (NothingOr config) (StandsForSome old o.commits) (λ c h. some_stand old o.commits c here.0 one h) (moments modelled (λ c image. (are c image).1))
+  -- an image of no old records is empty
+  image_empty : (old : List Record) (c : List ℕ) → old ≡ [] → AreOldBy true old c → c ≡ []
+  image_empty old c none (inl h) = h.1
+  image_empty old c none (inr is) = absurd (subst (λ (rs : List Record). IsFileOf c rs) none is).fit
 
-  -- the contents stayed
-  kept_same : (status : ℕ) → (status ≡ 0 → ⊥) → left.contents ≡ file.contents → IsFileLeftBy Rule true input.before file left.contents status
-  kept_same status other same =
-      kept_stays Rule true input.before file left status (λ z. absurd (other z))
-      (λ bytes held file_told left_told old are. old_stands true old held (subst (λ (b : List ℕ). AreOldBy true old b) (some_same (sym file_told ∙ sym same ∙ left_told)) are))
+  -- an empty file has no old records
+  old_none : (old : List Record) (bytes : List ℕ) → bytes ≡ [] → AreOldBy true old bytes → old ≡ []
+  old_none old bytes empty (inl h) = h.0
+  old_none old bytes empty (inr is) = absurd (empty_file old (subst (λ (b : List ℕ). IsFileOf b old) empty is))
+
+  module _ (bytes : List ℕ) (file_told : Agrees file.contents bytes) where
+    -- the disk tells these bytes
+    tells : IsModelled file → file.contents ≡ Some bytes
+    tells modelled =
+        let told = told_contents file modelled in
+        told.1 ∙ ap (λ (b : List ℕ). Some b) (sym (agreed file.contents bytes told.0 file_told told.1))
+
+    -- the old records of an empty file
+    none_old : IsModelled file → (old : List Record) → AreImages command old file.images → bytes ≡ [] → old ≡ []
+    none_old modelled old are empty = old_none old bytes empty (are bytes (file_reads bytes modelled.model (tells modelled)))
+
+    pub quiet_file : file.contents ≡ Some bytes → bytes ≢ [] → Quiet file left
+    quiet_file told some = ⊎_elim (λ e. absurd (some e)) (λ quiet. quiet) (untouched bytes told)
+
+    -- what stays of an empty file, and of one with bytes
+    whole_by : (bytes ≡ []) ⊎ (bytes ≢ []) → IsWholeAtAnyMoment command (both file left) (outcome bytes)
+    whole_by (inl empty) modelled old are =
+        let none = none_old modelled old are empty in
+        weaker file left (NothingOr config) (StandsForSome old (outcome bytes).commits) (λ c h. some_stand old (outcome bytes).commits c none (one_config bytes empty) h)
+        (moments modelled (λ c image. image_empty old c none (are c image)))
+    whole_by (inr some) modelled old are =
+        quiet_moments file left (StandsForSome old (outcome bytes).commits) (quiet_file (tells modelled) some) modelled.model (only_now modelled.model)
+        (λ c image. none_committed old (outcome bytes).commits c (old_stands true old c (are c image)))
+
+    touches : Touches command (both file left) bytes (outcome bytes)
+    touches = record { kept = quiet_file; any_moment = whole_by (is_empty bytes); keeps = keeps }
+
+    -- a fault after which the contents are as they were, or the disk failed
+    pub fault_acted : (fault : Fault) → (fault ≡ fault_is.Input → ⊥) → IsCaused command input (both file left) bytes (outcome bytes) fault → IsFileLeft command (both file left) (result_status (Err fault)) bytes (outcome bytes)
+        → ActsBy command input (both file left) (Err fault) (some_bytes source.left).0 bytes (outcome bytes)
+    fault_acted fault other cause contents = record {
+      input_told = (some_bytes source.left).1;
+      file_told = file_told;
+      outcome = refl;
+      answer = tt;
+      plain = tt;
+      cause = cause;
+      end = λ z reads. absurd (cc);
+      contents = contents;
+      touches = touches;
+      durable = λ z. absurd (zero_fault fault z);
+    }
+      where
+        zero_fault : (f : Fault) → result_status (Err f) ≡ 0 → ⊥
+        zero_fault fault_is.Disk z = cc
+        zero_fault fault_is.Input z = cc
+        zero_fault fault_is.Memory z = cc
+
+  abbrev Acted : Result Printed Fault → Type 0
+  Acted result = HasActed command input (both file left) result
 
   -- ---- the answers
 
-  made_empty : IsMade config file left → (IsModelled file → (c : List ℕ) → left.images c → IsFileOf c first) → Acts Rule false true input file left (Ok (record { status = 0; text = [] }))
-  made_empty made durable = record {
-    answer =
-        let some = some_bytes input.before in
-        (some.0, [], begun config.project config.server config.fields 0, some.1, agrees file.contents [] (λ held told. sym (made.was held told)), refl, refl);
-    plain = omega arith;
-    cause = tt;
-    end = λ z reads. absurd (cc);
-    kept = λ read bytes held told file_told left_told o old is are known.
-        let stands = made.file bytes file_told in
-        all_stand old o.commits held are.0 (one_config bytes o are.1 is) (subst (λ (b : List ℕ). IsFileOf b first) (some_same (sym stands.1 ∙ left_told)) stands.2);
-    any_moment = all_moments;
-    durable = λ z modelled read bytes told file_told o old is are c image.
-        let here = are bytes (file_reads bytes modelled.model file_told) in
-        all_stand old o.commits c here.0 (one_config bytes o here.1 is) (durable modelled c image);
-    keeps = keeps;
-  }
+  made_empty : IsMade config file left → (IsModelled file → (c : List ℕ) → left.images c → IsFileOf c first) → Acted (Ok (record { status = 0; text = [] }))
+  made_empty made durable =
+      let read = some_bytes source.left in
+      let told = agrees file.contents [] (λ held told. sym (made.was held told)) in (
+        read.0,
+        [],
+        outcome [],
+        record {
+          input_told = read.1;
+          file_told = told;
+          outcome = refl;
+          answer = refl;
+          plain = omega arith;
+          cause = tt;
+          end = λ z reads. absurd (cc);
+          contents = λ old held file_told left_told are known.
+              let stands = made.file [] file_told in
+              all_stand old (outcome []).commits held (old_none old [] refl are) refl (subst (λ (b : List ℕ). IsFileOf b first) (some_same (sym stands.1 ∙ left_told)) stands.2);
+          touches = touches [] told;
+          durable = λ z modelled old are c image. all_stand old (outcome []).commits c (none_old [] told modelled old are refl) refl (durable modelled c image);
+        },
+      )
 
-  pub made_acts : (text : List ℕ) → text ≡ [] → IsMade config file left → (IsModelled file → (c : List ℕ) → left.images c → IsFileOf c first) → Acts Rule false true input file left (Ok (record { status = 0; text = text }))
-  made_acts text empty made durable =
-      subst (λ (t : List ℕ). Acts Rule false true input file left (Ok (record { status = 0; text = t }))) (sym empty) (made_empty made durable)
+  pub made_acted : (text : List ℕ) → text ≡ [] → IsMade config file left → (IsModelled file → (c : List ℕ) → left.images c → IsFileOf c first) → Acted (Ok (record { status = 0; text = text }))
+  made_acted text empty made durable = subst (λ (t : List ℕ). Acted (Ok (record { status = 0; text = t }))) (sym empty) (made_empty made durable)
 
   -- a file that isn't empty
-  begun_refused : (n : ℕ) → 0 < n → begun config.project config.server config.fields n ≡ unchanged (ingest.refused (codes "file not empty " ++ decimal n))
+  begun_refused : (n : ℕ) → 0 < n → init_outcome config.project config.server config.fields n ≡ without_commit (printing.refused (codes "file not empty " ++ decimal n))
   begun_refused n h =
-      ap (λ (b : Bool). cond b (record { status = 0; text = []; commits = first ∷ [] }) (unchanged (ingest.refused (codes "file not empty " ++ decimal n)))) (no_zero n h)
+      ap (λ (b : Bool). cond b (record { status = 0; text = []; commits = first ∷ [] }) (without_commit (printing.refused (codes "file not empty " ++ decimal n)))) (no_zero n h)
 
-  pub refused_acts : (len : ℕ) (answer : ingest.Outcome) → 0 < len → Told file (λ held. len ≡ length held) → left.contents ≡ file.contents → answer ≡ ingest.refused (codes "file not empty " ++ decimal len)
-      → Acts Rule false true input file left (Ok answer)
-  refused_acts len answer some is same refusal = record {
-    answer =
-        let read = some_bytes input.before in
-        let bytes = of_length file.contents len is in (
-          read.0,
-          bytes.0,
-          begun config.project config.server config.fields (length bytes.0),
-          read.1,
-          bytes.1,
-          refl,
-          refusal ∙ sym (ap printed_of (ap (begun config.project config.server config.fields) bytes.2 ∙ begun_refused len some)),
-        );
-    plain = let three = ap (λ (a : ingest.Outcome). a.status) refusal in omega (arith, three);
-    cause = tt;
-    end = λ z reads. absurd (cc);
-    kept = kept_same answer.status (λ z. let three = ap (λ (a : ingest.Outcome). a.status) refusal in omega (arith, three, z)) same;
-    any_moment = all_moments;
-    durable = λ z. absurd (let three = ap (λ (a : ingest.Outcome). a.status) refusal in omega (arith, three, z));
-    keeps = keeps;
-  }
+  pub refused_acted : (len : ℕ) (answer : Printed) → 0 < len → Told file (λ held. len ≡ length held) → left.contents ≡ file.contents → answer ≡ printing.refused (codes "file not empty " ++ decimal len) → Acted (Ok answer)
+  refused_acted len answer some is same refusal =
+      let read = some_bytes source.left in
+      let bytes = of_length file.contents len is in
+      let three : answer.status ≡ 3 = ap (λ (a : Printed). a.status) refusal in (
+        read.0,
+        bytes.0,
+        outcome bytes.0,
+        record {
+          input_told = read.1;
+          file_told = bytes.1;
+          outcome = refl;
+          answer = refusal ∙ sym (ap printed_of (ap (init_outcome config.project config.server config.fields) bytes.2 ∙ begun_refused len some));
+          plain = omega (arith, three);
+          cause = tt;
+          end = λ z reads. absurd (cc);
+          contents = left_same command file left bytes.0 (outcome bytes.0) answer.status (λ z. absurd (omega (arith, three, z))) same;
+          touches = touches bytes.0 bytes.1;
+          durable = λ z. absurd (omega (arith, three, z));
+        },
+      )
 
-  pub memory_acts : left.contents ≡ file.contents → Acts Rule false true input file left (Err fault_is.Memory)
-  memory_acts same = record {
-    answer = tt;
-    plain = tt;
-    cause = tt;
-    end = λ z. absurd (cc);
-    kept = kept_same 9 (λ z. cc) same;
-    any_moment = all_moments;
-    durable = λ z. absurd (cc);
-    keeps = keeps;
-  }
+  pub memory_acted : left.contents ≡ file.contents → Acted (Err fault_is.Memory)
+  memory_acted same =
+      let bytes = some_bytes file.contents in
+      ((some_bytes source.left).0, bytes.0, outcome bytes.0, fault_acted bytes.0 bytes.1 fault_is.Memory (λ e. cc) tt (left_same command file left bytes.0 (outcome bytes.0) 9 (λ z. absurd (cc)) same))
 
-  pub disk_acts : ((held : List ℕ) → IsTrue left.is_model → left.contents ≡ Some held → left.images held) → Rose file.faults left.faults → Acts Rule false true input file left (Err fault_is.Disk)
-  disk_acts reads rose = record {
-    answer = tt;
-    plain = tt;
-    cause = rose;
-    end = λ z. absurd (cc);
-    kept = kept_failed Rule true input.before file left 4 refl keeps reads all_moments;
-    any_moment = all_moments;
-    durable = λ z. absurd (cc);
-    keeps = keeps;
-  }
+  pub disk_acted : ((held : List ℕ) → IsTrue left.is_model → left.contents ≡ Some held → left.images held) → Rose file.faults left.faults → Acted (Err fault_is.Disk)
+  disk_acted reads rose =
+      let bytes = some_bytes file.contents in (
+        (some_bytes source.left).0,
+        bytes.0,
+        outcome bytes.0,
+        fault_acted bytes.0 bytes.1 fault_is.Disk (λ e. cc) (record { opened = refl; rose = rose; moment = inl refl })
+            (left_failed command file left bytes.0 (outcome bytes.0) keeps reads (touches bytes.0 bytes.1).any_moment),
+      )

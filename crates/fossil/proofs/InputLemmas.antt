@@ -4,7 +4,7 @@ use Rattle.std.specs.Prelude.{nat_lt, IfSome, IfNone}
 use Rattle.std.specs.Io.KnownBytes.{Consumes, IsAtEnd}
 use Rattle.std.proofs.lemmas.List.{append-nil}
 use Rattle.fsl_outside.specs.Whole.{ConsumesMore}
-use Rattle.fossil.specs.Run.{Stream, Agrees}
+use Rattle.fossil.specs.Run.{Input, Agrees}
 use Rattle.fossil.specs.Acts.{IsInput}
 
 -- some bytes, where none are told
@@ -33,7 +33,7 @@ whole_input (Some bytes) (Some rest) text read end = sym (read ∙ ap (λ (t : L
 shorter : (n limit : ℕ) → n ≤ limit → nat_lt limit n ≡ false
 shorter n limit h = grind (arith)
 
-pub input_read : (input : Stream) (o : Option (List ℕ)) → IfSome o (λ text. Consumes input.before input.after text) → IfSome o (λ _. IsAtEnd input.after) → IfSome o (λ text. length text ≤ 2 ^ 27)
-    → IfNone o (ConsumesMore (2 ^ 27) input.before input.after) → IsInput input o
-input_read input None whole end within long = long_input input.before input.after long
-input_read input (Some text) whole end within long = (whole_input input.before input.after text whole end, end, shorter (length text) (2 ^ 27) within)
+pub input_read : (input : Input) (o : Option (List ℕ)) → IfSome o (λ text. Consumes input.before.left input.after.left text) → IfSome o (λ _. IsAtEnd input.after.left) → IfSome o (λ text. length text ≤ 2 ^ 27)
+    → IfNone o (ConsumesMore (2 ^ 27) input.before.left input.after.left) → IsInput input o
+input_read input None whole end within long = long_input input.before.left input.after.left long
+input_read input (Some text) whole end within long = (whole_input input.before.left input.after.left text whole end, end, shorter (length text) (2 ^ 27) within)

@@ -1,16 +1,13 @@
 pub mod OneWayFiles
 pub mod OneList
 pub mod OneOutcome
-mod Rows
-mod PutRows
-mod WholeRows
+pub mod SomeOutcome
 pub mod TokenLemmas
 pub mod LineLemmas
 pub mod FrontLemmas
 pub mod MessageLemmas
 pub mod NameLemmas
 pub mod RefusedLemmas
-pub mod SetLemmas
 pub mod SentLemmas
 pub mod ReportLemmas
 pub mod AnswerLemmas

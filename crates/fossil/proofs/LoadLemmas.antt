@@ -1,5 +1,5 @@
 -- What a file stands for after it was loaded, or wasn't.
-use Rattle.std.proofs.Common.{◌≡◌, ℕ, List, [], ◌∷◌, ◌++◌, length, take, refl, sym, ap, subst, ◌∙◌, arith, length-append}
+use Rattle.std.proofs.Common.{◌≡◌, ◌≢◌, ℕ, List, [], ◌∷◌, ◌++◌, length, take, refl, sym, ap, subst, ◌∙◌, arith, length-append}
 use Rattle.std.proofs.lemmas.List.{append-nil, take_all}
 use Rattle.fsl_record.specs.declared.Record.{Record}
 use Rattle.fsl_record.specs.Records.{AreRecords}
@@ -12,7 +12,7 @@ use Rattle.fsl_journal.specs.declared.LoadFault.{LoadFault}
 use Rattle.fsl_journal.specs.declared.LoadFault.TheVariants as load_fault
 use Rattle.fsl_journal.proofs.Unique.{one_file}
 use Rattle.fossil.specs.declared.load.Loaded.{Loaded}
-use Rattle.fossil.specs.Acts.{KeepsContents, KeepsImages, IsOpened, IsUnopened}
+use Rattle.fossil.specs.Acts.{KeepsContents, KeepsImages, KeepsUnreadable, IsOpened, IsNotLoaded, IsUnopened}
 use Rattle.fossil.proofs.FileLemmas.{some_same}
 
 -- ---- images
@@ -67,8 +67,8 @@ module _ (file left : DiskState) (log : Log) (records : List Record) (loaded : I
   }
 
   -- there was no memory for its artifacts
-  pub not_folded : KeepsBetween file left → Keeps file left → IsUnopened file left load_fault.Memory
-  not_folded between keeps = record { cause = tt; contents = λ other. contents_kept; any_moment = images_kept file left between; keeps = keeps }
+  pub not_folded : KeepsUnreadable file left → KeepsBetween file left → Keeps file left → IsUnopened file left load_fault.Memory
+  not_folded unreadable between keeps = record { cause = tt; contents = λ other. contents_kept; unreadable = unreadable; any_moment = images_kept file left between; keeps = keeps }
 
 -- ---- a file that wasn't
 
@@ -76,7 +76,13 @@ same_contents : (file left : DiskState) → left.contents ≡ file.contents → 
 same_contents file left same bytes told old are held left_told =
     subst (λ (b : List ℕ). IsFileOf b old) (some_same (sym told ∙ sym same ∙ left_told)) are
 
-pub unopened : (file left : DiskState) (fault : LoadFault) → LoadFailed fault file left → KeepsBetween file left → Keeps file left → IsUnopened file left fault
-unopened file left load_fault.Disk failed between keeps = record { cause = failed; contents = λ other. absurd (other refl); any_moment = images_kept file left between; keeps = keeps }
-unopened file left (load_fault.NotRepository at) failed between keeps = record { cause = failed.1; contents = λ other. same_contents file left failed.0.contents; any_moment = images_kept file left between; keeps = keeps }
-unopened file left load_fault.Memory failed between keeps = record { cause = tt; contents = λ other. same_contents file left failed.contents; any_moment = images_kept file left between; keeps = keeps }
+-- why it wasn't, and the contents where no call of the disk failed
+is_why : (file left : DiskState) (fault : LoadFault) → LoadFailed fault file left → IsNotLoaded fault file left × (fault ≢ load_fault.Disk → KeepsContents file left)
+is_why file left load_fault.Disk failed = (failed, λ other. absurd (other refl))
+is_why file left (load_fault.NotRepository at) failed = (failed.2, λ other. same_contents file left failed.0.contents)
+is_why file left load_fault.Memory failed = (tt, λ other. same_contents file left failed.0.contents)
+
+pub unopened : (file left : DiskState) (fault : LoadFault) → LoadFailed fault file left → KeepsUnreadable file left → KeepsBetween file left → Keeps file left → IsUnopened file left fault
+unopened file left fault failed unreadable between keeps =
+    let why = is_why file left fault failed in
+    record { cause = why.0; contents = why.1; unreadable = unreadable; any_moment = images_kept file left between; keeps = keeps }

@@ -13,12 +13,12 @@ use Rattle.fsl_record.specs.declared.Record.{Record}
 use Rattle.fsl_words.specs.declared.Question.{Question}
 use Rattle.fsl_words.specs.declared.Command.{Command}
 use Rattle.fsl_words.specs.declared.Command.TheVariants as command_of
-use Rattle.fsl_words.specs.declared.Words.{Words}
-use Rattle.fsl_words.specs.Grammar.{words_in}
 use Rattle.fossil.specs.Sets.{Sent, set_of, IsFactOf, fact_of, report}
+use Rattle.fossil.specs.Printed.{Printed}
+use Rattle.fossil.specs.Printed as printing
 use Rattle.fossil.specs.Ingest as ingest
 use Rattle.fossil.specs.Put.{put_files, IsPut, IsPutRead, IsPutFiles}
-use Rattle.fossil.specs.Outcome.{Outcome, unchanged, appending, usage, not_repository, answered, IsAnswered, IsIngestOfFiles, IsPutOfFiles, IsLoaded, IsCommandOutcome, HasOneOutcome}
+use Rattle.fossil.specs.Outcome.{Outcome, without_commit, with_commit, not_repository, report_outcome, IsAnswered, IsIngestOfFiles, IsPutOfFiles, IsLoaded, IsCommandOutcome, said, IsSaidOutcome, HasOneOutcome}
 use Rattle.fossil.proofs.OneList.{one_result}
 use Rattle.fossil.proofs.OneWayFiles.{one_file_list, one_bad_line, not_both}
 
@@ -38,46 +38,46 @@ module _ (IsWhat : List ℕ → Artifact → Type 0) (one : IsOneAtMost IsWhat) 
   facts_are (s ∷ held) (x ∷ a) (y ∷ b) h k =
       let first = one_fact s x y h.0 k.0 in let more = facts_are held a b h.1 k.1 in λ i. first i ∷ more i
 
-  abbrev reported : List Fact → ingest.Outcome
+  abbrev reported : List Fact → Printed
   reported facts = record { status = 0; text = report facts }
 
-  one_report : (files : List Sent) (a b : ingest.Outcome) → ingest.IsReported IsWhat files a → ingest.IsReported IsWhat files b → a ≡ b
+  one_report : (files : List Sent) (a b : Printed) → ingest.IsReported IsWhat files a → ingest.IsReported IsWhat files b → a ≡ b
   one_report files a b h k = h.2 ∙ ap reported (facts_are (set_of files) h.0 k.0 h.1 k.1) ∙ sym k.2
 
-  one_taken : (files : List Sent) (o : Option ingest.Outcome) (a b : ingest.Outcome) → MatchOption o (ingest.IsReported IsWhat files a) (λ refusal. a ≡ refusal)
+  one_taken : (files : List Sent) (o : Option Printed) (a b : Printed) → MatchOption o (ingest.IsReported IsWhat files a) (λ refusal. a ≡ refusal)
       → MatchOption o (ingest.IsReported IsWhat files b) (λ refusal. b ≡ refusal) → a ≡ b
   one_taken files None a b h k = one_report files a b h k
   one_taken files (Some refusal) a b h k = h ∙ sym k
 
-  one_read : (input : List ℕ) (a b : ingest.Outcome) → ingest.IsRead IsWhat input a → ingest.IsRead IsWhat input b → a ≡ b
-  one_read input a b (inl h) (inl k) = h.2 ∙ ap ingest.bad_line (one_bad_line input h.0 k.0 h.1 k.1) ∙ sym k.2
+  one_read : (input : List ℕ) (a b : Printed) → ingest.IsRead IsWhat input a → ingest.IsRead IsWhat input b → a ≡ b
+  one_read input a b (inl h) (inl k) = h.2 ∙ ap printing.bad_line (one_bad_line input h.0 k.0 h.1 k.1) ∙ sym k.2
   one_read input a b (inl h) (inr k) = absurd (not_both input k.0 h.0 k.1 h.1)
   one_read input a b (inr h) (inl k) = absurd (not_both input h.0 k.0 h.1 k.1)
   one_read input a b (inr h) (inr k) =
       let same = one_file_list input h.0 k.0 h.1 k.1 in
-      one_taken k.0 (ingest.first_refusal k.0) a b (subst (λ (files : List Sent). ingest.IsTakenBySize IsWhat files a) same h.2) k.2
+      one_taken k.0 (printing.first_refusal k.0) a b (subst (λ (files : List Sent). ingest.IsFirstRefusedOr IsWhat files a) same h.2) k.2
 
-  by_length : (input : List ℕ) (t : Bool) (a b : ingest.Outcome) → MatchBool t (a ≡ ingest.too_long) (ingest.IsRead IsWhat input a) → MatchBool t (b ≡ ingest.too_long) (ingest.IsRead IsWhat input b) → a ≡ b
+  by_length : (input : List ℕ) (t : Bool) (a b : Printed) → MatchBool t (a ≡ printing.too_long) (ingest.IsRead IsWhat input a) → MatchBool t (b ≡ printing.too_long) (ingest.IsRead IsWhat input b) → a ≡ b
   by_length input true a b h k = h ∙ sym k
   by_length input false a b h k = one_read input a b h k
 
-  pub one_ingest : (input : List ℕ) (a b : ingest.Outcome) → ingest.IsIngested IsWhat input a → ingest.IsIngested IsWhat input b → a ≡ b
+  pub one_ingest : (input : List ℕ) (a b : Printed) → ingest.IsIngested IsWhat input a → ingest.IsIngested IsWhat input b → a ≡ b
   one_ingest input a b h k = by_length input (ltb (2 ^ 27) (length input)) a b h k
 
 one_ingested : (input : List ℕ) (a b : Outcome) → IsIngestOfFiles input a → IsIngestOfFiles input b → a ≡ b
-one_ingested input a b h k = h.2 ∙ ap unchanged (one_ingest IsKind one_artifact input h.0 k.0 h.1 k.1) ∙ sym k.2
+one_ingested input a b h k = h.2 ∙ ap without_commit (one_ingest IsKind one_artifact input h.0 k.0 h.1 k.1) ∙ sym k.2
 
 -- ---- put
 
 -- what is printed and appended
-abbrev Same : ingest.Outcome → ingest.Outcome → List Record → List Record → Type 0
+abbrev Same : Printed → Printed → List Record → List Record → Type 0
 Same a b xs ys = (a ≡ b) × (xs ≡ ys)
 
-module _ (old : List Record) (a b : ingest.Outcome) (xs ys : List Record) where
-  same_refusal : (refusal : ingest.Outcome) → (a ≡ refusal) × (xs ≡ []) → (b ≡ refusal) × (ys ≡ []) → Same a b xs ys
+module _ (old : List Record) (a b : Printed) (xs ys : List Record) where
+  same_refusal : (refusal : Printed) → (a ≡ refusal) × (xs ≡ []) → (b ≡ refusal) × (ys ≡ []) → Same a b xs ys
   same_refusal refusal h k = (h.0 ∙ sym k.0, h.1 ∙ sym k.1)
 
-  same_files : (files : List Sent) (o : Option ingest.Outcome)
+  same_files : (files : List Sent) (o : Option Printed)
       → MatchOption o ((a ≡ record { status = 0; text = (put_files old files).text }) × (xs ≡ (put_files old files).records)) (λ refusal. (a ≡ refusal) × (xs ≡ []))
       → MatchOption o ((b ≡ record { status = 0; text = (put_files old files).text }) × (ys ≡ (put_files old files).records)) (λ refusal. (b ≡ refusal) × (ys ≡ []))
       → Same a b xs ys
@@ -85,24 +85,24 @@ module _ (old : List Record) (a b : ingest.Outcome) (xs ys : List Record) where
   same_files files (Some refusal) h k = same_refusal refusal h k
 
   same_read : (input : List ℕ) → IsPutRead input old a xs → IsPutRead input old b ys → Same a b xs ys
-  same_read input (inl h) (inl k) = (h.2 ∙ ap ingest.bad_line (one_bad_line input h.0 k.0 h.1 k.1) ∙ sym k.2, h.3 ∙ sym k.3)
+  same_read input (inl h) (inl k) = (h.2 ∙ ap printing.bad_line (one_bad_line input h.0 k.0 h.1 k.1) ∙ sym k.2, h.3 ∙ sym k.3)
   same_read input (inl h) (inr k) = absurd (not_both input k.0 h.0 k.1 h.1)
   same_read input (inr h) (inl k) = absurd (not_both input h.0 k.0 h.1 k.1)
   same_read input (inr h) (inr k) =
       let same = one_file_list input h.0 k.0 h.1 k.1 in
-      same_files k.0 (ingest.first_refusal k.0) (subst (λ (files : List Sent). IsPutFiles files old a xs) same h.2) k.2
+      same_files k.0 (printing.first_refusal k.0) (subst (λ (files : List Sent). IsPutFiles files old a xs) same h.2) k.2
 
-  same_put : (input : List ℕ) (t : Bool) → MatchBool t ((a ≡ ingest.too_long) × (xs ≡ [])) (IsPutRead input old a xs) → MatchBool t ((b ≡ ingest.too_long) × (ys ≡ [])) (IsPutRead input old b ys) → Same a b xs ys
-  same_put input true h k = same_refusal ingest.too_long h k
+  same_put : (input : List ℕ) (t : Bool) → MatchBool t ((a ≡ printing.too_long) × (xs ≡ [])) (IsPutRead input old a xs) → MatchBool t ((b ≡ printing.too_long) × (ys ≡ [])) (IsPutRead input old b ys) → Same a b xs ys
+  same_put input true h k = same_refusal printing.too_long h k
   same_put input false h k = same_read input h k
 
-pub one_put : (input : List ℕ) (old : List Record) (a b : ingest.Outcome) (xs ys : List Record) → IsPut input old a xs → IsPut input old b ys → (a ≡ b) × (xs ≡ ys)
+pub one_put : (input : List ℕ) (old : List Record) (a b : Printed) (xs ys : List Record) → IsPut input old a xs → IsPut input old b ys → (a ≡ b) × (xs ≡ ys)
 one_put input old a b xs ys h k = same_put old a b xs ys input (ltb (2 ^ 27) (length input)) h k
 
 pub one_put_outcome : (input : List ℕ) (old : List Record) (a b : Outcome) → IsPutOfFiles input old a → IsPutOfFiles input old b → a ≡ b
 one_put_outcome input old a b h k =
     let same = one_put input old h.0 k.0 h.1 k.1 h.2 k.2 in
-    h.3 ∙ (λ i. appending (same.0 i) (same.1 i)) ∙ sym k.3
+    h.3 ∙ (λ i. with_commit (same.0 i) (same.1 i)) ∙ sym k.3
 
 -- ---- the file
 
@@ -117,7 +117,7 @@ one_loaded ByRecords bytes one a b (inr h) (inr k) =
 -- ---- a run
 
 one_answered : (question : Question) (old : List Record) (a b : Outcome) → IsAnswered question old a → IsAnswered question old b → a ≡ b
-one_answered question old a b h k = h.2 ∙ ap answered (one_result (contents old) question h.0 k.0 h.1 k.1) ∙ sym k.2
+one_answered question old a b h k = h.2 ∙ ap report_outcome (one_result (contents old) question h.0 k.0 h.1 k.1) ∙ sym k.2
 
 pub one_command_outcome : (command : Command) (input bytes : List ℕ) (a b : Outcome) → IsCommandOutcome command input bytes a → IsCommandOutcome command input bytes b → a ≡ b
 one_command_outcome (command_of.Init project server fields) input bytes a b h k = h ∙ sym k
@@ -125,9 +125,9 @@ one_command_outcome command_of.Ingest input bytes a b h k = one_ingested input a
 one_command_outcome command_of.Put input bytes a b h k = one_loaded (IsPutOfFiles input) bytes (λ old x y p q. one_put_outcome input old x y p q) a b h k
 one_command_outcome (command_of.Ask question) input bytes a b h k = one_loaded (IsAnswered question) bytes (one_answered question) a b h k
 
-by_words : (w : Option Words) (input bytes : List ℕ) (a b : Outcome) → MatchOption w (a ≡ usage) (λ w. IsCommandOutcome w.command input bytes a) → MatchOption w (b ≡ usage) (λ w. IsCommandOutcome w.command input bytes b) → a ≡ b
-by_words None input bytes a b h k = h ∙ sym k
-by_words (Some w) input bytes a b h k = one_command_outcome w.command input bytes a b h k
+pub one_said_outcome : (command : Option Command) (input bytes : List ℕ) (a b : Outcome) → IsSaidOutcome command input bytes a → IsSaidOutcome command input bytes b → a ≡ b
+one_said_outcome None input bytes a b h k = h ∙ sym k
+one_said_outcome (Some command) input bytes a b h k = one_command_outcome command input bytes a b h k
 
 pub one_outcome : HasOneOutcome
-one_outcome words input bytes a b h k = by_words (words_in words) input bytes a b h k
+one_outcome words input bytes a b h k = one_said_outcome (said words) input bytes a b h k

@@ -1,113 +1,116 @@
--- What a run says once the text of what it did is printed.
-use Rattle.std.proofs.Common.{◌≡◌, ◌⊎◌, inl, inr, ⊎_elim, ℕ, Bool, true, false, cond, Result, Ok, Err, refl, sym, subst, ◌∙◌, arith}
+-- What a run says once the text of what it did is written.
+use Rattle.std.proofs.Common.{◌≡◌, ◌⊎◌, inl, inr, ⊎_elim, ℕ, Bool, true, false, cond, List, Result, Ok, Err, Option, refl, sym, subst, ◌∙◌, arith}
 use Rattle.std.specs.Prelude.{◌==◌}
 use Rattle.fsl_order.specs.Causes.{Rose}
-use Rattle.fsl_disk.specs.Disk.{DiskState}
+use Rattle.fsl_words.specs.declared.Command.{Command}
 use Rattle.fossil.specs.declared.fault.Fault.{Fault}
 use Rattle.fossil.specs.declared.fault.Fault.TheVariants as fault_is
-use Rattle.fossil.specs.Ingest as ingest
-use Rattle.fossil.specs.Outcome.{Outcome, unchanged, printed_of}
-use Rattle.fossil.specs.Run.{Ruled, Stream, StreamRose, IsSaid, IsTold, IsAnswerBy, IsFileLeftBy, IsLeft, cut_off_status}
-use Rattle.fossil.specs.Acts.{Acts, Runs, IsPrinted, IsCaused, result_status, fault_status, fault_line}
+use Rattle.fossil.specs.Printed.{Printed}
+use Rattle.fossil.specs.Outcome.{Outcome, without_commit}
+use Rattle.fossil.specs.Run.{Input, Output, File, IsSaid, IsTold, IsFaulted, IsFileLeft, IsLeft, cut_off_status, RunsBy, HasRun}
+use Rattle.fossil.specs.Acts.{ActsBy, HasActed, IsWritten, IsCaused, result_status, fault_status, fault_line}
 use Rattle.fossil.proofs.FileLemmas.{all_committed}
 
+abbrev OutputRose : Output → Type 0
+OutputRose out = Rose out.before.faults out.after.faults
+
 -- the status stays, or a report is cut off
-abbrev Ends : Result ingest.Outcome Fault → ℕ → Stream → Type 0
-Ends result status out = (status ≡ result_status result) ⊎ ((result_status result ≡ 0) × (status ≡ 6) × StreamRose out)
+abbrev Ends : Result Printed Fault → ℕ → Output → Type 0
+Ends result status out = (status ≡ result_status result) ⊎ ((result_status result ≡ 0) × (status ≡ 6) × OutputRose out)
 
 zero_or : (n : ℕ) (zero : Bool) → (n == 0) ≡ zero → (status : ℕ) → status ≡ cond zero 6 n → (status ≡ n) ⊎ ((n ≡ 0) × (status ≡ 6))
 zero_or n true z status e = let is : n ≡ 0 = grind (arith) in inr (is, e)
 zero_or n false z status e = inl e
 
-cut_ends : (answer : ingest.Outcome) (status : ℕ) (out : Stream) → (status ≡ cut_off_status answer.status) → StreamRose out → Ends (Ok answer) status out
+cut_ends : (answer : Printed) (status : ℕ) (out : Output) → (status ≡ cut_off_status answer.status) → OutputRose out → Ends (Ok answer) status out
 cut_ends answer status out e rose = ⊎_elim inl (λ p. inr (p.0, p.1, rose)) (zero_or answer.status (answer.status == 0) refl status e)
 
-ends : (result : Result ingest.Outcome Fault) (status : ℕ) (out : Stream) → IsPrinted result status out → Ends result status out
+ends : (result : Result Printed Fault) (status : ℕ) (out : Output) → IsWritten result status out → Ends result status out
 ends (Ok answer) status out (inl told) = inl told.0
 ends (Ok answer) status out (inr cut) = cut_ends answer status out cut.0 cut.1.4
 ends (Err fault) status out said = inl said.0
 
--- a status of a fault is that of this fault
-of_disk : (fault : Fault) → fault_status fault ≡ 4 → (a b : ℕ) (input : Stream) → IsCaused fault a b input → Rose a b
-of_disk fault_is.Disk e a b input h = h
-of_disk fault_is.Input e a b input h = absurd (cc)
-of_disk fault_is.Memory e a b input h = absurd (cc)
+module _ (command : Option Command) (input : Input) (file : File) (read bytes : List ℕ) (o : Outcome) where
+  -- a status of a fault is that of this fault
+  of_disk : (fault : Fault) → fault_status fault ≡ 4 → IsCaused command input file bytes o fault → Rose file.before.faults file.after.faults
+  of_disk fault_is.Disk e h = h.rose
+  of_disk fault_is.Input e h = absurd (cc)
+  of_disk fault_is.Memory e h = absurd (cc)
 
-of_input : (fault : Fault) → fault_status fault ≡ 5 → (a b : ℕ) (input : Stream) → IsCaused fault a b input → StreamRose input
-of_input fault_is.Disk e a b input h = absurd (cc)
-of_input fault_is.Input e a b input h = h
-of_input fault_is.Memory e a b input h = absurd (cc)
+  of_input : (fault : Fault) → fault_status fault ≡ 5 → IsCaused command input file bytes o fault → Rose input.before.faults input.after.faults
+  of_input fault_is.Disk e h = absurd (cc)
+  of_input fault_is.Input e h = h.rose
+  of_input fault_is.Memory e h = absurd (cc)
 
-no_output : (fault : Fault) → fault_status fault ≡ 6 → ⊥
-no_output fault_is.Disk e = cc
-no_output fault_is.Input e = cc
-no_output fault_is.Memory e = cc
+  no_output : (fault : Fault) → fault_status fault ≡ 6 → ⊥
+  no_output fault_is.Disk e = cc
+  no_output fault_is.Input e = cc
+  no_output fault_is.Memory e = cc
 
-module _ (IsRuled : Ruled) (reads begins : Bool) (input out : Stream) (file left : DiskState) where
-  told_of : (answer : ingest.Outcome) (o : Outcome) (status : ℕ) → answer ≡ printed_of o → IsTold (unchanged answer) status out → IsTold o status out
-  told_of answer o status e told = subst (λ (a : ingest.Outcome). IsTold (unchanged a) status out) e told
+  disk_of : (result : Result Printed Fault) → ActsBy command input file result read bytes o → result_status result ≡ 4 → Rose file.before.faults file.after.faults
+  disk_of (Ok answer) acts four = let plain = acts.plain in absurd (omega (arith, plain, four))
+  disk_of (Err fault) acts four = of_disk fault four acts.cause
 
-  fault_answer : (fault : Fault) (status : ℕ) → IsCaused fault file.faults left.faults input → (status ≡ fault_status fault) × IsSaid out (fault_line fault) → IsAnswerBy IsRuled file.contents file.faults left.faults input out status
-  fault_answer fault_is.Disk status cause said = inr (inl (said.0, cause, said.1))
-  fault_answer fault_is.Input status cause said = inr (inr (inl (said.0, cause, said.1)))
-  fault_answer fault_is.Memory status cause said = inr (inr (inr said))
+  input_of_result : (result : Result Printed Fault) → ActsBy command input file result read bytes o → result_status result ≡ 5 → Rose input.before.faults input.after.faults
+  input_of_result (Ok answer) acts five = let plain = acts.plain in absurd (omega (arith, plain, five))
+  input_of_result (Err fault) acts five = of_input fault five acts.cause
 
-  answer_by : (result : Result ingest.Outcome Fault) (status : ℕ) → Acts IsRuled reads begins input file left result → IsPrinted result status out → IsAnswerBy IsRuled file.contents file.faults left.faults input out status
-  answer_by (Ok answer) status acts printed =
-      let a = acts.answer in
-      inl (a.0, a.1, a.2, a.3, a.4, a.5, told_of answer a.2 status a.6 printed)
-  answer_by (Err fault) status acts printed = fault_answer fault status acts.cause printed
-
-  disk_by : (result : Result ingest.Outcome Fault) → Acts IsRuled reads begins input file left result → result_status result ≡ 4 → Rose file.faults left.faults
-  disk_by (Ok answer) acts four = let plain = acts.plain in absurd (omega (arith, plain, four))
-  disk_by (Err fault) acts four = of_disk fault four file.faults left.faults input acts.cause
-
-  input_by : (result : Result ingest.Outcome Fault) → Acts IsRuled reads begins input file left result → result_status result ≡ 5 → StreamRose input
-  input_by (Ok answer) acts five = let plain = acts.plain in absurd (omega (arith, plain, five))
-  input_by (Err fault) acts five = of_input fault five file.faults left.faults input acts.cause
-
-  no_six : (result : Result ingest.Outcome Fault) → Acts IsRuled reads begins input file left result → result_status result ≡ 6 → ⊥
+  no_six : (result : Result Printed Fault) → ActsBy command input file result read bytes o → result_status result ≡ 6 → ⊥
   no_six (Ok answer) acts six = let plain = acts.plain in omega (arith, plain, six)
   no_six (Err fault) acts six = no_output fault six
 
-  module _ (result : Result ingest.Outcome Fault) (status : ℕ) (acts : Acts IsRuled reads begins input file left result) where
-    same_status : status ≡ result_status result → (P : ℕ → Type 0) → P (result_status result) → P status
-    same_status e P h = subst P (sym e) h
+  module _ (out : Output) (status : ℕ) where
+    faulted : (fault : Fault) → IsCaused command input file bytes o fault → (status ≡ fault_status fault) × IsSaid out (fault_line fault) → IsFaulted command input out file status bytes o
+    faulted fault_is.Disk cause said = inl (said.0, cause, said.1)
+    faulted fault_is.Input cause said = inr (inl (said.0, cause, said.1))
+    faulted fault_is.Memory cause said = inr (inr said)
 
-    kept_by : Ends result status out → IsFileLeftBy IsRuled begins input.before file left.contents status
-    kept_by (inl e) = same_status e (IsFileLeftBy IsRuled begins input.before file left.contents) acts.kept
-    kept_by (inr cut) = λ read bytes held told file_told left_told o old is are known.
-        let all = acts.kept read bytes held told file_told left_told o old is are (λ four. absurd (let z = cut.0 in cc)) in
-        subst (λ (n : ℕ). IsLeft n old o.commits held) (sym cut.1)
-        (all_committed old o.commits held (subst (λ (n : ℕ). IsLeft n old o.commits held) cut.0 all))
+    answer_by : (result : Result Printed Fault) → ActsBy command input file result read bytes o → IsWritten result status out → IsTold o status out ⊎ IsFaulted command input out file status bytes o
+    answer_by (Ok answer) acts written = inl (subst (λ (a : Printed). IsTold (without_commit a) status out) acts.answer written)
+    answer_by (Err fault) acts written = inr (faulted fault acts.cause written)
 
-    ended_by : Ends result status out → status ≡ 0 → result_status result ≡ 0
-    ended_by (inl e) z = sym e ∙ z
-    ended_by (inr cut) z = cut.0
+    module _ (result : Result Printed Fault) (acts : ActsBy command input file result read bytes o) where
+      left_by : Ends result status out → IsFileLeft command file status bytes o
+      left_by (inl e) = subst (λ (n : ℕ). IsFileLeft command file n bytes o) (sym e) acts.contents
+      left_by (inr cut) = λ old held file_told left_told are known.
+          let all = acts.contents old held file_told left_told are (λ four. absurd (let z = cut.0 in cc)) in
+          subst (λ (n : ℕ). IsLeft n old o.commits held) (sym cut.1)
+          (all_committed old o.commits held (subst (λ (n : ℕ). IsLeft n old o.commits held) cut.0 all))
 
-    disk_ends : Ends result status out → status ≡ 4 → Rose file.faults left.faults
-    disk_ends (inl e) four = disk_by result acts (sym e ∙ four)
-    disk_ends (inr cut) four = absurd (let six = cut.1 in cc)
+      zero_by : Ends result status out → status ≡ 0 → result_status result ≡ 0
+      zero_by (inl e) z = sym e ∙ z
+      zero_by (inr cut) z = cut.0
 
-    input_ends : Ends result status out → status ≡ 5 → StreamRose input
-    input_ends (inl e) five = input_by result acts (sym e ∙ five)
-    input_ends (inr cut) five = absurd (let six = cut.1 in cc)
+      disk_by : Ends result status out → status ≡ 4 → Rose file.before.faults file.after.faults
+      disk_by (inl e) four = disk_of result acts (sym e ∙ four)
+      disk_by (inr cut) four = absurd (let six = cut.1 in cc)
 
-    output_ends : Ends result status out → status ≡ 6 → StreamRose out
-    output_ends (inl e) six = absurd (no_six result acts (sym e ∙ six))
-    output_ends (inr cut) six = cut.2
+      input_by : Ends result status out → status ≡ 5 → Rose input.before.faults input.after.faults
+      input_by (inl e) five = input_of_result result acts (sym e ∙ five)
+      input_by (inr cut) five = absurd (let six = cut.1 in cc)
 
-    pub printed : IsPrinted result status out → Runs IsRuled reads begins input out file left status
-    printed print =
-        let end = ends result status out print in
-        record {
-          answer = answer_by result status acts print;
-          end = λ z. acts.end (ended_by end z);
-          kept = kept_by end;
-          any_moment = acts.any_moment;
-          durable = λ z. acts.durable (ended_by end z);
-          keeps = acts.keeps;
-          disk_fault = disk_ends end;
-          input_fault = input_ends end;
-          output_fault = output_ends end;
-        }
+      output_by : Ends result status out → status ≡ 6 → OutputRose out
+      output_by (inl e) six = absurd (no_six result acts (sym e ∙ six))
+      output_by (inr cut) six = cut.2
+
+      written_by : IsWritten result status out → RunsBy command input out file status read bytes o
+      written_by written =
+          let end = ends result status out written in
+          record {
+            input_told = acts.input_told;
+            file_told = acts.file_told;
+            outcome = acts.outcome;
+            answer = answer_by result acts written;
+            end = λ z. acts.end (zero_by end z);
+            contents = left_by end;
+            kept = acts.touches.kept;
+            any_moment = acts.touches.any_moment;
+            durable = λ z. acts.durable (zero_by end z);
+            keeps = acts.touches.keeps;
+            disk_fault = disk_by end;
+            input_fault = input_by end;
+            output_fault = output_by end;
+          }
+
+pub written : (command : Option Command) (input : Input) (file : File) (result : Result Printed Fault) (out : Output) (status : ℕ) → HasActed command input file result → IsWritten result status out → HasRun command input out file status
+written command input file result out status acted is = (acted.0, acted.1, acted.2, written_by command input file acted.0 acted.1 acted.2 out status result acted.3 is)

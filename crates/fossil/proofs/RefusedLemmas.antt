@@ -11,7 +11,7 @@ use Rattle.fsl_record.specs.Records.{IsWritable}
 use Rattle.fossil.specs.declared.message.File.{File}
 use Rattle.fossil.specs.declared.refused.Refused.{Refused}
 use Rattle.fossil.specs.Sets.{Sent}
-use Rattle.fossil.specs.Ingest.{Outcome, file_refusal, first_refusal, too_large, wrong}
+use Rattle.fossil.specs.Printed.{Printed, file_refusal, first_refusal, too_large, wrong}
 use Rattle.fossil.specs.Files.{sent_in}
 use Rattle.fossil.specs.Taking.{refused_as, IsSound}
 
@@ -20,11 +20,11 @@ next_file message files i f lt is =
     let next : drop i files ≡ get_or files i f ∷ drop (i + 1) files = rw add-one (drop-cons files i f lt) in
     ap (map (sent_in message)) next ∙ ap (λ (x : File). sent_in message x ∷ map (sent_in message) (drop (i + 1) files)) (sym is)
 
-first_by : (f : Sent) (files : List Sent) (o : Option Outcome) → file_refusal f ≡ o → first_refusal (f ∷ files) ≡ slice_get (cons_option o (filter_map file_refusal files)) 0
-first_by f files o e = ap (λ (r : Option Outcome). slice_get (cons_option r (filter_map file_refusal files)) 0) e
+first_by : (f : Sent) (files : List Sent) (o : Option Printed) → file_refusal f ≡ o → first_refusal (f ∷ files) ≡ slice_get (cons_option o (filter_map file_refusal files)) 0
+first_by f files o e = ap (λ (r : Option Printed). slice_get (cons_option r (filter_map file_refusal files)) 0) e
 
 -- the file at a place is refused
-pub refused_here : (message : List ℕ) (files : List File) (i : ℕ) (f : File) (refusal : Outcome) → i < length files → f ≡ get_or files i f → file_refusal (sent_in message f) ≡ Some refusal
+pub refused_here : (message : List ℕ) (files : List File) (i : ℕ) (f : File) (refusal : Printed) → i < length files → f ≡ get_or files i f → file_refusal (sent_in message f) ≡ Some refusal
     → first_refusal (map (sent_in message) (drop i files)) ≡ first_refusal (map (sent_in message) files) → Some refusal ≡ first_refusal (map (sent_in message) files)
 refused_here message files i f refusal lt is refused so_far =
     sym (first_by (sent_in message f) (map (sent_in message) (drop (i + 1) files)) (Some refusal) refused)
@@ -54,16 +54,16 @@ pub all_sound : (message : List ℕ) (files : List File) (i : ℕ) (f : File) �
 all_sound message files i f lt is sound so_far = All-more (IsSound message) files i f lt so_far (subst (IsSound message) is sound)
 
 -- a refusal has status 3
-refusal_status : (f : Sent) (o : Option Outcome) → file_refusal f ≡ o → IfSome o (λ r. r.status ≡ 3)
+refusal_status : (f : Sent) (o : Option Printed) → file_refusal f ≡ o → IfSome o (λ r. r.status ≡ 3)
 refusal_status f o e =
     by (nat_lt (2 ^ 24) (length f.bytes)) (bytes_eq f.name (name_of f.bytes)) o e
   where
-    by : (large same : Bool) (o : Option Outcome) → cond large (Some (too_large f.name (length f.bytes))) (cond same None (Some (wrong (f.name, name_of f.bytes)))) ≡ o → IfSome o (λ r. r.status ≡ 3)
-    by true same o e = subst (λ (r : Option Outcome). IfSome r (λ x. x.status ≡ 3)) e refl
-    by false true o e = subst (λ (r : Option Outcome). IfSome r (λ x. x.status ≡ 3)) e tt
-    by false false o e = subst (λ (r : Option Outcome). IfSome r (λ x. x.status ≡ 3)) e refl
+    by : (large same : Bool) (o : Option Printed) → cond large (Some (too_large f.name (length f.bytes))) (cond same None (Some (wrong (f.name, name_of f.bytes)))) ≡ o → IfSome o (λ r. r.status ≡ 3)
+    by true same o e = subst (λ (r : Option Printed). IfSome r (λ x. x.status ≡ 3)) e refl
+    by false true o e = subst (λ (r : Option Printed). IfSome r (λ x. x.status ≡ 3)) e tt
+    by false false o e = subst (λ (r : Option Printed). IfSome r (λ x. x.status ≡ 3)) e refl
 
-first_status_by : (o : Option Outcome) (rest : List Outcome) → IfSome o (λ r. r.status ≡ 3) → IfSome (slice_get rest 0) (λ r. r.status ≡ 3) → IfSome (slice_get (cons_option o rest) 0) (λ r. r.status ≡ 3)
+first_status_by : (o : Option Printed) (rest : List Printed) → IfSome o (λ r. r.status ≡ 3) → IfSome (slice_get rest 0) (λ r. r.status ≡ 3) → IfSome (slice_get (cons_option o rest) 0) (λ r. r.status ≡ 3)
 first_status_by None rest h k = k
 first_status_by (Some r) rest h k = h
 

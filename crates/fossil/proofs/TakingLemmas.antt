@@ -6,7 +6,7 @@ use Rattle.fsl_blobs.specs.Fold.{contents}
 use Rattle.fsl_journal.specs.Log.{Log}
 use Rattle.fossil.specs.declared.load.Loaded.{Loaded}
 use Rattle.fossil.specs.Sets.{Sent}
-use Rattle.fossil.specs.Put.{Taken, taken, and_taken, all_taken, put_files}
+use Rattle.fossil.specs.Put.{TextAndRecords, text_and_records_of, and_taken, all_taken, put_files}
 use Rattle.fossil.specs.Taking.{AreTaken, IsFileTaken}
 
 -- before the first file
@@ -25,7 +25,7 @@ pub one_taken : (before : Log) (all left rest : List Sent) (f : Sent) (now next 
 one_taken before all left rest f now next text text_next are split more =
     let so_far = are.so_far in
     let here : now.journal.records ≡ before.records ++ so_far.records = ap (λ (j : Log). j.records) are.journal in
-    let t : Taken = taken (contents now.journal.records) f in
+    let t : TextAndRecords = text_and_records_of (contents now.journal.records) f in
     record {
       so_far = and_taken so_far t;
       printed = more.text ∙ ap (λ (b : List ℕ). b ++ t.text) are.printed;
@@ -34,16 +34,16 @@ one_taken before all left rest f now next text text_next are split more =
           ∙ ap (λ (rs : List Record). record before { records = rs }) (append_assoc before.records so_far.records t.records);
       blobs = more.blobs;
       rest =
-          ap (λ (rs : List Record). all_taken before.records (and_taken so_far (taken (contents rs) f)) rest) here
+          ap (λ (rs : List Record). all_taken before.records (and_taken so_far (text_and_records_of (contents rs) f)) rest) here
           ∙ sym (ap (all_taken before.records so_far) split) ∙ are.rest;
     }
 
 -- after the last
 pub all_text : (before : Log) (all left : List Sent) (now : Loaded) (text : List ℕ) → AreTaken before all left now text → left ≡ [] → text ≡ (put_files before.records all).text
 all_text before all left now text are none =
-    are.printed ∙ ap (λ (t : Taken). t.text) (sym (ap (all_taken before.records are.so_far) none) ∙ are.rest)
+    are.printed ∙ ap (λ (t : TextAndRecords). t.text) (sym (ap (all_taken before.records are.so_far) none) ∙ are.rest)
 
 pub all_journal : (before : Log) (all left : List Sent) (now : Loaded) (text : List ℕ) → AreTaken before all left now text → left ≡ []
     → now.journal ≡ record before { records = before.records ++ (put_files before.records all).records }
 all_journal before all left now text are none =
-    are.journal ∙ ap (λ (t : Taken). record before { records = before.records ++ t.records }) (sym (ap (all_taken before.records are.so_far) none) ∙ are.rest)
+    are.journal ∙ ap (λ (t : TextAndRecords). record before { records = before.records ++ t.records }) (sym (ap (all_taken before.records are.so_far) none) ∙ are.rest)

@@ -1,7 +1,7 @@
 -- What words say, as a command that can be obeyed.
-use Rattle.std.proofs.Common.{◌≡◌, ℕ, ◌≤◌, Bool, true, false, not, cond, List, [], ◌∷◌, length, Option, Some, None, refl, sym, subst, arith}
-use Rattle.std.specs.Prelude.{◌&&◌, ◌||◌, nat_le, IfSome, MatchOption, option_and_then, codes}
-use Rattle.std.specs.Option.{option_map, option_map_or}
+use Rattle.std.proofs.Common.{◌≡◌, ℕ, ◌≤◌, Bool, true, false, not, cond, List, [], ◌∷◌, length, Option, Some, None, refl, ap, subst, arith}
+use Rattle.std.specs.Prelude.{◌&&◌, ◌||◌, nat_le, IfSome, option_and_then, codes}
+use Rattle.std.specs.Option.{option_map}
 use Rattle.std.specs.List.{IsDistinct, AllByRecursion, list_any, list_all}
 use Rattle.std.specs.Str.{bytes_eq}
 use Rattle.std.proofs.lemmas.Bool.{and_parts}
@@ -13,10 +13,8 @@ use Rattle.fsl_words.specs.declared.Command.{Command}
 use Rattle.fsl_words.specs.declared.Command.TheVariants as command_of
 use Rattle.fsl_words.specs.declared.Words.{Words}
 use Rattle.fsl_words.specs.Grammar.{words_in, parts_in, command_in, plain_command, question_in, init_command, fields_in, are_fields, all_differ, is_word}
-use Rattle.fsl_disk.specs.Disk.{DiskState}
-use Rattle.fossil.specs.Outcome.{Outcome, IsOutcome, IsCommandOutcome, usage}
-use Rattle.fossil.specs.Run.{Stream, command_reads, command_begins, reads_input, begins_empty}
-use Rattle.fossil.specs.Acts.{IsObeyable, Runs}
+use Rattle.fossil.specs.Outcome.{said}
+use Rattle.fossil.specs.Acts.{IsObeyable}
 
 -- ---- fields
 
@@ -110,15 +108,9 @@ obeyable words w e = subst (λ (o : Option Words). IfSome o (λ w. IsObeyable w.
 
 -- ---- runs
 
--- what the command does, the words do
-pub words_run : (words : List (List ℕ)) (w : Words) (input out : Stream) (file left : DiskState) (status : ℕ) → words_in words ≡ Some w
-    → Runs (IsCommandOutcome w.command) (command_reads w.command) (command_begins w.command) input out file left status → Runs (IsOutcome words) (reads_input words) (begins_empty words) input out file left status
-words_run words w input out file left status e h =
-    subst (λ (o : Option Words).
-    Runs (λ read bytes x. MatchOption o (x ≡ usage) (λ w. IsCommandOutcome w.command read bytes x)) (option_map_or (λ w. command_reads w.command) o false) (option_map_or (λ w. command_begins w.command) o false) input out file left status) (sym e) h
+-- a command that is read is said
+pub said_is : (words : List (List ℕ)) (w : Words) → words_in words ≡ Some w → said words ≡ Some w.command
+said_is words w e = ap (option_map (λ (x : Words). x.command)) e
 
-pub usage_is : (words : List (List ℕ)) → words_in words ≡ None → (read bytes : List ℕ) → IsOutcome words read bytes usage
-usage_is words e read bytes = subst (λ (o : Option Words). MatchOption o (usage ≡ usage) (λ w. IsCommandOutcome w.command read bytes usage)) (sym e) refl
-
-pub usage_alone : (words : List (List ℕ)) → words_in words ≡ None → (read bytes : List ℕ) (x : Outcome) → IsOutcome words read bytes x → x ≡ usage
-usage_alone words e read bytes x h = subst (λ (o : Option Words). MatchOption o (x ≡ usage) (λ w. IsCommandOutcome w.command read bytes x)) e h
+pub none_said : (words : List (List ℕ)) → words_in words ≡ None → said words ≡ None
+none_said words e = ap (option_map (λ (x : Words). x.command)) e

@@ -1,24 +1,38 @@
 -- What the parts of a run say of what they did.
-use Rattle.std.specs.Prelude.{◌≡◌, ◌≢◌, ◌⊎◌, ◌≤◌, ℕ, Bool, false, List, ◌++◌, length, nat_lt, ◌^◌, true, Option, Some, None, Result, Ok, Err, IfOk, IfErr, ⊤}
+use Rattle.std.specs.Prelude.{◌≡◌, ◌≢◌, ◌⊎◌, ◌≤◌, ℕ, false, List, ◌++◌, length, nat_lt, ◌^◌, true, Option, Some, None, Result, Ok, Err, IfOk, IfErr, IsTrue, ⊤}
 use Rattle.std.specs.Io.KnownBytes.{IsAtEnd}
 use Rattle.fsl_order.specs.Causes.{Rose}
+use Rattle.fsl_outside.specs.Streams.{SourceState, SinkState}
 use Rattle.fsl_artifact.specs.Kind.{IsKind}
 use Rattle.fsl_record.specs.declared.Record.{Record}
 use Rattle.fsl_record.specs.Records.{AreRecords, AreFields}
-use Rattle.fsl_disk.specs.Disk.{DiskState, IsModelled, Told, Keeps, LeavesOnly}
+use Rattle.fsl_disk.specs.Disk.{DiskState, IsModelled, Told, Keeps, Quiet, LeavesOnly}
 use Rattle.fsl_journal.specs.File.{IsFileOf, FailsAt}
 use Rattle.fsl_journal.specs.Journal.{Belongs, OfBytes}
 use Rattle.fsl_journal.specs.declared.LoadFault.{LoadFault}
 use Rattle.fsl_journal.specs.declared.LoadFault.TheVariants as load_fault
 use Rattle.fsl_words.specs.declared.Command.{Command}
-use Rattle.fsl_words.specs.declared.Command.TheVariants.{Init}
+use Rattle.fsl_words.specs.declared.Command.TheVariants.{Init, Ingest, Put, Ask}
 use Rattle.fossil.specs.declared.fault.Fault.{Fault}
 use Rattle.fossil.specs.declared.fault.Fault.TheVariants as fault_is
 use Rattle.fossil.specs.declared.load.Loaded.{Loaded}
-use Rattle.fossil.specs.Ingest as ingest
+use Rattle.fossil.specs.Printed.{Printed}
+use Rattle.fossil.specs.Ingest.{IsIngested}
 use Rattle.fossil.specs.Put.{IsPut, IsPutRead}
-use Rattle.fossil.specs.Outcome.{Outcome, unchanged, printed_of, not_repository}
-use Rattle.fossil.specs.Run.{Stream, StreamRose, Agrees, IsSaid, IsTold, Ruled, IsAnswerBy, IsReadToEndBy, IsFileLeftBy, ByOutcomeBy, StandsForAll, StandsForSome, disk_fault, input_fault, out_of_memory}
+use Rattle.fsl_query.specs.declared.Refused.{Refused}
+use Rattle.fossil.specs.Outcome.{Outcome, without_commit, report_outcome, printed_of, not_repository, IsSaidOutcome}
+use Rattle.fossil.specs.Run.{Input, Output, File, Agrees, reads, IsSaid, IsTold, IsDiskFault, IsInputFault, IsFileLeft, IsRefusedKept, IsWholeAtAnyMoment, IsDurable, HasRun, disk_fault, input_fault, out_of_memory}
+
+-- ---- objects before and after
+
+abbrev pub input_of : SourceState × SourceState → Input
+input_of s = record { before = s.0; after = s.1 }
+
+abbrev pub output_of : SinkState × SinkState → Output
+output_of s = record { before = s.0; after = s.1 }
+
+abbrev pub file_of : DiskState × DiskState → File
+file_of s = record { before = s.0; after = s.1 }
 
 -- ---- faults
 
@@ -32,23 +46,23 @@ fault_line fault_is.Disk = disk_fault
 fault_line fault_is.Input = input_fault
 fault_line fault_is.Memory = out_of_memory
 
--- the object that failed has a count that rose
-abbrev pub IsCaused : Fault → ℕ → ℕ → Stream → Type 0
-IsCaused fault_is.Disk before after input = Rose before after
-IsCaused fault_is.Input before after input = StreamRose input
-IsCaused fault_is.Memory before after input = ⊤
+-- a fault of a command, with its cause
+abbrev pub IsCaused : Option Command → Input → File → List ℕ → Outcome → Fault → Type 0
+IsCaused command input file bytes o fault_is.Disk = IsDiskFault command input file o
+IsCaused command input file bytes o fault_is.Input = IsInputFault command input bytes
+IsCaused command input file bytes o fault_is.Memory = ⊤
 
 -- ---- the input
 
 -- the whole input, up to its end; or it is too long
-abbrev pub IsInput : Stream → Option (List ℕ) → Type 0
-IsInput input None = (read : List ℕ) × Agrees input.before read × (nat_lt (2 ^ 27) (length read) ≡ true)
-IsInput input (Some text) = Agrees input.before text × IsAtEnd input.after × (nat_lt (2 ^ 27) (length text) ≡ false)
+abbrev pub IsInput : Input → Option (List ℕ) → Type 0
+IsInput input None = (read : List ℕ) × Agrees input.before.left read × (nat_lt (2 ^ 27) (length read) ≡ true)
+IsInput input (Some text) = Agrees input.before.left text × IsAtEnd input.after.left × (nat_lt (2 ^ 27) (length text) ≡ false)
 
 -- the input wasn't read
-abbrev pub IsUnread : Fault → Stream → Type 0
+abbrev pub IsUnread : Fault → Input → Type 0
 IsUnread fault_is.Disk input = ⊥
-IsUnread fault_is.Input input = StreamRose input
+IsUnread fault_is.Input input = Rose input.before.faults input.after.faults
 IsUnread fault_is.Memory input = ⊤
 
 -- ---- the file
@@ -61,6 +75,10 @@ KeepsContents file left = Told file (λ bytes. (old : List Record) → IsFileOf 
 abbrev pub KeepsImages : DiskState → DiskState → Type 0
 KeepsImages file left =
     IsModelled file → (old : List Record) → ((c : List ℕ) → file.images c → IsFileOf c old) → LeavesOnly file left (λ c. IsFileOf c old)
+
+-- contents that stand for no records stay, at each moment
+abbrev pub KeepsUnreadable : DiskState → DiskState → Type 0
+KeepsUnreadable file left = Told file (λ bytes. (at : ℕ) → FailsAt bytes at → Quiet file left)
 
 -- a journal that runs, with all its records committed, and the artifacts that they leave
 pub record IsOpen (l : Loaded) : Type 0 where
@@ -85,15 +103,16 @@ IsNotLoaded load_fault.Disk file left = Rose file.faults left.faults
 IsNotLoaded (load_fault.NotRepository at) file left = OfBytes file (λ bytes. FailsAt bytes at)
 IsNotLoaded load_fault.Memory file left = ⊤
 
--- the file wasn't loaded, and stands for what it stood for
+-- the file wasn't loaded, and stands for what it stood for; one that is no repository is as it was
 pub record IsUnopened (file left : DiskState) (fault : LoadFault) : Type 0 where
   pub cause : IsNotLoaded fault file left
   pub contents : fault ≢ load_fault.Disk → KeepsContents file left
+  pub unreadable : KeepsUnreadable file left
   pub any_moment : KeepsImages file left
   pub keeps : Keeps file left
 
 -- what is answered of a file that isn't loaded
-abbrev pub IsNotLoadedAnswer : LoadFault → Result ingest.Outcome Fault → Type 0
+abbrev pub IsNotLoadedAnswer : LoadFault → Result Printed Fault → Type 0
 IsNotLoadedAnswer load_fault.Disk result = result ≡ Err fault_is.Disk
 IsNotLoadedAnswer (load_fault.NotRepository at) result = (result ≡ Ok (printed_of (not_repository at))) ⊎ (result ≡ Err fault_is.Memory)
 IsNotLoadedAnswer load_fault.Memory result = result ≡ Err fault_is.Memory
@@ -101,68 +120,78 @@ IsNotLoadedAnswer load_fault.Memory result = result ≡ Err fault_is.Memory
 -- ---- before the text is printed
 
 -- what a command answers has this status
-abbrev pub result_status : Result ingest.Outcome Fault → ℕ
+abbrev pub result_status : Result Printed Fault → ℕ
 result_status (Ok answer) = answer.status
 result_status (Err fault) = fault_status fault
 
--- the answer is that of an outcome
-abbrev pub HasOutcome : Ruled → Stream → DiskState → ingest.Outcome → Type 0
-HasOutcome IsRuled input file answer =
-    (read : List ℕ) × (bytes : List ℕ) × (o : Outcome) × Agrees input.before read × Agrees file.contents bytes × IsRuled read bytes o × (answer ≡ printed_of o)
+-- what stays of the file whatever the answer
+pub record Touches (command : Option Command) (file : File) (bytes : List ℕ) (o : Outcome) : Type 0 where
+  pub kept : IsRefusedKept command file bytes
+  pub any_moment : IsWholeAtAnyMoment command file o
+  pub keeps : Keeps file.before file.after
 
--- what a command did, by the rule of its outcome: reads: whether it reads its input; begins: whether it begins with an empty file
-pub record Acts (IsRuled : Ruled) (reads begins : Bool) (input : Stream) (file left : DiskState) (result : Result ingest.Outcome Fault) : Type 0 where
-  pub answer : IfOk result (HasOutcome IsRuled input file)
+-- what a command did, by what was read of the input and of the file, and by their outcome
+pub record ActsBy (command : Option Command) (input : Input) (file : File) (result : Result Printed Fault) (read bytes : List ℕ) (o : Outcome) : Type 0 where
+  pub input_told : Agrees input.before.left read
+  pub file_told : Agrees file.before.contents bytes
+  pub outcome : IsSaidOutcome command read bytes o
+  pub answer : IfOk result (λ answer. answer ≡ printed_of o)
   pub plain : IfOk result (λ answer. answer.status ≤ 3)
-  pub cause : IfErr result (λ fault. IsCaused fault file.faults left.faults input)
-  pub end : IsReadToEndBy reads (result_status result) input
-  pub kept : IsFileLeftBy IsRuled begins input.before file left.contents (result_status result)
-  pub any_moment : IsModelled file → ByOutcomeBy IsRuled begins input.before file.contents file.images (λ old commits. LeavesOnly file left (StandsForSome old commits))
-  pub durable : result_status result ≡ 0 → IsModelled file → ByOutcomeBy IsRuled begins input.before file.contents file.images (λ old commits. (c : List ℕ) → left.images c → StandsForAll old commits c)
-  pub keeps : Keeps file left
+  pub cause : IfErr result (IsCaused command input file bytes o)
+  pub end : result_status result ≡ 0 → IsTrue (reads command) → IsAtEnd input.after.left
+  pub contents : IsFileLeft command file (result_status result) bytes o
+  pub touches : Touches command file bytes o
+  pub durable : result_status result ≡ 0 → IsDurable command file o
+
+abbrev pub HasActed : Option Command → Input → File → Result Printed Fault → Type 0
+HasActed command input file result = (read bytes : List ℕ) × (o : Outcome) × ActsBy command input file result read bytes o
+
+-- the same of a command, by each object before and after
+abbrev pub Acts : Command → SourceState × SourceState → DiskState × DiskState → Result Printed Fault → Type 0
+Acts command input file result = HasActed (Some command) (input_of input) (file_of file) result
 
 -- ---- the printing
 
--- the text of the answer, or the line of the fault, is printed
-abbrev pub IsPrinted : Result ingest.Outcome Fault → ℕ → Stream → Type 0
-IsPrinted (Ok answer) status out = IsTold (unchanged answer) status out
-IsPrinted (Err fault) status out = (status ≡ fault_status fault) × IsSaid out (fault_line fault)
+-- the text of the answer, or the line of the fault, is written
+abbrev pub IsWritten : Result Printed Fault → ℕ → Output → Type 0
+IsWritten (Ok answer) status out = IsTold (without_commit answer) status out
+IsWritten (Err fault) status out = (status ≡ fault_status fault) × IsSaid out (fault_line fault)
 
--- what a whole run says, by the rule of its outcome
-pub record Runs (IsRuled : Ruled) (reads begins : Bool) (input out : Stream) (file left : DiskState) (status : ℕ) : Type 0 where
-  pub answer : IsAnswerBy IsRuled file.contents file.faults left.faults input out status
-  pub end : IsReadToEndBy reads status input
-  pub kept : IsFileLeftBy IsRuled begins input.before file left.contents status
-  pub any_moment : IsModelled file → ByOutcomeBy IsRuled begins input.before file.contents file.images (λ old commits. LeavesOnly file left (StandsForSome old commits))
-  pub durable : status ≡ 0 → IsModelled file → ByOutcomeBy IsRuled begins input.before file.contents file.images (λ old commits. (c : List ℕ) → left.images c → StandsForAll old commits c)
-  pub keeps : Keeps file left
-  pub disk_fault : status ≡ 4 → Rose file.faults left.faults
-  pub input_fault : status ≡ 5 → StreamRose input
-  pub output_fault : status ≡ 6 → StreamRose out
+-- the content of an artifact or the refusal is written, or there was no memory for it
+abbrev pub IsContentWritten : Result (List ℕ) Refused → ℕ → Output → Type 0
+IsContentWritten due status out = IsTold (report_outcome due) status out ⊎ ((status ≡ 9) × IsSaid out out_of_memory)
+
+-- what a command came to, by each object before and after
+abbrev pub RunsCommand : Command → SourceState × SourceState → SinkState × SinkState → DiskState × DiskState → ℕ → Type 0
+RunsCommand command input out file status = HasRun (Some command) (input_of input) (output_of out) (file_of file) status
 
 -- the fields of a new repository are in their form
 abbrev pub IsObeyable : Command → Type 0
 IsObeyable (Init project server fields) = AreFields fields
-IsObeyable _ = ⊤
+IsObeyable Ingest = ⊤
+IsObeyable Put = ⊤
+IsObeyable (Ask question) = ⊤
+
+-- ---- messages
 
 -- what `ingest` answers of an input that was read
-pub record IsIngestRun (input : Stream) (answer : ingest.Outcome) : Type 0 where
+pub record IsIngestRun (input : Input) (answer : Printed) : Type 0 where
   pub read : List ℕ
-  pub told : Agrees input.before read
-  pub ingested : ingest.IsIngested IsKind read answer
-  pub end : answer.status ≡ 0 → IsAtEnd input.after
+  pub told : Agrees input.before.left read
+  pub ingested : IsIngested IsKind read answer
+  pub end : answer.status ≡ 0 → IsAtEnd input.after.left
 
 -- what `put` answers of an input that was read, and what it appended in memory
-pub record IsPutRun (input : Stream) (before after : Loaded) (answer : ingest.Outcome) : Type 0 where
+pub record IsPutRun (input : Input) (before after : Loaded) (answer : Printed) : Type 0 where
   pub read : List ℕ
   pub appended : List Record
-  pub told : Agrees input.before read
+  pub told : Agrees input.before.left read
   pub put : IsPut read before.journal.records answer appended
   pub journal : after.journal ≡ record before.journal { records = before.journal.records ++ appended }
-  pub end : answer.status ≡ 0 → IsAtEnd input.after
+  pub end : answer.status ≡ 0 → IsAtEnd input.after.left
 
 -- what `put` answers of a message, and what it appended in memory
-pub record IsMessagePut (message : List ℕ) (before after : Loaded) (answer : ingest.Outcome) : Type 0 where
+pub record IsMessagePut (message : List ℕ) (before after : Loaded) (answer : Printed) : Type 0 where
   pub appended : List Record
   pub put : IsPutRead message before.journal.records answer appended
   pub journal : after.journal ≡ record before.journal { records = before.journal.records ++ appended }

@@ -1,5 +1,6 @@
 pub mod FileLines
 pub mod Sets
+pub mod Printed
 pub mod Ingest
 pub mod Put
 pub mod Outcome

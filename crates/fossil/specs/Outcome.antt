@@ -1,5 +1,5 @@
 -- The outcome of a run: the status, the text, and the commits that the command appends to the file.
-use Rattle.std.specs.Prelude.{◌≡◌, ℕ, ◌==◌, ◌⊎◌, List, [], ◌∷◌, ◌++◌, length, Result, Ok, Err, MatchOption, if◌then◌else◌, codes, decimal}
+use Rattle.std.specs.Prelude.{◌≡◌, ℕ, ◌==◌, ◌⊎◌, List, [], ◌∷◌, ◌++◌, length, Option, Some, None, option_map, Result, Ok, Err, if◌then◌else◌, codes, decimal}
 use Rattle.fsl_artifact.specs.Kind.{IsKind}
 use Rattle.fsl_record.specs.declared.Record.{Record}
 use Rattle.fsl_record.specs.declared.Record.TheVariants as record_of
@@ -12,6 +12,8 @@ use Rattle.fsl_words.specs.Grammar.{words_in}
 use Rattle.fsl_query.specs.declared.Refused.{Refused}
 use Rattle.fsl_query.specs.Refusals.{refusal_text}
 use Rattle.fsl_query.specs.Reports.{IsReport}
+use Rattle.fossil.specs.Printed.{Printed}
+use Rattle.fossil.specs.Printed as printing
 use Rattle.fossil.specs.Ingest as ingest
 use Rattle.fossil.specs.Put.{IsPut}
 
@@ -22,8 +24,8 @@ pub record Outcome : Type 0 where
   pub commits : List (List Record)
 
 -- what a command prints that appends nothing
-abbrev pub unchanged : ingest.Outcome → Outcome
-unchanged printed = record { status = printed.status; text = printed.text; commits = [] }
+abbrev pub without_commit : Printed → Outcome
+without_commit printed = record { status = printed.status; text = printed.text; commits = [] }
 
 -- one commit of the records, and none where there is none
 abbrev pub one_commit : List Record → List (List Record)
@@ -31,16 +33,16 @@ one_commit [] = []
 one_commit records = records ∷ []
 
 -- what a command prints that appends these records
-abbrev pub appending : ingest.Outcome → List Record → Outcome
-appending printed records = record { status = printed.status; text = printed.text; commits = one_commit records }
+abbrev pub with_commit : Printed → List Record → Outcome
+with_commit printed records = record { status = printed.status; text = printed.text; commits = one_commit records }
 
 -- what is printed of an outcome
-abbrev pub printed_of : Outcome → ingest.Outcome
+abbrev pub printed_of : Outcome → Printed
 printed_of o = record { status = o.status; text = o.text }
 
 -- words outside the grammar
 abbrev pub usage : Outcome
-usage = unchanged ingest.usage
+usage = without_commit printing.usage
 
 -- a file that isn't a repository, from the place at which it fails
 abbrev pub not_repository : ℕ → Outcome
@@ -49,27 +51,27 @@ not_repository at = record { status = 2; text = codes "not a repository: " ++ de
 -- ---- the commands
 
 -- a file with bytes is refused; an empty one gets the Config record
-abbrev pub begun : List ℕ → List ℕ → List (List ℕ) → ℕ → Outcome
-begun project server fields len =
-    if len == 0 then appending (record { status = 0; text = [] }) (record_of.Config (record { project = project; server = server; fields = fields }) ∷ [])
-    else unchanged (ingest.refused (codes "file not empty " ++ decimal len))
+abbrev pub init_outcome : List ℕ → List ℕ → List (List ℕ) → ℕ → Outcome
+init_outcome project server fields len =
+    if len == 0 then with_commit (record { status = 0; text = [] }) (record_of.Config (record { project = project; server = server; fields = fields }) ∷ [])
+    else without_commit (printing.refused (codes "file not empty " ++ decimal len))
 
 -- what `ingest` prints
 abbrev pub IsIngestOfFiles : List ℕ → Outcome → Type 0
-IsIngestOfFiles input o = (printed : ingest.Outcome) × ingest.IsIngested IsKind input printed × (o ≡ unchanged printed)
+IsIngestOfFiles input o = (printed : Printed) × ingest.IsIngested IsKind input printed × (o ≡ without_commit printed)
 
 -- what `put` prints and appends
 abbrev pub IsPutOfFiles : List ℕ → List Record → Outcome → Type 0
-IsPutOfFiles input old o = (printed : ingest.Outcome) × (appended : List Record) × IsPut input old printed appended × (o ≡ appending printed appended)
+IsPutOfFiles input old o = (printed : Printed) × (appended : List Record) × IsPut input old printed appended × (o ≡ with_commit printed appended)
 
 -- the text of a report, or the refusal of its question
-abbrev pub answered : Result (List ℕ) Refused → Outcome
-answered (Ok text) = unchanged (record { status = 0; text = text })
-answered (Err refused) = unchanged (ingest.refused (refusal_text refused))
+abbrev pub report_outcome : Result (List ℕ) Refused → Outcome
+report_outcome (Ok text) = without_commit (record { status = 0; text = text })
+report_outcome (Err refused) = without_commit (printing.refused (refusal_text refused))
 
 -- the report on a question or its refusal is printed, by what the records leave
 abbrev pub IsAnswered : Question → List Record → Outcome → Type 0
-IsAnswered question records o = (result : Result (List ℕ) Refused) × IsReport (contents records) question result × (o ≡ answered result)
+IsAnswered question records o = (result : Result (List ℕ) Refused) × IsReport (contents records) question result × (o ≡ report_outcome result)
 
 -- the file stands for records, by which the outcome is told, or the place at which it doesn't is told
 abbrev pub IsLoaded : (List Record → Outcome → Type 0) → List ℕ → Outcome → Type 0
@@ -80,15 +82,28 @@ IsLoaded ByRecords bytes o =
 
 -- the outcome of a command over its input and the bytes of the file: `init` looks at their number alone, and `ingest` at none
 abbrev pub IsCommandOutcome : Command → List ℕ → List ℕ → Outcome → Type 0
-IsCommandOutcome (Init project server fields) input bytes o = o ≡ begun project server fields (length bytes)
+IsCommandOutcome (Init project server fields) input bytes o = o ≡ init_outcome project server fields (length bytes)
 IsCommandOutcome Ingest input bytes o = IsIngestOfFiles input o
 IsCommandOutcome Put input bytes o = IsLoaded (IsPutOfFiles input) bytes o
 IsCommandOutcome (Ask question) input bytes o = IsLoaded (IsAnswered question) bytes o
 
+-- the command that words say, where they are in the grammar
+abbrev pub said : List (List ℕ) → Option Command
+said words = option_map (λ w. w.command) (words_in words)
+
+-- the outcome of what words say, if anything
+abbrev pub IsSaidOutcome : Option Command → List ℕ → List ℕ → Outcome → Type 0
+IsSaidOutcome None input bytes o = o ≡ usage
+IsSaidOutcome (Some command) input bytes o = IsCommandOutcome command input bytes o
+
 -- the outcome: the words first, then the file, then the input
 abbrev pub IsOutcome : List (List ℕ) → List ℕ → List ℕ → Outcome → Type 0
-IsOutcome words input bytes o = MatchOption (words_in words) (o ≡ usage) (λ w. IsCommandOutcome w.command input bytes o)
+IsOutcome words input bytes o = IsSaidOutcome (said words) input bytes o
 
 -- Law. Words, an input and a file have one outcome at most
 abbrev pub HasOneOutcome : Type 0
 HasOneOutcome = (words : List (List ℕ)) (input bytes : List ℕ) (a b : Outcome) → IsOutcome words input bytes a → IsOutcome words input bytes b → a ≡ b
+
+-- Law. And they have one
+abbrev pub HasSomeOutcome : Type 0
+HasSomeOutcome = (words : List (List ℕ)) (input bytes : List ℕ) → (o : Outcome) × IsOutcome words input bytes o

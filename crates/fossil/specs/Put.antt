@@ -8,16 +8,17 @@ use Rattle.fsl_record.specs.declared.Record.TheVariants as record_of
 use Rattle.fsl_blobs.specs.Fold.{Contents, contents}
 use Rattle.fossil.specs.FileLines.{IsFileList, IsBadLine}
 use Rattle.fossil.specs.Sets.{Sent, name_line}
-use Rattle.fossil.specs.Ingest as ingest
+use Rattle.fossil.specs.Printed.{Printed}
+use Rattle.fossil.specs.Printed as printing
 
 -- what a rightly named file prints, and what it appends
-pub record Taken : Type 0 where
+pub record TextAndRecords : Type 0 where
   pub text : List ℕ
   pub records : List Record
 
 -- a shunned name and one that is there append nothing; a public file publishes a private artifact; each other file is stored
-abbrev pub taken : Contents → Sent → Taken
-taken c f =
+abbrev pub text_and_records_of : Contents → Sent → TextAndRecords
+text_and_records_of c f =
     if set.contains c.shunned f.name then record { text = name_line (codes "shunned") f.name; records = [] }
     else option_map_or
     (λ held.
@@ -27,32 +28,32 @@ taken c f =
     (record { text = name_line (codes "stored") f.name; records = record_of.Blob f.private f.name f.bytes ∷ [] })
 
 -- what was taken, and one file more
-abbrev pub and_taken : Taken → Taken → Taken
+abbrev pub and_taken : TextAndRecords → TextAndRecords → TextAndRecords
 and_taken so_far t = record { text = so_far.text ++ t.text; records = so_far.records ++ t.records }
 
 -- the files one after another, behind the old records and those that are appended so far
-abbrev pub all_taken : List Record → Taken → List Sent → Taken
+abbrev pub all_taken : List Record → TextAndRecords → List Sent → TextAndRecords
 all_taken old so_far [] = so_far
-all_taken old so_far (f ∷ files) = all_taken old (and_taken so_far (taken (contents (old ++ so_far.records)) f)) files
+all_taken old so_far (f ∷ files) = all_taken old (and_taken so_far (text_and_records_of (contents (old ++ so_far.records)) f)) files
 
 -- all files behind the old records
-abbrev pub put_files : List Record → List Sent → Taken
+abbrev pub put_files : List Record → List Sent → TextAndRecords
 put_files old files = all_taken old (record { text = []; records = [] }) files
 
 -- the first file that is refused refuses all; else all are taken
-abbrev pub IsPutFiles : List Sent → List Record → ingest.Outcome → List Record → Type 0
+abbrev pub IsPutFiles : List Sent → List Record → Printed → List Record → Type 0
 IsPutFiles files old printed appended =
-    MatchOption (ingest.first_refusal files)
+    MatchOption (printing.first_refusal files)
     ((printed ≡ record { status = 0; text = (put_files old files).text }) × (appended ≡ (put_files old files).records))
     (λ refusal. (printed ≡ refusal) × (appended ≡ []))
 
 -- the first line that doesn't read is refused
-abbrev pub IsPutRead : List ℕ → List Record → ingest.Outcome → List Record → Type 0
+abbrev pub IsPutRead : List ℕ → List Record → Printed → List Record → Type 0
 IsPutRead input old printed appended =
-    ((n : ℕ) × IsBadLine input n × (printed ≡ ingest.bad_line n) × (appended ≡ []))
+    ((n : ℕ) × IsBadLine input n × (printed ≡ printing.bad_line n) × (appended ≡ []))
     ⊎ ((files : List Sent) × IsFileList input files × IsPutFiles files old printed appended)
 
 -- the length of the input first, then its lines, then its files
-abbrev pub IsPut : List ℕ → List Record → ingest.Outcome → List Record → Type 0
+abbrev pub IsPut : List ℕ → List Record → Printed → List Record → Type 0
 IsPut input old printed appended =
-    MatchBool (nat_lt (2 ^ 27) (length input)) ((printed ≡ ingest.too_long) × (appended ≡ [])) (IsPutRead input old printed appended)
+    MatchBool (nat_lt (2 ^ 27) (length input)) ((printed ≡ printing.too_long) × (appended ≡ [])) (IsPutRead input old printed appended)

@@ -1,55 +1,96 @@
--- What a run says of its status, its output, its input and its file, by the outcome.
-use Rattle.std.specs.Prelude.{◌≡◌, ℕ, ◌≤◌, ◌⊎◌, ◌==◌, Bool, true, false, List, [], ◌∷◌, ◌++◌, length, take, flat_map, Option, Some, None, IsTrue, MatchBool, ⊤, if◌then◌else◌, codes}
+-- What a run says of its status, its output, its input and its file, by one reading of what it was handed and one outcome.
+use Rattle.std.specs.Prelude.{◌≡◌, ◌≢◌, ℕ, ◌≤◌, ◌⊎◌, ◌==◌, Bool, true, false, List, [], ◌∷◌, ◌++◌, length, take, flat_map, Option, Some, None, IsTrue, MatchBool, ⊤, if◌then◌else◌, codes}
 use Rattle.std.specs.Option.{option_map_or}
 use Rattle.std.specs.Io.KnownBytes.{Appends, IsAtEnd}
 use Rattle.fsl_order.specs.Causes.{Rose}
+use Rattle.fsl_outside.specs.Streams.{SourceState, SinkState}
 use Rattle.fsl_record.specs.declared.Record.{Record}
-use Rattle.fsl_disk.specs.Disk.{DiskState}
-use Rattle.fsl_journal.specs.File.{IsFileOf}
+use Rattle.fsl_disk.specs.Disk.{DiskState, IsModelled, Keeps, Quiet, LeavesOnly}
+use Rattle.fsl_journal.specs.File.{IsFileOf, FailsAt}
 use Rattle.fsl_words.specs.declared.Command.{Command}
 use Rattle.fsl_words.specs.declared.Command.TheVariants.{Init, Ingest, Put, Ask}
-use Rattle.fsl_words.specs.Grammar.{words_in}
-use Rattle.fossil.specs.Outcome.{Outcome, IsOutcome}
+use Rattle.fossil.specs.Outcome.{Outcome, said, IsSaidOutcome}
 
--- ---- what a run is handed and leaves, as far as its objects tell it
+-- ---- what a run is handed and leaves
 
--- what a source has left, or a sink took, before and after, where it is told; and the object's count of faults
-pub record Stream : Type 0 where
-  pub before : Option (List ℕ)
-  pub after : Option (List ℕ)
-  pub faults_before : ℕ
-  pub faults_after : ℕ
+-- the source of the input, before the run and after it
+pub record Input : Type 0 where
+  pub before : SourceState
+  pub after : SourceState
 
-abbrev pub stream : Option (List ℕ) → Option (List ℕ) → ℕ → ℕ → Stream
-stream before after faults_before faults_after = record { before = before; after = after; faults_before = faults_before; faults_after = faults_after }
+-- the sink of the output
+pub record Output : Type 0 where
+  pub before : SinkState
+  pub after : SinkState
 
--- its count rose
-abbrev pub StreamRose : Stream → Type 0
-StreamRose s = Rose s.faults_before s.faults_after
+-- the disk of the repository file
+pub record File : Type 1 where
+  pub before : DiskState
+  pub after : DiskState
 
 -- the bytes are those that are told, where some are
 abbrev pub Agrees : Option (List ℕ) → List ℕ → Type 0
 Agrees None bytes = ⊤
 Agrees (Some told) bytes = bytes ≡ told
 
+-- ---- what a command uses
+
+abbrev pub command_reads : Command → Bool
+command_reads (Init project server fields) = false
+command_reads Ingest = true
+command_reads Put = true
+command_reads (Ask question) = false
+
+abbrev pub command_opens : Command → Bool
+command_opens (Init project server fields) = true
+command_opens Ingest = false
+command_opens Put = true
+command_opens (Ask question) = true
+
+abbrev pub command_begins : Command → Bool
+command_begins (Init project server fields) = true
+command_begins Ingest = false
+command_begins Put = false
+command_begins (Ask question) = false
+
+-- whether a command reads the input
+abbrev pub reads : Option Command → Bool
+reads command = option_map_or command_reads command false
+
+-- whether it touches the file
+abbrev pub opens : Option Command → Bool
+opens command = option_map_or command_opens command false
+
+-- whether it begins with an empty file
+abbrev pub begins : Option Command → Bool
+begins command = option_map_or command_begins command false
+
+-- the same of words
+abbrev pub reads_input : List (List ℕ) → Bool
+reads_input words = reads (said words)
+
+abbrev pub opens_file : List (List ℕ) → Bool
+opens_file words = opens (said words)
+
 -- ---- the status and the text
 
 -- the output took a front of the text, and its count rose
-abbrev pub IsCutOff : Stream → List ℕ → Type 0
-IsCutOff out text = (front : List ℕ) × (rest : List ℕ) × (text ≡ front ++ rest) × Appends out.before out.after front × StreamRose out
+abbrev pub IsCutOff : Output → List ℕ → Type 0
+IsCutOff out text =
+    (front : List ℕ) × (rest : List ℕ) × (text ≡ front ++ rest) × Appends out.before.taken out.after.taken front × Rose out.before.faults out.after.faults
 
 -- the output took the text, or is cut off
-abbrev pub IsSaid : Stream → List ℕ → Type 0
-IsSaid out text = Appends out.before out.after text ⊎ IsCutOff out text
+abbrev pub IsSaid : Output → List ℕ → Type 0
+IsSaid out text = Appends out.before.taken out.after.taken text ⊎ IsCutOff out text
 
 -- the status of an outcome whose text can't be written: 6, but that of a refusal stays
 abbrev pub cut_off_status : ℕ → ℕ
 cut_off_status status = if status == 0 then 6 else status
 
 -- status and text are those of the outcome
-abbrev pub IsTold : Outcome → ℕ → Stream → Type 0
+abbrev pub IsTold : Outcome → ℕ → Output → Type 0
 IsTold o status out =
-    ((status ≡ o.status) × Appends out.before out.after o.text) ⊎ ((status ≡ cut_off_status o.status) × IsCutOff out o.text)
+    ((status ≡ o.status) × Appends out.before.taken out.after.taken o.text) ⊎ ((status ≡ cut_off_status o.status) × IsCutOff out o.text)
 
 -- the lines of faults
 abbrev pub disk_fault : List ℕ
@@ -61,73 +102,42 @@ input_fault = codes "input fault" ++ 10 ∷ []
 abbrev pub out_of_memory : List ℕ
 out_of_memory = codes "out of memory" ++ 10 ∷ []
 
--- a fault has its status and its line, and its object's count rose; want of memory has no cause
-abbrev pub IsFaulted : ℕ → ℕ → Stream → Stream → ℕ → Type 0
-IsFaulted disk_before disk_after input out status =
-    ((status ≡ 4) × Rose disk_before disk_after × IsSaid out disk_fault)
-    ⊎ ((status ≡ 5) × StreamRose input × IsSaid out input_fault)
+-- the file couldn't be read or written: while it was loaded or made, before the input was read, or while a commit was written
+pub record IsDiskFault (command : Option Command) (input : Input) (file : File) (o : Outcome) : Type 0 where
+  pub opened : IsTrue (opens command)
+  pub rose : Rose file.before.faults file.after.faults
+  pub moment : (input.after ≡ input.before) ⊎ (o.commits ≢ [])
+
+-- the input couldn't be read, and a file that is loaded first stands for records
+pub record IsInputFault (command : Option Command) (input : Input) (bytes : List ℕ) : Type 0 where
+  pub read : IsTrue (reads command)
+  pub rose : Rose input.before.faults input.after.faults
+  pub file : IsTrue (opens command) → (records : List Record) × IsFileOf bytes records
+
+-- a fault has its status and its line; want of memory has no cause
+abbrev pub IsFaulted : Option Command → Input → Output → File → ℕ → List ℕ → Outcome → Type 0
+IsFaulted command input out file status bytes o =
+    ((status ≡ 4) × IsDiskFault command input file o × IsSaid out disk_fault)
+    ⊎ ((status ≡ 5) × IsInputFault command input bytes × IsSaid out input_fault)
     ⊎ ((status ≡ 9) × IsSaid out out_of_memory)
 
--- what has an outcome: by the input, and the bytes of the file
-abbrev pub Ruled : Type 1
-Ruled = List ℕ → List ℕ → Outcome → Type 0
-
--- the answer of a run: that of the outcome over the input and the file, where these are told, or a fault
-abbrev pub IsAnswerBy : Ruled → Option (List ℕ) → ℕ → ℕ → Stream → Stream → ℕ → Type 0
-IsAnswerBy IsRuled file disk_before disk_after input out status =
-    ((read : List ℕ) × (bytes : List ℕ) × (o : Outcome) × Agrees input.before read × Agrees file bytes × IsRuled read bytes o × IsTold o status out)
-    ⊎ IsFaulted disk_before disk_after input out status
-
-abbrev pub IsAnswer : List (List ℕ) → Option (List ℕ) → ℕ → ℕ → Stream → Stream → ℕ → Type 0
-IsAnswer words file disk_before disk_after input out status = IsAnswerBy (IsOutcome words) file disk_before disk_after input out status
-
--- ---- the input
-
-abbrev pub command_reads : Command → Bool
-command_reads Ingest = true
-command_reads Put = true
-command_reads _ = false
-
--- whether the command reads its input
-abbrev pub reads_input : List (List ℕ) → Bool
-reads_input words = option_map_or (λ w. command_reads w.command) (words_in words) false
-
--- after status 0 the input was read to its end, where it is read
-abbrev pub IsReadToEndBy : Bool → ℕ → Stream → Type 0
-IsReadToEndBy reads status input = status ≡ 0 → IsTrue reads → IsAtEnd input.after
-
--- after status 0 the input was read to its end, where the command reads one
-abbrev pub IsReadToEnd : List (List ℕ) → ℕ → Stream → Type 0
-IsReadToEnd words status input = IsReadToEndBy (reads_input words) status input
-
 -- ---- the file
-
-abbrev pub command_begins : Command → Bool
-command_begins (Init project server fields) = true
-command_begins _ = false
-
--- whether the command begins with an empty file
-abbrev pub begins_empty : List (List ℕ) → Bool
-begins_empty words = option_map_or (λ w. command_begins w.command) (words_in words) false
-
-abbrev pub command_opens : Command → Bool
-command_opens (Init project server fields) = true
-command_opens Put = true
-command_opens (Ask question) = true
-command_opens _ = false
-
--- whether the command touches the file
-abbrev pub opens_file : List (List ℕ) → Bool
-opens_file words = option_map_or (λ w. command_opens w.command) (words_in words) false
 
 -- bytes stand for records, and for none where they are no repository
 abbrev pub StandsFor : List Record → List ℕ → Type 0
 StandsFor [] bytes = (records : List Record) → ¬ (IsFileOf bytes records)
 StandsFor records bytes = IsFileOf bytes records
 
--- the old records: those that the file stands for, and none of an empty file for a command that begins with one
+-- the old records: those that the bytes stand for, or none of an empty file for a command that begins with one
 abbrev pub AreOldBy : Bool → List Record → List ℕ → Type 0
-AreOldBy begins old bytes = MatchBool begins ((old ≡ []) × (bytes ≡ [])) (IsFileOf bytes old)
+AreOldBy begins old bytes = MatchBool begins (((old ≡ []) × (bytes ≡ [])) ⊎ IsFileOf bytes old) (IsFileOf bytes old)
+
+abbrev pub AreOld : Option Command → List Record → List ℕ → Type 0
+AreOld command old bytes = AreOldBy (begins command) old bytes
+
+-- each of these images is one of the old records
+abbrev pub AreImages : Option Command → List Record → (List ℕ → Type 0) → Type 0
+AreImages command old images = (bytes : List ℕ) → images bytes → AreOld command old bytes
 
 -- the old records and the first n commits
 abbrev pub after_commits : List Record → List (List Record) → ℕ → List Record
@@ -147,30 +157,70 @@ IsLeft status old commits bytes =
     MatchBool (status == 0) (StandsForAll old commits bytes)
     (MatchBool (status == 3) (StandsFor old bytes) (StandsForSome old commits bytes))
 
--- each image stands for the old records, or is empty for a command that begins with an empty file
-abbrev pub AreImagesBy : Bool → List Record → (List ℕ → Type 0) → Type 0
-AreImagesBy begins old images = (bytes : List ℕ) → images bytes → AreOldBy begins old bytes
-
 -- a disk that failed tells what it holds by the disk model alone, where each image stood for the old records
-abbrev pub IsKnown : Bool → ℕ → List Record → DiskState → Type 0
-IsKnown begins status old file = status ≡ 4 → IsTrue file.is_model × AreImagesBy begins old file.images
+abbrev pub IsKnown : Option Command → ℕ → List Record → DiskState → Type 0
+IsKnown command status old file = status ≡ 4 → IsTrue file.is_model × AreImages command old file.images
 
--- over an input and a file that are told, the file that is left is so, whatever the outcome and the old records are
-abbrev pub IsFileLeftBy : Ruled → Bool → Option (List ℕ) → DiskState → Option (List ℕ) → ℕ → Type 0
-IsFileLeftBy IsRuled begins input file left status =
-    (read bytes held : List ℕ) → input ≡ Some read → file.contents ≡ Some bytes → left ≡ Some held →
-    (o : Outcome) (old : List Record) → IsRuled read bytes o → AreOldBy begins old bytes → IsKnown begins status old file → IsLeft status old o.commits held
+-- the contents after the run, where they are told, stand for what the status says
+abbrev pub IsFileLeft : Option Command → File → ℕ → List ℕ → Outcome → Type 0
+IsFileLeft command file status bytes o =
+    (old : List Record) (held : List ℕ) → file.before.contents ≡ Some bytes → file.after.contents ≡ Some held →
+    AreOld command old bytes → IsKnown command status old file.before → IsLeft status old o.commits held
 
-abbrev pub IsFileLeft : List (List ℕ) → Option (List ℕ) → DiskState → Option (List ℕ) → ℕ → Type 0
-IsFileLeft words input file left status = IsFileLeftBy (IsOutcome words) (begins_empty words) input file left status
+-- the bytes stand for no records
+abbrev pub IsNoRepository : List ℕ → Type 0
+IsNoRepository bytes = (at : ℕ) × FailsAt bytes at
 
--- ---- images
+-- a command that begins with an empty file refuses one with bytes, and a command that loads a file one that is no repository
+abbrev pub IsRefused : Option Command → List ℕ → Type 0
+IsRefused None bytes = ⊥
+IsRefused (Some (Init project server fields)) bytes = bytes ≢ []
+IsRefused (Some Ingest) bytes = ⊥
+IsRefused (Some Put) bytes = IsNoRepository bytes
+IsRefused (Some (Ask question)) bytes = IsNoRepository bytes
 
--- what holds of the old records and of the commits of the outcome, where the input and the file are told and each image at the start stands for these records
-abbrev pub ByOutcomeBy : Ruled → Bool → Option (List ℕ) → Option (List ℕ) → (List ℕ → Type 0) → (List Record → List (List Record) → Type 0) → Type 0
-ByOutcomeBy IsRuled begins input file images P =
-    (read bytes : List ℕ) → input ≡ Some read → file ≡ Some bytes →
-    (o : Outcome) (old : List Record) → IsRuled read bytes o → AreImagesBy begins old images → P old o.commits
+-- a file that is refused stays as it is, at each moment and whatever the status
+abbrev pub IsRefusedKept : Option Command → File → List ℕ → Type 0
+IsRefusedKept command file bytes = file.before.contents ≡ Some bytes → IsRefused command bytes → Quiet file.before file.after
 
-abbrev pub ByOutcome : List (List ℕ) → Option (List ℕ) → Option (List ℕ) → (List ℕ → Type 0) → (List Record → List (List Record) → Type 0) → Type 0
-ByOutcome words input file images P = ByOutcomeBy (IsOutcome words) (begins_empty words) input file images P
+-- whatever moment a crash comes at, it leaves the old records followed by none, some or all commits
+abbrev pub IsWholeAtAnyMoment : Option Command → File → Outcome → Type 0
+IsWholeAtAnyMoment command file o =
+    IsModelled file.before → (old : List Record) → AreImages command old file.before.images →
+    LeavesOnly file.before file.after (StandsForSome old o.commits)
+
+-- a crash after the run leaves the old records and all commits
+abbrev pub IsDurable : Option Command → File → Outcome → Type 0
+IsDurable command file o =
+    IsModelled file.before → (old : List Record) → AreImages command old file.before.images →
+    (c : List ℕ) → file.after.images c → StandsForAll old o.commits c
+
+-- ---- a run
+
+-- by what was read of the input and of the file, and by their outcome
+pub record RunsBy (command : Option Command) (input : Input) (out : Output) (file : File) (status : ℕ) (read bytes : List ℕ) (o : Outcome) : Type 0 where
+  -- what was read is what was told
+  pub input_told : Agrees input.before.left read
+  pub file_told : Agrees file.before.contents bytes
+  pub outcome : IsSaidOutcome command read bytes o
+  -- the text is that of the outcome, or the line of a fault
+  pub answer : IsTold o status out ⊎ IsFaulted command input out file status bytes o
+  -- after status 0 an input that the command reads was read to its end
+  pub end : status ≡ 0 → IsTrue (reads command) → IsAtEnd input.after.left
+  pub contents : IsFileLeft command file status bytes o
+  pub kept : IsRefusedKept command file bytes
+  pub any_moment : IsWholeAtAnyMoment command file o
+  pub durable : status ≡ 0 → IsDurable command file o
+  pub keeps : Keeps file.before file.after
+  pub disk_fault : status ≡ 4 → Rose file.before.faults file.after.faults
+  pub input_fault : status ≡ 5 → Rose input.before.faults input.after.faults
+  pub output_fault : status ≡ 6 → Rose out.before.faults out.after.faults
+
+-- what a command, or words outside the grammar, came to
+abbrev pub HasRun : Option Command → Input → Output → File → ℕ → Type 0
+HasRun command input out file status = (read bytes : List ℕ) × (o : Outcome) × RunsBy command input out file status read bytes o
+
+-- the same by the words, and by each object before and after
+abbrev pub Runs : List (List ℕ) → SourceState × SourceState → SinkState × SinkState → DiskState × DiskState → ℕ → Type 0
+Runs words input out file status =
+    HasRun (said words) (record { before = input.0; after = input.1 }) (record { before = out.0; after = out.1 }) (record { before = file.0; after = file.1 }) status

@@ -12,20 +12,21 @@ use Rattle.fossil.specs.declared.refused.Refused.{Refused}
 use Rattle.fossil.specs.declared.refused.Refused.TheVariants.{TooLarge, WrongName}
 use Rattle.fossil.specs.Files.{sent_in}
 use Rattle.fossil.specs.Sets.{Sent, name_line}
-use Rattle.fossil.specs.Ingest as ingest
-use Rattle.fossil.specs.Put.{Taken, taken, all_taken, put_files}
+use Rattle.fossil.specs.Printed.{Printed}
+use Rattle.fossil.specs.Printed as printing
+use Rattle.fossil.specs.Put.{TextAndRecords, text_and_records_of, all_taken, put_files}
 
 -- the refusal of a file
-abbrev pub refused_as : Refused → ingest.Outcome
-refused_as (TooLarge name size) = ingest.too_large name size
-refused_as (WrongName name found) = ingest.wrong (name, found)
+abbrev pub refused_as : Refused → Printed
+refused_as (TooLarge name size) = printing.too_large name size
+refused_as (WrongName name found) = printing.wrong (name, found)
 
 -- a file that a record may hold
 abbrev pub IsSound : List ℕ → File → Type 0
 IsSound message file = IsWritable (record_of.Blob false file.name (sent_in message file).bytes)
 
 -- what a public file prints and appends, by what its name is
-abbrev pub taken_as : BlobState → Sent → Taken
+abbrev pub taken_as : BlobState → Sent → TextAndRecords
 taken_as (blob.Public size) f = record { text = name_line (codes "present") f.name; records = [] }
 taken_as (blob.Private size) f = record { text = name_line (codes "published") f.name; records = record_of.Publish f.name ∷ [] }
 taken_as blob.Shunned f = record { text = name_line (codes "shunned") f.name; records = [] }
@@ -33,13 +34,13 @@ taken_as blob.Absent f = record { text = name_line (codes "stored") f.name; reco
 
 -- one file was taken
 pub record IsFileTaken (f : Sent) (before after : Loaded) (text_before text_after : List ℕ) : Type 0 where
-  pub journal : after.journal ≡ record before.journal { records = before.journal.records ++ (taken (contents before.journal.records) f).records }
+  pub journal : after.journal ≡ record before.journal { records = before.journal.records ++ (text_and_records_of (contents before.journal.records) f).records }
   pub blobs : after.blobs.records ≡ after.journal.records
-  pub text : text_after ≡ text_before ++ (taken (contents before.journal.records) f).text
+  pub text : text_after ≡ text_before ++ (text_and_records_of (contents before.journal.records) f).text
 
 -- files were taken, and these are left of all
 pub record AreTaken (before : Log) (all left : List Sent) (now : Loaded) (text : List ℕ) : Type 0 where
-  pub so_far : Taken
+  pub so_far : TextAndRecords
   pub printed : text ≡ so_far.text
   pub journal : now.journal ≡ record before { records = before.records ++ so_far.records }
   pub blobs : now.blobs.records ≡ now.journal.records

@@ -1,6 +1,6 @@
 //! Answers: a status and the text that is printed.
 ghost use Rattle.std.specs.Prelude.{◌≡◌, ◌++◌, IfOk, codes, decimal};
-ghost use Rattle.fossil.specs.Ingest as ingest;
+ghost use Rattle.fossil.specs.Printed as printing;
 ghost use Rattle.fossil.specs.Outcome.{printed_of, not_repository};
 ghost use Rattle.fossil.specs.Taking.{refused_as};
 
@@ -19,16 +19,16 @@ pub struct Answer {
 }
 
 impl Model for Answer {
-    ghost use Rattle.fossil.specs.Ingest.{Outcome};
+    ghost use Rattle.fossil.specs.Printed.{Printed};
 
-    ghost Value = { Outcome };
+    ghost Value = { Printed };
 
     ghost view = { λ a. record { status = a.status; text = a.text } };
 }
 
 /// A refusal for a reason.
 pub fn refusal(alloc: Global, reason: &[u8]) -> Result<Answer, Memory>
-    ensures { IfOk result (λ a. a ≡ ingest.refused reason.now) }
+    ensures { IfOk result (λ a. a ≡ printing.refused reason.now) }
 {
     let mut text = Text::of(alloc, b"refused: ")?;
     text.append(reason)?;
@@ -41,7 +41,7 @@ pub fn refusal(alloc: Global, reason: &[u8]) -> Result<Answer, Memory>
 
 /// A refusal for a reason that ends with some bytes.
 pub fn refusal_of(alloc: Global, reason: &[u8], bytes: &[u8]) -> Result<Answer, Memory>
-    ensures { IfOk result (λ a. a ≡ ingest.refused (reason.now ++ bytes.now)) }
+    ensures { IfOk result (λ a. a ≡ printing.refused (reason.now ++ bytes.now)) }
 {
     let mut whole = Text::of(alloc, reason)?;
     whole.append(bytes)?;
@@ -50,7 +50,7 @@ pub fn refusal_of(alloc: Global, reason: &[u8], bytes: &[u8]) -> Result<Answer, 
 
 /// A refusal for a reason that ends with a number.
 pub fn numbered_refusal(alloc: Global, reason: &[u8], number: u64) -> Result<Answer, Memory>
-    ensures { IfOk result (λ a. a ≡ ingest.refused (reason.now ++ decimal number)) }
+    ensures { IfOk result (λ a. a ≡ printing.refused (reason.now ++ decimal number)) }
 {
     let digits = number.to_string(alloc)?;
     refusal_of(alloc, reason, digits.as_bytes())
@@ -58,21 +58,21 @@ pub fn numbered_refusal(alloc: Global, reason: &[u8], number: u64) -> Result<Ans
 
 /// The refusal of the line with this number.
 pub fn bad_line(alloc: Global, line: u64) -> Result<Answer, Memory>
-    ensures { IfOk result (λ a. a ≡ ingest.bad_line line) }
+    ensures { IfOk result (λ a. a ≡ printing.bad_line line) }
 {
     numbered_refusal(alloc, b"line ", line)
 }
 
 /// The refusal of an input with more than 2^27 bytes.
 pub fn too_long(alloc: Global) -> Result<Answer, Memory>
-    ensures { IfOk result (λ a. a ≡ ingest.too_long) }
+    ensures { IfOk result (λ a. a ≡ printing.too_long) }
 {
     refusal(alloc, b"input too long")
 }
 
 /// The refusal of a file by its name and its size.
 fn too_large(alloc: Global, name: Name, size: u64) -> Result<Answer, Memory>
-    ensures { IfOk result (λ a. a ≡ ingest.too_large name size) }
+    ensures { IfOk result (λ a. a ≡ printing.too_large name size) }
 {
     let mut reason = Text::of(alloc, b"too large ")?;
     reason.append(name.text().as_slice())?;
@@ -82,7 +82,7 @@ fn too_large(alloc: Global, name: Name, size: u64) -> Result<Answer, Memory>
 
 /// The refusal of a file by the name that it was sent under and the name of its content.
 fn wrong_name(alloc: Global, name: Name, found: Name) -> Result<Answer, Memory>
-    ensures { IfOk result (λ a. a ≡ ingest.wrong (name, found)) }
+    ensures { IfOk result (λ a. a ≡ printing.wrong (name, found)) }
 {
     let mut reason = Text::of(alloc, b"wrong name ")?;
     reason.append(name.text().as_slice())?;

@@ -1,12 +1,10 @@
 //! `cat`: writes the content of an artifact.
-ghost use Rattle.std.specs.Prelude.{◌≡◌, ◌⊎◌, false};
 ghost use Rattle.fsl_blobs.specs.Fold.{contents};
 ghost use Rattle.fsl_query.specs.Reports.{content};
 ghost use Rattle.fsl_words.specs.declared.Command.TheVariants as command_of;
 ghost use Rattle.fsl_words.specs.declared.Question.TheVariants as question_of;
-ghost use Rattle.fossil.specs.Outcome.{IsCommandOutcome, answered};
-ghost use Rattle.fossil.specs.Run.{Stream, IsSaid, IsTold, out_of_memory, stream};
-ghost use Rattle.fossil.specs.Acts.{Runs};
+ghost use Rattle.fsl_outside.specs.Streams.{SourceState};
+ghost use Rattle.fossil.specs.Acts.{output_of, IsContentWritten, RunsCommand};
 
 use super::fault::Fault;
 use super::load::{load, not_loaded};
@@ -21,7 +19,7 @@ use std::alloc::Global;
 
 /// Writes the content of the one artifact whose name begins with the prefix, or that there is none, or several.
 fn write_content<K: Sink>(alloc: Global, blobs: &Blobs, prefix: &[u8], out: &mut K) -> u8
-    ensures { IsTold (answered (content (contents blobs.now.records) prefix.now)) result (stream (K.taken out.old) (K.taken out.new) (K.fault_count out.old) (K.fault_count out.new)) ⊎ ((result ≡ 9) × IsSaid (stream (K.taken out.old) (K.taken out.new) (K.fault_count out.old) (K.fault_count out.new)) out_of_memory) }
+    ensures { IsContentWritten (content (contents blobs.now.records) prefix.now) result (output_of (K.state out.old, K.state out.new)) }
 {
     match content(alloc, blobs, prefix) {
         Ok(bytes) => tell(out, DONE, bytes),
@@ -32,7 +30,8 @@ fn write_content<K: Sink>(alloc: Global, blobs: &Blobs, prefix: &[u8], out: &mut
 
 /// Loads the repository, and writes the content of the one artifact whose name begins with the prefix.
 pub fn cat<K: Sink, D: Disk>(alloc: Global, prefix: &[u8], out: &mut K, disk: &mut D) -> u8
-    ensures { (input : Stream) → Runs (IsCommandOutcome (command_of.Ask (question_of.Cat prefix.now))) false false input (stream (K.taken out.old) (K.taken out.new) (K.fault_count out.old) (K.fault_count out.new)) (D.state disk.old) (D.state disk.new) result }
+    ensures { (input : SourceState) → RunsCommand (command_of.Ask (question_of.Cat prefix.now)) (input, input)
+        (K.state out.old, K.state out.new) (D.state disk.old, D.state disk.new) result }
 {
     match load(alloc, disk) {
         Ok(loaded) => write_content(alloc, &loaded.blobs, prefix, out),

@@ -2,8 +2,7 @@
 ghost use Rattle.std.specs.Prelude.{◌≡◌, ◌≤◌, IfOk, IfErr};
 ghost use Rattle.fsl_artifact.specs.Kind.{IsKind};
 ghost use Rattle.fossil.specs.Ingest as ingest;
-ghost use Rattle.fossil.specs.Run.{stream};
-ghost use Rattle.fossil.specs.Acts.{IsIngestRun, IsUnread};
+ghost use Rattle.fossil.specs.Acts.{input_of, IsIngestRun, IsUnread};
 
 use super::answer::{Answer, bad_line, file_refusal, too_long};
 use super::fault::Fault;
@@ -37,8 +36,8 @@ fn answer_of(alloc: Global, message: &[u8]) -> Result<Answer, Memory>
 
 /// Reads a message of files into a fresh set, and answers its unclustered and wanted names.
 pub fn ingest<S: Source>(alloc: Global, input: &mut S) -> Result<Answer, Fault>
-    ensures ok { IfOk result (IsIngestRun (stream (S.left input.old) (S.left input.new) (S.fault_count input.old) (S.fault_count input.new))) }
-    ensures err { IfErr result (λ fault. IsUnread fault (stream (S.left input.old) (S.left input.new) (S.fault_count input.old) (S.fault_count input.new))) }
+    ensures ok { IfOk result (IsIngestRun (input_of (S.state input.old, S.state input.new))) }
+    ensures err { IfErr result (λ fault. IsUnread fault (input_of (S.state input.old, S.state input.new))) }
 {
     let Some(message) = read_input(alloc, input)? else {
         return Ok(too_long(alloc)?);

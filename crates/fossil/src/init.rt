@@ -1,8 +1,7 @@
 //! `init`: makes a new repository.
-ghost use Rattle.std.specs.Prelude.{ℕ, List, length, false, true, ◌≡◌};
 ghost use Rattle.fsl_record.specs.Records.{AreFields};
-ghost use Rattle.fossil.specs.Outcome.{Outcome, begun};
-ghost use Rattle.fossil.specs.Run.{Stream};
+ghost use Rattle.fsl_outside.specs.Streams.{SourceState};
+ghost use Rattle.fsl_words.specs.declared.Command.TheVariants as command_of;
 ghost use Rattle.fossil.specs.Acts.{Acts};
 
 use super::answer::{Answer, numbered_refusal};
@@ -17,7 +16,7 @@ use std::alloc::Global;
 /// Writes a new repository with this Config into an empty file. A file that isn't empty is refused.
 pub fn init<D: Disk>(alloc: Global, config: &Config, disk: &mut D) -> Result<Answer, Fault>
     requires { AreFields config.now.fields }
-    ensures { (input : Stream) → Acts (λ read bytes o. o ≡ begun config.now.project config.now.server config.now.fields (length bytes)) false true input (D.state disk.old) (D.state disk.new) result }
+    ensures { (input : SourceState) → Acts (command_of.Init config.now.project config.now.server config.now.fields) (input, input) (D.state disk.old, D.state disk.new) result }
 {
     match create(alloc, disk, config) {
         Ok(()) => Ok(Answer {

@@ -1,7 +1,6 @@
 //! Reads the input.
 ghost use Rattle.std.specs.Prelude.{IfOk, IfErr};
-ghost use Rattle.fossil.specs.Run.{stream};
-ghost use Rattle.fossil.specs.Acts.{IsInput, IsUnread};
+ghost use Rattle.fossil.specs.Acts.{input_of, IsInput, IsUnread};
 
 use super::fault::Fault;
 use fsl_outside::{ReadFault, Source, read_whole};
@@ -13,8 +12,8 @@ const LIMIT: usize = 1 << 27;
 
 /// Reads the input to its end, or gives `None` where it is too long.
 pub fn read_input<S: Source>(alloc: Global, input: &mut S) -> Result<Option<Text>, Fault>
-    ensures ok { IfOk result (IsInput (stream (S.left input.old) (S.left input.new) (S.fault_count input.old) (S.fault_count input.new))) }
-    ensures err { IfErr result (λ fault. IsUnread fault (stream (S.left input.old) (S.left input.new) (S.fault_count input.old) (S.fault_count input.new))) }
+    ensures ok { IfOk result (IsInput (input_of (S.state input.old, S.state input.new))) }
+    ensures err { IfErr result (λ fault. IsUnread fault (input_of (S.state input.old, S.state input.new))) }
 {
     match read_whole(alloc, input, LIMIT) {
         Ok(message) => Ok(message),

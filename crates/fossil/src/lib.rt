@@ -33,4 +33,4 @@ mod token;
 mod top;
 
 pub use status::NO_MEMORY;
-pub use top::{Ran, one_outcome, run};
+pub use top::{Ran, one_outcome, run, some_outcome};

@@ -1,5 +1,5 @@
 //! `put`: takes a message of files into the repository.
-ghost use Rattle.std.specs.Prelude.{◌≡◌, ℕ, List, None, IfOk, IfErr, OnOk, true, false};
+ghost use Rattle.std.specs.Prelude.{◌≡◌, ◌<◌, ℕ, List, length, None, IfOk, IfErr, OnOk};
 ghost use Rattle.fsl_order.specs.Causes.{Rose};
 ghost use Rattle.fsl_disk.specs.Disk.{IsModelled, Told, Keeps, LeavesOnly};
 ghost use Rattle.fsl_journal.specs.File.{IsFileOf};
@@ -7,9 +7,7 @@ ghost use Rattle.fsl_journal.specs.Journal.{Belongs};
 ghost use Rattle.fsl_journal.specs.Log.{BeforeOrAll};
 ghost use Rattle.fsl_words.specs.declared.Command.TheVariants as command_of;
 ghost use Rattle.fossil.specs.declared.fault.Fault.TheVariants as fault_is;
-ghost use Rattle.fossil.specs.Outcome.{IsCommandOutcome};
-ghost use Rattle.fossil.specs.Run.{stream};
-ghost use Rattle.fossil.specs.Acts.{IsMessagePut, IsPutRun, IsUnread, Acts};
+ghost use Rattle.fossil.specs.Acts.{input_of, IsMessagePut, IsPutRun, IsUnread, Acts};
 
 use super::answer::{Answer, bad_line, file_refusal, too_long};
 use super::fault::Fault;
@@ -48,8 +46,8 @@ fn take_message(alloc: Global, message: &[u8], loaded: &mut Loaded) -> Result<An
 fn take_input<S: Source>(alloc: Global, input: &mut S, loaded: &mut Loaded) -> Result<Answer, Fault>
     requires runs { loaded.old.journal.stopped ≡ None }
     requires same { loaded.old.blobs.records ≡ loaded.old.journal.records }
-    ensures ok { IfOk result (IsPutRun (stream (S.left input.old) (S.left input.new) (S.fault_count input.old) (S.fault_count input.new)) loaded.old loaded.new) }
-    ensures err { IfErr result (λ fault. IsUnread fault (stream (S.left input.old) (S.left input.new) (S.fault_count input.old) (S.fault_count input.new))) }
+    ensures ok { IfOk result (IsPutRun (input_of (S.state input.old, S.state input.new)) loaded.old loaded.new) }
+    ensures err { IfErr result (λ fault. IsUnread fault (input_of (S.state input.old, S.state input.new))) }
 {
     let Some(message) = read_input(alloc, input)? else {
         return Ok(too_long(alloc)?);
@@ -67,7 +65,11 @@ fn commit<D: Disk>(journal: &mut Journal, disk: &mut D) -> Result<(), Fault>
     ensures keeps { Keeps (D.state disk.old) (D.state disk.new) }
     ensures fault { IfErr result (λ fault. fault ≡ fault_is.Disk) }
     ensures cause { IfErr result (λ fault. Rose (D.state disk.old).faults (D.state disk.new).faults) }
+    ensures due { IfErr result (λ fault. journal.old.stable < length journal.old.records) }
 {
+    if journal.stable() == journal.count() {
+        return Ok(());
+    }
     match journal.commit(disk) {
         Ok(_) => Ok(()),
         Err(CommitFault::Disk) => Err(Fault::Disk),
@@ -77,7 +79,7 @@ fn commit<D: Disk>(journal: &mut Journal, disk: &mut D) -> Result<(), Fault>
 
 /// Takes a message of files into the repository: all of them in one commit, or none.
 pub fn put<S: Source, D: Disk>(alloc: Global, input: &mut S, disk: &mut D) -> Result<Answer, Fault>
-    ensures { Acts (IsCommandOutcome command_of.Put) true false (stream (S.left input.old) (S.left input.new) (S.fault_count input.old) (S.fault_count input.new)) (D.state disk.old) (D.state disk.new) result }
+    ensures { Acts command_of.Put (S.state input.old, S.state input.new) (D.state disk.old, D.state disk.new) result }
 {
     let mut loaded = match load(alloc, disk) {
         Ok(loaded) => loaded,

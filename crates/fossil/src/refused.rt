@@ -4,7 +4,7 @@ ghost use Rattle.std.specs.Option.{option_map};
 ghost use Rattle.fsl_record.specs.declared.Record.TheVariants as record_of;
 ghost use Rattle.fsl_record.specs.Records.{IsWritable};
 ghost use Rattle.fossil.specs.Files.{IsWithin, sent_in};
-ghost use Rattle.fossil.specs.Ingest.{file_refusal, first_refusal};
+ghost use Rattle.fossil.specs.Printed.{file_refusal, first_refusal};
 ghost use Rattle.fossil.specs.Taking.{refused_as, IsSound};
 
 use super::message::File;

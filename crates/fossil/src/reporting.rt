@@ -1,5 +1,5 @@
 //! Reports on what a repository holds.
-ghost use Rattle.std.specs.Prelude.{◌≡◌, List, IfOk, false};
+ghost use Rattle.std.specs.Prelude.{◌≡◌, List, IfOk};
 ghost use Rattle.fsl_blobs.specs.Fold.{contents};
 ghost use Rattle.fsl_record.specs.declared.Record.{Record};
 ghost use Rattle.fsl_words.specs.declared.Question.{Question};
@@ -8,9 +8,9 @@ ghost use Rattle.fsl_query.specs.Items.{AreItems};
 ghost use Rattle.fsl_query.specs.Refusals.{refusal_text};
 ghost use Rattle.fsl_query.specs.Reports.{configured};
 ghost use Rattle.fsl_words.specs.declared.Command.TheVariants as command_of;
-ghost use Rattle.fossil.specs.Ingest as ingest;
-ghost use Rattle.fossil.specs.Outcome.{IsAnswered, IsCommandOutcome, unchanged};
-ghost use Rattle.fossil.specs.Run.{Stream};
+ghost use Rattle.fossil.specs.Printed as printing;
+ghost use Rattle.fossil.specs.Outcome.{IsAnswered, without_commit};
+ghost use Rattle.fsl_outside.specs.Streams.{SourceState};
 ghost use Rattle.fossil.specs.Acts.{Acts};
 
 use super::answer::{Answer, refusal};
@@ -29,7 +29,7 @@ use std::alloc::Global;
 
 /// The refusal of a question.
 pub fn question_refusal(alloc: Global, refused: &Refused) -> Result<Answer, Memory>
-    ensures { IfOk result (λ a. a ≡ ingest.refused (refusal_text refused.now)) }
+    ensures { IfOk result (λ a. a ≡ printing.refused (refusal_text refused.now)) }
 {
     let reason = refusal_text(alloc, refused)?;
     refusal(alloc, reason.bytes())
@@ -46,7 +46,7 @@ fn tables_of(alloc: Global, blobs: &Blobs) -> Result<Tables, Memory>
 
 /// What is answered where a question found this: the report, or the reason why there is none.
 fn answer_of(alloc: Global, found: Result<Text, QueryFault>) -> Result<Answer, Memory>
-    ensures { (question : Question) (records : List Record) → IsReported (contents records) question found → IfOk result (λ a. IsAnswered question records (unchanged a)) }
+    ensures { (question : Question) (records : List Record) → IsReported (contents records) question found → IfOk result (λ a. IsAnswered question records (without_commit a)) }
 {
     match found {
         Ok(text) => Ok(Answer { status: DONE, text }),
@@ -57,7 +57,7 @@ fn answer_of(alloc: Global, found: Result<Text, QueryFault>) -> Result<Answer, M
 
 /// The report on a question, or the reason why there is none.
 fn report_on(alloc: Global, blobs: &Blobs, question: &Question) -> Result<Answer, Memory>
-    ensures { IfOk result (λ a. IsAnswered question.now blobs.now.records (unchanged a)) }
+    ensures { IfOk result (λ a. IsAnswered question.now blobs.now.records (without_commit a)) }
 {
     let tables = tables_of(alloc, blobs)?;
     answer_of(alloc, answer(alloc, blobs, &tables, question))
@@ -65,7 +65,7 @@ fn report_on(alloc: Global, blobs: &Blobs, question: &Question) -> Result<Answer
 
 /// Loads the repository, and answers with the report on a question.
 pub fn report<D: Disk>(alloc: Global, question: &Question, disk: &mut D) -> Result<Answer, Fault>
-    ensures { (input : Stream) → Acts (IsCommandOutcome (command_of.Ask question.now)) false false input (D.state disk.old) (D.state disk.new) result }
+    ensures { (input : SourceState) → Acts (command_of.Ask question.now) (input, input) (D.state disk.old, D.state disk.new) result }
 {
     match load(alloc, disk) {
         Ok(loaded) => made(report_on(alloc, &loaded.blobs, question)),

@@ -1,9 +1,9 @@
 //! Prints answers and the lines of faults.
 ghost use Rattle.std.specs.Prelude.{◌≡◌, Ok, IfOk, IfErr};
 ghost use Rattle.fossil.specs.declared.fault.Fault.TheVariants as fault_is;
-ghost use Rattle.fossil.specs.Outcome.{unchanged, usage};
-ghost use Rattle.fossil.specs.Run.{IsSaid, IsTold, stream};
-ghost use Rattle.fossil.specs.Acts.{fault_status, fault_line, IsPrinted};
+ghost use Rattle.fossil.specs.Outcome.{without_commit, usage};
+ghost use Rattle.fossil.specs.Run.{IsSaid, IsTold};
+ghost use Rattle.fossil.specs.Acts.{fault_status, fault_line, output_of, IsWritten};
 
 use super::answer::Answer;
 use super::fault::Fault;
@@ -14,7 +14,7 @@ use fsl_text::Memory;
 /// Writes the line of a status, which stays though the line may be cut off.
 pub fn say<K: Sink>(out: &mut K, status: u8, line: &[u8]) -> u8
     ensures status { result ≡ status }
-    ensures said { IsSaid (stream (K.taken out.old) (K.taken out.new) (K.fault_count out.old) (K.fault_count out.new)) line.now }
+    ensures said { IsSaid (output_of (K.state out.old, K.state out.new)) line.now }
 {
     let _ = write_whole(out, line);
     status
@@ -23,7 +23,7 @@ pub fn say<K: Sink>(out: &mut K, status: u8, line: &[u8]) -> u8
 /// Writes the text of an answer, and gives its status; where a report is cut off, its status is that of an output
 /// that failed.
 pub fn tell<K: Sink>(out: &mut K, status: u8, text: &[u8]) -> u8
-    ensures { IsTold (unchanged (record { status = status; text = text.now })) result (stream (K.taken out.old) (K.taken out.new) (K.fault_count out.old) (K.fault_count out.new)) }
+    ensures { IsTold (without_commit (record { status = status; text = text.now })) result (output_of (K.state out.old, K.state out.new)) }
 {
     match write_whole(out, text) {
         Ok(()) => status,
@@ -34,7 +34,7 @@ pub fn tell<K: Sink>(out: &mut K, status: u8, text: &[u8]) -> u8
 /// Writes the line of a fault, and gives its status.
 fn say_fault<K: Sink>(out: &mut K, fault: Fault) -> u8
     ensures status { result ≡ fault_status fault }
-    ensures said { IsSaid (stream (K.taken out.old) (K.taken out.new) (K.fault_count out.old) (K.fault_count out.new)) (fault_line fault) }
+    ensures said { IsSaid (output_of (K.state out.old, K.state out.new)) (fault_line fault) }
 {
     match fault {
         Fault::Disk => say(out, DISK_FAULT, b"disk fault\n"),
@@ -45,7 +45,7 @@ fn say_fault<K: Sink>(out: &mut K, fault: Fault) -> u8
 
 /// Prints an answer or the line of a fault, and gives the status.
 pub fn print<K: Sink>(out: &mut K, answer: Result<Answer, Fault>) -> u8
-    ensures { IsPrinted answer result (stream (K.taken out.old) (K.taken out.new) (K.fault_count out.old) (K.fault_count out.new)) }
+    ensures { IsWritten answer result (output_of (K.state out.old, K.state out.new)) }
 {
     match answer {
         Ok(answer) => tell(out, answer.status, answer.text.bytes()),
@@ -64,7 +64,7 @@ pub fn made(answer: Result<Answer, Memory>) -> Result<Answer, Fault>
 /// Writes how the program is called.
 pub fn say_usage<K: Sink>(out: &mut K) -> u8
     ensures status { result ≡ 1 }
-    ensures said { IsSaid (stream (K.taken out.old) (K.taken out.new) (K.fault_count out.old) (K.fault_count out.new)) usage.text }
+    ensures said { IsSaid (output_of (K.state out.old, K.state out.new)) usage.text }
 {
     say(out, USAGE, b"usage: fossil REPOSITORY COMMAND [WORDS]\n")
 }

@@ -1,12 +1,9 @@
 //! The program over whatever source, sink and disk it is handed.
-ghost use Rattle.std.specs.Prelude.{◌≡◌, ℕ, List, false, map, string_bytes};
-ghost use Rattle.fsl_order.specs.Causes.{Rose};
+ghost use Rattle.std.specs.Prelude.{◌≡◌, false, map, string_bytes};
 ghost use Rattle.fsl_artifact.specs.Kind.{IsKind, IsOneAtMost};
-ghost use Rattle.fsl_disk.specs.Disk.{IsModelled, Keeps, LeavesOnly};
-ghost use Rattle.fsl_words.specs.declared.Command.TheVariants as command_of;
-ghost use Rattle.fossil.specs.Outcome.{IsOutcome, IsCommandOutcome, HasOneOutcome};
-ghost use Rattle.fossil.specs.Run.{IsAnswer, IsReadToEnd, IsFileLeft, ByOutcome, StandsForSome, StandsForAll, reads_input, begins_empty, opens_file, command_reads, command_begins, command_opens, stream};
-ghost use Rattle.fossil.specs.Acts.{IsObeyable, Runs};
+ghost use Rattle.fossil.specs.Outcome.{HasOneOutcome, HasSomeOutcome};
+ghost use Rattle.fossil.specs.Run.{Runs, reads_input, opens_file, command_reads, command_opens};
+ghost use Rattle.fossil.specs.Acts.{IsObeyable, RunsCommand};
 
 use super::ask::ask;
 use super::fault::Fault;
@@ -36,7 +33,7 @@ fn obey<S: Source, K: Sink, D: Disk>(
     disk: &mut D,
 ) -> u8
     requires { IsObeyable command }
-    ensures runs { Runs (IsCommandOutcome command) (command_reads command) (command_begins command) (stream (S.left input.old) (S.left input.new) (S.fault_count input.old) (S.fault_count input.new)) (stream (K.taken out.old) (K.taken out.new) (K.fault_count out.old) (K.fault_count out.new)) (D.state disk.old) (D.state disk.new) result }
+    ensures runs { RunsCommand command (S.state input.old, S.state input.new) (K.state out.old, K.state out.new) (D.state disk.old, D.state disk.new) result }
     ensures unread { command_reads command ≡ false → input.new ≡ input.old }
     ensures untouched { command_opens command ≡ false → disk.new ≡ disk.old }
 {
@@ -67,7 +64,7 @@ fn run_words<S: Source, K: Sink, D: Disk>(
     out: &mut K,
     disk: &mut D,
 ) -> u8
-    ensures runs { Runs (IsOutcome (map string_bytes words.now)) (reads_input (map string_bytes words.now)) (begins_empty (map string_bytes words.now)) (stream (S.left input.old) (S.left input.new) (S.fault_count input.old) (S.fault_count input.new)) (stream (K.taken out.old) (K.taken out.new) (K.fault_count out.old) (K.fault_count out.new)) (D.state disk.old) (D.state disk.new) result }
+    ensures runs { Runs (map string_bytes words.now) (S.state input.old, S.state input.new) (K.state out.old, K.state out.new) (D.state disk.old, D.state disk.new) result }
     ensures unread { reads_input (map string_bytes words.now) ≡ false → input.new ≡ input.old }
     ensures untouched { opens_file (map string_bytes words.now) ≡ false → disk.new ≡ disk.old }
 {
@@ -94,16 +91,7 @@ pub fn run<S: Source, K: Sink, D: Disk>(
     out: &mut K,
     repo: D,
 ) -> Ran<D>
-    ensures answer { IsAnswer (map string_bytes words.now) (D.state repo).contents (D.state repo).faults (D.state result.repo).faults (stream (S.left input.old) (S.left input.new) (S.fault_count input.old) (S.fault_count input.new)) (stream (K.taken out.old) (K.taken out.new) (K.fault_count out.old) (K.fault_count out.new)) result.status }
-    ensures end { IsReadToEnd (map string_bytes words.now) result.status (stream (S.left input.old) (S.left input.new) (S.fault_count input.old) (S.fault_count input.new)) }
-    ensures file { IsFileLeft (map string_bytes words.now) (S.left input.old) (D.state repo) (D.state result.repo).contents result.status }
-    // At each moment of the run, and after it.
-    ensures any_moment { IsModelled (D.state repo) → ByOutcome (map string_bytes words.now) (S.left input.old) (D.state repo).contents (D.state repo).images (λ old commits. LeavesOnly (D.state repo) (D.state result.repo) (StandsForSome old commits)) }
-    ensures durable { result.status ≡ 0 → IsModelled (D.state repo) → ByOutcome (map string_bytes words.now) (S.left input.old) (D.state repo).contents (D.state repo).images (λ old commits. (c : List ℕ) → (D.state result.repo).images c → StandsForAll old commits c) }
-    ensures keeps { Keeps (D.state repo) (D.state result.repo) }
-    ensures disk_fault { result.status ≡ 4 → Rose (D.state repo).faults (D.state result.repo).faults }
-    ensures input_fault { result.status ≡ 5 → Rose (S.fault_count input.old) (S.fault_count input.new) }
-    ensures output_fault { result.status ≡ 6 → Rose (K.fault_count out.old) (K.fault_count out.new) }
+    ensures runs { Runs (map string_bytes words.now) (S.state input.old, S.state input.new) (K.state out.old, K.state out.new) (D.state repo, D.state result.repo) result.status }
     ensures unread { reads_input (map string_bytes words.now) ≡ false → input.new ≡ input.old }
     ensures untouched { opens_file (map string_bytes words.now) ≡ false → result.repo ≡ repo }
 {
@@ -116,4 +104,9 @@ pub fn run<S: Source, K: Sink, D: Disk>(
 pub fn one_outcome()
     ensures kinds { IsOneAtMost IsKind }
     ensures outcome { HasOneOutcome }
+{}
+
+/// A law and no code: words, an input and a file have an outcome.
+pub fn some_outcome()
+    ensures { HasSomeOutcome }
 {}

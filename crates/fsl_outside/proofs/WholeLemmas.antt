@@ -1,7 +1,6 @@
 -- Facts on what is read and written as a whole.
-use Rattle.std.proofs.Common.{◌≡◌, ◌≤◌, ℕ, ◌-◌, ◌<◌, List, ◌++◌, length, take, drop, Option, Some, None, refl, sym, ap, ◌∙◌, arith, append_assoc, length-append}
-use Rattle.std.specs.Prelude.{IfSome}
-use Rattle.std.specs.Io.KnownBytes.{Appends, Consumes, Keeps}
+use Rattle.std.proofs.Common.{◌≡◌, ◌≤◌, ℕ, ◌-◌, List, ◌++◌, length, take, drop, Option, Some, None, sym, ap, ◌∙◌, append_assoc}
+use Rattle.std.specs.Io.KnownBytes.{Appends, Consumes}
 use Rattle.std.proofs.lemmas.List.{take-append-drop, take_rest}
 
 -- the text is what was taken, and the rest
@@ -40,32 +39,3 @@ write_more old mid new text rest n w p = record {
       ∙ ap (λ (l : List ℕ). (w.front ++ take n rest) ++ l) (sym (take_rest rest n));
   taken = Appends-twice old mid new w.front (take n rest) w.taken p;
 }
-
--- what was read is no more than what was left
-pub Consumes-longer : (old new : Option (List ℕ)) (text : List ℕ) (limit : ℕ) → Consumes old new text → limit < length text → IfSome old (λ bytes. limit < length bytes)
-Consumes-longer None new text limit p lt = tt
-Consumes-longer (Some xs) None text limit p lt = absurd p
-Consumes-longer (Some xs) (Some ys) text limit p lt = let sum = ap length p ∙ length-append text ys in omega (arith, lt, sum)
-
--- what a call that failed kept is what the next one begins with
-pub Keeps-first : (old : Option (List ℕ)) → Keeps old old
-Keeps-first None = tt
-Keeps-first (Some xs) = refl
-
-pub Keeps-twice : (old mid new : Option (List ℕ)) → Keeps old mid → Keeps mid new → Keeps old new
-Keeps-twice None mid new p q = tt
-Keeps-twice (Some xs) None new p q = absurd p
-Keeps-twice (Some xs) (Some ys) None p q = absurd q
-Keeps-twice (Some xs) (Some ys) (Some zs) p q = q ∙ p
-
-pub Keeps-Consumes : (old mid new : Option (List ℕ)) (bs : List ℕ) → Keeps old mid → Consumes mid new bs → Consumes old new bs
-Keeps-Consumes None mid new bs p q = tt
-Keeps-Consumes (Some xs) None new bs p q = absurd p
-Keeps-Consumes (Some xs) (Some ys) None bs p q = absurd q
-Keeps-Consumes (Some xs) (Some ys) (Some zs) bs p q = sym p ∙ q
-
-pub Keeps-Appends : (old mid new : Option (List ℕ)) (bs : List ℕ) → Keeps old mid → Appends mid new bs → Appends old new bs
-Keeps-Appends None mid new bs p q = tt
-Keeps-Appends (Some xs) None new bs p q = absurd p
-Keeps-Appends (Some xs) (Some ys) None bs p q = absurd q
-Keeps-Appends (Some xs) (Some ys) (Some zs) bs p q = q ∙ ap (λ (l : List ℕ). l ++ bs) p

@@ -1,3 +1,4 @@
 pub mod Adapted
 pub mod Memory
+pub mod Streams
 pub mod Whole

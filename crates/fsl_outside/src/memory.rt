@@ -46,9 +46,7 @@ impl MemorySource {
 }
 
 impl Source for MemorySource {
-    ghost left = { λ s. Some s.left };
-
-    ghost fault_count = { λ s. s.faults };
+    ghost state = { λ s. record { left = Some s.left; faults = s.faults } };
 
     fn faults(&self) -> u64 {
         self.faults
@@ -124,9 +122,7 @@ impl MemorySink {
 }
 
 impl Sink for MemorySink {
-    ghost taken = { λ s. Some s.taken };
-
-    ghost fault_count = { λ s. s.faults };
+    ghost state = { λ s. record { taken = Some s.taken; faults = s.faults } };
 
     fn faults(&self) -> u64 {
         self.faults

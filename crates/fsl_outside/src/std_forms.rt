@@ -48,9 +48,7 @@ impl<R: Read> StdSource<R> {
 }
 
 impl<R: Read> Source for StdSource<R> {
-    ghost left = { λ s. option_and_then R.remaining s.inner };
-
-    ghost fault_count = { λ s. s.faults };
+    ghost state = { λ s. record { left = option_and_then R.remaining s.inner; faults = s.faults } };
 
     fn faults(&self) -> u64 {
         self.faults
@@ -130,9 +128,7 @@ impl<W: Write> StdSink<W> {
 }
 
 impl<W: Write> Sink for StdSink<W> {
-    ghost taken = { λ s. option_and_then W.contents s.inner };
-
-    ghost fault_count = { λ s. s.faults };
+    ghost state = { λ s. record { taken = option_and_then W.contents s.inner; faults = s.faults } };
 
     fn faults(&self) -> u64 {
         self.faults

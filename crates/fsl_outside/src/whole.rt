@@ -27,13 +27,13 @@ pub fn read_whole<S: Source>(
     source: &mut S,
     limit: usize,
 ) -> Result<Option<Text>, ReadFault>
-    ensures whole { IfOk result (λ r. IfSome r (λ text. Consumes (S.left source.old) (S.left source.new) text)) }
-    ensures end { IfOk result (λ r. IfSome r (λ _. IsAtEnd (S.left source.new))) }
+    ensures whole { IfOk result (λ r. IfSome r (λ text. Consumes (S.state source.old).left (S.state source.new).left text)) }
+    ensures end { IfOk result (λ r. IfSome r (λ _. IsAtEnd (S.state source.new).left)) }
     ensures within { IfOk result (λ r. IfSome r (λ text. length text ≤ limit)) }
-    ensures long { IfOk result (λ r. IfNone r (ConsumesMore limit (S.left source.old) (S.left source.new))) }
-    ensures lost { OnErr result (ConsumesSome (S.left source.old) (S.left source.new)) }
-    ensures cause { IfErr result (FailsBy (S.fault_count source.old) (S.fault_count source.new)) }
-    ensures same { OnOk result (S.fault_count source.new ≡ S.fault_count source.old) }
+    ensures long { IfOk result (λ r. IfNone r (ConsumesMore limit (S.state source.old).left (S.state source.new).left)) }
+    ensures lost { OnErr result (ConsumesSome (S.state source.old).left (S.state source.new).left) }
+    ensures cause { IfErr result (FailsBy (S.state source.old).faults (S.state source.new).faults) }
+    ensures same { OnOk result ((S.state source.new).faults ≡ (S.state source.old).faults) }
 {
     let mut text = Vec::new(alloc);
     let mut piece = [0u8; PIECE];
@@ -56,9 +56,9 @@ pub fn read_whole<S: Source>(
 
 /// Writes all of the text. After a failure a front of it was taken.
 pub fn write_whole<K: Sink>(sink: &mut K, text: &[u8]) -> Result<(), Failed>
-    ensures ok { OnOk result (Appends (K.taken sink.old) (K.taken sink.new) text.now) }
-    ensures err { OnErr result (AppendsFront (K.taken sink.old) (K.taken sink.new) text.now) }
-    ensures cause { HasCause (K.fault_count sink.old) (K.fault_count sink.new) result }
+    ensures ok { OnOk result (Appends (K.state sink.old).taken (K.state sink.new).taken text.now) }
+    ensures err { OnErr result (AppendsFront (K.state sink.old).taken (K.state sink.new).taken text.now) }
+    ensures cause { HasCause (K.state sink.old).faults (K.state sink.new).faults result }
 {
     let mut rest = text;
     while !rest.is_empty() {

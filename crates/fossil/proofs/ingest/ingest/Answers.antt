@@ -1,8 +1,8 @@
-use Rattle.fossil.specs.Run.{stream}
+use Rattle.fossil.specs.Acts.{input_of}
 use Rattle.fossil.proofs.AnswerLemmas.{ingest_run}
 use Rattle.fossil.proofs.ingest.ingest.Goals as goal
 
 pub returns-clause-ok : goal.returns-clause-ok
 returns-clause-ok g c =
-    ingest_run (stream (g.S.Source.left c.args.input.now) (g.S.Source.left c.read_input.new.input) (g.S.Source.fault_count c.args.input.now) (g.S.Source.fault_count c.read_input.new.input)) c.in_ok-message.field-0 c.in-Some.message
+    ingest_run (input_of (g.S.Source.state c.args.input.now, g.S.Source.state c.read_input.new.input)) c.in_ok-message.field-0 c.in-Some.message
     c.bytes.result.now c.in_ok-answer_of.field-0 c.in_ok-message.ensures.ok c.in-Some.is c.bytes.ensures c.in_ok-answer_of.ensures

@@ -1,6 +1,6 @@
 use Rattle.std.proofs.Common.{◌≡◌, map, take, drop, All}
 use Rattle.fossil.specs.Files.{sent_in}
-use Rattle.fossil.specs.Ingest.{first_refusal}
+use Rattle.fossil.specs.Printed.{first_refusal}
 use Rattle.fossil.specs.Taking.{IsSound}
 use Rattle.fossil.proofs.refused.first_refused.Given as goal
 

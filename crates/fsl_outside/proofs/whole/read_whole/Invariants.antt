@@ -3,5 +3,5 @@ use Rattle.fsl_outside.proofs.whole.read_whole.Given as goal
 
 abbrev pub invariant-loop : goal.invariant-loop
 invariant-loop g l =
-    IsReadTo (g.S.Source.left l.fn.source) (g.S.Source.left l.source) (g.S.Source.fault_count l.fn.source) (g.S.Source.fault_count l.source)
+    IsReadTo (g.S.Source.state l.fn.source).left (g.S.Source.state l.source).left (g.S.Source.state l.fn.source).faults (g.S.Source.state l.source).faults
     l.counter l.limit l.text.items

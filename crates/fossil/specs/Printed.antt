@@ -1,0 +1,44 @@
+-- What is printed: a status and a text, and the refusals among them.
+use Rattle.std.specs.Prelude.{ℕ, ◌^◌, nat_lt, List, [], ◌∷◌, ◌++◌, length, filter_map, slice_get, Option, Some, None, if◌then◌else◌, codes, decimal}
+use Rattle.std.specs.Str.{bytes_eq}
+use Rattle.fsl_name.specs.Name.{name_of, name_text}
+use Rattle.fossil.specs.Sets.{Sent}
+
+-- the status, and the text that is written
+pub record Printed : Type 0 where
+  pub status : ℕ
+  pub text : List ℕ
+
+-- words outside the grammar
+abbrev pub usage : Printed
+usage = record { status = 1; text = codes "usage: fossil REPOSITORY COMMAND [WORDS]" ++ 10 ∷ [] }
+
+-- a refusal for a reason
+abbrev pub refused : List ℕ → Printed
+refused text = record { status = 3; text = codes "refused: " ++ text ++ 10 ∷ [] }
+
+-- an input of more than 2^27 bytes
+abbrev pub too_long : Printed
+too_long = refused (codes "input too long")
+
+-- a line that doesn't read, by its number
+abbrev pub bad_line : ℕ → Printed
+bad_line n = refused (codes "line " ++ decimal n)
+
+-- a file that was sent under a wrong name, by this and the name of its bytes
+abbrev pub wrong : List ℕ × List ℕ → Printed
+wrong names = refused (codes "wrong name " ++ name_text names.0 ++ 32 ∷ name_text names.1)
+
+-- a file of more than 2^24 bytes, by its name and its size
+abbrev pub too_large : List ℕ → ℕ → Printed
+too_large name size = refused (codes "too large " ++ name_text name ++ 32 ∷ decimal size)
+
+-- what is refused of a file: first that it is too large, then that its name is wrong
+abbrev pub file_refusal : Sent → Option Printed
+file_refusal f =
+    if nat_lt (2 ^ 24) (length f.bytes) then Some (too_large f.name (length f.bytes))
+    else (if bytes_eq f.name (name_of f.bytes) then None else Some (wrong (f.name, name_of f.bytes)))
+
+-- the refusal of the first file that is refused
+abbrev pub first_refusal : List Sent → Option Printed
+first_refusal files = slice_get (filter_map file_refusal files) 0
