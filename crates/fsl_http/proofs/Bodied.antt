@@ -2,9 +2,9 @@
 use Rattle.std.proofs.Common.{◌≡◌, ℕ, ◌+◌, ◌<◌, ◌≤◌, List, [], ◌++◌, length, take, drop, Option, refl, sym, ap, subst, ◌∙◌, arith, append_assoc, append-nil, length-append}
 use Rattle.std.proofs.lemmas.List.{take-append-drop, length-take-le}
 use Rattle.std.proofs.Math.ListN.{drop_of_length-le}
-use Rattle.fsl_outside.specs.Connections.{Connection, Between, IsRead}
+use Rattle.fsl_outside.specs.Connections.{Connection, IsRead}
 use Rattle.fsl_http.specs.Reading.{IsPiece}
-use Rattle.fsl_http.specs.Bodies.{IsBodyNeeded, IsBehind, IsBodyTo, IsBody, ReadsBody}
+use Rattle.fsl_http.specs.Bodies.{IsBehind, IsBodyTo, IsBody, ReadsBody}
 use Rattle.fsl_http.proofs.Steps.{Between-twice, Between-map, reads_nothing, read_twice, read_piece_more}
 
 -- the body at its start

@@ -1,7 +1,7 @@
 -- Facts on one exchange.
 use Rattle.std.proofs.Common.{◌≡◌, ℕ, List, [], ◌++◌, Option, Some, None, Result, sym, ap, subst, ◌∙◌, inr, append-nil}
 use Rattle.std.specs.Prelude.{IfSome}
-use Rattle.fsl_outside.specs.Connections.{Connection, Standing, LinkState, Between, HasBegun, IsTold, listed}
+use Rattle.fsl_outside.specs.Connections.{Connection, Standing, LinkState, Between, HasBegun, IsTold}
 use Rattle.fsl_outside.specs.Accepts.{Begins}
 use Rattle.fsl_http.specs.declared.client.ExchangeFault.{ExchangeFault}
 use Rattle.fsl_http.specs.Sending.{Sends, SendsFront}

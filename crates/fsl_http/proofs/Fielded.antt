@@ -1,6 +1,6 @@
 -- Facts on the fields of a head.
 use Rattle.std.proofs.Common.{◌≡◌, ℕ, List, [], ◌∷◌, sym, ap, ◌∙◌}
-use Rattle.std.specs.Prelude.{codes, Result, Ok, Err}
+use Rattle.std.specs.Prelude.{codes}
 use Rattle.httparse.specs.declared.spans.HeaderSpan.{HeaderSpan}
 use Rattle.fsl_http.specs.declared.request_head.Verdict.TheVariants.{Refuse}
 use Rattle.fsl_http.specs.Fields.{values_of}

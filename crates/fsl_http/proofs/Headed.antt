@@ -1,7 +1,7 @@
 -- Facts on what is read of a head, piece after piece.
-use Rattle.std.proofs.Common.{◌≡◌, ℕ, ◌+◌, ◌<◌, ◌≤◌, List, [], ◌++◌, length, drop, Option, refl, sym, ap, subst, ◌∙◌, arith, append-nil, length-append}
+use Rattle.std.proofs.Common.{◌≡◌, ℕ, ◌<◌, ◌≤◌, List, [], ◌++◌, length, drop, Option, refl, sym, ap, subst, ◌∙◌, arith, append-nil, length-append}
 use Rattle.std.specs.Prelude.{◌≢◌}
-use Rattle.httparse.specs.Grammar.{RequestHead, ResponseHead, print_request, print_response}
+use Rattle.httparse.specs.Grammar.{print_request, print_response}
 use Rattle.fsl_outside.specs.Connections.{Connection, Between, IsRead}
 use Rattle.fsl_http.specs.declared.limits.TheConstants.{HEAD_LIMIT}
 use Rattle.fsl_http.specs.declared.head.Front.{Front}

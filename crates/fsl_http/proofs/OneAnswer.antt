@@ -4,9 +4,8 @@ use Rattle.std.proofs.lemmas.List.{take_at}
 use Rattle.httparse.specs.Grammar.{RequestHead, print_blank}
 use Rattle.httparse.proofs.GrammarLemmas.{request_unique, print_request-append}
 use Rattle.fsl_http.specs.declared.request_head.Verdict.TheVariants.{Refuse, Length}
-use Rattle.fsl_http.specs.declared.request.Asked.{Asked}
 use Rattle.fsl_http.specs.declared.request.Asked.TheVariants.{Closed, Refused, Body}
-use Rattle.fsl_http.specs.Requests.{IsHead, IsWhole, Refuses, Answers, judge, HasOneAnswer}
+use Rattle.fsl_http.specs.Requests.{IsHead, IsWhole, Refuses, judge, HasOneAnswer}
 
 same : (bytes r q : List ℕ) (h k : RequestHead) → IsHead bytes h r → IsHead bytes k q → (h ≡ k) × (r ≡ q)
 same bytes r q h k a b = request_unique bytes h k r q a.reads b.reads

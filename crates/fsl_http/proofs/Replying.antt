@@ -103,8 +103,13 @@ reply_needed bytes (m ∷ more) len head good fits first is needed = record {
   last = needed.last;
   few = needed.few;
   whole = ap (λ (t : List ℕ). bytes ++ t) needed.whole ∙ sym (append_assoc bytes needed.before needed.last);
-  unsettled = inr (is.head, _, head.size, reply_append bytes needed.before (drop len bytes) is.head head.size is.reads,
-    (is.code_is ∙ good, fits, needed.short (filled m more)));
+  unsettled = inr (
+    is.head,
+    _,
+    head.size,
+    reply_append bytes needed.before (drop len bytes) is.head head.size is.reads,
+    (is.code_is ∙ good, fits, needed.short (filled m more)),
+  );
 }
 
 whole_reply : (bytes more after text : List ℕ) (len : ℕ) (head : ReplyHead) → head.code ≡ 200 → head.size ≤ BODY_LIMIT → length text ≡ head.size → IsWholeReply bytes len head

@@ -34,10 +34,7 @@ pub trait Head: Copy {
 }
 
 /// Reads until a head stands in the bytes, or can't. `Open` means that they end before.
-pub fn read_head<L: Link, H: Head>(
-    link: &mut L,
-    bytes: &mut Vec<u8>,
-) -> Result<Front<H>, HttpFault>
+pub fn read_head<L: Link, H: Head>(link: &mut L, bytes: &mut Vec<u8>) -> Result<Front<H>, HttpFault>
     requires { bytes.old.items ≡ [] }
     ensures ok { IfOk result (ReadsHead H.begins H.lacks (L.state link.old).present (L.state link.new).present bytes.new.items) }
     ensures whole { IfOk result (HasWhole H.begins bytes.new.items) }
