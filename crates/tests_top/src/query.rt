@@ -37,7 +37,6 @@ fn blobs(alloc: Global) -> Result<Blobs, Memory> {
 
 #[test]
 fn lends_a_content(rt: HostRuntime) -> Result<(), Fail> {
-    prints_moments();
     let blobs = blobs(rt.alloc())?;
     assert!(rt; matches!(content(rt.alloc(), &blobs, b"a9993"), Ok(b"abc")));
     Ok(())
