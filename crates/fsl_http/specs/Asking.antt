@@ -1,7 +1,7 @@
 -- What is said of a connection whose request was read.
 use Rattle.std.specs.Prelude.{◌≡◌, ℕ, ◌≤◌, ◌⊎◌, List, [], ◌∷◌, ◌++◌, length, Option, nat_lt, if◌then◌else◌, ⊤}
 use Rattle.fsl_outside.specs.Connections.{Connection, Between, IsRead}
-use Rattle.fsl_http.specs.declared.limits.TheConstants.{BODY_LIMIT, PIECE}
+use Rattle.fsl_http.specs.Limits.{most_body, most_piece}
 use Rattle.fsl_http.specs.declared.request.Asked.{Asked}
 use Rattle.fsl_http.specs.declared.request.Asked.TheVariants.{Closed, Refused, Body}
 use Rattle.fsl_http.specs.Replies.{IsStatus}
@@ -11,7 +11,7 @@ use Rattle.fsl_http.specs.Requests.{HasNoHead, IsShort, Answers, RestsOnEnd}
 pub record IsNeeded (bytes : List ℕ) : Type 0 where
   pub front : List ℕ
   pub last : List ℕ
-  pub few : length last ≤ PIECE
+  pub few : length last ≤ most_piece
   pub whole : bytes ≡ front ++ last
   pub unsettled : HasNoHead front ⊎ IsShort front
 
@@ -34,7 +34,7 @@ IsAsked old new a = Between old new (λ c d. IsAnswered c d a)
 abbrev pub IsListedAnswer : Asked → Type 0
 IsListedAnswer Closed = ⊤
 IsListedAnswer (Refused status) = IsStatus status
-IsListedAnswer (Body body) = length body ≤ BODY_LIMIT
+IsListedAnswer (Body body) = length body ≤ most_body
 
 -- the answer where bytes without a whole head are all
 abbrev pub ended_answer : List ℕ → Asked

@@ -2,7 +2,7 @@
 -- the front and says that, `lacks bytes` that none stands there.
 use Rattle.std.specs.Prelude.{◌≡◌, ◌≢◌, ℕ, ◌<◌, ◌≤◌, List, [], ◌++◌, length, Option, ⊤}
 use Rattle.fsl_outside.specs.Connections.{Connection, Between, IsRead}
-use Rattle.fsl_http.specs.declared.limits.TheConstants.{HEAD_LIMIT, PIECE}
+use Rattle.fsl_http.specs.Limits.{most_head, most_piece}
 use Rattle.fsl_http.specs.declared.head.Front.{Front}
 use Rattle.fsl_http.specs.declared.head.Front.TheVariants as front
 
@@ -14,7 +14,7 @@ Never lacks bytes = (more : List ℕ) → lacks (bytes ++ more)
 abbrev pub IsFront : {H : Type 0} → (List ℕ → ℕ → H → Type 0) → (List ℕ → Type 0) → List ℕ → Front H → Type 0
 IsFront begins lacks bytes (front.Whole len head) = begins bytes len head × (len ≤ length bytes)
 IsFront begins lacks bytes front.Never = Never lacks bytes
-IsFront begins lacks bytes front.Open = lacks bytes × (length bytes < HEAD_LIMIT)
+IsFront begins lacks bytes front.Open = lacks bytes × (length bytes < most_head)
 
 -- where there is a whole head, it stands in the bytes
 abbrev pub HasWhole : {H : Type 0} → (List ℕ → ℕ → H → Type 0) → List ℕ → Front H → Type 0
@@ -26,7 +26,7 @@ HasWhole begins bytes front.Open = ⊤
 pub record IsHeadNeeded (lacks : List ℕ → Type 0) (bytes : List ℕ) : Type 0 where
   pub front : List ℕ
   pub last : List ℕ
-  pub few : length last ≤ PIECE
+  pub few : length last ≤ most_piece
   pub whole : bytes ≡ front ++ last
   pub none : front ≢ [] → lacks front
 
@@ -35,7 +35,7 @@ pub record IsHeadReadTo (lacks : List ℕ → Type 0) (old now : Option Connecti
   pub moved : Between old now (λ c d. IsRead c d bytes)
   pub none : bytes ≢ [] → lacks bytes
   pub needed : IsHeadNeeded lacks bytes
-  pub fits : length bytes < HEAD_LIMIT
+  pub fits : length bytes < most_head
 
 -- what was read up to a head, up to where there can be none, or up to the end
 abbrev pub IsHeadOf : {H : Type 0} → (List ℕ → ℕ → H → Type 0) → (List ℕ → Type 0) → List ℕ → Connection → Front H → Type 0

@@ -1,5 +1,5 @@
 ghost use Rattle.std.specs.Prelude.{◌≡◌, ◌≤◌, ℕ, List, [], length, IfOk, IfErr, OnOk};
-ghost use Rattle.fsl_http.specs.declared.limits.TheConstants.{HEAD_LIMIT};
+ghost use Rattle.fsl_http.specs.Limits.{most_head};
 ghost use Rattle.fsl_http.specs.Heads.{IsFront, HasWhole, ReadsHead};
 ghost use Rattle.fsl_http.specs.Reading.{SendsNothing, FailsBy, Breaks};
 
@@ -29,7 +29,7 @@ pub trait Head: Copy {
 
     /// What stands at the front of the bytes.
     fn front_of(bytes: &[u8]) -> Front<Self>
-        requires { length bytes.now ≤ HEAD_LIMIT }
+        requires { length bytes.now ≤ most_head }
         ensures { IsFront begins lacks bytes.now result };
 }
 
