@@ -5,15 +5,16 @@ use Rattle.fsl_http.specs.Limits.{most_body, most_piece}
 use Rattle.fsl_http.specs.declared.request.Asked.{Asked}
 use Rattle.fsl_http.specs.declared.request.Asked.TheVariants.{Closed, Refused, Body}
 use Rattle.fsl_http.specs.Replies.{IsStatus}
-use Rattle.fsl_http.specs.Requests.{HasNoHead, IsShort, Answers, RestsOnEnd}
+use Rattle.fsl_http.specs.Requests.{IsUnfinished, IsShort, Answers, RestsOnEnd}
 
--- Before the last read the bytes had no whole head, or no whole body: all but the last bytes, at most as many as one read brings, leave the answer open.
+-- Before the last read the answer was open: all but the last bytes, at most as many as one read brings, are none, may become
+-- a head, or are a head with too few bytes behind it.
 pub record IsNeeded (bytes : List ℕ) : Type 0 where
   pub front : List ℕ
   pub last : List ℕ
   pub few : length last ≤ most_piece
   pub whole : bytes ≡ front ++ last
-  pub unsettled : HasNoHead front ⊎ IsShort front
+  pub unsettled : (front ≡ []) ⊎ (IsUnfinished front ⊎ IsShort front)
 
 -- bytes that were read have this answer, and keep it: nothing is left, or whatever follows changes nothing
 abbrev pub Decides : List ℕ → List ℕ → Asked → Type 0

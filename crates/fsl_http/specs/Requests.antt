@@ -1,6 +1,6 @@
 -- What the bytes of a connection ask, as one request.
 use Rattle.std.specs.Prelude.{◌≡◌, ◌≢◌, ℕ, ◌<◌, ◌≤◌, ◌⊎◌, Bool, ◌||◌, not, List, [], ◌∷◌, ◌++◌, length, map, drop, if◌then◌else◌, nat_lt, bytes_eq, codes, false, ⊤, Result, Ok, Err}
-use Rattle.httparse.specs.Grammar.{RequestHead, ReadsRequest, print_request, trim_ows}
+use Rattle.httparse.specs.Grammar.{RequestHead, ReadsRequest, MayBecomeRequest, print_request, trim_ows}
 use Rattle.httparse.specs.Spans.{name_and_value}
 use Rattle.fsl_text.specs.Decimals.{decimal_of}
 use Rattle.fsl_text.specs.declared.fault.DecimalFault.{DecimalFault}
@@ -23,6 +23,12 @@ pub record IsHead (bytes : List ℕ) (h : RequestHead) (rest : List ℕ) : Type 
 -- no head within the limits stands at the front
 abbrev pub HasNoHead : List ℕ → Type 0
 HasNoHead bytes = (h : RequestHead) (rest : List ℕ) → IsHead bytes h rest → ⊥
+
+-- no head so far, and more bytes may make one within the limit
+pub record IsUnfinished (bytes : List ℕ) : Type 0 where
+  pub none : HasNoHead bytes
+  pub may : MayBecomeRequest bytes
+  pub fits : length bytes < most_head
 
 -- a content type that is, up to a semicolon, without blanks around it and but for the case of letters, that of a message
 abbrev pub is_message_text : List ℕ → Bool

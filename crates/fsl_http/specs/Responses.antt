@@ -1,7 +1,7 @@
 -- What a client sends in one exchange, and what the bytes of a connection are to it as a reply.
 use Rattle.std.specs.Prelude.{◌≡◌, ◌≢◌, ℕ, ◌<◌, ◌≤◌, ◌⊎◌, List, [], ◌∷◌, ◌++◌, length, map, codes, decimal, Ok}
 use Rattle.std.specs.List.{concat}
-use Rattle.httparse.specs.Grammar.{ResponseHead, ReadsResponse, print_response, status_code}
+use Rattle.httparse.specs.Grammar.{ResponseHead, ReadsResponse, MayBecomeResponse, print_response, status_code}
 use Rattle.httparse.specs.Spans.{name_and_value}
 use Rattle.fsl_text.specs.Decimals.{decimal_of}
 use Rattle.fsl_outside.specs.Connections.{Connection}
@@ -31,6 +31,12 @@ pub record IsReply (bytes : List ℕ) (h : ResponseHead) (rest : List ℕ) (size
 
 abbrev pub HasNoReply : List ℕ → Type 0
 HasNoReply bytes = (h : ResponseHead) (rest : List ℕ) (size : ℕ) → IsReply bytes h rest size → ⊥
+
+-- no head so far, and more bytes may make one within the limit
+pub record IsUnfinishedReply (bytes : List ℕ) : Type 0 where
+  pub none : HasNoReply bytes
+  pub may : MayBecomeResponse bytes
+  pub fits : length bytes < most_head
 
 abbrev pub WithReply : List ℕ → (ResponseHead → List ℕ → ℕ → Type 0) → Type 0
 WithReply bytes P = (h : ResponseHead) × (rest : List ℕ) × (size : ℕ) × IsReply bytes h rest size × P h rest size
@@ -62,13 +68,14 @@ Settles bytes left r = Gives bytes r × ((left ≡ []) ⊎ ((more : List ℕ) �
 abbrev pub IsShortReply : List ℕ → Type 0
 IsShortReply bytes = WithReply bytes (λ h rest size. (status_code h ≡ 200) × (size ≤ most_body) × (length rest < size))
 
--- before the last read the reply wasn't settled: all but the last bytes, at most as many as one read brings, are no reply, or one that is too short
+-- before the last read the reply wasn't settled: all but the last bytes, at most as many as one read brings, are none, may
+-- become a head, or are a reply that is too short
 pub record IsReplyNeeded (bytes : List ℕ) : Type 0 where
   pub front : List ℕ
   pub last : List ℕ
   pub few : length last ≤ most_piece
   pub whole : bytes ≡ front ++ last
-  pub unsettled : HasNoReply front ⊎ IsShortReply front
+  pub unsettled : (front ≡ []) ⊎ (IsUnfinishedReply front ⊎ IsShortReply front)
 
 -- a connection on which one exchange was made: it took the request, the bytes that were read are the reply and no more than it needs, and no call failed
 pub record IsExchanged (c : Connection) (text : List ℕ) (r : Exchanged) : Type 0 where
