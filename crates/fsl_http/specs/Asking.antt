@@ -1,19 +1,20 @@
 -- What is said of a connection whose request was read.
 use Rattle.std.specs.Prelude.{◌≡◌, ℕ, ◌≤◌, ◌⊎◌, List, [], ◌∷◌, ◌++◌, length, Option, nat_lt, if◌then◌else◌, ⊤}
 use Rattle.fsl_outside.specs.Connections.{Connection, Between, IsRead}
-use Rattle.fsl_http.specs.declared.limits.TheConstants.{BODY_LIMIT, PIECE}
+use Rattle.fsl_http.specs.Limits.{most_body, most_piece}
 use Rattle.fsl_http.specs.declared.request.Asked.{Asked}
 use Rattle.fsl_http.specs.declared.request.Asked.TheVariants.{Closed, Refused, Body}
 use Rattle.fsl_http.specs.Replies.{IsStatus}
-use Rattle.fsl_http.specs.Requests.{HasNoHead, IsShort, Answers, RestsOnEnd}
+use Rattle.fsl_http.specs.Requests.{IsUnfinished, IsShort, Answers, RestsOnEnd}
 
--- Before the last read the bytes had no whole head, or no whole body: all but the last bytes, at most as many as one read brings, leave the answer open.
+-- Before the last read the answer was open: all but the last bytes, at most as many as one read brings, are none, may become
+-- a head, or are a head with too few bytes behind it.
 pub record IsNeeded (bytes : List ℕ) : Type 0 where
   pub front : List ℕ
   pub last : List ℕ
-  pub few : length last ≤ PIECE
+  pub few : length last ≤ most_piece
   pub whole : bytes ≡ front ++ last
-  pub unsettled : HasNoHead front ⊎ IsShort front
+  pub unsettled : (front ≡ []) ⊎ (IsUnfinished front ⊎ IsShort front)
 
 -- bytes that were read have this answer, and keep it: nothing is left, or whatever follows changes nothing
 abbrev pub Decides : List ℕ → List ℕ → Asked → Type 0
@@ -34,7 +35,7 @@ IsAsked old new a = Between old new (λ c d. IsAnswered c d a)
 abbrev pub IsListedAnswer : Asked → Type 0
 IsListedAnswer Closed = ⊤
 IsListedAnswer (Refused status) = IsStatus status
-IsListedAnswer (Body body) = length body ≤ BODY_LIMIT
+IsListedAnswer (Body body) = length body ≤ most_body
 
 -- the answer where bytes without a whole head are all
 abbrev pub ended_answer : List ℕ → Asked

@@ -1,13 +1,13 @@
 -- How a body is read behind a head.
 use Rattle.std.specs.Prelude.{◌≡◌, ◌≢◌, ℕ, ◌<◌, ◌≤◌, List, [], ◌++◌, length, Option}
 use Rattle.fsl_outside.specs.Connections.{Connection, Between, IsRead}
-use Rattle.fsl_http.specs.declared.limits.TheConstants.{PIECE}
+use Rattle.fsl_http.specs.Limits.{most_piece}
 
 -- what was read before the last read, where there was one, was no whole body of that size behind front
 pub record IsBodyNeeded (front bytes : List ℕ) (size : ℕ) : Type 0 where
   pub before : List ℕ
   pub last : List ℕ
-  pub few : length last ≤ PIECE
+  pub few : length last ≤ most_piece
   pub whole : bytes ≡ before ++ last
   pub short : bytes ≢ [] → length (front ++ before) < size
 

@@ -3,6 +3,7 @@ pub mod Bodies
 pub mod Exchanges
 pub mod Fields
 pub mod Heads
+pub mod Limits
 pub mod Reading
 pub mod Replies
 pub mod Requests

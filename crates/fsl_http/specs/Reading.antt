@@ -3,7 +3,7 @@ use Rattle.std.specs.Prelude.{◌≡◌, ℕ, ◌≤◌, List, [], ◌++◌, len
 use Rattle.fsl_order.specs.Causes.{Rose}
 use Rattle.fsl_outside.specs.Memory.{next}
 use Rattle.fsl_outside.specs.Connections.{Connection, Between, IsRead}
-use Rattle.fsl_http.specs.declared.limits.TheConstants.{PIECE}
+use Rattle.fsl_http.specs.Limits.{most_piece}
 use Rattle.fsl_http.specs.declared.request.HttpFault.{HttpFault}
 use Rattle.fsl_http.specs.declared.request.HttpFault.TheVariants as fault
 
@@ -35,5 +35,5 @@ pub record IsPiece (old new : Option Connection) (text_old text_new : List ℕ) 
   pub joined : text_new ≡ text_old ++ bytes
   pub count : length bytes ≡ n
   pub fits : n ≤ room
-  pub few : n ≤ PIECE
+  pub few : n ≤ most_piece
   pub moved : Between old new (λ c d. IsRead c d bytes × (n ≡ 0 → d.left ≡ []))

@@ -1,10 +1,10 @@
 -- What the bytes of a connection ask, as one request.
 use Rattle.std.specs.Prelude.{◌≡◌, ◌≢◌, ℕ, ◌<◌, ◌≤◌, ◌⊎◌, Bool, ◌||◌, not, List, [], ◌∷◌, ◌++◌, length, map, drop, if◌then◌else◌, nat_lt, bytes_eq, codes, false, ⊤, Result, Ok, Err}
-use Rattle.httparse.specs.Grammar.{RequestHead, ReadsRequest, print_request, trim_ows}
+use Rattle.httparse.specs.Grammar.{RequestHead, ReadsRequest, MayBecomeRequest, print_request, trim_ows}
 use Rattle.httparse.specs.Spans.{name_and_value}
 use Rattle.fsl_text.specs.Decimals.{decimal_of}
 use Rattle.fsl_text.specs.declared.fault.DecimalFault.{DecimalFault}
-use Rattle.fsl_http.specs.declared.limits.TheConstants.{HEAD_LIMIT, FIELD_LIMIT, BODY_LIMIT}
+use Rattle.fsl_http.specs.Limits.{most_head, most_fields, most_body}
 use Rattle.fsl_http.specs.declared.request_head.Verdict.{Verdict}
 use Rattle.fsl_http.specs.declared.request_head.Verdict.TheVariants.{Refuse, Length}
 use Rattle.fsl_http.specs.declared.request.Asked.{Asked}
@@ -17,12 +17,18 @@ use Rattle.fsl_http.specs.Replies.{IsStatus}
 -- the bytes are a request head within the limits, and then the rest
 pub record IsHead (bytes : List ℕ) (h : RequestHead) (rest : List ℕ) : Type 0 where
   pub reads : ReadsRequest bytes h rest
-  pub fields : length h.fields ≤ FIELD_LIMIT
-  pub size : length (print_request h) ≤ HEAD_LIMIT
+  pub fields : length h.fields ≤ most_fields
+  pub size : length (print_request h) ≤ most_head
 
 -- no head within the limits stands at the front
 abbrev pub HasNoHead : List ℕ → Type 0
 HasNoHead bytes = (h : RequestHead) (rest : List ℕ) → IsHead bytes h rest → ⊥
+
+-- no head so far, and more bytes may make one within the limit
+pub record IsUnfinished (bytes : List ℕ) : Type 0 where
+  pub none : HasNoHead bytes
+  pub may : MayBecomeRequest bytes
+  pub fits : length bytes < most_head
 
 -- a content type that is, up to a semicolon, without blanks around it and but for the case of letters, that of a message
 abbrev pub is_message_text : List ℕ → Bool
@@ -35,7 +41,7 @@ is_message_type (v ∷ vs) = is_message_text v
 
 -- what a length comes to
 abbrev pub judge_size : Result ℕ DecimalFault → Verdict
-judge_size (Ok n) = if nat_lt BODY_LIMIT n then Refuse 413 else Length n
+judge_size (Ok n) = if nat_lt most_body n then Refuse 413 else Length n
 judge_size (Err fault) = Refuse 400
 
 -- what a length field comes to
@@ -66,7 +72,7 @@ judge h = judge_parts h.method h.target (map name_and_value h.fields)
 -- the status is one that a reply may have, and the length isn't above the limit
 abbrev pub IsListed : Verdict → Type 0
 IsListed (Refuse status) = IsStatus status
-IsListed (Length size) = size ≤ BODY_LIMIT
+IsListed (Length size) = size ≤ most_body
 
 -- a whole head of that many bytes, and what it asks
 pub record IsWholeHead (bytes : List ℕ) (len : ℕ) (v : Verdict) : Type 0 where

@@ -1,11 +1,11 @@
 -- What a client sends in one exchange, and what the bytes of a connection are to it as a reply.
 use Rattle.std.specs.Prelude.{◌≡◌, ◌≢◌, ℕ, ◌<◌, ◌≤◌, ◌⊎◌, List, [], ◌∷◌, ◌++◌, length, map, codes, decimal, Ok}
 use Rattle.std.specs.List.{concat}
-use Rattle.httparse.specs.Grammar.{ResponseHead, ReadsResponse, print_response, status_code}
+use Rattle.httparse.specs.Grammar.{ResponseHead, ReadsResponse, MayBecomeResponse, print_response, status_code}
 use Rattle.httparse.specs.Spans.{name_and_value}
 use Rattle.fsl_text.specs.Decimals.{decimal_of}
 use Rattle.fsl_outside.specs.Connections.{Connection}
-use Rattle.fsl_http.specs.declared.limits.TheConstants.{HEAD_LIMIT, FIELD_LIMIT, BODY_LIMIT, PIECE}
+use Rattle.fsl_http.specs.Limits.{most_head, most_fields, most_body, most_piece}
 use Rattle.fsl_http.specs.Fields.{values_of}
 
 -- the bytes of a request with this body
@@ -25,12 +25,18 @@ pub record SaysLength (fields : List (List ℕ × List ℕ)) (size : ℕ) : Type
 -- the bytes are a response head within the limits that has one length, and then the rest
 pub record IsReply (bytes : List ℕ) (h : ResponseHead) (rest : List ℕ) (size : ℕ) : Type 0 where
   pub reads : ReadsResponse bytes h rest
-  pub fields : length h.fields ≤ FIELD_LIMIT
-  pub long : length (print_response h) ≤ HEAD_LIMIT
+  pub fields : length h.fields ≤ most_fields
+  pub long : length (print_response h) ≤ most_head
   pub says : SaysLength (map name_and_value h.fields) size
 
 abbrev pub HasNoReply : List ℕ → Type 0
 HasNoReply bytes = (h : ResponseHead) (rest : List ℕ) (size : ℕ) → IsReply bytes h rest size → ⊥
+
+-- no head so far, and more bytes may make one within the limit
+pub record IsUnfinishedReply (bytes : List ℕ) : Type 0 where
+  pub none : HasNoReply bytes
+  pub may : MayBecomeResponse bytes
+  pub fits : length bytes < most_head
 
 abbrev pub WithReply : List ℕ → (ResponseHead → List ℕ → ℕ → Type 0) → Type 0
 WithReply bytes P = (h : ResponseHead) × (rest : List ℕ) × (size : ℕ) × IsReply bytes h rest size × P h rest size
@@ -49,10 +55,10 @@ pub data Exchanged : Type 0 where
 abbrev pub Gives : List ℕ → Exchanged → Type 0
 Gives bytes no_head = HasNoReply bytes
 Gives bytes (status n) = WithReply bytes (λ h rest size. (status_code h ≡ n) × (n ≢ 200))
-Gives bytes (long n) = WithReply bytes (λ h rest size. (status_code h ≡ 200) × (size ≡ n) × (BODY_LIMIT < size))
-Gives bytes (short n) = WithReply bytes (λ h rest size. (status_code h ≡ 200) × (size ≤ BODY_LIMIT) × (length rest ≡ n) × (n < size))
+Gives bytes (long n) = WithReply bytes (λ h rest size. (status_code h ≡ 200) × (size ≡ n) × (most_body < size))
+Gives bytes (short n) = WithReply bytes (λ h rest size. (status_code h ≡ 200) × (size ≤ most_body) × (length rest ≡ n) × (n < size))
 Gives bytes (body text) =
-    WithReply bytes (λ h rest size. (status_code h ≡ 200) × (size ≤ BODY_LIMIT) × (length text ≡ size) × ((after : List ℕ) × (rest ≡ text ++ after)))
+    WithReply bytes (λ h rest size. (status_code h ≡ 200) × (size ≤ most_body) × (length text ≡ size) × ((after : List ℕ) × (rest ≡ text ++ after)))
 
 -- bytes that were read are this reply, and stay so: nothing is left, or whatever follows changes nothing
 abbrev pub Settles : List ℕ → List ℕ → Exchanged → Type 0
@@ -60,15 +66,16 @@ Settles bytes left r = Gives bytes r × ((left ≡ []) ⊎ ((more : List ℕ) �
 
 -- a whole head of a reply that is to be read, and fewer bytes than its length says
 abbrev pub IsShortReply : List ℕ → Type 0
-IsShortReply bytes = WithReply bytes (λ h rest size. (status_code h ≡ 200) × (size ≤ BODY_LIMIT) × (length rest < size))
+IsShortReply bytes = WithReply bytes (λ h rest size. (status_code h ≡ 200) × (size ≤ most_body) × (length rest < size))
 
--- before the last read the reply wasn't settled: all but the last bytes, at most as many as one read brings, are no reply, or one that is too short
+-- before the last read the reply wasn't settled: all but the last bytes, at most as many as one read brings, are none, may
+-- become a head, or are a reply that is too short
 pub record IsReplyNeeded (bytes : List ℕ) : Type 0 where
   pub front : List ℕ
   pub last : List ℕ
-  pub few : length last ≤ PIECE
+  pub few : length last ≤ most_piece
   pub whole : bytes ≡ front ++ last
-  pub unsettled : HasNoReply front ⊎ IsShortReply front
+  pub unsettled : (front ≡ []) ⊎ (IsUnfinishedReply front ⊎ IsShortReply front)
 
 -- a connection on which one exchange was made: it took the request, the bytes that were read are the reply and no more than it needs, and no call failed
 pub record IsExchanged (c : Connection) (text : List ℕ) (r : Exchanged) : Type 0 where

@@ -1,5 +1,5 @@
 ghost use Rattle.std.specs.Prelude.{◌≡◌, ◌≤◌, ℕ, List, [], length, IfOk, IfErr, OnOk};
-ghost use Rattle.fsl_http.specs.declared.limits.TheConstants.{HEAD_LIMIT};
+ghost use Rattle.fsl_http.specs.Limits.{most_head};
 ghost use Rattle.fsl_http.specs.Heads.{IsFront, HasWhole, ReadsHead};
 ghost use Rattle.fsl_http.specs.Reading.{SendsNothing, FailsBy, Breaks};
 
@@ -27,16 +27,19 @@ pub trait Head: Copy {
     /// No head stands at the front.
     ghost lacks: { List ℕ → Type 0 };
 
+    /// No head stands at the front so far, and one may where more bytes follow.
+    ghost opens: { List ℕ → Type 0 };
+
     /// What stands at the front of the bytes.
     fn front_of(bytes: &[u8]) -> Front<Self>
-        requires { length bytes.now ≤ HEAD_LIMIT }
-        ensures { IsFront begins lacks bytes.now result };
+        requires { length bytes.now ≤ most_head }
+        ensures { IsFront begins lacks opens bytes.now result };
 }
 
 /// Reads until a head stands in the bytes, or can't. `Open` means that they end before.
 pub fn read_head<L: Link, H: Head>(link: &mut L, bytes: &mut Vec<u8>) -> Result<Front<H>, HttpFault>
     requires { bytes.old.items ≡ [] }
-    ensures ok { IfOk result (ReadsHead H.begins H.lacks (L.state link.old).present (L.state link.new).present bytes.new.items) }
+    ensures ok { IfOk result (ReadsHead H.begins H.lacks H.opens (L.state link.old).present (L.state link.new).present bytes.new.items) }
     ensures whole { IfOk result (HasWhole H.begins bytes.new.items) }
     ensures err { IfErr result (FailsBy (L.state link.old).faults (L.state link.new).faults) }
     ensures broken { IfErr result (Breaks (L.state link.old).present (L.state link.new).present) }

@@ -19,11 +19,13 @@ pub struct ReplyHead {
 
 impl Head for ReplyHead {
     ghost use Rattle.fsl_http.specs.Exchanges.{IsWholeReply};
-    ghost use Rattle.fsl_http.specs.Responses.{HasNoReply};
+    ghost use Rattle.fsl_http.specs.Responses.{HasNoReply, IsUnfinishedReply};
 
     ghost begins = { IsWholeReply };
 
     ghost lacks = { HasNoReply };
+
+    ghost opens = { IsUnfinishedReply };
 
     fn front_of(bytes: &[u8]) -> Front<ReplyHead> {
         let mut headers = [EMPTY_HEADER_SPAN; FIELD_LIMIT];

@@ -20,11 +20,13 @@ pub enum Verdict {
 }
 
 impl Head for Verdict {
-    ghost use Rattle.fsl_http.specs.Requests.{IsWholeHead, HasNoHead};
+    ghost use Rattle.fsl_http.specs.Requests.{IsWholeHead, HasNoHead, IsUnfinished};
 
     ghost begins = { IsWholeHead };
 
     ghost lacks = { HasNoHead };
+
+    ghost opens = { IsUnfinished };
 
     fn front_of(bytes: &[u8]) -> Front<Verdict> {
         let mut headers = [EMPTY_HEADER_SPAN; FIELD_LIMIT];

@@ -5,7 +5,7 @@ use Rattle.fsl_http.proofs.head.read_head.Given as goal
 
 abbrev pub invariant-loop-bytes : goal.invariant-loop-bytes
 invariant-loop-bytes g l = record {
-  reads : IsHeadReadTo g.H.Head.lacks (g.L.Link.state l.fn.link).present (g.L.Link.state l.link).present l.bytes.items;
+  reads : IsHeadReadTo g.H.Head.opens (g.L.Link.state l.fn.link).present (g.L.Link.state l.link).present l.bytes.items;
   stands : (g.L.Link.state l.link).standing ≡ (g.L.Link.state l.fn.link).standing;
   same : (g.L.Link.state l.link).faults ≡ (g.L.Link.state l.fn.link).faults;
 }
