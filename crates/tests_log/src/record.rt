@@ -180,9 +180,10 @@ fn reads_groups(rt: HostRuntime) -> Result<(), Memory> {
 
 /// Why bytes are no group, in words.
 fn fault_of(alloc: Global, bytes: &[u8], first: bool) -> Result<String, AllocError> {
-    match group(alloc, bytes, first) {
-        Ok(_) => String::from_str(alloc, "none"),
-        Err(fault) => format!(in alloc; "{fault:?}"),
+    let fault = group(alloc, bytes, first).err();
+    match fault {
+        Some(fault) => format!(in alloc; "{fault:?}"),
+        None => String::from_str(alloc, "none"),
     }
 }
 
