@@ -22,10 +22,10 @@ use Rattle.fossil.proofs.FileLemmas.{both, Loads, agrees, left_failed, loaded_le
 use Rattle.fossil.proofs.SomeOutcome.{some_said_outcome}
 
 pub put_loads : Loads (Some command_of.Put)
-put_loads = record { opened = refl; old = λ old bytes are. are; refused = λ bytes refused. refused; fails = λ read bytes at fails. inl (at, fails, refl) }
+put_loads = record { opened = refl; begun = λ begun. cc; old = λ old bytes are. are; refused = λ bytes refused. refused; fails = λ read bytes at fails. inl (at, fails, refl) }
 
 pub ask_loads : (question : Question) → Loads (Some (command_of.Ask question))
-ask_loads question = record { opened = refl; old = λ old bytes are. are; refused = λ bytes refused. refused; fails = λ read bytes at fails. inl (at, fails, refl) }
+ask_loads question = record { opened = refl; begun = λ begun. cc; old = λ old bytes are. are; refused = λ bytes refused. refused; fails = λ read bytes at fails. inl (at, fails, refl) }
 
 -- ---- faults, by what was read
 
@@ -40,9 +40,10 @@ module _ (command : Option Command) (loads : Loads command) (input : Input) (fil
     plain = tt;
     cause = tt;
     end = λ z. absurd (cc);
-    contents = loaded_left command loads file left bytes o 9 (λ z. absurd (cc)) contents;
+    contents = loaded_left command loads file left bytes o 9 (λ done. absurd (cc)) contents;
     touches = touches;
-    durable = λ z. absurd (cc);
+    durable = λ last. absurd (cc);
+    spared = λ nine begun. absurd (loads.begun begun);
   }
 
   input_by : IsInputFault command input bytes → KeepsContents file left → ActsBy command input (both file left) (Err fault_is.Input) read bytes o
@@ -54,9 +55,10 @@ module _ (command : Option Command) (loads : Loads command) (input : Input) (fil
     plain = tt;
     cause = cause;
     end = λ z. absurd (cc);
-    contents = loaded_left command loads file left bytes o 5 (λ z. absurd (cc)) contents;
+    contents = loaded_left command loads file left bytes o 5 (λ done. absurd (cc)) contents;
     touches = touches;
-    durable = λ z. absurd (cc);
+    durable = λ last. absurd (cc);
+    spared = λ nine begun. absurd (loads.begun begun);
   }
 
   pub disk_by : Rose file.faults left.faults → (input.after ≡ input.before) ⊎ (o.commits ≡ [] → ⊥) → ((held : List ℕ) → IsTrue left.is_model → left.contents ≡ Some held → left.images held)
@@ -71,7 +73,8 @@ module _ (command : Option Command) (loads : Loads command) (input : Input) (fil
     end = λ z. absurd (cc);
     contents = left_failed command file left bytes o touches.keeps reads touches.any_moment;
     touches = touches;
-    durable = λ z. absurd (cc);
+    durable = λ last. absurd (cc);
+    spared = λ nine begun. absurd (loads.begun begun);
   }
 
   -- the place at which the file fails is told
@@ -84,9 +87,10 @@ module _ (command : Option Command) (loads : Loads command) (input : Input) (fil
     plain = omega arith;
     cause = tt;
     end = λ z. absurd (cc);
-    contents = loaded_left command loads file left bytes o 2 (λ z. absurd (cc)) contents;
+    contents = loaded_left command loads file left bytes o 2 (λ done. absurd (cc)) contents;
     touches = touches;
-    durable = λ z. absurd (cc);
+    durable = λ last. absurd (cc);
+    spared = λ nine begun. absurd (loads.begun begun);
   }
 
   -- the input wasn't read

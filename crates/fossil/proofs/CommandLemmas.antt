@@ -17,7 +17,7 @@ use Rattle.fossil.specs.Run.{Input, Output, Agrees, reads, opens, IsSaid, IsTold
 use Rattle.fossil.specs.Acts.{HasActed, IsCaused, IsUnread, IsIngestRun, fault_status}
 use Rattle.fossil.proofs.InputLemmas.{some_bytes}
 use Rattle.fossil.proofs.RefusedLemmas.{first_status}
-use Rattle.fossil.proofs.FileLemmas.{both, idle_left, idle_touches, idle_durable}
+use Rattle.fossil.proofs.FileLemmas.{both, quiet_none, idle_left, idle_touches, fault_undone, fault_fades}
 use Rattle.fossil.proofs.SomeOutcome.{some_said_outcome}
 use Rattle.fossil.proofs.PrintedLemmas.{written}
 
@@ -36,9 +36,9 @@ module _ (command : Option Command) (input : Input) (file : DiskState) (no_other
   Acted result = HasActed command input (both file file) result
 
   -- nothing was done but the outcome, which commits nothing
-  pub idle_acted : (read : List ℕ) (o : Outcome) → Agrees input.before.left read → IsSaidOutcome command read (some_bytes file.contents).0 o → o.status ≤ 3
+  pub idle_acted : (IsTrue (opens command) → ⊥) → (read : List ℕ) (o : Outcome) → Agrees input.before.left read → IsSaidOutcome command read (some_bytes file.contents).0 o → o.status ≤ 3
       → (o.status ≡ 0 → IsTrue (reads command) → IsAtEnd input.after.left) → o.commits ≡ [] → Acted (Ok (printed_of o))
-  idle_acted read o told is small end none =
+  idle_acted closed read o told is small end none =
       let bytes = some_bytes file.contents in (
         read,
         bytes.0,
@@ -51,9 +51,10 @@ module _ (command : Option Command) (input : Input) (file : DiskState) (no_other
           plain = small;
           cause = tt;
           end = end;
-          contents = idle_left command file no_other bytes.0 o o.status (λ z. none);
+          contents = idle_left command file no_other bytes.0 o o.status (λ done. none);
           touches = idle_touches command file no_other bytes.0 o;
-          durable = λ z. idle_durable command file no_other bytes.0 o none;
+          durable = λ last opened. absurd (closed opened);
+          spared = λ nine begun. quiet_none file;
         },
       )
 
@@ -74,9 +75,10 @@ module _ (command : Option Command) (input : Input) (file : DiskState) (no_other
           plain = tt;
           cause = cause bytes.0 o.0;
           end = λ z. absurd (no_zero fault z);
-          contents = idle_left command file no_other bytes.0 o.0 (fault_status fault) (λ z. absurd (no_zero fault z));
+          contents = idle_left command file no_other bytes.0 o.0 (fault_status fault) (λ done. absurd (fault_undone fault done));
           touches = idle_touches command file no_other bytes.0 o.0;
-          durable = λ z. absurd (no_zero fault z);
+          durable = λ last. absurd (fault_fades command fault last);
+          spared = λ nine begun. quiet_none file;
         },
       )
 
@@ -93,7 +95,7 @@ pub usage_run : (input : Input) (file : DiskState) → (IsTrue file.is_model →
     → HasRun None input out (both file file) status
 usage_run input file no_other out status one said =
     let read = some_bytes input.before.left in
-    written None input (both file file) (Ok (printed_of usage)) out status (idle_acted None input file no_other read.0 usage read.1 refl (omega arith) (λ z. absurd (cc)) refl)
+    written None input (both file file) (Ok (printed_of usage)) out status (idle_acted None input file no_other (λ opened. cc) read.0 usage read.1 refl (omega arith) (λ z. absurd (cc)) refl)
     (said_told (printed_of usage) status out one refl said)
 
 -- ---- ingest
@@ -113,5 +115,5 @@ small_ingest read false answer h = small_read read answer h
 pub ingest_acted : (input : Input) (file : DiskState) → (IsTrue file.is_model → (c : List ℕ) → file.since file.moment c → file.images c) → (result : Result Printed Fault)
     → IfOk result (IsIngestRun input) → IfErr result (λ fault. IsUnread fault input) → HasActed (Some command_of.Ingest) input (both file file) result
 ingest_acted input file no_other (Ok answer) run un =
-    idle_acted (Some command_of.Ingest) input file no_other run.read (without_commit answer) run.told (answer, run.ingested, refl) (small_ingest run.read (nat_lt (2 ^ 27) (length run.read)) answer run.ingested) (λ z reads. run.end z) refl
+    idle_acted (Some command_of.Ingest) input file no_other (λ opened. cc) run.read (without_commit answer) run.told (answer, run.ingested, refl) (small_ingest run.read (nat_lt (2 ^ 27) (length run.read)) answer run.ingested) (λ z reads. run.end z) refl
 ingest_acted input file no_other (Err fault) run un = idle_unread (Some command_of.Ingest) input file no_other fault un refl (λ e. cc)

@@ -8,10 +8,13 @@ use Rattle.fsl_disk.proofs.Moments.{started, weaker}
 use Rattle.fsl_journal.specs.File.{IsFileOf, FailsAt}
 use Rattle.fsl_journal.specs.Journal.{OfBytes}
 use Rattle.fsl_journal.proofs.Failing.{no_file}
+use Rattle.fsl_journal.proofs.Unique.{one_file}
 use Rattle.fsl_words.specs.declared.Command.{Command}
+use Rattle.fossil.specs.declared.fault.Fault.{Fault}
+use Rattle.fossil.specs.declared.fault.Fault.TheVariants as fault_is
 use Rattle.fossil.specs.Outcome.{Outcome, one_commit, not_repository, IsSaidOutcome}
-use Rattle.fossil.specs.Run.{File, Agrees, opens, begins, StandsFor, StandsForAll, StandsForSome, AreOldBy, AreOld, AreImages, IsLeft, IsFileLeft, IsNoRepository, IsRefused, IsWholeAtAnyMoment, IsDurable, after_commits}
-use Rattle.fossil.specs.Acts.{KeepsContents, KeepsImages, KeepsUnreadable, Touches}
+use Rattle.fossil.specs.Run.{File, Agrees, opens, begins, StandsFor, StandsForAll, StandsForSome, AreOldBy, AreOld, AreImages, is_done, IsLeft, IsFileLeft, IsNoRepository, IsRefused, IsWholeAtAnyMoment, lasts, IsDurable, after_commits}
+use Rattle.fossil.specs.Acts.{KeepsContents, KeepsImages, KeepsUnreadable, Touches, fault_status}
 
 -- a file stands for some records
 pub stands : (old : List Record) (bytes : List ℕ) → IsFileOf bytes old → StandsFor old bytes
@@ -50,19 +53,27 @@ one_is_all old appended commits bytes one h =
 
 -- ---- what is left after a status
 
-left_by : (zero three : Bool) (old : List Record) (commits : List (List Record)) (bytes : List ℕ) → (zero ≡ true → StandsForAll old commits bytes) → StandsFor old bytes
-    → MatchBool zero (StandsForAll old commits bytes) (MatchBool three (StandsFor old bytes) (StandsForSome old commits bytes))
-left_by true three old commits bytes all h = all refl
-left_by false true old commits bytes all h = h
-left_by false false old commits bytes all h = none_committed old commits bytes h
+left_by : (done four : Bool) (old : List Record) (commits : List (List Record)) (bytes : List ℕ) → (IsTrue done → StandsForAll old commits bytes) → StandsFor old bytes
+    → MatchBool done (StandsForAll old commits bytes) (MatchBool four (StandsForSome old commits bytes) (StandsFor old bytes))
+left_by true four old commits bytes all h = all refl
+left_by false true old commits bytes all h = none_committed old commits bytes h
+left_by false false old commits bytes all h = h
 
-is_zero : (n : ℕ) → (n == 0) ≡ true → n ≡ 0
-is_zero n h = grind (arith)
-
--- the old records, and nothing to commit after 0
-pub left_old : (status : ℕ) (old : List Record) (commits : List (List Record)) (bytes : List ℕ) → (status ≡ 0 → commits ≡ []) → StandsFor old bytes → IsLeft status old commits bytes
+-- the old records, and nothing to commit where the command is done
+pub left_old : (status : ℕ) (old : List Record) (commits : List (List Record)) (bytes : List ℕ) → (IsTrue (is_done status) → commits ≡ []) → StandsFor old bytes → IsLeft status old commits bytes
 left_old status old commits bytes none h =
-    left_by (status == 0) (status == 3) old commits bytes (λ z. none_is_all old commits bytes (none (is_zero status z)) h) h
+    left_by (is_done status) (status == 4) old commits bytes (λ done. none_is_all old commits bytes (none done) h) h
+
+-- after a fault the command isn't done, and nothing need last
+pub fault_undone : (fault : Fault) → IsTrue (is_done (fault_status fault)) → ⊥
+fault_undone fault_is.Disk done = cc
+fault_undone fault_is.Input done = cc
+fault_undone fault_is.Memory done = cc
+
+pub fault_fades : (command : Option Command) (fault : Fault) → IsTrue (lasts command (fault_status fault)) → ⊥
+fault_fades command fault_is.Disk last = cc
+fault_fades command fault_is.Input last = cc
+fault_fades command fault_is.Memory last = cc
 
 -- ---- what is told
 
@@ -98,12 +109,12 @@ both file left = record { before = file; after = left }
 
 module _ (command : Option Command) (file left : DiskState) (bytes : List ℕ) (o : Outcome) where
   -- contents that stand for the old records
-  pub left_stands : (status : ℕ) → (status ≡ 0 → o.commits ≡ [])
+  pub left_stands : (status : ℕ) → (IsTrue (is_done status) → o.commits ≡ [])
       → ((old : List Record) (held : List ℕ) → file.contents ≡ Some bytes → left.contents ≡ Some held → AreOld command old bytes → StandsFor old held) → IsFileLeft command (both file left) status bytes o
   left_stands status none stay old held file_told left_told are known = left_old status old o.commits held none (stay old held file_told left_told are)
 
   -- contents that stay
-  pub left_same : (status : ℕ) → (status ≡ 0 → o.commits ≡ []) → left.contents ≡ file.contents → IsFileLeft command (both file left) status bytes o
+  pub left_same : (status : ℕ) → (IsTrue (is_done status) → o.commits ≡ []) → left.contents ≡ file.contents → IsFileLeft command (both file left) status bytes o
   left_same status none same =
       left_stands status none
       (λ old held file_told left_told are. old_stands (begins command) old held (subst (λ (b : List ℕ). AreOld command old b) (some_same (sym file_told ∙ sym same ∙ left_told)) are))
@@ -119,9 +130,6 @@ module _ (command : Option Command) (file left : DiskState) (bytes : List ℕ) (
   pub whole_of_old : (IsModelled file → (old : List Record) → AreImages command old file.images → LeavesOnly file left (StandsFor old)) → IsWholeAtAnyMoment command (both file left) o
   whole_of_old stay modelled old are = weaker file left (StandsFor old) (StandsForSome old o.commits) (none_committed old o.commits) (stay modelled old are)
 
-  pub durable_of_old : o.commits ≡ [] → (IsModelled file → (old : List Record) → AreImages command old file.images → LeavesOnly file left (StandsFor old)) → IsDurable command (both file left) o
-  durable_of_old none stay modelled old are c image = none_is_all old o.commits c none ((stay modelled old are).now c image)
-
 -- ---- a file that isn't touched
 
 module _ (command : Option Command) (file : DiskState) (no_other : IsTrue file.is_model → (c : List ℕ) → file.since file.moment c → file.images c) (bytes : List ℕ) (o : Outcome) where
@@ -135,24 +143,22 @@ module _ (command : Option Command) (file : DiskState) (no_other : IsTrue file.i
     keeps = record { tells = refl; model = refl };
   }
 
-  pub idle_left : (status : ℕ) → (status ≡ 0 → o.commits ≡ []) → IsFileLeft command (both file file) status bytes o
+  pub idle_left : (status : ℕ) → (IsTrue (is_done status) → o.commits ≡ []) → IsFileLeft command (both file file) status bytes o
   idle_left status none = left_same command file file bytes o status none refl
-
-  pub idle_durable : o.commits ≡ [] → IsDurable command (both file file) o
-  idle_durable none = durable_of_old command file file bytes o none idle_images
 
 -- ---- a file that is loaded
 
 -- a command that loads the file
 pub record Loads (command : Option Command) : Type 0 where
   pub opened : IsTrue (opens command)
+  pub begun : IsTrue (begins command) → ⊥
   pub old : (old : List Record) (bytes : List ℕ) → AreOld command old bytes → IsFileOf bytes old
   pub refused : (bytes : List ℕ) → IsRefused command bytes → IsNoRepository bytes
   pub fails : (read bytes : List ℕ) (at : ℕ) → FailsAt bytes at → IsSaidOutcome command read bytes (not_repository at)
 
 module _ (command : Option Command) (loads : Loads command) (file left : DiskState) (bytes : List ℕ) (o : Outcome) where
   -- what the contents stand for stays
-  pub loaded_left : (status : ℕ) → (status ≡ 0 → o.commits ≡ []) → KeepsContents file left → IsFileLeft command (both file left) status bytes o
+  pub loaded_left : (status : ℕ) → (IsTrue (is_done status) → o.commits ≡ []) → KeepsContents file left → IsFileLeft command (both file left) status bytes o
   loaded_left status none stay =
       left_stands command file left bytes o status none (λ old held file_told left_told are. stands old held (stay bytes file_told old (loads.old old bytes are) held left_told))
 
@@ -166,8 +172,11 @@ module _ (command : Option Command) (loads : Loads command) (file left : DiskSta
     keeps = keeps;
   }
 
-  pub loaded_durable : o.commits ≡ [] → KeepsImages file left → IsDurable command (both file left) o
-  loaded_durable none stay = durable_of_old command file left bytes o none (loaded_images stay)
+  -- images that stand for what was loaded
+  pub loaded_durable : o.commits ≡ [] → (records : List Record) → IsFileOf bytes records → (IsModelled file → (c : List ℕ) → left.images c → IsFileOf c records) → IsDurable command (both file left) bytes o
+  loaded_durable none records is images opened modelled told old are c image =
+      none_is_all old o.commits c none
+      (stands old c (subst (λ (rs : List Record). IsFileOf c rs) (one_file bytes records old is (loads.old old bytes are)) (images modelled c image)))
 
 -- bytes that stand for records aren't unreadable
 pub readable : (file left : DiskState) → OfBytes file (λ bytes. (records : List Record) × IsFileOf bytes records) → KeepsUnreadable file left

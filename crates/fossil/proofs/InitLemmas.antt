@@ -18,10 +18,10 @@ use Rattle.fossil.specs.declared.fault.Fault.TheVariants as fault_is
 use Rattle.fossil.specs.Printed.{Printed}
 use Rattle.fossil.specs.Printed as printing
 use Rattle.fossil.specs.Outcome.{Outcome, init_outcome, without_commit, one_commit, printed_of}
-use Rattle.fossil.specs.Run.{Input, Agrees, StandsFor, StandsForAll, StandsForSome, AreOldBy, AreImages, IsFileLeft, IsWholeAtAnyMoment}
+use Rattle.fossil.specs.Run.{Input, Agrees, StandsFor, StandsForAll, StandsForSome, AreOldBy, AreImages, is_done, lasts, IsFileLeft, IsWholeAtAnyMoment, IsSpared}
 use Rattle.fossil.specs.Acts.{ActsBy, HasActed, IsCaused, Touches, result_status}
 use Rattle.fossil.proofs.InputLemmas.{some_bytes}
-use Rattle.fossil.proofs.FileLemmas.{both, some_same, agrees, agreed, empty_file, old_stands, none_committed, all_committed, one_is_all, left_same, left_failed}
+use Rattle.fossil.proofs.FileLemmas.{both, some_same, agrees, agreed, empty_file, old_stands, none_committed, all_committed, one_is_all, left_same, left_failed, fault_fades}
 
 -- some bytes of a length, or those that are told
 of_length : (told : Option (List ℕ)) (len : ℕ) → ((held : List ℕ) → told ≡ Some held → len ≡ length held) → (bytes : List ℕ) × Agrees told bytes × (length bytes ≡ len)
@@ -101,8 +101,8 @@ module _ (config : Config) (source : SourceState) (file left : DiskState) (keeps
 
     -- a fault after which the contents are as they were, or the disk failed
     pub fault_acted : (fault : Fault) → (fault ≡ fault_is.Input → ⊥) → IsCaused command input (both file left) bytes (outcome bytes) fault → IsFileLeft command (both file left) (result_status (Err fault)) bytes (outcome bytes)
-        → ActsBy command input (both file left) (Err fault) (some_bytes source.left).0 bytes (outcome bytes)
-    fault_acted fault other cause contents = record {
+        → IsSpared command (both file left) (result_status (Err fault)) → ActsBy command input (both file left) (Err fault) (some_bytes source.left).0 bytes (outcome bytes)
+    fault_acted fault other cause contents spared = record {
       input_told = (some_bytes source.left).1;
       file_told = file_told;
       outcome = refl;
@@ -112,13 +112,9 @@ module _ (config : Config) (source : SourceState) (file left : DiskState) (keeps
       end = λ z reads. absurd (cc);
       contents = contents;
       touches = touches;
-      durable = λ z. absurd (zero_fault fault z);
+      durable = λ last. absurd (fault_fades command fault last);
+      spared = spared;
     }
-      where
-        zero_fault : (f : Fault) → result_status (Err f) ≡ 0 → ⊥
-        zero_fault fault_is.Disk z = cc
-        zero_fault fault_is.Input z = cc
-        zero_fault fault_is.Memory z = cc
 
   abbrev Acted : Result Printed Fault → Type 0
   Acted result = HasActed command input (both file left) result
@@ -144,7 +140,8 @@ module _ (config : Config) (source : SourceState) (file left : DiskState) (keeps
               let stands = made.file [] file_told in
               all_stand old (outcome []).commits held (old_none old [] refl are) refl (subst (λ (b : List ℕ). IsFileOf b first) (some_same (sym stands.1 ∙ left_told)) stands.2);
           touches = touches [] told;
-          durable = λ z modelled old are c image. all_stand old (outcome []).commits c (none_old [] told modelled old are refl) refl (durable modelled c image);
+          durable = λ last opened modelled file_told old are c image. all_stand old (outcome []).commits c (old_none old [] refl are) refl (durable modelled c image);
+          spared = λ nine begun. absurd (cc);
         },
       )
 
@@ -172,16 +169,17 @@ module _ (config : Config) (source : SourceState) (file left : DiskState) (keeps
           plain = omega (arith, three);
           cause = tt;
           end = λ z reads. absurd (cc);
-          contents = left_same command file left bytes.0 (outcome bytes.0) answer.status (λ z. absurd (omega (arith, three, z))) same;
+          contents = left_same command file left bytes.0 (outcome bytes.0) answer.status (λ done. absurd (let none = subst (λ (n : ℕ). IsTrue (is_done n)) three done in cc)) same;
           touches = touches bytes.0 bytes.1;
-          durable = λ z. absurd (omega (arith, three, z));
+          durable = λ last. absurd (let none = subst (λ (n : ℕ). IsTrue (lasts command n)) three last in cc);
+          spared = λ nine begun. absurd (omega (arith, three, nine));
         },
       )
 
-  pub memory_acted : left.contents ≡ file.contents → Acted (Err fault_is.Memory)
-  memory_acted same =
+  pub memory_acted : left.contents ≡ file.contents → Quiet file left → Acted (Err fault_is.Memory)
+  memory_acted same quiet =
       let bytes = some_bytes file.contents in
-      ((some_bytes source.left).0, bytes.0, outcome bytes.0, fault_acted bytes.0 bytes.1 fault_is.Memory (λ e. cc) tt (left_same command file left bytes.0 (outcome bytes.0) 9 (λ z. absurd (cc)) same))
+      ((some_bytes source.left).0, bytes.0, outcome bytes.0, fault_acted bytes.0 bytes.1 fault_is.Memory (λ e. cc) tt (left_same command file left bytes.0 (outcome bytes.0) 9 (λ done. absurd (cc)) same) (λ nine begun. quiet))
 
   pub disk_acted : ((held : List ℕ) → IsTrue left.is_model → left.contents ≡ Some held → left.images held) → Rose file.faults left.faults → Acted (Err fault_is.Disk)
   disk_acted reads rose =
@@ -190,5 +188,5 @@ module _ (config : Config) (source : SourceState) (file left : DiskState) (keeps
         bytes.0,
         outcome bytes.0,
         fault_acted bytes.0 bytes.1 fault_is.Disk (λ e. cc) (record { opened = refl; rose = rose; moment = inl refl })
-            (left_failed command file left bytes.0 (outcome bytes.0) keeps reads (touches bytes.0 bytes.1).any_moment),
+            (left_failed command file left bytes.0 (outcome bytes.0) keeps reads (touches bytes.0 bytes.1).any_moment) (λ nine begun. absurd (cc)),
       )

@@ -1,5 +1,5 @@
 -- What a run says once the text of what it did is written.
-use Rattle.std.proofs.Common.{◌≡◌, ◌⊎◌, inl, inr, ⊎_elim, ℕ, Bool, true, false, cond, List, Result, Ok, Err, Option, refl, sym, subst, ◌∙◌, arith}
+use Rattle.std.proofs.Common.{◌≡◌, ◌⊎◌, inl, inr, ⊎_elim, ℕ, Bool, true, false, cond, List, Result, Ok, Err, Option, IsTrue, refl, sym, subst, ◌∙◌, arith}
 use Rattle.std.specs.Prelude.{◌==◌}
 use Rattle.fsl_order.specs.Causes.{Rose}
 use Rattle.fsl_words.specs.declared.Command.{Command}
@@ -7,9 +7,8 @@ use Rattle.fossil.specs.declared.fault.Fault.{Fault}
 use Rattle.fossil.specs.declared.fault.Fault.TheVariants as fault_is
 use Rattle.fossil.specs.Printed.{Printed}
 use Rattle.fossil.specs.Outcome.{Outcome, without_commit}
-use Rattle.fossil.specs.Run.{Input, Output, File, IsSaid, IsTold, IsFaulted, IsFileLeft, IsLeft, cut_off_status, RunsBy, HasRun}
+use Rattle.fossil.specs.Run.{Input, Output, File, IsSaid, IsTold, IsFaulted, IsFileLeft, IsLeft, lasts, IsDurable, IsSpared, cut_off_status, RunsBy, HasRun}
 use Rattle.fossil.specs.Acts.{ActsBy, HasActed, IsWritten, IsCaused, result_status, fault_status, fault_line}
-use Rattle.fossil.proofs.FileLemmas.{all_committed}
 
 abbrev OutputRose : Output → Type 0
 OutputRose out = Rose out.before.faults out.after.faults
@@ -74,12 +73,19 @@ module _ (command : Option Command) (input : Input) (file : File) (read bytes : 
       left_by (inl e) = subst (λ (n : ℕ). IsFileLeft command file n bytes o) (sym e) acts.contents
       left_by (inr cut) = λ old held file_told left_told are known.
           let all = acts.contents old held file_told left_told are (λ four. absurd (let z = cut.0 in cc)) in
-          subst (λ (n : ℕ). IsLeft n old o.commits held) (sym cut.1)
-          (all_committed old o.commits held (subst (λ (n : ℕ). IsLeft n old o.commits held) cut.0 all))
+          subst (λ (n : ℕ). IsLeft n old o.commits held) (sym cut.1) (subst (λ (n : ℕ). IsLeft n old o.commits held) cut.0 all)
 
       zero_by : Ends result status out → status ≡ 0 → result_status result ≡ 0
       zero_by (inl e) z = sym e ∙ z
       zero_by (inr cut) z = cut.0
+
+      durable_by : Ends result status out → IsTrue (lasts command status) → IsDurable command file bytes o
+      durable_by (inl e) last = acts.durable (subst (λ (n : ℕ). IsTrue (lasts command n)) e last)
+      durable_by (inr cut) last = acts.durable (subst (λ (n : ℕ). IsTrue (lasts command n)) (sym cut.0) refl)
+
+      spared_by : Ends result status out → IsSpared command file status
+      spared_by (inl e) nine = acts.spared (sym e ∙ nine)
+      spared_by (inr cut) nine = absurd (let six = cut.1 in cc)
 
       disk_by : Ends result status out → status ≡ 4 → Rose file.before.faults file.after.faults
       disk_by (inl e) four = disk_of result acts (sym e ∙ four)
@@ -105,7 +111,8 @@ module _ (command : Option Command) (input : Input) (file : File) (read bytes : 
             contents = left_by end;
             kept = acts.touches.kept;
             any_moment = acts.touches.any_moment;
-            durable = λ z. acts.durable (zero_by end z);
+            durable = durable_by end;
+            spared = spared_by end;
             keeps = acts.touches.keeps;
             disk_fault = disk_by end;
             input_fault = input_by end;

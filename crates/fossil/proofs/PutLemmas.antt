@@ -202,6 +202,7 @@ module _ (input : Input) (file mid : DiskState) (l : Loaded) (opened : IsOpened 
             end = λ z reads. run.end z;
             contents = λ old held told left_told are known. left_by answer.status plain old held (all_stand old held (old_is bytes old told are) (contents held left_told));
             touches = touches;
-            durable = λ z modelled old are c image. all_stand old c (old_images modelled old are) (durable (modelled_after file mid opened.keeps modelled) c image);
+            durable = λ last opens modelled told old are c image. all_stand old c (old_is bytes old told are) (durable (modelled_after file mid opened.keeps modelled) c image);
+            spared = λ nine begun. absurd (cc);
           },
         )

@@ -5,6 +5,7 @@ use Rattle.fsl_outside.specs.Streams.{SourceState}
 use Rattle.fsl_record.specs.declared.Record.{Record}
 use Rattle.fsl_blobs.specs.Fold.{contents}
 use Rattle.fsl_disk.specs.Disk.{DiskState}
+use Rattle.fsl_disk.proofs.Moments.{modelled_after}
 use Rattle.fsl_words.specs.declared.Question.{Question}
 use Rattle.fsl_words.specs.declared.Question.TheVariants as question_of
 use Rattle.fsl_words.specs.declared.Command.{Command}
@@ -24,6 +25,7 @@ use Rattle.fossil.proofs.InputLemmas.{some_bytes}
 use Rattle.fossil.proofs.FileLemmas.{both, agrees, readable, loaded_left, loaded_touches, loaded_durable}
 use Rattle.fossil.proofs.SomeOutcome.{some_said_outcome}
 use Rattle.fossil.proofs.ActLemmas.{ask_loads, memory_by}
+use Rattle.fossil.proofs.PutLemmas.{idle_durable}
 use Rattle.fossil.proofs.PrintedLemmas.{written}
 
 answered_small : (r : Result (List ℕ) Refused) → (report_outcome r).status ≤ 3
@@ -70,9 +72,12 @@ module _ (question : Question) (source : SourceState) (file left : DiskState) wh
             plain = answered_small result;
             cause = tt;
             end = λ z reads. absurd (cc);
-            contents = loaded_left command (ask_loads question) file left bytes o o.status (λ z. answered_none result) opened.contents;
+            contents = loaded_left command (ask_loads question) file left bytes o o.status (λ done. answered_none result) opened.contents;
             touches = touches o;
-            durable = λ z. loaded_durable command (ask_loads question) file left bytes o (answered_none result) opened.any_moment;
+            durable = λ last.
+                loaded_durable command (ask_loads question) file left bytes o (answered_none result) l.journal.records opened.stands.2
+                (λ modelled c image. idle_durable l.journal left opened.belongs opened.is_open.runs opened.is_open.stable (modelled_after file left opened.keeps modelled) c image);
+            spared = λ nine begun. absurd (cc);
           },
         )
 

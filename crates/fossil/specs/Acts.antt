@@ -22,7 +22,7 @@ use Rattle.fossil.specs.Ingest.{IsIngested}
 use Rattle.fossil.specs.Put.{IsPut, IsPutRead}
 use Rattle.fsl_query.specs.declared.Refused.{Refused}
 use Rattle.fossil.specs.Outcome.{Outcome, without_commit, report_outcome, printed_of, not_repository, IsSaidOutcome}
-use Rattle.fossil.specs.Run.{Input, Output, File, Agrees, reads, IsSaid, IsTold, IsDiskFault, IsInputFault, IsFileLeft, IsRefusedKept, IsWholeAtAnyMoment, IsDurable, HasRun, disk_fault, input_fault, out_of_memory}
+use Rattle.fossil.specs.Run.{Input, Output, File, Agrees, reads, IsSaid, IsTold, IsDiskFault, IsInputFault, IsFileLeft, IsRefusedKept, IsWholeAtAnyMoment, lasts, IsDurable, IsSpared, HasRun, disk_fault, input_fault, out_of_memory}
 
 -- ---- objects before and after
 
@@ -142,7 +142,8 @@ pub record ActsBy (command : Option Command) (input : Input) (file : File) (resu
   pub end : result_status result ≡ 0 → IsTrue (reads command) → IsAtEnd input.after.left
   pub contents : IsFileLeft command file (result_status result) bytes o
   pub touches : Touches command file bytes o
-  pub durable : result_status result ≡ 0 → IsDurable command file o
+  pub durable : IsTrue (lasts command (result_status result)) → IsDurable command file bytes o
+  pub spared : IsSpared command file (result_status result)
 
 abbrev pub HasActed : Option Command → Input → File → Result Printed Fault → Type 0
 HasActed command input file result = (read bytes : List ℕ) × (o : Outcome) × ActsBy command input file result read bytes o

@@ -1,5 +1,5 @@
 -- What a run says of its status, its output, its input and its file, by one reading of what it was handed and one outcome.
-use Rattle.std.specs.Prelude.{◌≡◌, ◌≢◌, ℕ, ◌≤◌, ◌⊎◌, ◌==◌, Bool, true, false, List, [], ◌∷◌, ◌++◌, length, take, flat_map, Option, Some, None, IsTrue, MatchBool, ⊤, if◌then◌else◌, codes}
+use Rattle.std.specs.Prelude.{◌≡◌, ◌≢◌, ℕ, ◌≤◌, ◌⊎◌, ◌==◌, ◌||◌, ◌&&◌, not, Bool, true, false, List, [], ◌∷◌, ◌++◌, length, take, flat_map, Option, Some, None, IsTrue, MatchBool, ⊤, if◌then◌else◌, codes}
 use Rattle.std.specs.Option.{option_map_or}
 use Rattle.std.specs.Io.KnownBytes.{Appends, IsAtEnd}
 use Rattle.fsl_order.specs.Causes.{Rose}
@@ -151,11 +151,15 @@ StandsForAll old commits bytes = StandsFor (after_commits old commits (length co
 abbrev pub StandsForSome : List Record → List (List Record) → List ℕ → Type 0
 StandsForSome old commits bytes = (n : ℕ) × (n ≤ length commits) × StandsFor (after_commits old commits n) bytes
 
--- what the file stands for after a status: the old records and all commits after 0, the old ones after a refusal, and else the old ones with none, some or all commits
+-- the command is done, and the output took its text or a front of it
+abbrev pub is_done : ℕ → Bool
+is_done status = (status == 0) || (status == 6)
+
+-- what the file stands for after a status: the old records and all commits where the command is done, with none, some or all of them where the disk failed, and else the old ones alone
 abbrev pub IsLeft : ℕ → List Record → List (List Record) → List ℕ → Type 0
 IsLeft status old commits bytes =
-    MatchBool (status == 0) (StandsForAll old commits bytes)
-    (MatchBool (status == 3) (StandsFor old bytes) (StandsForSome old commits bytes))
+    MatchBool (is_done status) (StandsForAll old commits bytes)
+    (MatchBool (status == 4) (StandsForSome old commits bytes) (StandsFor old bytes))
 
 -- a disk that failed tells what it holds by the disk model alone, where each image stood for the old records
 abbrev pub IsKnown : Option Command → ℕ → List Record → DiskState → Type 0
@@ -189,11 +193,19 @@ IsWholeAtAnyMoment command file o =
     IsModelled file.before → (old : List Record) → AreImages command old file.before.images →
     LeavesOnly file.before file.after (StandsForSome old o.commits)
 
--- a crash after the run leaves the old records and all commits
-abbrev pub IsDurable : Option Command → File → Outcome → Type 0
-IsDurable command file o =
-    IsModelled file.before → (old : List Record) → AreImages command old file.before.images →
+-- what the file reads as lasts: the command is done, or is refused behind a load
+abbrev pub lasts : Option Command → ℕ → Bool
+lasts command status = is_done status || ((status == 3) && not (begins command))
+
+-- a crash after the run leaves the old records and all commits, whatever one before it might have left
+abbrev pub IsDurable : Option Command → File → List ℕ → Outcome → Type 0
+IsDurable command file bytes o =
+    IsTrue (opens command) → IsModelled file.before → file.before.contents ≡ Some bytes → (old : List Record) → AreOld command old bytes →
     (c : List ℕ) → file.after.images c → StandsForAll old o.commits c
+
+-- want of memory leaves a file that a command would begin as it is, at each moment
+abbrev pub IsSpared : Option Command → File → ℕ → Type 0
+IsSpared command file status = status ≡ 9 → IsTrue (begins command) → Quiet file.before file.after
 
 -- ---- a run
 
@@ -210,7 +222,8 @@ pub record RunsBy (command : Option Command) (input : Input) (out : Output) (fil
   pub contents : IsFileLeft command file status bytes o
   pub kept : IsRefusedKept command file bytes
   pub any_moment : IsWholeAtAnyMoment command file o
-  pub durable : status ≡ 0 → IsDurable command file o
+  pub durable : IsTrue (lasts command status) → IsDurable command file bytes o
+  pub spared : IsSpared command file status
   pub keeps : Keeps file.before file.after
   pub disk_fault : status ≡ 4 → Rose file.before.faults file.after.faults
   pub input_fault : status ≡ 5 → Rose input.before.faults input.after.faults

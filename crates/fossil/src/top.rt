@@ -82,8 +82,10 @@ fn run_words<S: Source, K: Sink, D: Disk>(
 /// the line of a refusal or of a fault can't be written, the status stays.
 ///
 /// The file is loaded first, then the input is read, then what it appends is committed, then the text is printed. After
-/// status 0 the file stands for the records that it stood for and those of the command, after each other status for the
-/// old ones, with all or none of the command's. Whatever moment a crash comes at, what it leaves does too.
+/// status 0 and 6 the file stands for the records that it stood for and those of the command, after 4 for the old ones,
+/// with all or none of the command's, and after each other status for the old ones. Whatever moment a crash comes at, what
+/// it leaves stands for the old ones with all or none of the command's; after status 0 and 6, for all, whatever a crash
+/// before the run might have left.
 pub fn run<S: Source, K: Sink, D: Disk>(
     alloc: Global,
     words: &[String],
