@@ -4,6 +4,7 @@
 
 ghost use Rattle.fsl_cross.specs.Tables.{SameInAnyOrder};
 
+mod beside;
 mod checkin;
 mod contents;
 mod derived;
