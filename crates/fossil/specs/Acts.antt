@@ -11,6 +11,7 @@ use Rattle.fsl_journal.specs.File.{IsFileOf, FailsAt}
 use Rattle.fsl_journal.specs.Journal.{Belongs, OfBytes}
 use Rattle.fsl_journal.specs.declared.LoadFault.{LoadFault}
 use Rattle.fsl_journal.specs.declared.LoadFault.TheVariants as load_fault
+use Rattle.fsl_words.specs.declared.Question.{Question}
 use Rattle.fsl_words.specs.declared.Command.{Command}
 use Rattle.fsl_words.specs.declared.Command.TheVariants.{Init, Ingest, Put, Ask}
 use Rattle.fossil.specs.declared.fault.Fault.{Fault}
@@ -164,6 +165,10 @@ IsContentWritten due status out = IsTold (report_outcome due) status out ⊎ ((s
 -- what a command came to, by each object before and after
 abbrev pub RunsCommand : Command → SourceState × SourceState → SinkState × SinkState → DiskState × DiskState → ℕ → Type 0
 RunsCommand command input out file status = HasRun (Some command) (input_of input) (output_of out) (file_of file) status
+
+-- the same of a question
+abbrev pub RunsQuestion : Question → SourceState × SourceState → SinkState × SinkState → DiskState × DiskState → ℕ → Type 0
+RunsQuestion question input out file status = RunsCommand (Ask question) input out file status
 
 -- the fields of a new repository are in their form
 abbrev pub IsObeyable : Command → Type 0

@@ -32,6 +32,10 @@ taken_as (blob.Private size) f = record { text = name_line (codes "published") f
 taken_as blob.Shunned f = record { text = name_line (codes "shunned") f.name; records = [] }
 taken_as blob.Absent f = record { text = name_line (codes "stored") f.name; records = record_of.Blob f.private f.name f.bytes ∷ [] }
 
+-- the files are appended in memory
+abbrev pub with_files : Log → List Sent → Log
+with_files log files = record log { records = log.records ++ (put_files log.records files).records }
+
 -- one file was taken
 pub record IsFileTaken (f : Sent) (before after : Loaded) (text_before text_after : List ℕ) : Type 0 where
   pub journal : after.journal ≡ record before.journal { records = before.journal.records ++ (text_and_records_of (contents before.journal.records) f).records }

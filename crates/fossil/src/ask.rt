@@ -1,7 +1,6 @@
 //! The commands that ask the repository.
-ghost use Rattle.fsl_words.specs.declared.Command.TheVariants as command_of;
 ghost use Rattle.fsl_outside.specs.Streams.{SourceState};
-ghost use Rattle.fossil.specs.Acts.{RunsCommand};
+ghost use Rattle.fossil.specs.Acts.{RunsQuestion};
 
 use super::cat::cat;
 use super::reporting::report;
@@ -13,7 +12,7 @@ use std::alloc::Global;
 
 /// Prints the report on a question; `cat` writes the content where it lies.
 pub fn ask<K: Sink, D: Disk>(alloc: Global, question: &Question, out: &mut K, disk: &mut D) -> u8
-    ensures { (input : SourceState) → RunsCommand (command_of.Ask question.now) (input, input) (K.state out.old, K.state out.new) (D.state disk.old, D.state disk.new) result }
+    ensures { (input : SourceState) → RunsQuestion question.now (input, input) (K.state out.old, K.state out.new) (D.state disk.old, D.state disk.new) result }
 {
     match question {
         Question::Cat { prefix } => cat(alloc, prefix.bytes(), out, disk),

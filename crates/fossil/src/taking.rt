@@ -4,7 +4,7 @@ ghost use Rattle.fsl_record.specs.declared.Record.TheVariants as record_of;
 ghost use Rattle.fsl_record.specs.Records.{IsWritable};
 ghost use Rattle.fossil.specs.Files.{IsWithin, sent_in};
 ghost use Rattle.fossil.specs.Put.{put_files};
-ghost use Rattle.fossil.specs.Taking.{IsSound, IsFileTaken};
+ghost use Rattle.fossil.specs.Taking.{IsSound, IsFileTaken, with_files};
 
 use super::load::Loaded;
 use super::message::File;
@@ -61,7 +61,7 @@ pub fn take_files(
     requires runs { loaded.old.journal.stopped ≡ None }
     requires same { loaded.old.blobs.records ≡ loaded.old.journal.records }
     ensures text { IfOk result (λ text. text ≡ (put_files loaded.old.journal.records (map (sent_in message.now) files.now)).text) }
-    ensures journal { OnOk result (loaded.new.journal ≡ record loaded.old.journal { records = loaded.old.journal.records ++ (put_files loaded.old.journal.records (map (sent_in message.now) files.now)).records }) }
+    ensures journal { OnOk result (loaded.new.journal ≡ with_files loaded.old.journal (map (sent_in message.now) files.now)) }
 {
     let mut text = Text::empty(alloc);
     for file in files {

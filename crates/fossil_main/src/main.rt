@@ -6,27 +6,32 @@ mod open;
 use fossil::{NO_MEMORY, run};
 use fsl_disk::FileDisk;
 use fsl_outside::{StdSink, StdSource};
-use fsl_words::{WordsFault, read};
+use fsl_words::{Command, WordsFault, read};
 use open::open;
 use std::io;
 use std::io::ErrorKind;
 use std::process::ExitCode;
 
-/// Runs what the words say over the real input, output and file, and gives the status. Words outside the grammar get
-/// no input and no file.
-fn start(rt: &HostRuntime, words: &[String]) -> u8 {
+/// Runs a command over the real input, the real output and its file, and gives the status.
+fn over_file(rt: &HostRuntime, words: &[String], command: &Command) -> u8 {
+    let mut input = StdSource::new(rt.stdin());
     let mut out = StdSink::new(io::writer(rt));
-    match (read(rt.alloc(), words), words.first()) {
-        (Ok(parsed), Some(path)) => {
-            let disk = open(rt, path.as_str(), &parsed.command);
-            let mut input = StdSource::new(rt.stdin());
-            run(rt.alloc(), words, &mut input, &mut out, disk).status
-        }
-        (Err(WordsFault::Memory), _) => NO_MEMORY,
-        _ => {
-            let mut input: StdSource<io::Empty> = StdSource::none();
-            run(rt.alloc(), words, &mut input, &mut out, FileDisk::none()).status
-        }
+    run(rt.alloc(), words, &mut input, &mut out, open(rt, words, command)).status
+}
+
+/// Runs words outside the grammar, which get no input and no file.
+fn over_nothing(rt: &HostRuntime, words: &[String]) -> u8 {
+    let mut input: StdSource<io::Empty> = StdSource::none();
+    let mut out = StdSink::new(io::writer(rt));
+    run(rt.alloc(), words, &mut input, &mut out, FileDisk::none()).status
+}
+
+/// Runs what the words say, and gives the status.
+fn start(rt: &HostRuntime, words: &[String]) -> u8 {
+    match read(rt.alloc(), words) {
+        Ok(parsed) => over_file(rt, words, &parsed.command),
+        Err(WordsFault::Usage) => over_nothing(rt, words),
+        Err(WordsFault::Memory) => NO_MEMORY,
     }
 }
 

@@ -185,17 +185,17 @@ of_one_kind text a b h k =
 pub of_no_kind : (text : List ℕ) (cards : List Card) → IsCards text cards → ((a : Artifact) → AreOfKind cards a → ⊥) → (a : Artifact) → IsOfKind text a → ⊥
 of_no_kind text cards h none a k = none a (subst (λ (others : List Card). AreOfKind others a) (unambiguous text k.0 cards k.1 h) k.2)
 
--- a text whose cards are of a kind is of it
-pub of_some_kind : (text : List ℕ) (cards : List Card) → IsCards text cards → (a : Artifact) → AreOfKind cards a → IsKind text a
-of_some_kind text cards h Plain k = absurd k
-of_some_kind text cards h (Manifest x) k = (cards, h, k)
-of_some_kind text cards h (Cluster x) k = (cards, h, k)
-of_some_kind text cards h (Control x) k = (cards, h, k)
-of_some_kind text cards h (Wiki x) k = (cards, h, k)
-of_some_kind text cards h (Ticket x) k = (cards, h, k)
-of_some_kind text cards h (Attachment x) k = (cards, h, k)
-of_some_kind text cards h (Technote x) k = (cards, h, k)
-of_some_kind text cards h (Forum x) k = (cards, h, k)
+-- a text whose cards are of a kind is of this
+pub of_this_kind : (text : List ℕ) (cards : List Card) (a : Artifact) → IsCards text cards → AreOfKind cards a → IsKind text a
+of_this_kind text cards Plain h k = absurd k
+of_this_kind text cards (Manifest x) h k = (cards, h, k)
+of_this_kind text cards (Cluster x) h k = (cards, h, k)
+of_this_kind text cards (Control x) h k = (cards, h, k)
+of_this_kind text cards (Wiki x) h k = (cards, h, k)
+of_this_kind text cards (Ticket x) h k = (cards, h, k)
+of_this_kind text cards (Attachment x) h k = (cards, h, k)
+of_this_kind text cards (Technote x) h k = (cards, h, k)
+of_this_kind text cards (Forum x) h k = (cards, h, k)
 
 pub one_artifact : IsOneArtifact
 one_artifact text Plain Plain h k = refl

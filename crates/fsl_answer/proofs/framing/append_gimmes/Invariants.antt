@@ -1,0 +1,7 @@
+use Rattle.std.proofs.Common.{◌≡◌, ◌++◌, take}
+use Rattle.std.specs.Prelude.{flat_map}
+use Rattle.fsl_answer.specs.Replies.{gimme_line}
+use Rattle.fsl_answer.proofs.framing.append_gimmes.Given as goal
+
+abbrev pub invariant-loop-name : goal.invariant-loop-name
+invariant-loop-name l = l.into ≡ l.initial.into ++ flat_map gimme_line (take l.name-index l.gimmes)
