@@ -1,4 +1,3 @@
-pub mod Laws
 pub mod Mapped
 pub mod Moved
 pub mod FactLemmas

@@ -4,6 +4,7 @@ ghost use Rattle.std.specs.List.Sorted.{IsStrictlySortedBy};
 ghost use Rattle.fsl_order.specs.Names.{bytes_cmp};
 ghost use Rattle.fsl_cross.specs.Tables.{IsItem, files_facts, pages_facts, ticket_facts, forum_facts, cluster_facts};
 
+use super::beside::beside;
 use super::facts;
 use super::items::Items;
 use fsl_cluster::Clusters;
@@ -39,12 +40,21 @@ impl Contents {
         ensures threads { IfOk result (λ t. t.threads ≡ record { facts = forum_facts items.now; spare = [] }) }
         ensures clusters { IfOk result (λ t. t.clusters ≡ record { facts = cluster_facts items.now; spare = [] }) }
     {
+        let files = facts::files::table(alloc, items)?;
+        let pages = facts::pages::table(alloc, items);
+        let two = beside(files, pages)?;
+        let tickets = facts::tickets::table(alloc, fields, items);
+        let three = beside(two, tickets)?;
+        let threads = facts::forum::table(alloc, items);
+        let four = beside(three, threads)?;
+        let clusters = facts::clusters::table(alloc, items);
+        let ((((files, pages), tickets), threads), clusters) = beside(four, clusters)?;
         Ok(Contents {
-            files: facts::files::table(alloc, items)?,
-            pages: facts::pages::table(alloc, items)?,
-            tickets: facts::tickets::table(alloc, fields, items)?,
-            threads: facts::forum::table(alloc, items)?,
-            clusters: facts::clusters::table(alloc, items)?,
+            files,
+            pages,
+            tickets,
+            threads,
+            clusters,
         })
     }
 }

@@ -5,12 +5,13 @@ ghost use Rattle.fsl_order.specs.Names.{bytes_cmp};
 ghost use Rattle.fsl_cross.specs.Checkins.{links_facts, tags_facts};
 ghost use Rattle.fsl_cross.specs.Tables.{leaves_facts};
 
+use super::beside::beside;
 use super::facts;
 use super::items::Items;
 use fsl_leaves::Leaves;
 use fsl_links::Links;
 use fsl_tags::Tags;
-use fsl_text::{List, Memory};
+use fsl_text::Memory;
 use std::alloc::Global;
 
 /// What is told of check-ins from their parents and from tags: each table stands on the ones before it.
@@ -29,10 +30,11 @@ impl History {
         ensures tags { IfOk result (λ t. t.tags ≡ record { facts = tags_facts items.now; spare = [] }) }
         ensures leaves { IfOk result (λ t. t.leaves ≡ record { facts = leaves_facts items.now; spare = [] }) }
     {
-        let links = Links::build(alloc, &facts::links::of_items(alloc, items)?)?;
-        let tags = Tags::build(alloc, &facts::tags::of_items(alloc, &links, items)?)?;
-        let facts = facts::leaves::of_items(alloc, &tags, items)?;
-        let leaves = Leaves::from_facts(alloc, List::from_vec(facts))?;
+        let links = facts::links::table(alloc, items)?;
+        let tags = facts::tags::table(alloc, &links, items);
+        let near = beside(links, tags)?;
+        let leaves = facts::leaves::table(alloc, &near.1, items);
+        let ((links, tags), leaves) = beside(near, leaves)?;
         Ok(History {
             links,
             tags,

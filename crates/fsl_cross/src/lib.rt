@@ -4,6 +4,7 @@
 
 ghost use Rattle.fsl_cross.specs.Tables.{SameInAnyOrder};
 
+mod beside;
 mod checkin;
 mod contents;
 mod derived;
@@ -18,6 +19,7 @@ mod tip;
 use fsl_artifact::Artifact;
 use fsl_date::Moment;
 use fsl_name::Name;
+use fsl_order::by_name_in_any_order;
 use fsl_text::Text;
 pub use tables::Tables;
 
@@ -48,4 +50,6 @@ pub struct Values {
 /// The tables are the same in whatever order the artifacts come.
 pub fn same_in_any_order()
     ensures { SameInAnyOrder }
-{}
+{
+    by_name_in_any_order::<Item>();
+}

@@ -1,14 +1,18 @@
 //! The facts of leaves: the check-ins with the names of their P cards and their branches.
-ghost use Rattle.std.specs.Prelude.{◌≡◌, IfOk, filter_map};
+ghost use Rattle.std.specs.Prelude.{◌≡◌, [], IfOk, map, filter_map};
+ghost use Rattle.std.specs.List.Sorted.{IsStrictlySortedBy};
+ghost use Rattle.fsl_order.specs.Names.{bytes_cmp};
+ghost use Rattle.fsl_cross.specs.Checkins.{tags_facts};
+ghost use Rattle.fsl_cross.specs.Tables.{leaves_facts};
 ghost use Rattle.fsl_cross.specs.Inside.{leaves_fact_over};
 
 use super::append;
 use crate::Item;
 use crate::checkin::{branch, copied, manifest};
 use crate::items::Items;
-use fsl_leaves::Fact;
+use fsl_leaves::{Fact, Leaves};
 use fsl_tags::Tags;
-use fsl_text::{Memory, Text};
+use fsl_text::{List, Memory, Text};
 use std::alloc::Global;
 
 /// The fact that an artifact gives, where it is a check-in.
@@ -26,7 +30,7 @@ fn fact_of(alloc: Global, tags: &Tags, item: &Item) -> Result<Option<Fact>, Memo
 }
 
 /// The facts that artifacts give over the table of their tags. `Memory` is the only error.
-pub(crate) fn of_items(alloc: Global, tags: &Tags, items: &Items) -> Result<Vec<Fact>, Memory>
+fn of_items(alloc: Global, tags: &Tags, items: &Items) -> Result<Vec<Fact>, Memory>
     ensures { IfOk result (λ facts. facts.items ≡ filter_map (leaves_fact_over tags.now.facts) items.now) }
 {
     let mut facts = Vec::new(alloc);
@@ -34,4 +38,14 @@ pub(crate) fn of_items(alloc: Global, tags: &Tags, items: &Items) -> Result<Vec<
         append(&mut facts, fact_of(alloc, tags, item)?)?;
     }
     Ok(facts)
+}
+
+/// The table of leaves, by the table of tags. `Memory` is the only error.
+pub(crate) fn table(alloc: Global, tags: &Tags, items: &Items) -> Result<Leaves, Memory>
+    requires rising { IsStrictlySortedBy bytes_cmp (map (λ i. i.name) items.now) }
+    requires tags { tags.now.facts ≡ tags_facts items.now }
+    ensures { IfOk result (λ t. t ≡ record { facts = leaves_facts items.now; spare = [] }) }
+{
+    let facts = of_items(alloc, tags, items)?;
+    Leaves::from_facts(alloc, List::from_vec(facts))
 }

@@ -1,5 +1,7 @@
 //! The facts of parentage: the check-ins with the names of their P cards.
-ghost use Rattle.std.specs.Prelude.{◌≡◌, IfOk};
+ghost use Rattle.std.specs.Prelude.{◌≡◌, [], IfOk, map};
+ghost use Rattle.std.specs.List.Sorted.{IsStrictlySortedBy};
+ghost use Rattle.fsl_order.specs.Names.{bytes_cmp};
 ghost use Rattle.fsl_cross.specs.Facts.{links_fact};
 ghost use Rattle.fsl_cross.specs.Checkins.{links_facts};
 
@@ -7,7 +9,7 @@ use super::append;
 use crate::Item;
 use crate::checkin::{copied, manifest};
 use crate::items::Items;
-use fsl_links::Fact;
+use fsl_links::{Fact, Links};
 use fsl_text::Memory;
 use std::alloc::Global;
 
@@ -25,7 +27,7 @@ fn fact_of(alloc: Global, item: &Item) -> Result<Option<Fact>, Memory>
 }
 
 /// The facts that artifacts give. `Memory` is the only error.
-pub(crate) fn of_items(alloc: Global, items: &Items) -> Result<Vec<Fact>, Memory>
+fn of_items(alloc: Global, items: &Items) -> Result<Vec<Fact>, Memory>
     ensures { IfOk result (λ facts. facts.items ≡ links_facts items.now) }
 {
     let mut facts = Vec::new(alloc);
@@ -33,4 +35,12 @@ pub(crate) fn of_items(alloc: Global, items: &Items) -> Result<Vec<Fact>, Memory
         append(&mut facts, fact_of(alloc, item)?)?;
     }
     Ok(facts)
+}
+
+/// The table of parentage. `Memory` is the only error.
+pub(crate) fn table(alloc: Global, items: &Items) -> Result<Links, Memory>
+    requires { IsStrictlySortedBy bytes_cmp (map (λ i. i.name) items.now) }
+    ensures { IfOk result (λ t. t ≡ record { facts = links_facts items.now; spare = [] }) }
+{
+    Links::build(alloc, &of_items(alloc, items)?)
 }

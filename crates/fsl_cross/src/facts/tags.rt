@@ -1,6 +1,9 @@
 //! The facts of tags: what the T cards of check-ins, control artifacts and technotes say.
 ghost use Rattle.std.specs.Prelude.{◌≡◌, ◌++◌, ◌∷◌, [], IfOk, OnOk, map, filter_map, option_map, unwrap_or};
 ghost use Rattle.std.specs.List.{enumerate_from};
+ghost use Rattle.std.specs.List.Sorted.{IsStrictlySortedBy};
+ghost use Rattle.fsl_order.specs.Names.{bytes_cmp};
+ghost use Rattle.fsl_cross.specs.Checkins.{links_facts, tags_facts};
 ghost use Rattle.fsl_cross.specs.Facts.{assertion, tag_cards, tag_prefix_of};
 ghost use Rattle.fsl_cross.specs.Inside.{tags_fact_over};
 
@@ -14,7 +17,7 @@ use fsl_grammar as grammar;
 use fsl_grammar::TagCard;
 use fsl_links::Links;
 use fsl_name::Name;
-use fsl_tags::{Assertion, Fact, Prefix};
+use fsl_tags::{Assertion, Fact, Prefix, Tags};
 use fsl_text::{List, Memory, Text};
 use std::alloc::Global;
 
@@ -116,7 +119,7 @@ fn fact_of(alloc: Global, links: &Links, item: &Item) -> Result<Option<Fact>, Me
 }
 
 /// The facts that artifacts give over the table of their parentage. `Memory` is the only error.
-pub(crate) fn of_items(alloc: Global, links: &Links, items: &Items) -> Result<Vec<Fact>, Memory>
+fn of_items(alloc: Global, links: &Links, items: &Items) -> Result<Vec<Fact>, Memory>
     ensures { IfOk result (λ facts. facts.items ≡ filter_map (tags_fact_over links.now.facts) items.now) }
 {
     let mut facts = Vec::new(alloc);
@@ -124,4 +127,13 @@ pub(crate) fn of_items(alloc: Global, links: &Links, items: &Items) -> Result<Ve
         append(&mut facts, fact_of(alloc, links, item)?)?;
     }
     Ok(facts)
+}
+
+/// The table of tags, by the table of parentage. `Memory` is the only error.
+pub(crate) fn table(alloc: Global, links: &Links, items: &Items) -> Result<Tags, Memory>
+    requires rising { IsStrictlySortedBy bytes_cmp (map (λ i. i.name) items.now) }
+    requires links { links.now.facts ≡ links_facts items.now }
+    ensures { IfOk result (λ t. t ≡ record { facts = tags_facts items.now; spare = [] }) }
+{
+    Tags::build(alloc, &of_items(alloc, links, items)?)
 }
