@@ -68,12 +68,13 @@ fn requests_by_their_first_fault(rt: HostRuntime) -> Result<(), Fail> {
 // Each is the rest of a head that is good so far, and what stands behind it.
 #[test]
 fn requests_by_their_length(rt: HostRuntime) -> Result<(), Fail> {
-    let table: [(&[u8], u16); 8] = [
+    let table: [(&[u8], u16); 9] = [
         (b"Content-Length: 003\r\n\r\nabcd", 200),
         (b"Content-Length: 3\r\n\r\nab", 400),
         (b"Content-Length: 3\r\n\r\n", 400),
         (b"Content-Length: x\r\n\r\nabc", 400),
         (b"Content-Length: 3\r\ncontent-length: 3\r\n\r\nabc", 400),
+        (b"Content-Length: 134217728\r\n\r\nabc", 400),
         (b"Content-Length: 134217729\r\n\r\nabc", 413),
         (
             b"Content-Length: 134217729\r\nTransfer-Encoding: chunked\r\n\r\nabc",
@@ -127,6 +128,15 @@ fn reads_that_fail(rt: HostRuntime) -> Result<(), Fail> {
     Ok(())
 }
 
+// One read brings the head and the body, and none comes behind it, which would fail.
+#[test]
+fn requests_are_read_no_further(rt: HostRuntime) -> Result<(), Fail> {
+    let bytes = post(rt.alloc(), b"Content-Length: 3\r\n\r\nabc")?;
+    assert_eq!(rt; status_of(rt.alloc(), &bytes, &[2])?, 200);
+    assert_eq!(rt; status_of(rt.alloc(), b"\x01", &[2])?, 400);
+    Ok(())
+}
+
 // What a link took of a reply, whose call of that number failed.
 fn sent_of(alloc: Global, status: u16, fails: &[u64], sent: &[u8]) -> Result<bool, AllocError> {
     let mut link = link(alloc, b"", fails)?;
@@ -176,21 +186,24 @@ fn exchanged(alloc: Global, bytes: &[u8], fails: &[u64]) -> Result<(u64, u64), A
 #[test]
 fn exchanges_by_their_reply(rt: HostRuntime) -> Result<(), Fail> {
     let good: &[u8] = b"HTTP/1.0 200\r\ncontent-length: 003\r\n\r\nabcd";
-    let table: [(&[u8], (u64, u64)); 7] = [
+    let table: [(&[u8], (u64, u64)); 8] = [
         (good, (0, 3)),
         (b"", (2, 0)),
         (b"HTTP/1.1 404 Not Found\r\n\r\n", (2, 0)),
         (b"HTTP/1.1 200 OK\r\nContent-Length: 3\r\nContent-Length: 3\r\n\r\nabc", (2, 0)),
         (b"HTTP/1.1 404 Not Found\r\nContent-Length: 134217729\r\n\r\n", (3, 404)),
         (b"HTTP/1.1 200 OK\r\nContent-Length: 134217729\r\n\r\n", (4, 134_217_729)),
+        (b"HTTP/1.1 200 OK\r\nContent-Length: 134217728\r\n\r\nabc", (5, 3)),
         (b"HTTP/1.1 200 OK\r\nContent-Length: 3\r\n\r\nab", (5, 2)),
     ];
     for (bytes, given) in table {
         assert_eq!(rt; exchanged(rt.alloc(), bytes, &[])?, given);
     }
+    // One call begins the connection, four write the request, and one reads the reply.
     for call in [1u64, 2, 6] {
         assert_eq!(rt; exchanged(rt.alloc(), good, &[call])?, (1, 1));
     }
+    assert_eq!(rt; exchanged(rt.alloc(), good, &[7])?, (0, 3));
     Ok(())
 }
 
