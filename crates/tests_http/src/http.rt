@@ -4,11 +4,7 @@ use std::alloc::{AllocError, Global};
 use std::test::Fail;
 
 fn link(alloc: Global, bytes: &[u8], fails: &[u64]) -> Result<MemoryLink, AllocError> {
-    Ok(MemoryLink::new(
-        alloc,
-        bytes.to_vec(alloc)?,
-        fails.to_vec(alloc)?,
-    ))
+    Ok(MemoryLink::new(alloc, bytes.to_vec(alloc)?, fails.to_vec(alloc)?))
 }
 
 // The status of the answer to these bytes; 200 with the message `abc`, and else a number of its own for each answer.
@@ -106,7 +102,11 @@ fn padded(alloc: Global, size: usize, fields: usize) -> Result<Vec<u8>, AllocErr
 
 #[test]
 fn heads_at_their_limits(rt: HostRuntime) -> Result<(), Fail> {
-    let table = [(16_384usize, 62usize, 200u16), (16_385, 1, 400), (1_000, 63, 400)];
+    let table = [
+        (16_384usize, 62usize, 200u16),
+        (16_385, 1, 400),
+        (1_000, 63, 400),
+    ];
     for (size, fields, status) in table {
         let bytes = padded(rt.alloc(), size, fields)?;
         assert_eq!(rt; bytes.len(), size + 3);
@@ -151,18 +151,22 @@ fn sent_of(alloc: Global, status: u16, fails: &[u64], sent: &[u8]) -> Result<boo
 #[test]
 fn replies_byte_by_byte(rt: HostRuntime) -> Result<(), Fail> {
     let alloc = rt.alloc();
-    assert!(rt; sent_of(
-        alloc,
-        200,
-        &[],
-        b"HTTP/1.1 200 OK\r\nContent-Type: application/x-fossil-uncompressed\r\nContent-Length: 3\r\nConnection: close\r\n\r\nabc",
-    )?);
-    assert!(rt; sent_of(
-        alloc,
-        405,
-        &[],
-        b"HTTP/1.1 405 Method Not Allowed\r\nAllow: POST\r\nContent-Length: 0\r\nConnection: close\r\n\r\n",
-    )?);
+    assert!(rt;
+        sent_of(
+            alloc,
+            200,
+            &[],
+            b"HTTP/1.1 200 OK\r\nContent-Type: application/x-fossil-uncompressed\r\nContent-Length: 3\r\nConnection: close\r\n\r\nabc",
+        )?
+    );
+    assert!(rt;
+        sent_of(
+            alloc,
+            405,
+            &[],
+            b"HTTP/1.1 405 Method Not Allowed\r\nAllow: POST\r\nContent-Length: 0\r\nConnection: close\r\n\r\n",
+        )?
+    );
     assert!(rt; sent_of(alloc, 503, &[5], b"HTTP/1.1 503 Service Unavailable")?);
     Ok(())
 }
@@ -190,10 +194,22 @@ fn exchanges_by_their_reply(rt: HostRuntime) -> Result<(), Fail> {
         (good, (0, 3)),
         (b"", (2, 0)),
         (b"HTTP/1.1 404 Not Found\r\n\r\n", (2, 0)),
-        (b"HTTP/1.1 200 OK\r\nContent-Length: 3\r\nContent-Length: 3\r\n\r\nabc", (2, 0)),
-        (b"HTTP/1.1 404 Not Found\r\nContent-Length: 134217729\r\n\r\n", (3, 404)),
-        (b"HTTP/1.1 200 OK\r\nContent-Length: 134217729\r\n\r\n", (4, 134_217_729)),
-        (b"HTTP/1.1 200 OK\r\nContent-Length: 134217728\r\n\r\nabc", (5, 3)),
+        (
+            b"HTTP/1.1 200 OK\r\nContent-Length: 3\r\nContent-Length: 3\r\n\r\nabc",
+            (2, 0),
+        ),
+        (
+            b"HTTP/1.1 404 Not Found\r\nContent-Length: 134217729\r\n\r\n",
+            (3, 404),
+        ),
+        (
+            b"HTTP/1.1 200 OK\r\nContent-Length: 134217729\r\n\r\n",
+            (4, 134_217_729),
+        ),
+        (
+            b"HTTP/1.1 200 OK\r\nContent-Length: 134217728\r\n\r\nabc",
+            (5, 3),
+        ),
         (b"HTTP/1.1 200 OK\r\nContent-Length: 3\r\n\r\nab", (5, 2)),
     ];
     for (bytes, given) in table {
@@ -216,9 +232,12 @@ fn dials_give_their_replies_in_turn(rt: HostRuntime) -> Result<(), Fail> {
     let mut dial = MemoryDial::new(alloc, replies, Vec::new(alloc));
     assert!(rt; exchange(alloc, &mut dial, b"a").is_ok());
     assert!(rt; exchange(alloc, &mut dial, b"bc").is_ok());
-    assert!(rt; dial.sent(1) == Some(
-        b"POST /xfer HTTP/1.1\r\nHost: fossil\r\nContent-Type: application/x-fossil-uncompressed\r\nContent-Length: 2\r\nConnection: close\r\n\r\nbc".as_slice()
-    ));
+    assert!(rt;
+        dial.sent(1)
+            == Some(
+                b"POST /xfer HTTP/1.1\r\nHost: fossil\r\nContent-Type: application/x-fossil-uncompressed\r\nContent-Length: 2\r\nConnection: close\r\n\r\nbc".as_slice()
+            )
+    );
     assert!(rt; dial.sent(2).is_none());
     Ok(())
 }
@@ -239,6 +258,9 @@ fn doors_close_behind_the_last_connection(rt: HostRuntime) -> Result<(), Fail> {
     assert!(rt; door.accept() == Ok(Accepted::Closed));
     assert!(rt; door.sent(0) == Some(b"xy".as_slice()));
     assert!(rt; door.sent(1).is_none());
-    assert_eq!(rt; (door.faults(), door.accept_faults(), door.closings()), (1, 1, 1));
+    assert_eq!(rt;
+        (door.faults(), door.accept_faults(), door.closings()),
+        (1, 1, 1)
+    );
     Ok(())
 }
