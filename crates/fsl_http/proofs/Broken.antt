@@ -4,7 +4,13 @@ use Rattle.fsl_outside.specs.Memory.{next}
 use Rattle.fsl_outside.specs.Connections.{Connection, Between, IsRead, IsFailed, LinkReads}
 use Rattle.fsl_http.specs.declared.request.HttpFault.{HttpFault}
 use Rattle.fsl_http.specs.declared.request.HttpFault.TheVariants as http
+use Rattle.fsl_http.specs.declared.client.ExchangeFault.{ExchangeFault}
+use Rattle.fsl_http.specs.declared.reply_head.ReplyHead.{ReplyHead}
+use Rattle.fsl_http.specs.declared.head.Front.{Front}
+use Rattle.fsl_http.specs.Heads.{IsHeadRead, ReadsHead}
 use Rattle.fsl_http.specs.Reading.{IsBroken, Breaks}
+use Rattle.fsl_http.specs.Responses.{HasNoReply, IsUnfinishedReply}
+use Rattle.fsl_http.specs.Exchanges.{IsWholeReply, IsFaultOf, BreaksReply}
 use Rattle.fsl_http.proofs.Steps.{Between-twice, Between-map}
 
 broken_by : (c d : Connection) → IsFailed c d → IsBroken c d (next c.failed)
@@ -48,3 +54,16 @@ breaks_after a b c x http.Memory m k =
       taken = j.taken ∙ i.taken;
       count = j.count ∙ i.failed;
     }) m k
+
+-- the fault of a reading as that of an exchange
+pub broken_reply : (a b : Option Connection) (h : HttpFault) (e : ExchangeFault) → IsFaultOf h e → Breaks a b h → BreaksReply a b e
+broken_reply a b http.Link e is k = subst (λ (x : ExchangeFault). BreaksReply a b x) (sym is) k
+broken_reply a b http.Memory e is k = subst (λ (x : ExchangeFault). BreaksReply a b x) (sym is) k
+
+-- a fault in the body of a reply, after its head
+pub broken_body : (a b c : Option Connection) (bytes : List ℕ) (f : Front ReplyHead) (h : HttpFault) (e : ExchangeFault)
+    → ReadsHead IsWholeReply HasNoReply IsUnfinishedReply a b bytes f → IsFaultOf h e → Breaks b c h → BreaksReply a c e
+broken_body a b c bytes f h e r is k =
+    broken_reply a c h e is
+    (breaks_after a b c bytes h
+    (Between-map {P = λ u v. IsHeadRead IsWholeReply HasNoReply IsUnfinishedReply u v bytes f} {Q = λ u v. IsRead u v bytes} a b (λ u v i. i.moved) r) k)

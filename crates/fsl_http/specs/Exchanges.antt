@@ -3,7 +3,8 @@ use Rattle.std.specs.Prelude.{◌≡◌, ℕ, ◌⊎◌, List, length, drop, nat
 use Rattle.httparse.specs.Grammar.{ResponseHead, status_code}
 use Rattle.fsl_order.specs.Causes.{Rose}
 use Rattle.fsl_outside.specs.Connections.{Connection, LinkState, Between, IsRead, IsTold, listed}
-use Rattle.fsl_http.specs.Responses.{IsReply, Exchanged, no_head, status, long, short, body, Settles, IsReplyNeeded, IsExchanged, IsCutOff}
+use Rattle.fsl_http.specs.Reading.{Breaks}
+use Rattle.fsl_http.specs.Responses.{IsReply, Exchanged, no_head, status, long, short, body, Settles, IsReplyNeeded, IsExchanged, IsBrokenOff, IsLeft}
 use Rattle.fsl_http.specs.declared.reply_head.ReplyHead.{ReplyHead}
 use Rattle.fsl_http.specs.declared.request.HttpFault.{HttpFault}
 use Rattle.fsl_http.specs.declared.request.HttpFault.TheVariants as http
@@ -37,6 +38,12 @@ pub record IsReplied (c d : Connection) (r : Exchanged) : Type 0 where
 abbrev pub ReadsReply : Option Connection → Option Connection → Result (List ℕ) ExchangeFault → Type 0
 ReadsReply old new result = IfSome (exchanged result) (λ r. Between old new (λ c d. IsReplied c d r))
 
+-- after a fault some bytes of the reply were read, and the call that failed is counted on the connection
+abbrev pub BreaksReply : Option Connection → Option Connection → ExchangeFault → Type 0
+BreaksReply old new fault.Link = Breaks old new http.Link
+BreaksReply old new fault.Memory = Breaks old new http.Memory
+BreaksReply old new _ = ⊤
+
 -- a failure of the dial has a cause, and every other fault leaves the count
 abbrev pub FailsBy : ℕ → ℕ → ExchangeFault → Type 0
 FailsBy before now fault.Link = Rose before now
@@ -58,17 +65,20 @@ abbrev pub Of : Option Connection → (Connection → Type 0) → Type 0
 Of None P = ⊤
 Of (Some c) P = P c
 
--- a connection joined the list, and this holds of it
+-- a connection joined the list, and this holds of it; the counts of a door stand
 pub record HasJoined (old new : LinkState) (P : Connection → Type 0) : Type 0 where
   pub joined : new.standing.earlier ≡ listed old.standing.earlier old.present
   pub told : IsTold new.standing.earlier new.present
+  pub accepts : new.standing.accept_faults ≡ old.standing.accept_faults
+  pub closings : new.standing.closings ≡ old.standing.closings
   pub is : Of new.present P
 
--- no connection joined the list, or one did and the exchange on it was cut off
-abbrev pub CutsOff : LinkState → LinkState → List ℕ → Type 0
-CutsOff old new text = ((new.present ≡ old.present) × (new.standing ≡ old.standing)) ⊎ HasJoined old new (λ c. IsCutOff c text)
+-- one exchange was made on a connection that joined the list
+abbrev pub IsExchangeOf : LinkState → LinkState → List ℕ → Exchanged → Type 0
+IsExchangeOf old new text r = HasJoined old new (λ c. IsExchanged c text r)
 
--- one exchange was made on a connection that joined the list, or it was cut off
-abbrev pub IsExchangeOf : LinkState → LinkState → List ℕ → Option Exchanged → Type 0
-IsExchangeOf old new text (Some r) = HasJoined old new (λ c. IsExchanged c text r)
-IsExchangeOf old new text None = CutsOff old new text
+-- where a call failed, no connection joined the list, or one did and the call was on it; want of memory leaves a request that was sent
+abbrev pub CutsOff : LinkState → LinkState → List ℕ → ExchangeFault → Type 0
+CutsOff old new text fault.Link = ((new.present ≡ old.present) × (new.standing ≡ old.standing)) ⊎ HasJoined old new (λ c. IsBrokenOff c text)
+CutsOff old new text fault.Memory = HasJoined old new (λ c. IsLeft c text)
+CutsOff old new text _ = ⊤

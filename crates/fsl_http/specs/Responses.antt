@@ -84,10 +84,16 @@ pub record IsExchanged (c : Connection) (text : List ℕ) (r : Exchanged) : Type
   pub needed : IsReplyNeeded c.read
   pub failed : c.failed ≡ 0
 
--- a connection on which an exchange was cut off: it took a front of the request
-pub record IsCutOff (c : Connection) (text : List ℕ) : Type 0 where
+-- a connection on which one call failed: it took a front of the request
+pub record IsBrokenOff (c : Connection) (text : List ℕ) : Type 0 where
   pub rest : List ℕ
   pub sent : request_text text ≡ c.taken ++ rest
+  pub failed : c.failed ≡ 1
+
+-- a connection that was left for want of memory: it took the request, and no call failed
+pub record IsLeft (c : Connection) (text : List ℕ) : Type 0 where
+  pub sent : c.taken ≡ request_text text
+  pub failed : c.failed ≡ 0
 
 -- Law. Bytes are one reply at most
 abbrev pub HasOneReply : Type 0

@@ -28,6 +28,10 @@ pub fn read_body<L: Link>(
     let Ok(mut body) = Vec::from_slice(alloc, &front[..here]) else {
         return Err(HttpFault::Memory);
     };
+    // The room for all of it at once: a growth by doubling could take twice as much.
+    if body.reserve_exact(size - here).is_err() {
+        return Err(HttpFault::Memory);
+    }
     while body.len() < size {
         let room = size - body.len();
         let count = read_piece(link, &mut body, room)?;

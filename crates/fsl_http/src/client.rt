@@ -1,9 +1,9 @@
-ghost use Rattle.std.specs.Prelude.{◌≡◌, ◌≤◌, IfErr, OnOk, OnErr};
+ghost use Rattle.std.specs.Prelude.{◌≡◌, ◌≤◌, IfSome, IfErr, OnOk, OnErr};
 ghost use Rattle.fsl_order.specs.Causes.{HasCause};
 ghost use Rattle.fsl_http.specs.Reading.{SendsNothing};
 ghost use Rattle.fsl_http.specs.Sending.{Sends, SendsFront};
 ghost use Rattle.fsl_http.specs.Responses.{request_text, HasOneReply};
-ghost use Rattle.fsl_http.specs.Exchanges.{ReadsReply, FailsBy, IsExchangeOf, exchanged, body_result};
+ghost use Rattle.fsl_http.specs.Exchanges.{ReadsReply, BreaksReply, FailsBy, IsExchangeOf, CutsOff, exchanged, body_result};
 
 use super::body::read_body;
 use super::head::{Front, read_head};
@@ -50,7 +50,8 @@ impl From<HttpFault> for ExchangeFault {
 /// one read brings. Errors: `Link` where a call of the dial failed, `Head`, `Status`, `Long` and `Short` by the bytes that
 /// were read, in this order, and `Memory`.
 pub fn exchange<N: Dial>(alloc: Global, dial: &mut N, body: &[u8]) -> Result<Text, ExchangeFault>
-    ensures exchanges { IsExchangeOf (N.state dial.old) (N.state dial.new) body.now (exchanged result) }
+    ensures exchanges { IfSome (exchanged result) (IsExchangeOf (N.state dial.old) (N.state dial.new) body.now) }
+    ensures cut { IfErr result (CutsOff (N.state dial.old) (N.state dial.new) body.now) }
     ensures err { IfErr result (FailsBy (N.state dial.old).faults (N.state dial.new).faults) }
     ensures later { (N.state dial.old).faults ≤ (N.state dial.new).faults }
     ensures same { OnOk result ((N.state dial.new).faults ≡ (N.state dial.old).faults) }
@@ -85,6 +86,7 @@ fn send_request<L: Link>(link: &mut L, body: &[u8]) -> Result<(), Failed>
 // Reads the reply.
 fn read_reply<L: Link>(alloc: Global, link: &mut L) -> Result<Text, ExchangeFault>
     ensures replied { ReadsReply (L.state link.old).present (L.state link.new).present result }
+    ensures broken { IfErr result (BreaksReply (L.state link.old).present (L.state link.new).present) }
     ensures err { IfErr result (FailsBy (L.state link.old).faults (L.state link.new).faults) }
     ensures sent { SendsNothing (L.state link.old).present (L.state link.new).present }
     ensures stands { (L.state link.new).standing ≡ (L.state link.old).standing }

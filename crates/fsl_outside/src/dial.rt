@@ -88,6 +88,7 @@ impl Link for MemoryDial {
         ensures bound { ReadsAtMost result into.new }
         ensures moves { LinkReads self.old.lines.present self.new.lines.present result into.new }
         ensures cause { HasCause self.old.lines.faults self.new.lines.faults result }
+        ensures counted { OnErr result (self.new.lines.faults ≡ next self.old.lines.faults) }
         ensures only { IsOneCall self.old.lines self.new.lines }
         ensures replies { self.new.replies ≡ self.old.replies }
         ensures told { Contains self.old.lines.fails (next self.old.lines.calls) → IsErr result }
@@ -103,6 +104,7 @@ impl Link for MemoryDial {
         ensures some { IfOk result (λ n. 0 < length piece.now → 0 < n) }
         ensures moves { LinkWrites self.old.lines.present self.new.lines.present result piece.now }
         ensures cause { HasCause self.old.lines.faults self.new.lines.faults result }
+        ensures counted { OnErr result (self.new.lines.faults ≡ next self.old.lines.faults) }
         ensures only { IsOneCall self.old.lines self.new.lines }
         ensures replies { self.new.replies ≡ self.old.replies }
         ensures told { Contains self.old.lines.fails (next self.old.lines.calls) → IsErr result }

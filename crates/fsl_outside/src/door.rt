@@ -4,6 +4,7 @@ ghost use Rattle.std.specs.Io.{ReadsAtMost, WritesAtMost};
 ghost use Rattle.fsl_order.specs.Causes.{HasCause};
 ghost use Rattle.fsl_outside.specs.Memory.{next};
 ghost use Rattle.fsl_outside.specs.Connections.{LinkReads, LinkWrites};
+ghost use Rattle.fsl_outside.specs.declared.link.Accepted.TheVariants as accepted;
 ghost use Rattle.fsl_outside.specs.Accepts.{AcceptLists, AcceptCounts};
 ghost use Rattle.fsl_outside.specs.Lines.{none_yet, IsOneCall, SentBy};
 ghost use Rattle.fsl_outside.specs.Dials.{door_state, door_standing, DoorGives};
@@ -110,6 +111,7 @@ impl Link for MemoryDoor {
         ensures bound { ReadsAtMost result into.new }
         ensures moves { LinkReads self.old.lines.present self.new.lines.present result into.new }
         ensures cause { HasCause self.old.lines.faults self.new.lines.faults result }
+        ensures counted { OnErr result (self.new.lines.faults ≡ next self.old.lines.faults) }
         ensures only { self.new ≡ record self.old { lines = self.new.lines } }
         ensures call { IsOneCall self.old.lines self.new.lines }
         ensures told { Contains self.old.lines.fails (next self.old.lines.calls) → IsErr result }
@@ -125,6 +127,7 @@ impl Link for MemoryDoor {
         ensures some { IfOk result (λ n. 0 < length piece.now → 0 < n) }
         ensures moves { LinkWrites self.old.lines.present self.new.lines.present result piece.now }
         ensures cause { HasCause self.old.lines.faults self.new.lines.faults result }
+        ensures counted { OnErr result (self.new.lines.faults ≡ next self.old.lines.faults) }
         ensures only { self.new ≡ record self.old { lines = self.new.lines } }
         ensures call { IsOneCall self.old.lines self.new.lines }
         ensures told { Contains self.old.lines.fails (next self.old.lines.calls) → IsErr result }
@@ -147,6 +150,8 @@ impl Door for MemoryDoor {
     fn accept(&mut self) -> Result<Accepted, Failed>
         ensures lists { IfOk result (AcceptLists (door_state self.old) (door_state self.new)) }
         ensures counts { AcceptCounts result (door_standing self.old) (door_standing self.new) }
+        ensures failed { OnErr result (self.new.accept_faults ≡ next self.old.accept_faults) }
+        ensures closed { IfOk result (λ a. a ≡ accepted.Closed → self.new.closings ≡ next self.old.closings) }
         ensures kept { OnErr result (self.new.lines ≡ self.old.lines) }
         ensures same { self.new.lines.faults ≡ self.old.lines.faults }
         ensures gives { IfOk result (DoorGives self.old self.new.lines) }

@@ -172,6 +172,7 @@ impl Connections {
         ensures bound { ReadsAtMost result into.new }
         ensures moves { LinkReads self.old.present self.new.present result into.new }
         ensures cause { HasCause self.old.faults self.new.faults result }
+        ensures counted { OnErr result (self.new.faults ≡ next self.old.faults) }
         ensures only { IsOneCall self.old self.new }
         ensures told { Contains self.old.fails (next self.old.calls) → IsErr result }
         ensures none { IsNone self.old.present → IsErr result }
@@ -194,6 +195,7 @@ impl Connections {
         ensures some { IfOk result (λ n. 0 < length piece.now → 0 < n) }
         ensures moves { LinkWrites self.old.present self.new.present result piece.now }
         ensures cause { HasCause self.old.faults self.new.faults result }
+        ensures counted { OnErr result (self.new.faults ≡ next self.old.faults) }
         ensures only { IsOneCall self.old self.new }
         ensures told { Contains self.old.fails (next self.old.calls) → IsErr result }
         ensures none { IsNone self.old.present → IsErr result }

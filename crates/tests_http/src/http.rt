@@ -4,11 +4,7 @@ use std::alloc::{AllocError, Global};
 use std::test::Fail;
 
 fn link(alloc: Global, bytes: &[u8], fails: &[u64]) -> Result<MemoryLink, AllocError> {
-    Ok(MemoryLink::new(
-        alloc,
-        bytes.to_vec(alloc)?,
-        fails.to_vec(alloc)?,
-    ))
+    Ok(MemoryLink::new(alloc, bytes.to_vec(alloc)?, fails.to_vec(alloc)?))
 }
 
 // The status of the answer to these bytes; 200 with the message `abc`, and else a number of its own for each answer.
@@ -68,12 +64,13 @@ fn requests_by_their_first_fault(rt: HostRuntime) -> Result<(), Fail> {
 // Each is the rest of a head that is good so far, and what stands behind it.
 #[test]
 fn requests_by_their_length(rt: HostRuntime) -> Result<(), Fail> {
-    let table: [(&[u8], u16); 8] = [
+    let table: [(&[u8], u16); 9] = [
         (b"Content-Length: 003\r\n\r\nabcd", 200),
         (b"Content-Length: 3\r\n\r\nab", 400),
         (b"Content-Length: 3\r\n\r\n", 400),
         (b"Content-Length: x\r\n\r\nabc", 400),
         (b"Content-Length: 3\r\ncontent-length: 3\r\n\r\nabc", 400),
+        (b"Content-Length: 134217728\r\n\r\nabc", 400),
         (b"Content-Length: 134217729\r\n\r\nabc", 413),
         (
             b"Content-Length: 134217729\r\nTransfer-Encoding: chunked\r\n\r\nabc",
@@ -105,7 +102,11 @@ fn padded(alloc: Global, size: usize, fields: usize) -> Result<Vec<u8>, AllocErr
 
 #[test]
 fn heads_at_their_limits(rt: HostRuntime) -> Result<(), Fail> {
-    let table = [(16_384usize, 62usize, 200u16), (16_385, 1, 400), (1_000, 63, 400)];
+    let table = [
+        (16_384usize, 62usize, 200u16),
+        (16_385, 1, 400),
+        (1_000, 63, 400),
+    ];
     for (size, fields, status) in table {
         let bytes = padded(rt.alloc(), size, fields)?;
         assert_eq!(rt; bytes.len(), size + 3);
@@ -127,6 +128,15 @@ fn reads_that_fail(rt: HostRuntime) -> Result<(), Fail> {
     Ok(())
 }
 
+// One read brings the head and the body, and none comes behind it, which would fail.
+#[test]
+fn requests_are_read_no_further(rt: HostRuntime) -> Result<(), Fail> {
+    let bytes = post(rt.alloc(), b"Content-Length: 3\r\n\r\nabc")?;
+    assert_eq!(rt; status_of(rt.alloc(), &bytes, &[2])?, 200);
+    assert_eq!(rt; status_of(rt.alloc(), b"\x01", &[2])?, 400);
+    Ok(())
+}
+
 // What a link took of a reply, whose call of that number failed.
 fn sent_of(alloc: Global, status: u16, fails: &[u64], sent: &[u8]) -> Result<bool, AllocError> {
     let mut link = link(alloc, b"", fails)?;
@@ -141,18 +151,22 @@ fn sent_of(alloc: Global, status: u16, fails: &[u64], sent: &[u8]) -> Result<boo
 #[test]
 fn replies_byte_by_byte(rt: HostRuntime) -> Result<(), Fail> {
     let alloc = rt.alloc();
-    assert!(rt; sent_of(
-        alloc,
-        200,
-        &[],
-        b"HTTP/1.1 200 OK\r\nContent-Type: application/x-fossil-uncompressed\r\nContent-Length: 3\r\nConnection: close\r\n\r\nabc",
-    )?);
-    assert!(rt; sent_of(
-        alloc,
-        405,
-        &[],
-        b"HTTP/1.1 405 Method Not Allowed\r\nAllow: POST\r\nContent-Length: 0\r\nConnection: close\r\n\r\n",
-    )?);
+    assert!(rt;
+        sent_of(
+            alloc,
+            200,
+            &[],
+            b"HTTP/1.1 200 OK\r\nContent-Type: application/x-fossil-uncompressed\r\nContent-Length: 3\r\nConnection: close\r\n\r\nabc",
+        )?
+    );
+    assert!(rt;
+        sent_of(
+            alloc,
+            405,
+            &[],
+            b"HTTP/1.1 405 Method Not Allowed\r\nAllow: POST\r\nContent-Length: 0\r\nConnection: close\r\n\r\n",
+        )?
+    );
     assert!(rt; sent_of(alloc, 503, &[5], b"HTTP/1.1 503 Service Unavailable")?);
     Ok(())
 }
@@ -176,21 +190,36 @@ fn exchanged(alloc: Global, bytes: &[u8], fails: &[u64]) -> Result<(u64, u64), A
 #[test]
 fn exchanges_by_their_reply(rt: HostRuntime) -> Result<(), Fail> {
     let good: &[u8] = b"HTTP/1.0 200\r\ncontent-length: 003\r\n\r\nabcd";
-    let table: [(&[u8], (u64, u64)); 7] = [
+    let table: [(&[u8], (u64, u64)); 8] = [
         (good, (0, 3)),
         (b"", (2, 0)),
         (b"HTTP/1.1 404 Not Found\r\n\r\n", (2, 0)),
-        (b"HTTP/1.1 200 OK\r\nContent-Length: 3\r\nContent-Length: 3\r\n\r\nabc", (2, 0)),
-        (b"HTTP/1.1 404 Not Found\r\nContent-Length: 134217729\r\n\r\n", (3, 404)),
-        (b"HTTP/1.1 200 OK\r\nContent-Length: 134217729\r\n\r\n", (4, 134_217_729)),
+        (
+            b"HTTP/1.1 200 OK\r\nContent-Length: 3\r\nContent-Length: 3\r\n\r\nabc",
+            (2, 0),
+        ),
+        (
+            b"HTTP/1.1 404 Not Found\r\nContent-Length: 134217729\r\n\r\n",
+            (3, 404),
+        ),
+        (
+            b"HTTP/1.1 200 OK\r\nContent-Length: 134217729\r\n\r\n",
+            (4, 134_217_729),
+        ),
+        (
+            b"HTTP/1.1 200 OK\r\nContent-Length: 134217728\r\n\r\nabc",
+            (5, 3),
+        ),
         (b"HTTP/1.1 200 OK\r\nContent-Length: 3\r\n\r\nab", (5, 2)),
     ];
     for (bytes, given) in table {
         assert_eq!(rt; exchanged(rt.alloc(), bytes, &[])?, given);
     }
+    // One call begins the connection, four write the request, and one reads the reply.
     for call in [1u64, 2, 6] {
         assert_eq!(rt; exchanged(rt.alloc(), good, &[call])?, (1, 1));
     }
+    assert_eq!(rt; exchanged(rt.alloc(), good, &[7])?, (0, 3));
     Ok(())
 }
 
@@ -203,9 +232,12 @@ fn dials_give_their_replies_in_turn(rt: HostRuntime) -> Result<(), Fail> {
     let mut dial = MemoryDial::new(alloc, replies, Vec::new(alloc));
     assert!(rt; exchange(alloc, &mut dial, b"a").is_ok());
     assert!(rt; exchange(alloc, &mut dial, b"bc").is_ok());
-    assert!(rt; dial.sent(1) == Some(
-        b"POST /xfer HTTP/1.1\r\nHost: fossil\r\nContent-Type: application/x-fossil-uncompressed\r\nContent-Length: 2\r\nConnection: close\r\n\r\nbc".as_slice()
-    ));
+    assert!(rt;
+        dial.sent(1)
+            == Some(
+                b"POST /xfer HTTP/1.1\r\nHost: fossil\r\nContent-Type: application/x-fossil-uncompressed\r\nContent-Length: 2\r\nConnection: close\r\n\r\nbc".as_slice()
+            )
+    );
     assert!(rt; dial.sent(2).is_none());
     Ok(())
 }
@@ -226,6 +258,9 @@ fn doors_close_behind_the_last_connection(rt: HostRuntime) -> Result<(), Fail> {
     assert!(rt; door.accept() == Ok(Accepted::Closed));
     assert!(rt; door.sent(0) == Some(b"xy".as_slice()));
     assert!(rt; door.sent(1).is_none());
-    assert_eq!(rt; (door.faults(), door.accept_faults(), door.closings()), (1, 1, 1));
+    assert_eq!(rt;
+        (door.faults(), door.accept_faults(), door.closings()),
+        (1, 1, 1)
+    );
     Ok(())
 }

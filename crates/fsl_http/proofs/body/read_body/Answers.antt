@@ -6,7 +6,7 @@ pub loop-body-init : goal.loop-body-init
 loop-body-init g c = record {
   reads =
       let m = c.min-here.ensures in
-      body_start _ c.args.front.now c.min-here.result c.args.size (omega arith) (omega arith) (λ lt. omega (arith, lt)) c.in-Ok.body.items c.in-Ok.ensures.items;
+      body_start _ c.args.front.now c.min-here.result c.args.size (omega arith) (omega arith) (λ lt. omega (arith, lt)) _ (c.reserve_exact.ensures.items ∙ c.in-Ok.ensures.items);
   stands = (cc);
   same = (cc);
 }

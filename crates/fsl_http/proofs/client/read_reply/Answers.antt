@@ -4,12 +4,14 @@ use Rattle.fsl_http.specs.Heads.{ReadsHead}
 use Rattle.fsl_http.specs.Bodies.{ReadsBody}
 use Rattle.fsl_http.specs.Responses.{HasNoReply, IsUnfinishedReply}
 use Rattle.fsl_http.specs.Exchanges.{IsWholeReply, ReadsReply}
+use Rattle.fsl_http.proofs.Broken.{broken_body}
 use Rattle.fsl_http.proofs.Replying.{is_no_head, is_status, is_long, reply_of}
 use Rattle.fsl_http.proofs.client.read_reply.Goals as goal
 
 pub returns-in_default : goal.returns-in_default
 returns-in_default g c = record {
   replied = is_no_head _ _ c.read_head.new.bytes.items c.in-Ok.front c.in_default.not-Whole c.in-Ok.ensures.ok;
+  broken = tt;
   err = c.in-Ok.ensures.same;
   sent = c.in-Ok.ensures.sent;
   stands = c.in-Ok.ensures.stands;
@@ -35,3 +37,8 @@ returns-in-Ok-read_body-clause-replied g c =
     (subst (λ h. ReadsHead IsWholeReply HasNoReply IsUnfinishedReply (g.L.Link.state c.args.link.now).present (g.L.Link.state c.read_head.new.link).present c.read_head.new.bytes.items h) c.in-Whole.is c.in-Ok.ensures.ok)
     (subst (λ xs. ReadsBody (g.L.Link.state c.read_head.new.link).present (g.L.Link.state c.read_body.new.link).present xs c.in-Whole.head.size c.in-Ok-read_body.text)
     (take_rest c.deref.result.now c.in-Whole.len ∙ ap (drop c.in-Whole.len) c.deref.ensures.value) c.in-Ok-read_body.ensures.ok))
+
+pub returns-clause-broken : goal.returns-clause-broken
+returns-clause-broken g c =
+    broken_body _ (g.L.Link.state c.read_head.new.link).present _ c.read_head.new.bytes.items c.in-Ok.front c.in-Err-read_body.fault c.from-in-Err-read_body.result
+    c.in-Ok.ensures.ok c.from-in-Err-read_body.ensures c.in-Err-read_body.ensures.broken
