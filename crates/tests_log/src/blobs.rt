@@ -7,7 +7,6 @@ use fsl_name::Name;
 use fsl_record::{Config, Record};
 use fsl_text::{List, Memory, Text};
 use std::alloc::Global;
-use std::process::Abort;
 use std::test::Fail;
 
 /// The only record of a repository that holds nothing.
@@ -37,144 +36,114 @@ fn empty_disk(alloc: Global) -> MemoryDisk {
     MemoryDisk::new(alloc, Vec::new(alloc), Vec::new(alloc))
 }
 
-/// The content of a name, where it is held.
-fn content(alloc: Global, blobs: &mut Blobs, name: Name) -> Result<Option<Text>, Memory> {
+fn is_content(alloc: Global, blobs: &mut Blobs, name: Name, want: &[u8]) -> bool {
     let mut disk = empty_disk(alloc);
     match blobs.content(alloc, &mut disk, name) {
-        Ok(text) => Ok(Some(text)),
-        Err(BlobFault::Absent) => Ok(None),
-        Err(_) => Err(Memory),
+        Ok(text) => text.bytes() == want && blobs.bytes_of(name) == Some(want),
+        Err(_) => false,
     }
 }
 
-/// The places of the held names from a place on, and the first bytes of the names.
-fn placed(alloc: Global, blobs: &Blobs, from: u64) -> Result<Vec<(u64, u8)>, Memory> {
-    let mut places = Vec::new(alloc);
-    for placed in blobs.held(alloc, from)?.items() {
-        places.push((placed.place, placed.name.bytes()[0]))?;
+fn are_placed(
+    alloc: Global,
+    blobs: &Blobs,
+    from: u64,
+    want: &[(u64, Name)],
+) -> Result<bool, Memory> {
+    let placed = blobs.held(alloc, from)?;
+    let mut same = placed.items().len() == want.len();
+    for (found, wanted) in placed.items().iter().zip(want) {
+        same = same && found.place == wanted.0 && found.name == wanted.1;
     }
-    Ok(places)
-}
-
-/// Whether a name is private, public, shunned and absent after each record.
-fn states(alloc: Global, blobs: &mut Blobs, name: Name) -> Result<[BlobState; 5], Memory> {
-    let absent = blobs.state(name);
-    blobs.apply(blob(alloc, true, b"abc")?)?;
-    let private = blobs.state(name);
-    blobs.apply(blob(alloc, false, b"abc")?)?;
-    let again = blobs.state(name);
-    blobs.apply(Record::Publish { name })?;
-    let public = blobs.state(name);
-    blobs.apply(Record::Shun { name })?;
-    blobs.apply(blob(alloc, false, b"abc")?)?;
-    Ok([absent, private, again, public, blobs.state(name)])
-}
-
-fn check_states<R: Abort + AllocGlobal>(rt: &R, blobs: &mut Blobs) -> Result<(), Fail> {
-    let found = states(rt.alloc(), blobs, Name::of(b"abc"))?;
-    let want = [
-        BlobState::Absent,
-        BlobState::Private { size: 3 },
-        BlobState::Private { size: 3 },
-        BlobState::Public { size: 3 },
-        BlobState::Shunned,
-    ];
-    assert_eq!(rt; found, want);
-    Ok(())
+    Ok(same)
 }
 
 /// A private artifact, its publication, and that it isn't held again once it is shunned.
 #[test]
 fn reads_records(rt: HostRuntime) -> Result<(), Fail> {
     let mut blobs = Blobs::fold(rt.alloc(), first_record(rt.alloc())?)?;
-    check_states(&rt, &mut blobs)
+    let name = Name::of(b"abc");
+    assert!(rt; blobs.config().project == Name::of(b"project"));
+    assert_eq!(rt; blobs.state(name), BlobState::Absent);
+    blobs.apply(blob(rt.alloc(), true, b"abc")?)?;
+    assert_eq!(rt; blobs.state(name), BlobState::Private { size: 3 });
+    assert!(rt; is_content(rt.alloc(), &mut blobs, name, b"abc"));
+    blobs.apply(blob(rt.alloc(), false, b"abc")?)?;
+    assert_eq!(rt; blobs.state(name), BlobState::Private { size: 3 });
+    blobs.apply(Record::Publish { name })?;
+    assert_eq!(rt; blobs.state(name), BlobState::Public { size: 3 });
+    assert!(rt; is_content(rt.alloc(), &mut blobs, name, b"abc"));
+    blobs.apply(Record::Shun { name })?;
+    blobs.apply(blob(rt.alloc(), false, b"abc")?)?;
+    assert_eq!(rt; blobs.state(name), BlobState::Shunned);
+    assert!(rt; blobs.bytes_of(name).is_none());
+    let mut disk = empty_disk(rt.alloc());
+    assert!(rt;
+        matches!(
+            blobs.content(rt.alloc(), &mut disk, name),
+            Err(BlobFault::Absent)
+        )
+    );
+    Ok(())
 }
 
-/// A repository that holds `2939`, private, and `abc`, whose names begin with the same three digits, and no more.
-fn alike(alloc: Global) -> Result<Blobs, Memory> {
-    let (first, second) = (blob(alloc, true, b"2939")?, blob(alloc, false, b"abc")?);
-    let mut blobs = Blobs::fold(alloc, first_record(alloc)?)?;
-    blobs.apply(first)?;
-    blobs.apply(second)?;
-    Ok(blobs)
-}
-
-fn check_finds<R: Abort + AllocGlobal>(rt: &R, blobs: &Blobs) {
-    let first = Found::One(Name::of(b"abc"));
-    let found = [
-        blobs.find(b"a99"),
-        blobs.find(b""),
-        blobs.find(b"a9993e364706816aba3e25717850c26c9cd0d89d"),
-        blobs.find(b"a9993e364706816aba3e25717850c26c9cd0d89d0"),
-        blobs.find(b"A9993"),
-        blobs.find(b"a9993"),
-    ];
-    let want = [
-        Found::Several,
-        Found::Several,
-        first,
-        Found::Nothing,
-        Found::Nothing,
-        first,
-    ];
-    assert_eq!(rt; found, want);
-}
-
+/// The names of `abc` and of `2939` begin with the same three digits, and no more.
 #[test]
 fn looks_names_up(rt: HostRuntime) -> Result<(), Fail> {
-    let blobs = alike(rt.alloc())?;
-    check_finds(&rt, &blobs);
+    let mut blobs = Blobs::fold(rt.alloc(), first_record(rt.alloc())?)?;
+    let (first, second) = (Name::of(b"abc"), Name::of(b"2939"));
+    blobs.apply(blob(rt.alloc(), true, b"2939")?)?;
+    assert_eq!(rt; blobs.find(b"a99"), Found::One(second));
+    blobs.apply(blob(rt.alloc(), false, b"abc")?)?;
+    blobs.apply(Record::Publish { name: second })?;
+    let table: [(&[u8], Found); 6] = [
+        (b"a99", Found::Several),
+        (b"", Found::Several),
+        (
+            b"a9993e364706816aba3e25717850c26c9cd0d89d",
+            Found::One(first),
+        ),
+        (b"a9993e364706816aba3e25717850c26c9cd0d89d0", Found::Nothing),
+        (b"A9993", Found::Nothing),
+        (b"a9993", Found::One(first)),
+    ];
+    for (prefix, want) in table {
+        assert_eq!(rt; blobs.find(prefix), want);
+    }
+    assert!(rt; are_placed(rt.alloc(), &blobs, 0, &[(2, second), (3, first)])?);
+    assert!(rt; are_placed(rt.alloc(), &blobs, 3, &[(3, first)])?);
+    assert!(rt; are_placed(rt.alloc(), &blobs, 4, &[])?);
     Ok(())
 }
 
-fn check_places<R: Abort + AllocGlobal>(rt: &R, blobs: &Blobs) -> Result<(), Fail> {
-    let all = placed(rt.alloc(), blobs, 0)?;
-    assert_eq!(rt; all.as_slice(), [(2, 0xA9), (3, 0xA9)].as_slice());
-    let last = placed(rt.alloc(), blobs, 3)?;
-    assert_eq!(rt; last.as_slice(), [(3, 0xA9)].as_slice());
-    let none = placed(rt.alloc(), blobs, 4)?;
-    assert_eq!(rt; none.len(), 0);
-    Ok(())
-}
-
-#[test]
-fn tells_places(rt: HostRuntime) -> Result<(), Fail> {
-    let blobs = alike(rt.alloc())?;
-    check_places(&rt, &blobs)
-}
-
-/// The contents that are lent, the one of the least name first, each behind `-` where it is private.
-fn lent(alloc: Global, blobs: &Blobs) -> Result<Text, Memory> {
+/// Whether the held artifacts are these, in this order.
+fn are_lent(alloc: Global, blobs: &Blobs, want: &[(bool, &[u8])]) -> Result<bool, Memory> {
     let Ok(held) = blobs.holdings(alloc) else {
         return Err(Memory);
     };
-    let mut shown = Text::empty(alloc);
-    for found in held.iter() {
-        if found.private {
-            shown.append(b"-")?;
-        }
-        shown.append(found.bytes)?;
-        shown.append(b" ")?;
+    let mut same = held.len() == want.len();
+    for (found, wanted) in held.iter().zip(want) {
+        same = same && found.private == wanted.0 && found.bytes == wanted.1;
+        same = same && found.name == Name::of(wanted.1);
     }
-    Ok(shown)
+    Ok(same)
 }
 
-fn check_contents<R: Abort + AllocGlobal>(rt: &R, blobs: &mut Blobs) -> Result<(), Fail> {
-    let name = Name::of(b"abc");
-    let text = content(rt.alloc(), blobs, name)?.ok_or("not held")?;
-    assert_eq!(rt; text.bytes(), b"abc".as_slice());
-    assert_eq!(rt; blobs.bytes_of(name), Some(b"abc".as_slice()));
-    assert!(rt; content(rt.alloc(), blobs, Name::of(b""))?.is_none());
-    let shown = lent(rt.alloc(), blobs)?;
-    assert_eq!(rt; shown.bytes(), b"abc -2939 ".as_slice());
-    assert_eq!(rt; blobs.config().project, Name::of(b"project"));
-    Ok(())
-}
-
+/// The names of these bytes begin with a99, a99 and da3.
 #[test]
-fn lends_contents(rt: HostRuntime) -> Result<(), Fail> {
-    let mut blobs = alike(rt.alloc())?;
-    check_contents(&rt, &mut blobs)
+fn lends_artifacts(rt: HostRuntime) -> Result<(), Fail> {
+    let mut blobs = Blobs::fold(rt.alloc(), first_record(rt.alloc())?)?;
+    blobs.apply(blob(rt.alloc(), false, b"")?)?;
+    blobs.apply(blob(rt.alloc(), false, b"2939")?)?;
+    blobs.apply(blob(rt.alloc(), true, b"abc")?)?;
+    assert!(rt;
+        are_lent(
+            rt.alloc(),
+            &blobs,
+            &[(true, b"abc"), (false, b"2939"), (false, b"")]
+        )?
+    );
+    Ok(())
 }
 
 fn counted(number: u32) -> Name {
@@ -184,53 +153,23 @@ fn counted(number: u32) -> Name {
     Name::from_bytes(bytes)
 }
 
-/// How many announcements of 65,536 names are new.
-fn announce_all(blobs: &mut Blobs) -> Result<u64, Memory> {
-    let mut new = 0u64;
-    for number in 0..65_536u32 {
-        if blobs.announce(counted(number))? == Known::New {
-            new = new.saturating_add(1);
-        }
-    }
-    Ok(new)
-}
-
-/// What announcements meet where so many names are announced, one is held and one shunned.
-fn announcements(blobs: &mut Blobs) -> Result<[Known; 5], Memory> {
-    let held = blobs.announce(Name::of(b"abc"))?;
-    let shunned = blobs.announce(Name::of(b""))?;
-    let again = blobs.announce(counted(65_535))?;
-    let full = blobs.announce(counted(65_536))?;
-    blobs.apply(Record::Shun { name: counted(7) })?;
-    Ok([
-        held,
-        shunned,
-        again,
-        full,
-        blobs.announce(counted(65_536))?,
-    ])
-}
-
-fn check_announcements<R: Abort + AllocGlobal>(rt: &R, blobs: &mut Blobs) -> Result<(), Fail> {
-    let name = Name::of(b"");
-    let first = [blobs.announce(name)?, blobs.announce(name)?];
-    assert_eq!(rt; first, [Known::New, Known::Again]);
-    blobs.apply(Record::Shun { name })?;
-    assert_eq!(rt; announce_all(blobs)?, 65_536);
-    let want = [
-        Known::Held,
-        Known::Shunned,
-        Known::Again,
-        Known::Full,
-        Known::New,
-    ];
-    assert_eq!(rt; announcements(blobs)?, want);
-    Ok(())
-}
-
-/// What an announcement meets, and that a name that comes to be shunned isn't announced any more.
+/// What an announcement meets, and that a name that comes to be held isn't announced any more.
 #[test]
 fn announces_names(rt: HostRuntime) -> Result<(), Fail> {
-    let mut blobs = alike(rt.alloc())?;
-    check_announcements(&rt, &mut blobs)
+    let mut blobs = Blobs::fold(rt.alloc(), first_record(rt.alloc())?)?;
+    let (held, shunned) = (Name::of(b""), Name::of(b"abc"));
+    assert_eq!(rt; blobs.announce(held)?, Known::New);
+    assert_eq!(rt; blobs.announce(held)?, Known::Again);
+    blobs.apply(blob(rt.alloc(), false, b"")?)?;
+    blobs.apply(Record::Shun { name: shunned })?;
+    for number in 0..65_536u32 {
+        assert_eq!(rt; blobs.announce(counted(number))?, Known::New);
+    }
+    assert_eq!(rt; blobs.announce(held)?, Known::Held);
+    assert_eq!(rt; blobs.announce(shunned)?, Known::Shunned);
+    assert_eq!(rt; blobs.announce(counted(65_535))?, Known::Again);
+    assert_eq!(rt; blobs.announce(counted(65_536))?, Known::Full);
+    blobs.apply(Record::Shun { name: counted(7) })?;
+    assert_eq!(rt; blobs.announce(counted(65_536))?, Known::New);
+    Ok(())
 }

@@ -9,7 +9,6 @@ use fsl_name::Name;
 use fsl_record::{Config, Record};
 use fsl_text::{List, Memory, Text};
 use std::alloc::Global;
-use std::process::Abort;
 use std::test::Fail;
 
 // A file with a Config without fields, 68 bytes.
@@ -59,198 +58,104 @@ fn add<D: Disk>(journal: &mut Journal, disk: &D, entry: &Record) -> Result<(), M
     Ok(())
 }
 
-/// Appends a blob and commits it, and takes one more back. The counts of records before and after.
-fn commit_one<D: Disk>(
-    journal: &mut Journal,
-    disk: &mut D,
-    entry: &Record,
-) -> Result<[u64; 4], Fail>
-    requires belongs { Belongs journal.old (D.state disk.old) }
-    requires runs { journal.old.stopped ≡ None }
-    requires place { is_config entry.now ≡ false }
-    requires fit { IsWritable entry.now }
-{
-    add(journal, disk, entry)?;
-    let before = [journal.count(), journal.stable()];
-    let count = journal.commit(disk)?;
-    Ok([before[0], before[1], count, journal.stable()])
-}
-
-/// Loads the journal of a disk, and commits a blob.
-fn load_and_commit<D: Disk>(alloc: Global, disk: &mut D) -> Result<[u64; 4], Fail> {
-    let entry = blob(alloc)?;
-    let (mut journal, _) = Journal::load(alloc, disk)?;
-    commit_one(&mut journal, disk, &entry)
-}
-
-fn check_bytes<R: Abort + AllocGlobal>(rt: &R, disk: &mut MemoryDisk) -> Result<(), Fail> {
-    create(rt.alloc(), disk, &config(rt.alloc()))?;
-    assert_eq!(rt; disk.bytes(), CONFIG_ALONE);
-    let counts = load_and_commit(rt.alloc(), disk)?;
-    assert_eq!(rt; (counts, disk.bytes()), ([2, 1, 2, 2], ONE_BLOB));
-    Ok(())
-}
-
-/// The file of a Config, and that of a blob behind it.
+/// The file of a Config, and that of a blob behind it, which is appended and committed; one more is taken back.
 #[test]
 fn writes_the_bytes_of_the_format(rt: HostRuntime) -> Result<(), Fail> {
     let mut disk = disk_of(rt.alloc(), b"")?;
-    check_bytes(&rt, &mut disk)
-}
-
-/// Appends a blob and takes it back. The count of records before and after.
-fn take_one_back(journal: &mut Journal, entry: &Record) -> Result<[u64; 2], Memory>
-    requires runs { journal.old.stopped ≡ None }
-    requires place { is_config entry.now ≡ false }
-    requires fit { IsWritable entry.now }
-{
-    journal.append(entry)?;
-    let before = journal.count();
+    create(rt.alloc(), &mut disk, &config(rt.alloc()))?;
+    assert_eq!(rt; disk.bytes(), CONFIG_ALONE);
+    let (mut journal, records) = Journal::load(rt.alloc(), &mut disk)?;
+    assert_eq!(rt; records.items().len(), 1);
+    let entry = blob(rt.alloc())?;
+    add(&mut journal, &disk, &entry)?;
+    assert_eq!(rt; (journal.count(), journal.stable()), (2, 1));
+    assert_eq!(rt; journal.commit(&mut disk)?, 2);
+    assert_eq!(rt; (journal.count(), journal.stable()), (2, 2));
+    journal.append(&entry)?;
     journal.take_back();
-    Ok([before, journal.count()])
-}
-
-fn load_and_take_back<D: Disk>(alloc: Global, disk: &mut D) -> Result<[u64; 2], Fail> {
-    let entry = blob(alloc)?;
-    let (mut journal, _) = Journal::load(alloc, disk)?;
-    Ok(take_one_back(&mut journal, &entry)?)
-}
-
-#[test]
-fn takes_a_record_back(rt: HostRuntime) -> Result<(), Fail> {
-    let mut disk = disk_of(rt.alloc(), CONFIG_ALONE)?;
-    assert_eq!(rt; load_and_take_back(rt.alloc(), &mut disk)?, [2, 1]);
+    assert_eq!(rt; journal.count(), 2);
+    assert_eq!(rt; disk.bytes(), ONE_BLOB);
     Ok(())
 }
 
-/// The fault of a file that is loaded.
-fn fault_of(alloc: Global, bytes: &[u8]) -> Result<Option<LoadFault>, Memory> {
-    let mut disk = disk_of(alloc, bytes)?;
-    Ok(Journal::load(alloc, &mut disk).err())
-}
-
-/// What is answered where a file is to be made that has these bytes.
-fn made_over(alloc: Global, bytes: &[u8]) -> Result<Result<(), CreateFault>, Memory> {
-    let mut disk = disk_of(alloc, bytes)?;
-    Ok(create(alloc, &mut disk, &config(alloc)))
-}
-
+/// Files that stand for no records, and the places at which they fail to.
 #[test]
 fn tells_where_a_file_fails(rt: HostRuntime) -> Result<(), Fail> {
-    let found = fault_of(rt.alloc(), &ONE_BLOB[..109])?;
-    assert_eq!(rt; found, Some(LoadFault::NotRepository { at: 67 }));
-    let made = made_over(rt.alloc(), ONE_BLOB)?;
+    let mut wrong = ONE_BLOB.to_vec(rt.alloc())?;
+    wrong[108] = b'd';
+    let table: [(&[u8], u64); 6] = [
+        (b"", 0),
+        (b"hello", 0),
+        (b"fossil-blobs-1\n", 15),
+        (b"fossil-blobs-1\nC", 15),
+        (&CONFIG_ALONE[..67], 15),
+        (&wrong, 67),
+    ];
+    for (bytes, at) in table {
+        let mut disk = disk_of(rt.alloc(), bytes)?;
+        let loaded = Journal::load(rt.alloc(), &mut disk);
+        assert_eq!(rt; loaded.err(), Some(LoadFault::NotRepository { at }));
+    }
+    let mut disk = disk_of(rt.alloc(), ONE_BLOB)?;
+    let made = create(rt.alloc(), &mut disk, &config(rt.alloc()));
     assert_eq!(rt; made, Err(CreateFault::NotEmpty { len: 110 }));
     Ok(())
 }
 
-/// Whether a blob is committed, where the disk loads, by a journal that is stopped after a fault.
-fn commits_with<D: Disk>(
-    journal: &mut Journal,
-    disk: &mut D,
-    entry: &Record,
-) -> Result<bool, Memory>
-    requires belongs { Belongs journal.old (D.state disk.old) }
-    requires runs { journal.old.stopped ≡ None }
-    requires place { is_config entry.now ≡ false }
-    requires fit { IsWritable entry.now }
-{
-    add(journal, disk, entry)?;
-    if journal.commit(disk).is_ok() {
-        return Ok(true);
-    }
-    let stopped = journal.commit(disk);
-    Ok(stopped != Err(CommitFault::Stopped { faults: 1 }))
-}
-
 /// Whether a blob is committed, where the disk loads. After a fault the journal is stopped.
 fn commits<D: Disk>(alloc: Global, disk: &mut D) -> Result<Option<bool>, Memory> {
-    let entry = blob(alloc)?;
-    match Journal::load(alloc, disk) {
-        Ok((mut journal, _)) => Ok(Some(commits_with(&mut journal, disk, &entry)?)),
-        Err(_) => Ok(None),
+    let Ok((mut journal, _)) = Journal::load(alloc, disk) else {
+        return Ok(None);
+    };
+    add(&mut journal, disk, &blob(alloc)?)?;
+    if journal.commit(disk).is_ok() {
+        return Ok(Some(true));
     }
-}
-
-/// Whether a file is made over a disk that fails after so many calls, and what a commit over one comes to.
-fn works_after(alloc: Global, calls: u64) -> Result<(bool, Option<bool>), Memory> {
-    let mut new = FuseDisk::new(disk_of(alloc, b"")?, calls);
-    let made = create(alloc, &mut new, &config(alloc)).is_ok();
-    Ok((made, committed_after(alloc, calls)?))
-}
-
-fn committed_after(alloc: Global, calls: u64) -> Result<Option<bool>, Memory> {
-    let mut disk = FuseDisk::new(disk_of(alloc, CONFIG_ALONE)?, calls);
-    commits(alloc, &mut disk)
+    let stopped = journal.commit(disk);
+    Ok(Some(stopped != Err(CommitFault::Stopped { faults: 1 })))
 }
 
 /// A disk that fails at each call in turn: nine of `create`, three of `load` and six of `commit`.
 #[test]
 fn answers_a_disk_that_fails(rt: HostRuntime) -> Result<(), Fail> {
     for calls in 0..10 {
-        let found = works_after(rt.alloc(), calls)?;
-        let committed = if calls < 3 { None } else { Some(calls == 9) };
-        assert_eq!(rt; found, (calls == 9, committed), "after {calls} calls");
+        let mut disk = FuseDisk::new(disk_of(rt.alloc(), b"")?, calls);
+        let made = create(rt.alloc(), &mut disk, &config(rt.alloc()));
+        assert_eq!(rt; made.is_ok(), calls == 9, "create at {calls}");
+        let mut disk = FuseDisk::new(disk_of(rt.alloc(), CONFIG_ALONE)?, calls);
+        let committed = commits(rt.alloc(), &mut disk)?;
+        assert_eq!(rt; committed.is_some(), calls >= 3, "load at {calls}");
+        assert_eq!(rt; committed == Some(true), calls == 9, "commit at {calls}");
     }
     Ok(())
 }
 
-/// Commits two blobs and a shun, and tells whether that is done.
-fn commits_three<D: Disk>(
-    journal: &mut Journal,
-    disk: &mut D,
-    entry: &Record,
-) -> Result<bool, Memory>
-    requires belongs { Belongs journal.old (D.state disk.old) }
-    requires runs { journal.old.stopped ≡ None }
-    requires place { is_config entry.now ≡ false }
-    requires fit { IsWritable entry.now }
-{
-    add(journal, disk, entry)?;
-    add(journal, disk, entry)?;
+/// Whether what crashes leave of a commit of two blobs and a shun loads with none of the three or with all, and with all
+/// after the answer. The disk fails after so many calls, of which three load the journal.
+fn loads_with_none_or_all(alloc: Global, calls: u64) -> Result<bool, Fail> {
+    let mut disk = FuseDisk::new(disk_of(alloc, CONFIG_ALONE)?, calls);
+    let (mut journal, _) = Journal::load(alloc, &mut disk)?;
+    add(&mut journal, &disk, &blob(alloc)?)?;
+    add(&mut journal, &disk, &blob(alloc)?)?;
     let name = Name::of(b"abc");
-    add(journal, disk, &Record::Shun { name })?;
-    Ok(journal.commit(disk).is_ok())
-}
-
-fn loads_and_commits<D: Disk>(alloc: Global, disk: &mut D) -> Result<bool, Fail> {
-    let entry = blob(alloc)?;
-    let (mut journal, _) = Journal::load(alloc, disk)?;
-    Ok(commits_three(&mut journal, disk, &entry)?)
-}
-
-/// How many records one of the files holds that a crash leaves.
-fn count_left(alloc: Global, disk: &MemoryDisk, pick: u64) -> Result<usize, Fail> {
-    let mut left = disk.crash(alloc, pick)?;
-    let (_, records) = Journal::load(alloc, &mut left)?;
-    Ok(records.items().len())
-}
-
-/// How many of sixteen files that a crash leaves hold neither all records nor, before the commit is done, the old one.
-fn count_others(alloc: Global, disk: &MemoryDisk, done: bool) -> Result<u64, Fail> {
-    let mut others = 0u64;
+    add(&mut journal, &disk, &Record::Shun { name })?;
+    let done = journal.commit(&mut disk).is_ok();
+    let disk = disk.inner();
     for pick in 0..16 {
-        let count = count_left(alloc, disk, pick)?;
+        let mut left = disk.crash(alloc, pick)?;
+        let (_, records) = Journal::load(alloc, &mut left)?;
+        let count = records.items().len();
         if count != 4 && (done || count != 1) {
-            others = others.saturating_add(1);
+            return Ok(false);
         }
     }
-    Ok(others)
-}
-
-/// Whether the commit is done over a disk that fails after so many calls, of which three load the journal, and how many
-/// of the files that a crash leaves are wrong.
-fn crashes_after(alloc: Global, calls: u64) -> Result<(bool, u64), Fail> {
-    let mut disk = FuseDisk::new(disk_of(alloc, CONFIG_ALONE)?, calls);
-    let done = loads_and_commits(alloc, &mut disk)?;
-    let others = count_others(alloc, &disk.inner(), done)?;
-    Ok((done, others))
+    Ok(done == (calls == 9))
 }
 
 #[test]
 fn crashes_leave_none_or_all(rt: HostRuntime) -> Result<(), Fail> {
     for calls in 3..10 {
-        assert_eq!(rt; crashes_after(rt.alloc(), calls)?, (calls == 9, 0), "after {calls} calls");
+        assert!(rt; loads_with_none_or_all(rt.alloc(), calls)?, "at {calls}");
     }
     Ok(())
 }
