@@ -7,7 +7,7 @@
 ghost use Rattle.std.specs.Prelude.{◌≡◌};
 
 mod arguments;
-mod drafts;
+mod cards;
 mod fronts;
 mod laws;
 mod meaning;
