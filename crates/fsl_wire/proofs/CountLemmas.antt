@@ -11,7 +11,7 @@ use Rattle.fsl_wire.specs.Lines.{Line, blank, card, login, file, bad, line_meant
 use Rattle.fsl_wire.specs.Messages.{IsLastLine, numbered, line_cards, cards_from, first_line_fault, IsNumberedMessage, IsMessage, IsLineOf}
 use Rattle.fsl_wire.specs.Meanings.{line_of, wrong_fault}
 use Rattle.fsl_wire.specs.Fronts.{IsLineFront}
-use Rattle.fsl_wire.specs.Drafts.{IsReadTo}
+use Rattle.fsl_wire.specs.Reading.{IsReadTo}
 use Rattle.fsl_wire.specs.Counts.{has_card, IsCountedTo}
 use Rattle.fsl_wire.proofs.OneWay.{Found, find, reads_one_way}
 use Rattle.fsl_wire.proofs.ReadLemmas.{start_read, line_read, end_read, fault_read}

@@ -2,20 +2,16 @@
 use Rattle.std.proofs.Common.{◌≡◌, ℕ, ◌+◌, ◌-◌, List, [], ◌∷◌, ◌++◌, length, map, take, drop, Some, refl, sym, ap, subst, ◌∙◌, arith, append_assoc}
 use Rattle.std.specs.Prelude.{slice_range}
 use Rattle.std.proofs.lemmas.List.{length-append, length-drop, take_rest, drop-drop, map-append}
-use Rattle.std.proofs.Math.ListN.{drop_of_length-le}
-use Rattle.fsl_name.specs.Name.{name_of}
 use Rattle.fsl_wire.specs.declared.WireCard.{WireCard}
-use Rattle.fsl_wire.specs.declared.WireCard.TheVariants as cards
 use Rattle.fsl_wire.specs.declared.WireFault.{WireFault}
-use Rattle.fsl_wire.specs.declared.drafts.Draft.{Draft}
 use Rattle.fsl_wire.specs.declared.meaning.Wrong.{Wrong}
 use Rattle.fsl_wire.specs.declared.meaning.Wrong.TheVariants.{Unknown, Args, Delta, Size, Short}
 use Rattle.fsl_wire.specs.declared.meaning.Meaning.{Meaning}
-use Rattle.fsl_wire.specs.Lines.{Line, blank, card, login, file, bad, line_meant}
+use Rattle.fsl_wire.specs.Lines.{line_meant}
 use Rattle.fsl_wire.specs.Messages.{Part, IsLastLine, parts_bytes, numbered, line_cards, first_line_fault, IsNumberedMessage, IsMessage, IsFirstFault, IsReadFault}
 use Rattle.fsl_wire.specs.Meanings.{line_of, wrong_fault}
 use Rattle.fsl_wire.specs.Fronts.{IsLineFront, IsMessageFrom, IsFaultFrom}
-use Rattle.fsl_wire.specs.Drafts.{draft_card, line_drafts, IsReadTo, AreDraftsTo}
+use Rattle.fsl_wire.specs.Reading.{IsReadTo, AreCardsTo}
 use Rattle.fsl_wire.proofs.OneWay.{part_line, more_parts}
 
 abbrev part_at : List ℕ → List ℕ → ℕ → ℕ → Part
@@ -104,14 +100,7 @@ fault_read bytes rest n at wrong done r is h =
     let here : rest ≡ drop at bytes = is ∙ take_rest bytes at in
     r.fault (wrong_fault wrong n) (subst (λ (t : List ℕ). IsFaultFrom n t (wrong_fault wrong n)) here (fault_here n rest wrong h))
 
--- ---- drafts
-
-drafted : (bytes rest content : List ℕ) (l : Line) (n after : ℕ) → drop after bytes ≡ rest → map (draft_card bytes) (line_drafts l n content after) ≡ line_cards l n content rest
-drafted bytes rest content blank n after e = refl
-drafted bytes rest content (card c) n after e = refl
-drafted bytes rest content (login user nonce signature) n after e = ap (λ (t : List ℕ). cards.Login user nonce signature (name_of t) n ∷ []) e
-drafted bytes rest content (file name size) n after e = refl
-drafted bytes rest content (bad fault) n after e = refl
+-- ---- the cards of a message that was read up to a place
 
 plain : (n : ℕ) (cs : List WireCard) → map (λ (l : ℕ × WireCard). l.1) (numbered n cs) ≡ cs
 plain n [] = refl
@@ -120,35 +109,33 @@ plain n (c ∷ cs) = ap (λ (ds : List WireCard). c ∷ ds) (plain n cs)
 abbrev cards_of : List (ℕ × WireCard) → List WireCard
 cards_of lines = map (λ l. l.1) lines
 
-drafts_added : (bytes rest content : List ℕ) (l : Line) (n after : ℕ) (old new : List Draft) (done : List (ℕ × WireCard)) → map (draft_card bytes) old ≡ cards_of done → drop after bytes ≡ rest
-    → new ≡ old ++ line_drafts l n content after → map (draft_card bytes) new ≡ cards_of (done ++ numbered n (line_cards l n content rest))
-drafts_added bytes rest content l n after old new done same e is =
-    let added = drafted bytes rest content l n after e ∙ sym (plain n (line_cards l n content rest)) in
-    ap (λ (ds : List Draft). map (draft_card bytes) ds) is
-    ∙ map-append (draft_card bytes) old (line_drafts l n content after)
-    ∙ (λ i. same i ++ added i)
-    ∙ sym (map-append (λ (l : ℕ × WireCard). l.1) done (numbered n (line_cards l n content rest)))
+cards_added : (n : ℕ) (more old new : List WireCard) (done : List (ℕ × WireCard)) → old ≡ cards_of done → new ≡ old ++ more → new ≡ cards_of (done ++ numbered n more)
+cards_added n more old new done same is =
+    let added = sym (plain n more) in
+    is ∙ (λ i. same i ++ added i) ∙ sym (map-append (λ (l : ℕ × WireCard). l.1) done (numbered n more))
 
-pub no_drafts : (bytes : List ℕ) (drafts : List Draft) → drafts ≡ [] → AreDraftsTo bytes 1 0 drafts
-no_drafts bytes drafts e = record { done = []; read = start_read bytes; same = ap (λ (ds : List Draft). map (draft_card bytes) ds) e }
+pub no_cards : (bytes : List ℕ) (cards : List WireCard) → cards ≡ [] → AreCardsTo bytes 1 0 cards
+no_cards bytes cards e = record { done = []; read = start_read bytes; same = e }
 
-pub drafts_more : (bytes rest : List ℕ) (n at next from to : ℕ) (m : Meaning) (old new : List Draft) → AreDraftsTo bytes n at old → rest ≡ take (length bytes - at) (drop at bytes)
-    → IsLineFront rest m from to → next ≡ at + to → new ≡ old ++ line_drafts (line_of m) n (slice_range rest from to) (at + from) → AreDraftsTo bytes (n + 1) next new
-drafts_more bytes rest n at next from to m old new d is f e added =
-    let here : rest ≡ drop at bytes = is ∙ take_rest bytes at in
-    let after : drop (at + from) bytes ≡ drop from rest = sym (ap (λ (t : List ℕ). drop from t) here ∙ drop-drop from at bytes) in
+pub cards_more : (bytes rest behind : List ℕ) (n at next from to : ℕ) (m : Meaning) (old new : List WireCard) → AreCardsTo bytes n at old → rest ≡ take (length bytes - at) (drop at bytes)
+    → behind ≡ take (length rest - from) (drop from rest) → IsLineFront rest m from to → next ≡ at + to
+    → new ≡ old ++ line_cards (line_of m) n (slice_range rest from to) behind → AreCardsTo bytes (n + 1) next new
+cards_more bytes rest behind n at next from to m old new d is tail f e added =
+    let more = line_cards (line_of m) n (slice_range rest from to) (drop from rest) in
+    let same : line_cards (line_of m) n (slice_range rest from to) behind ≡ more =
+    ap (λ (t : List ℕ). line_cards (line_of m) n (slice_range rest from to) t) (tail ∙ take_rest rest from) in
     record {
-      done = d.done ++ numbered n (line_cards (line_of m) n (slice_range rest from to) (drop from rest));
+      done = d.done ++ numbered n more;
       read = line_read bytes rest n at next from to m d.done d.read is f e;
-      same = drafts_added bytes (drop from rest) (slice_range rest from to) (line_of m) n (at + from) old new d.done d.same after added;
+      same = cards_added n more old new d.done d.same (added ∙ ap (λ (cs : List WireCard). old ++ cs) same);
     }
 
-pub drafts_end : (bytes rest : List ℕ) (n at : ℕ) (m : Meaning) (old new : List Draft) → AreDraftsTo bytes n at old → rest ≡ take (length bytes - at) (drop at bytes)
-    → IsLastLine rest × (line_meant rest ≡ line_of m) → new ≡ old ++ line_drafts (line_of m) n [] (length bytes) → IsMessage bytes (map (draft_card bytes) new)
-drafts_end bytes rest n at m old new d is last added = (
+pub cards_end : (bytes rest : List ℕ) (n at : ℕ) (m : Meaning) (old new : List WireCard) → AreCardsTo bytes n at old → rest ≡ take (length bytes - at) (drop at bytes)
+    → IsLastLine rest × (line_meant rest ≡ line_of m) → new ≡ old ++ line_cards (line_of m) n [] [] → IsMessage bytes new
+cards_end bytes rest n at m old new d is last added = (
   d.done ++ numbered n (line_cards (line_of m) n [] []),
   end_read bytes rest n at m d.done d.read is last.0 last.1,
-  drafts_added bytes [] [] (line_of m) n (length bytes) old new d.done d.same (drop_of_length-le bytes (omega arith)) added,
+  cards_added n (line_cards (line_of m) n [] []) old new d.done d.same added,
 )
 
 wrong_read : (bytes : List ℕ) (n : ℕ) (wrong : Wrong) → IsFirstFault bytes (wrong_fault wrong n) → IsReadFault bytes (wrong_fault wrong n)
@@ -158,6 +145,6 @@ wrong_read bytes n Delta h = h
 wrong_read bytes n Size h = h
 wrong_read bytes n Short h = h
 
-pub drafts_fault : (bytes rest : List ℕ) (n at : ℕ) (wrong : Wrong) (drafts : List Draft) → AreDraftsTo bytes n at drafts → rest ≡ take (length bytes - at) (drop at bytes)
+pub cards_fault : (bytes rest : List ℕ) (n at : ℕ) (wrong : Wrong) (cards : List WireCard) → AreCardsTo bytes n at cards → rest ≡ take (length bytes - at) (drop at bytes)
     → ((k : ℕ) → first_line_fault k rest ≡ Some (wrong_fault wrong k)) → IsReadFault bytes (wrong_fault wrong n)
-drafts_fault bytes rest n at wrong drafts d is h = wrong_read bytes n wrong (fault_read bytes rest n at wrong d.done d.read is h)
+cards_fault bytes rest n at wrong cards d is h = wrong_read bytes n wrong (fault_read bytes rest n at wrong d.done d.read is h)

@@ -2,7 +2,7 @@
 use Rattle.std.specs.Prelude.{◌≡◌, ℕ, ◌+◌, Bool, true, false, List, length}
 use Rattle.fsl_wire.specs.declared.WireCard.{WireCard}
 use Rattle.fsl_wire.specs.Lines.{Line, blank, bad}
-use Rattle.fsl_wire.specs.Drafts.{IsReadTo}
+use Rattle.fsl_wire.specs.Reading.{IsReadTo}
 
 -- whether a line that reads has a card
 abbrev pub has_card : Line → Bool

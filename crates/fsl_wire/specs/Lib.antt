@@ -3,5 +3,5 @@ pub mod Messages
 pub mod Writing
 pub mod Meanings
 pub mod Fronts
-pub mod Drafts
+pub mod Reading
 pub mod Counts

@@ -58,7 +58,7 @@ is_writable (Error text) = not (is_empty text)
 is_writable (Message text) = not (is_empty text)
 is_writable card = true
 
--- ---- a law, to be proved
+-- ---- a law
 
 -- what the type of a card keeps: a name is one, and numbers have 64 bits
 abbrev pub AreNumbers : Option (ℕ × ℕ) → Type 0

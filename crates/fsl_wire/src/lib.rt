@@ -7,7 +7,7 @@
 ghost use Rattle.std.specs.Prelude.{◌≡◌};
 
 mod arguments;
-mod drafts;
+mod cards;
 mod fronts;
 mod laws;
 mod meaning;
@@ -132,6 +132,13 @@ impl Message {
         ensures { result.now ≡ self.now }
     {
         self.cards.items()
+    }
+
+    /// Gives the cards, in order, without a copy.
+    pub fn into_cards(self) -> List<WireCard>
+        ensures { result ≡ self }
+    {
+        self.cards
     }
 }
 

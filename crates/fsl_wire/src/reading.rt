@@ -1,14 +1,13 @@
 //! A message read as its cards.
-ghost use Rattle.std.specs.Prelude.{◌≡◌, [], map, IfOk, IfErr, OnOk};
+ghost use Rattle.std.specs.Prelude.{◌≡◌, [], IfOk, IfErr, OnOk};
 ghost use Rattle.fsl_wire.specs.declared.WireFault.TheVariants as wire_fault;
 ghost use Rattle.fsl_wire.specs.Messages.{IsMessage, IsReadFault};
-ghost use Rattle.fsl_wire.specs.Drafts.{draft_card};
 
-use super::drafts::{Draft, add_draft, finished};
+use super::cards::add_card;
 use super::fronts::{Front, front_of};
-use crate::{Message, WireFault};
+use crate::{Message, WireCard, WireFault};
 use fsl_text::{List, Memory};
-use std::alloc::{AllocError, Global};
+use std::alloc::Global;
 
 impl From<Memory> for WireFault {
     ghost from_gives = { λ _ fault. fault ≡ wire_fault.Memory };
@@ -18,18 +17,10 @@ impl From<Memory> for WireFault {
     }
 }
 
-impl From<AllocError> for WireFault {
-    ghost from_gives = { λ _ fault. fault ≡ wire_fault.Memory };
-
-    fn from(_: AllocError) -> Self {
-        WireFault::Memory
-    }
-}
-
-/// Reads the lines of a message into a list that is empty, a draft for each card.
-fn read_drafts(alloc: Global, bytes: &[u8], drafts: &mut List<Draft>) -> Result<(), WireFault>
-    requires { drafts.old ≡ [] }
-    ensures message { OnOk result (IsMessage bytes.now (map (draft_card bytes.now) drafts.new)) }
+/// Reads the cards of a message into a list that is empty.
+fn read_cards(alloc: Global, bytes: &[u8], cards: &mut List<WireCard>) -> Result<(), WireFault>
+    requires { cards.old ≡ [] }
+    ensures message { OnOk result (IsMessage bytes.now cards.new) }
     ensures fault { IfErr result (IsReadFault bytes.now) }
 {
     let mut at = 0usize;
@@ -39,28 +30,17 @@ fn read_drafts(alloc: Global, bytes: &[u8], drafts: &mut List<Draft>) -> Result<
         match front_of(rest) {
             Front::Bad { wrong } => return Err(wrong.at(line)),
             Front::Last { meaning } => {
-                add_draft(alloc, drafts, &meaning, line, &[], bytes.len())?;
+                add_card(alloc, cards, &meaning, line, &[], &[])?;
                 return Ok(());
             }
             Front::Line { meaning, from, to } => {
-                add_draft(alloc, drafts, &meaning, line, &rest[from..to], at + from)?;
+                let behind = &rest[from..];
+                add_card(alloc, cards, &meaning, line, &rest[from..to], behind)?;
                 at += to;
             }
         }
         line += 1;
     }
-}
-
-/// The message of drafts, each login with its tail.
-fn message_of(alloc: Global, bytes: &[u8], drafts: List<Draft>) -> Result<Message, AllocError>
-    ensures { IfOk result (λ message. message ≡ map (draft_card bytes.now) drafts) }
-{
-    let drafts = drafts.into_vec();
-    let cards = drafts
-        .into_iter()
-        .map(|draft| finished(bytes, draft))
-        .collect(alloc)?;
-    Ok(Message::of(List::from_vec(cards)))
 }
 
 /// Reads the cards of a message.
@@ -77,7 +57,7 @@ pub fn read(alloc: Global, bytes: &[u8]) -> Result<Message, WireFault>
     ensures message { IfOk result (IsMessage bytes.now) }
     ensures fault { IfErr result (IsReadFault bytes.now) }
 {
-    let mut drafts = List::new(alloc);
-    read_drafts(alloc, bytes, &mut drafts)?;
-    Ok(message_of(alloc, bytes, drafts)?)
+    let mut cards = List::new(alloc);
+    read_cards(alloc, bytes, &mut cards)?;
+    Ok(Message::of(cards))
 }

@@ -1,5 +1,5 @@
 //! Messages as they are written.
-ghost use Rattle.std.specs.Prelude.{◌≡◌, ◌∷◌, ◌++◌, [], map, IfOk, OnOk, IsTrue, codes, decimal};
+ghost use Rattle.std.specs.Prelude.{◌≡◌, ◌∷◌, ◌++◌, [], length, map, take, IfOk, OnErr, OnOk, IsTrue};
 ghost use Rattle.std.specs.List.{join_with_byte, list_all};
 ghost use Rattle.fsl_text.specs.Escapes.{escape};
 ghost use Rattle.fsl_name.specs.Name.{name_text, IsName};
@@ -13,9 +13,22 @@ use fsl_text::{Memory, Text, escape_into};
 use itoa::Buffer;
 use std::alloc::Global;
 
-/// Puts tokens at the end of a text, with a space before each but the first.
-fn append_tokens(into: &mut Text, tokens: &[&[u8]]) -> Result<(), Memory>
-    ensures { OnOk result (into.new ≡ into.old ++ join_with_byte 32 (map (λ t. t.now) tokens.now)) }
+/// Cuts a text back to a length where something was written in part alone.
+fn whole(into: &mut Text, length: usize, written: Result<(), Memory>) -> Result<(), Memory>
+    ensures same { result ≡ written }
+    ensures ok { OnOk written (into.new ≡ into.old) }
+    ensures err { OnErr written (into.new ≡ take length into.old) }
+{
+    if written.is_err() {
+        into.truncate(length);
+    }
+    written
+}
+
+/// Puts tokens at the end of a text, with a space before each but the first, all of them or some.
+fn add_tokens(into: &mut Text, tokens: &[&[u8]]) -> Result<(), Memory>
+    ensures ok { OnOk result (into.new ≡ into.old ++ join_with_byte 32 (map (λ t. t.now) tokens.now)) }
+    ensures err { OnErr result (take (length into.old) into.new ≡ into.old) }
 {
     for (at, token) in tokens.iter().enumerate() {
         if at > 0 {
@@ -26,23 +39,45 @@ fn append_tokens(into: &mut Text, tokens: &[&[u8]]) -> Result<(), Memory>
     Ok(())
 }
 
-/// Puts a line of a message at the end of a text: the tokens with one space between them, and a newline. `Memory` is
-/// the only error; the text then may be longer than it was, and is of no use.
-pub fn append_line(into: &mut Text, tokens: &[&[u8]]) -> Result<(), Memory>
-    ensures { OnOk result (into.new ≡ into.old ++ line (map (λ t. t.now) tokens.now)) }
+/// Puts a line of tokens at the end of a text, all of it or some.
+fn add_line(into: &mut Text, tokens: &[&[u8]]) -> Result<(), Memory>
+    ensures ok { OnOk result (into.new ≡ into.old ++ line (map (λ t. t.now) tokens.now)) }
+    ensures err { OnErr result (take (length into.old) into.new ≡ into.old) }
 {
-    append_tokens(into, tokens)?;
+    add_tokens(into, tokens)?;
     into.append(b"\n")
 }
 
-/// Puts the line of an operator and one text at the end of a text, escaped.
-fn append_text_line(into: &mut Text, operator: &[u8], text: &[u8]) -> Result<(), Memory>
-    ensures { OnOk result (into.new ≡ into.old ++ line (operator.now ∷ escape text.now ∷ [])) }
+/// Puts a line of a message at the end of a text: the tokens with one space between them, and a newline. `Memory` is
+/// the only error, and then the text stays as it was.
+pub fn append_line(into: &mut Text, tokens: &[&[u8]]) -> Result<(), Memory>
+    ensures ok { OnOk result (into.new ≡ into.old ++ line (map (λ t. t.now) tokens.now)) }
+    ensures err { OnErr result (into.new ≡ into.old) }
+{
+    let length = into.bytes().len();
+    let written = add_line(into, tokens);
+    whole(into, length, written)
+}
+
+/// Puts the line of an operator and one text at the end of a text, escaped, all of it or some.
+fn add_text_line(into: &mut Text, operator: &[u8], text: &[u8]) -> Result<(), Memory>
+    ensures ok { OnOk result (into.new ≡ into.old ++ line (operator.now ∷ escape text.now ∷ [])) }
+    ensures err { OnErr result (take (length into.old) into.new ≡ into.old) }
 {
     into.append(operator)?;
     into.append(b" ")?;
     escape_into(into, text)?;
     into.append(b"\n")
+}
+
+/// Puts the line of an operator and one text at the end of a text, escaped.
+fn append_text_line(into: &mut Text, operator: &[u8], text: &[u8]) -> Result<(), Memory>
+    ensures ok { OnOk result (into.new ≡ into.old ++ line (operator.now ∷ escape text.now ∷ [])) }
+    ensures err { OnErr result (into.new ≡ into.old) }
+{
+    let length = into.bytes().len();
+    let written = add_text_line(into, operator, text);
+    whole(into, length, written)
 }
 
 /// The digits of a name. A caller learns that it has 20 bytes.
@@ -56,7 +91,8 @@ fn digits_of(name: &Name) -> [u8; 40]
 
 /// Puts the line of a `clone` card at the end of a text: its version and its sequence, where it has them.
 fn append_clone(into: &mut Text, from: Option<(u64, u64)>) -> Result<(), Memory>
-    ensures written { OnOk result (into.new ≡ into.old ++ card_bytes (card_is.Clone from)) }
+    ensures ok { OnOk result (into.new ≡ into.old ++ card_bytes (card_is.Clone from)) }
+    ensures err { OnErr result (into.new ≡ into.old) }
     ensures typed { AreNumbers from }
 {
     let Some((version, sequence)) = from else {
@@ -69,28 +105,19 @@ fn append_clone(into: &mut Text, from: Option<(u64, u64)>) -> Result<(), Memory>
     append_line(into, &[b"clone", version, sequence])
 }
 
-/// Puts the line of a `login` card at the end of a text.
-fn append_login(into: &mut Text, user: &[u8], nonce: &[u8], signature: &[u8]) -> Result<(), Memory>
-    ensures { OnOk result (into.new ≡ into.old ++ line (codes "login" ∷ escape user.now ∷ nonce.now ∷ signature.now ∷ [])) }
-{
-    into.append(b"login ")?;
-    escape_into(into, user)?;
-    into.append(b" ")?;
-    append_line(into, &[nonce, signature])
-}
-
 /// Puts a `clone_seqno` card at the end of a text, as the other writers of cards do.
 pub fn append_seqno(into: &mut Text, next: u64) -> Result<(), Memory>
-    ensures { OnOk result (into.new ≡ into.old ++ card_bytes (card_is.CloneSeqno next)) }
+    ensures ok { OnOk result (into.new ≡ into.old ++ card_bytes (card_is.CloneSeqno next)) }
+    ensures err { OnErr result (into.new ≡ into.old) }
 {
     let mut buffer = Buffer::new();
     append_line(into, &[b"clone_seqno", buffer.format(next).as_bytes()])
 }
 
-/// Puts a `file` card at the end of a text: its line, the content and a newline. `Memory` is the only error; the text
-/// then may be longer than it was, and is of no use.
-pub fn append_file(into: &mut Text, name: &Name, bytes: &[u8]) -> Result<(), Memory>
-    ensures written { OnOk result (into.new ≡ into.old ++ card_bytes (card_is.File name.now bytes.now)) }
+/// Puts a `file` card at the end of a text, all of it or some.
+fn add_file(into: &mut Text, name: &Name, bytes: &[u8]) -> Result<(), Memory>
+    ensures ok { OnOk result (into.new ≡ into.old ++ card_bytes (card_is.File name.now bytes.now)) }
+    ensures err { OnErr result (take (length into.old) into.new ≡ into.old) }
     ensures named { IsName name.now }
 {
     let mut buffer = Buffer::new();
@@ -106,10 +133,23 @@ pub fn append_file(into: &mut Text, name: &Name, bytes: &[u8]) -> Result<(), Mem
     into.append(b"\n")
 }
 
+/// Puts a `file` card at the end of a text: its line, the content and a newline. `Memory` is the only error, and then
+/// the text stays as it was.
+pub fn append_file(into: &mut Text, name: &Name, bytes: &[u8]) -> Result<(), Memory>
+    ensures ok { OnOk result (into.new ≡ into.old ++ card_bytes (card_is.File name.now bytes.now)) }
+    ensures err { OnErr result (into.new ≡ into.old) }
+    ensures named { IsName name.now }
+{
+    let length = into.bytes().len();
+    let written = add_file(into, name, bytes);
+    whole(into, length, written)
+}
+
 /// Puts an `igot` card at the end of a text, with the flag `1` where the artifact is private, as the other writers of
 /// cards do.
 pub fn append_igot(into: &mut Text, name: &Name, private: bool) -> Result<(), Memory>
-    ensures written { OnOk result (into.new ≡ into.old ++ card_bytes (card_is.Igot name.now private)) }
+    ensures ok { OnOk result (into.new ≡ into.old ++ card_bytes (card_is.Igot name.now private)) }
+    ensures err { OnErr result (into.new ≡ into.old) }
     ensures named { IsName name.now }
 {
     if private {
@@ -121,7 +161,8 @@ pub fn append_igot(into: &mut Text, name: &Name, private: bool) -> Result<(), Me
 
 /// Puts a `gimme` card at the end of a text, as the other writers of cards do.
 pub fn append_gimme(into: &mut Text, name: &Name) -> Result<(), Memory>
-    ensures written { OnOk result (into.new ≡ into.old ++ card_bytes (card_is.Gimme name.now)) }
+    ensures ok { OnOk result (into.new ≡ into.old ++ card_bytes (card_is.Gimme name.now)) }
+    ensures err { OnErr result (into.new ≡ into.old) }
     ensures named { IsName name.now }
 {
     append_line(into, &[b"gimme", &digits_of(name)])
@@ -129,23 +170,20 @@ pub fn append_gimme(into: &mut Text, name: &Name) -> Result<(), Memory>
 
 /// Puts an `error` card at the end of a text, whose own text is escaped, as the other writers of cards do.
 pub fn append_error(into: &mut Text, text: &[u8]) -> Result<(), Memory>
-    ensures { OnOk result (into.new ≡ into.old ++ card_bytes (card_is.Error text.now)) }
+    ensures ok { OnOk result (into.new ≡ into.old ++ card_bytes (card_is.Error text.now)) }
+    ensures err { OnErr result (into.new ≡ into.old) }
 {
     append_text_line(into, b"error", text)
 }
 
-/// Puts a card at the end of a text.
+/// Puts a card that can be written, so no login, at the end of a text.
 fn append_card(into: &mut Text, card: &WireCard) -> Result<(), Memory>
-    ensures written { OnOk result (into.new ≡ into.old ++ card_bytes card.now) }
+    requires { IsTrue (is_writable card.now) }
+    ensures ok { OnOk result (into.new ≡ into.old ++ card_bytes card.now) }
     ensures typed { OnOk result (IsOfType card.now) }
 {
     match card {
-        WireCard::Login {
-            user,
-            nonce,
-            signature,
-            ..
-        } => append_login(into, user.bytes(), nonce.bytes(), signature.bytes()),
+        WireCard::Login { .. } => Ok(()),
         WireCard::Push { server, project } => {
             append_line(into, &[b"push", server.bytes(), project.bytes()])
         }

@@ -3,7 +3,7 @@ use Rattle.fsl_wire.specs.declared.WireCard.{WireCard}
 use Rattle.fsl_wire.specs.Writing.{card_bytes}
 use Rattle.fsl_wire.proofs.writing.append_card.Goals as goal
 
-pub returns-in-SendPrivate-clause-written : goal.returns-in-SendPrivate-clause-written
-returns-in-SendPrivate-clause-written c =
+pub returns-in-SendPrivate-clause-ok : goal.returns-in-SendPrivate-clause-ok
+returns-in-SendPrivate-clause-ok c =
     subst (λ (card : WireCard). OnOk c.append_line-in-SendPrivate.result (c.append_line-in-SendPrivate.new.into ≡ c.args.into.now ++ card_bytes card)) (sym c.in-SendPrivate.is)
-    c.append_line-in-SendPrivate.ensures
+    c.append_line-in-SendPrivate.ensures.ok

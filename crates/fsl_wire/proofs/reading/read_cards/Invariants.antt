@@ -1,9 +1,9 @@
 use Rattle.std.proofs.Common.{◌-◌, length}
-use Rattle.fsl_wire.specs.Drafts.{AreDraftsTo}
-use Rattle.fsl_wire.proofs.reading.read_drafts.Given as goal
+use Rattle.fsl_wire.specs.Reading.{AreCardsTo}
+use Rattle.fsl_wire.proofs.reading.read_cards.Given as goal
 
 abbrev pub invariant-lines : goal.invariant-lines
-invariant-lines l = AreDraftsTo l.bytes l.line l.at l.drafts
+invariant-lines l = AreCardsTo l.bytes l.line l.at l.cards
 
 abbrev pub decreases-lines : goal.decreases-lines
 decreases-lines l = length l.bytes - l.at

@@ -1,7 +1,7 @@
 use Rattle.fsl_wire.proofs.WriteLemmas.{token_behind, token_first}
 use Rattle.std.proofs.Common.{[], ◌∙◌}
-use Rattle.fsl_wire.proofs.writing.append_tokens.Goals as goal
-use Rattle.fsl_wire.proofs.writing.append_tokens.Goals.{then-at-gt0+in_ok-append, else-at-gt0}
+use Rattle.fsl_wire.proofs.writing.add_tokens.Goals as goal
+use Rattle.fsl_wire.proofs.writing.add_tokens.Goals.{then-at-gt0+in_ok-append, else-at-gt0}
 
 pub loop-at-preserved : goal.loop-at-preserved
 loop-at-preserved c =
