@@ -133,6 +133,13 @@ impl Message {
     {
         self.cards.items()
     }
+
+    /// Gives the cards, in order, without a copy.
+    pub fn into_cards(self) -> List<WireCard>
+        ensures { result ≡ self }
+    {
+        self.cards
+    }
 }
 
 /// What a user may do: pull, push, clone, and send and get private artifacts.
