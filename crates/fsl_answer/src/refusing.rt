@@ -24,12 +24,7 @@ fn is_code(code: &[u8], project: Name) -> bool
 }
 
 /// Why a card with a project's code is refused: the code is another one, or else the sender isn't allowed.
-fn code_refusal(
-    code: &[u8],
-    project: Name,
-    allowed: bool,
-    reason: Refusal,
-) -> Option<Refusal>
+fn code_refusal(code: &[u8], project: Name, allowed: bool, reason: Refusal) -> Option<Refusal>
     ensures { result ≡ or_else (unless (bytes_eq code.now (name_text project)) refusal_is.Project) (unless allowed reason) }
 {
     if is_code(code, project) {

@@ -32,7 +32,7 @@ impl History {
         let links = Links::build(alloc, &facts::links::of_items(alloc, items)?)?;
         let tags = Tags::build(alloc, &facts::tags::of_items(alloc, &links, items)?)?;
         let facts = facts::leaves::of_items(alloc, &tags, items)?;
-        let leaves = Leaves::build(alloc, List::from_vec(facts))?;
+        let leaves = Leaves::from_facts(alloc, List::from_vec(facts))?;
         Ok(History {
             links,
             tags,

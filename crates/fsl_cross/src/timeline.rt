@@ -232,5 +232,5 @@ pub(crate) fn table(
 {
     let targets = Targets::of(alloc, items)?;
     let rows = of_items(alloc, tags, pages, threads, &targets, items)?;
-    Timeline::build(alloc, List::from_vec(rows))
+    Timeline::from_rows(alloc, List::from_vec(rows))
 }

@@ -34,14 +34,30 @@ impl Model for Leaves {
 }
 
 impl Leaves {
-    /// The table of some facts, of which no two have one name. They are moved, and none is kept. The table is the same in whatever
-    /// order they stand: that is the law `fsl_order::by_name_in_any_order`. `Memory` is the only error.
-    pub fn build(alloc: Global, facts: List<Fact>) -> Result<Leaves, Memory>
+    /// The table of some facts, of which no two have one name. It is the same in whatever order they stand: that is the law
+    /// `fsl_order::by_name_in_any_order`. They are copied while it is made, and none is kept. `Memory` is the only error.
+    pub fn build(alloc: Global, facts: &[Fact]) -> Result<Leaves, Memory>
+        requires { AreDistinct (map (λ f. f.name) facts.now) }
+        ensures facts { IfOk result (λ t. t.facts ≡ by_name (λ f. f.name) facts.now) }
+        ensures spare { IfOk result (λ t. t.spare ≡ []) }
+    {
+        Leaves::among(alloc, Rows::build(alloc, facts)?)
+    }
+
+    /// The table that `build` makes, of facts that are moved: none is copied. `Memory` is the only error.
+    pub fn from_facts(alloc: Global, facts: List<Fact>) -> Result<Leaves, Memory>
         requires { AreDistinct (map (λ f. f.name) facts) }
         ensures facts { IfOk result (λ t. t.facts ≡ by_name (λ f. f.name) facts) }
         ensures spare { IfOk result (λ t. t.spare ≡ []) }
     {
-        let rows = Rows::of(alloc, facts)?;
+        Leaves::among(alloc, Rows::of(alloc, facts)?)
+    }
+
+    /// The table of facts by name.
+    fn among(alloc: Global, rows: Rows<Fact>) -> Result<Leaves, Memory>
+        ensures facts { IfOk result (λ t. t.facts ≡ rows) }
+        ensures spare { IfOk result (λ t. t.spare ≡ []) }
+    {
         let continued = continued::continued(alloc, &rows)?;
         let names = continued::without(alloc, &rows, &continued)?;
         Ok(Leaves {

@@ -1,19 +1,19 @@
 -- How a users file is read line by line.
-use Rattle.std.proofs.Common.{◌≡◌, ℕ, suc, ◌+◌, ◌-◌, ◌<◌, ◌≤◌, ◌^◌, min, Bool, true, false, not, cond, List, [], ◌∷◌, ◌++◌, length, take, drop, position, filter_map, Option, Some, None, refl, sym, ap, subst, ◌∙◌, arith, append_assoc, inl, inr}
+use Rattle.std.proofs.Common.{◌≡◌, ℕ, suc, ◌+◌, ◌-◌, ◌<◌, ◌≤◌, ◌^◌, min, Bool, true, false, not, cond, List, [], ◌∷◌, ◌++◌, length, take, drop, position, Option, Some, None, refl, sym, ap, subst, ◌∙◌, arith, append_assoc, inl, inr}
 use Rattle.std.specs.Prelude.{◌⊎◌, ◌&&◌, ◌||◌, nat_le, sum_by, option_to_list, slice_index_or, IsTrue}
-use Rattle.std.specs.List.{slice_split, position_or_len, cons_option, IsDistinct}
+use Rattle.std.specs.List.{position_or_len, cons_option, IsDistinct}
 use Rattle.std.proofs.lemmas.Bool.{cases_lt}
-use Rattle.std.proofs.lemmas.List.{append-nil, length-append, length-drop, length-take-le, take_rest, take_at, drop-drop}
+use Rattle.std.proofs.lemmas.List.{length-append, length-drop, length-take-le, take_rest, take_at, drop-drop}
 use Rattle.std.proofs.lemmas.List.Elements.{All-from_get_or, filter_map-append}
 use Rattle.std.proofs.lemmas.List.Quantifiers.{position-Some}
 use Rattle.std.proofs.lemmas.List.Splits.{slice_split_none, slice_split_first}
-use Rattle.std.proofs.lemmas.List.Sums.{fails_before_first, sum_by-append, sum_by_push}
+use Rattle.std.proofs.lemmas.List.Sums.{fails_before_first, sum_by_push}
 use Rattle.fsl_order.specs.Rows.{AreDistinct}
 use Rattle.fsl_text.specs.Bytes.{is_newline}
 use Rattle.fsl_text.specs.Tokens.{tokens_of}
 use Rattle.fsl_wire.proofs.TokenLemmas.{no_place, place_found}
 use Rattle.fsl_login.specs.declared.User.{User}
-use Rattle.fsl_login.specs.UserFiles.{lines_of, is_meaningless, is_new_user, is_good_line, is_good_at, bytes_of_lines, users_in, user_in, AreUsers, IsUsersFile, IsFirstBadLine}
+use Rattle.fsl_login.specs.UserFiles.{lines_of, is_meaningless, is_new_user, is_good_line, is_good_at, users_in, user_in, AreUsers, IsUsersFile, IsFirstBadLine}
 use Rattle.fsl_login.specs.Reading.{is_new_among, is_good_among, IsCut, IsReadTo}
 use Rattle.fsl_login.proofs.Fronts.{take_one}
 

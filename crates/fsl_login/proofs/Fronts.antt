@@ -1,7 +1,7 @@
 -- A front of a file that is longer than 2^20 bytes has the first bad line of the whole file.
 use Rattle.std.proofs.Common.{◌≡◌, ℕ, zero, suc, ◌+◌, ◌<◌, ◌≤◌, ◌^◌, min, Bool, true, false, cond, List, [], ◌∷◌, ◌++◌, length, take, refl, sym, ap, subst, ◌∙◌, arith, inl, inr}
-use Rattle.std.specs.Prelude.{◌⊎◌, ◌-◌, ◌&&◌, not, nat_le, fold, slice_index_or, IsTrue}
-use Rattle.std.specs.List.{slice_split, onto_first}
+use Rattle.std.specs.Prelude.{◌⊎◌, ◌-◌, ◌&&◌, not, nat_le, fold, slice_index_or}
+use Rattle.std.specs.List.{onto_first}
 use Rattle.std.proofs.lemmas.Bool.{cases_lt}
 use Rattle.std.proofs.lemmas.List.{length-append}
 use Rattle.fsl_text.specs.Bytes.{is_newline}
@@ -163,8 +163,7 @@ module _ (front more : List ℕ) (long : 2 ^ 20 < length front) where
   told : (s : Shape front more) (n : ℕ) → IsFirstBadLine front n → IsFirstBadLine (front ++ more) n
   told s n h =
       let c = count s in
-      let w = count_whole s in
-      (
+      let w = count_whole s in (
         h.0,
         omega (arith, h.1, c, w),
         ap not (good_alike s n h.0 (omega (arith, h.1, c))) ∙ h.2,

@@ -1,5 +1,5 @@
 -- How the logins of a message are judged one after another.
-use Rattle.std.proofs.Common.{◌≡◌, ℕ, suc, ◌+◌, ◌<◌, ◌≤◌, List, [], ◌∷◌, length, drop, get_or, filter_map, fold, Option, Some, None, Result, Ok, Err, refl, sym, ap, ◌∙◌, arith, add-one, drop-cons}
+use Rattle.std.proofs.Common.{◌≡◌, ℕ, suc, ◌+◌, ◌<◌, ◌≤◌, List, ◌∷◌, length, drop, get_or, filter_map, fold, Option, Some, None, Result, Ok, Err, sym, ap, ◌∙◌, add-one, drop-cons}
 use Rattle.std.specs.List.{cons_option}
 use Rattle.std.proofs.Math.ListN.{drop_of_length-le}
 use Rattle.fsl_wire.specs.declared.Caps.{Caps}

@@ -1,5 +1,5 @@
 -- What one card of a message adds to what is allowed.
-use Rattle.std.specs.Prelude.{◌≡◌, List, Option, Some, None, Result, Ok, Err}
+use Rattle.std.specs.Prelude.{◌≡◌, List, Some, None, Result, Ok, Err}
 use Rattle.fsl_wire.specs.declared.Caps.{Caps}
 use Rattle.fsl_wire.specs.declared.WireCard.{WireCard}
 use Rattle.fsl_login.specs.declared.User.{User}

@@ -45,6 +45,17 @@ fn put(tree: &mut BTreeMap<Place, Row>, row: Row) -> Result<(), Memory>
     }
 }
 
+/// Copies of some rows.
+fn copies(alloc: Global, rows: &[Row]) -> Result<List<Row>, Memory>
+    ensures { IfOk result (λ list. list ≡ rows.now) }
+{
+    let mut list = Vec::new(alloc);
+    for row in rows {
+        list.push(row.copied(alloc)?)?;
+    }
+    Ok(List::from_vec(list))
+}
+
 /// The rows by their places. They are moved.
 fn placed(alloc: Global, rows: List<Row>) -> Result<BTreeMap<Place, Row>, Memory>
     ensures { IfOk result (λ tree. tree.entries ≡ keyed latest_first (λ r. (r.time, r.name)) rows) }
@@ -76,9 +87,18 @@ fn first_rows(alloc: Global, rows: &BTreeMap<Place, Row>, count: u64) -> Result<
 }
 
 impl Timeline {
-    /// The table of some rows, of which no two have one name. They are moved. The table is the same in whatever order they stand: that
+    /// The table of some rows, of which no two have one name. They are copied. The table is the same in whatever order they stand: that
     /// is the law `fsl_order::by_name_in_any_order`. `Memory` is the only error.
-    pub fn build(alloc: Global, rows: List<Row>) -> Result<Timeline, Memory>
+    pub fn build(alloc: Global, rows: &[Row]) -> Result<Timeline, Memory>
+        requires { AreDistinct (map (λ r. r.name) rows.now) }
+        ensures facts { IfOk result (λ t. t.facts ≡ by_name (λ r. r.name) rows.now) }
+        ensures spare { IfOk result (λ t. t.spare ≡ []) }
+    {
+        Timeline::from_rows(alloc, copies(alloc, rows)?)
+    }
+
+    /// The table that `build` makes, of rows that are moved: none is copied. `Memory` is the only error.
+    pub fn from_rows(alloc: Global, rows: List<Row>) -> Result<Timeline, Memory>
         requires { AreDistinct (map (λ r. r.name) rows) }
         ensures facts { IfOk result (λ t. t.facts ≡ by_name (λ r. r.name) rows) }
         ensures spare { IfOk result (λ t. t.spare ≡ []) }

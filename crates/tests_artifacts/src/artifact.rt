@@ -62,7 +62,8 @@ fn firsts(alloc: Global, names: &[Name]) -> Result<Vec<u8>, Memory> {
 fn tells_what_a_check_in_refers_to(rt: HostRuntime) -> Result<(), Memory> {
     let (kind, names, count) = read(rt.alloc(), CHECKIN)?;
     let names = firsts(rt.alloc(), names.items())?;
-    assert_eq!(rt; (kind, names.as_slice(), count), ("manifest", b"\x22\x55\x77".as_slice(), 0));
+    assert_eq!(rt; (kind, count), ("manifest", 0));
+    assert_eq!(rt; names.as_slice(), b"\x22\x55\x77".as_slice());
     Ok(())
 }
 
@@ -73,6 +74,7 @@ fn tells_the_members_of_a_cluster(rt: HostRuntime) -> Result<(), Memory> {
     text_is_of_one_kind();
     let (kind, names, count) = read(rt.alloc(), CLUSTER)?;
     let names = firsts(rt.alloc(), names.items())?;
-    assert_eq!(rt; (kind, names.as_slice(), count), ("cluster", b"\xA9\xDA".as_slice(), 2));
+    assert_eq!(rt; (kind, count), ("cluster", 2));
+    assert_eq!(rt; names.as_slice(), b"\xA9\xDA".as_slice());
     Ok(())
 }

@@ -37,28 +37,28 @@ fn cards_of(rt: &HostRuntime, lines: &[u8]) -> Result<Cards, Fail> {
 }
 
 fn check_texts<R: Abort + AllocGlobal>(rt: &R, cards: &[Card]) -> Result<(), Fail> {
-    let comment = one::<TextForm>(rt.alloc(), cards, b'C')?.ok_or("C")?;
+    let comment = one::<TextForm>(rt.alloc(), cards, b'C')?;
     assert_eq!(rt; comment.bytes(), b"a comment".as_slice());
-    let user = one::<UserForm>(rt.alloc(), cards, b'U')?.ok_or("U")?;
+    let user = one::<UserForm>(rt.alloc(), cards, b'U')?;
     assert_eq!(rt; user.bytes(), b"anonymous".as_slice());
     Ok(())
 }
 
 fn check_names_and_dates<R: Abort + AllocGlobal>(rt: &R, cards: &[Card]) -> Result<(), Fail> {
-    let baseline = at_most_one::<HashForm>(rt.alloc(), cards, b'B')?.ok_or("B")?;
+    let baseline = at_most_one::<HashForm>(rt.alloc(), cards, b'B')?;
     assert_eq!(rt; baseline, read_hash(ONE));
-    let date = one::<DateForm>(rt.alloc(), cards, b'D')?.ok_or("D")?;
+    let date = one::<DateForm>(rt.alloc(), cards, b'D')?;
     assert_eq!(rt; date.ms(), 1_709_208_000_000);
-    let checksum = one::<ChecksumForm>(rt.alloc(), cards, b'R')?.ok_or("R")?;
+    let checksum = one::<ChecksumForm>(rt.alloc(), cards, b'R')?;
     assert_eq!(rt; checksum[1], 0x1d);
     Ok(())
 }
 
 /// How many tags and parents cards have, and whether they have a body.
 fn counts(alloc: Global, cards: &[Card]) -> Result<(usize, usize, bool), Fail> {
-    let tags = each::<TagForm>(alloc, cards, b'T')?.ok_or("T")?.items().len();
-    let parents = parents(alloc, cards)?.ok_or("P")?.items().len();
-    Ok((tags, parents, body(alloc, cards)?.is_some()))
+    let tags = each::<TagForm>(alloc, cards, b'T')?.items().len();
+    let parents = parents(alloc, cards)?.items().len();
+    Ok((tags, parents, body(alloc, cards).is_ok()))
 }
 
 fn check_manifest<R: Abort + AllocGlobal>(rt: &R, cards: &[Card]) -> Result<(), Fail> {
@@ -119,7 +119,7 @@ fn tells_kinds_by_letters(rt: HostRuntime) -> Result<(), Fail> {
 }
 
 fn check_body<R: Abort + AllocGlobal>(rt: &R, cards: &[Card]) -> Result<(), Fail> {
-    let text = body(rt.alloc(), cards)?.ok_or("no body")?;
+    let text = body(rt.alloc(), cards)?;
     assert_eq!(rt; text.bytes(), b"a\nb".as_slice());
     let digits = Text::of(rt.alloc(), ONE)?;
     let found = [

@@ -69,7 +69,8 @@ fn reply(alloc: Global) -> Result<Text, Memory> {
 
 #[test]
 fn frames_a_reply(rt: HostRuntime) {
-    let want = b"error a\\sb\npush 2222222222222222222222222222222222222222 1111111111111111111111111111111111111111\nigot a9993e364706816aba3e25717850c26c9cd0d89d 1\ngimme a9993e364706816aba3e25717850c26c9cd0d89d\nprivate\nfile a9993e364706816aba3e25717850c26c9cd0d89d 3\nabc\nclone_seqno 17\n";
+    let want =
+        b"error a\\sb\npush 2222222222222222222222222222222222222222 1111111111111111111111111111111111111111\nigot a9993e364706816aba3e25717850c26c9cd0d89d 1\ngimme a9993e364706816aba3e25717850c26c9cd0d89d\nprivate\nfile a9993e364706816aba3e25717850c26c9cd0d89d 3\nabc\nclone_seqno 17\n";
     let text = reply(rt.alloc()).expect(&rt, "memory");
     assert_eq!(rt; text.bytes(), want.as_slice());
 }

@@ -5,7 +5,8 @@ use fsl_wire::{Message, WireCard, WireFault, line_of, read, write};
 use std::alloc::Global;
 
 /// A message with a comment, blanks, two files, a cookie, and a last line without a newline.
-const CARDS: &[u8] = b"# x\n \tpush s p\r\npull s p\nfile a9993e364706816aba3e25717850c26c9cd0d89d 3\nabc\nfile da39a3ee5e6b4b0d3255bfef95601890afd80709 0\n\ncookie a b\nprivate\nclone 3 17\nclone_seqno 007\nigot 86f7e437faa5a7fce15d1ddcb9eaeaea377667b8 1\ngimme 86f7e437faa5a7fce15d1ddcb9eaeaea377667b8\nerror a\\sb\nmessage x\npragma send-private";
+const CARDS: &[u8] =
+    b"# x\n \tpush s p\r\npull s p\nfile a9993e364706816aba3e25717850c26c9cd0d89d 3\nabc\nfile da39a3ee5e6b4b0d3255bfef95601890afd80709 0\n\ncookie a b\nprivate\nclone 3 17\nclone_seqno 007\nigot 86f7e437faa5a7fce15d1ddcb9eaeaea377667b8 1\ngimme 86f7e437faa5a7fce15d1ddcb9eaeaea377667b8\nerror a\\sb\nmessage x\npragma send-private";
 
 /// A letter for each kind of card.
 fn letter(card: &WireCard) -> u8 {
@@ -92,7 +93,8 @@ fn second_line(alloc: Global, bytes: &[u8]) -> Option<u64> {
 
 #[test]
 fn tells_the_line_of_a_card(rt: HostRuntime) {
-    let bytes = b"file a9993e364706816aba3e25717850c26c9cd0d89d 3\nabc\nigot 86f7e437faa5a7fce15d1ddcb9eaeaea377667b8\n";
+    let bytes =
+        b"file a9993e364706816aba3e25717850c26c9cd0d89d 3\nabc\nigot 86f7e437faa5a7fce15d1ddcb9eaeaea377667b8\n";
     assert_eq!(rt; second_line(rt.alloc(), bytes), Some(3));
     assert_eq!(rt; second_line(rt.alloc(), CARDS), Some(3));
     assert_eq!(rt; second_line(rt.alloc(), b"clone"), None);
@@ -114,5 +116,8 @@ fn written(alloc: Global, bytes: &[u8]) -> Result<Text, Memory> {
 #[test]
 fn writes_a_file(rt: HostRuntime) {
     let text = written(rt.alloc(), b"abc").expect(&rt, "memory");
-    assert_eq!(rt; text.bytes(), b"file a9993e364706816aba3e25717850c26c9cd0d89d 3\nabc\n".as_slice());
+    assert_eq!(rt;
+        text.bytes(),
+        b"file a9993e364706816aba3e25717850c26c9cd0d89d 3\nabc\n".as_slice()
+    );
 }

@@ -81,8 +81,14 @@ fn fields(alloc: Global) -> Result<List<Text>, Memory> {
     Ok(List::from_vec(fields))
 }
 
+/// The tables of the artifacts.
+fn tables(alloc: Global) -> Result<Tables, Memory> {
+    let fields = fields(alloc)?;
+    Tables::build(alloc, &fields, items(alloc)?)
+}
+
 fn shown(alloc: Global) -> Result<Text, Memory> {
-    let tables = Tables::build(alloc, &fields(alloc)?, items(alloc)?)?;
+    let tables = tables(alloc)?;
     show(alloc, &tables)
 }
 

@@ -1,5 +1,5 @@
 //! Runs whose disk, input or output fails, what a crash leaves, and a message too long for a transcript.
-use fossil::{Ran, one_outcome, run};
+use fossil::{Ran, one_outcome, run, some_outcome};
 use fsl_disk::{Disk, FileDisk, FuseDisk, MemoryDisk};
 use fsl_outside::{MemorySink, MemorySource};
 use std::alloc::{AllocError, Global};
@@ -91,6 +91,7 @@ fn put_after(alloc: Global, calls: u64) -> Result<(String, u64), Fail> {
 #[test]
 fn put_tells_a_disk_that_fails(rt: HostRuntime) -> Result<(), Fail> {
     one_outcome();
+    some_outcome();
     for calls in 0..10 {
         let (text, others) = put_after(rt.alloc(), calls)?;
         let want = if calls < 9 {

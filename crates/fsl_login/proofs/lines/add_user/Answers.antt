@@ -14,6 +14,6 @@ returns-clause-seen c =
     let users = c.args.users.now in
     let user : User = record { name = c.args.name.now; caps = caps_of c.args.letters.now; secret = c.args.secret.now } in
     λ yes q.
-        c.in_ok-insert.ensures.updates.0 q ∙ ap (λ (b : Bool). cond (is_at (bytes_cmp c.args.name.now) q.now) true b) (c.requires.seen q)
-        ∙ seen_next users user q.now
-        ∙ ap (λ (us : List User). has (map (λ u. u.name) us) q.now) (sym (c.in_ok-push_user.ensures ∙ ap (λ (u : User). users ++ u ∷ []) c.in_ok-user_of.ensures))
+    c.in_ok-insert.ensures.updates.0 q ∙ ap (λ (b : Bool). cond (is_at (bytes_cmp c.args.name.now) q.now) true b) (c.requires.seen q)
+    ∙ seen_next users user q.now
+    ∙ ap (λ (us : List User). has (map (λ u. u.name) us) q.now) (sym (c.in_ok-push_user.ensures ∙ ap (λ (u : User). users ++ u ∷ []) c.in_ok-user_of.ensures))

@@ -18,9 +18,9 @@ distinct_rest : (first : List ℕ) (rest : List (List ℕ)) → true ≡ not (ha
 unfolding IsDistinct
 distinct_rest first rest none distinct = (nowhere rest first (not-true (has rest first) (sym none)), distinct)
 
-distinct_all : (names : List (List ℕ)) (d : List ℕ) → false ≡ (length names == 0) → true ≡ not (has (drop 1 names) (get_or names 0 d)) → AreDistinct (drop 1 names) → AreDistinct names
-distinct_all [] d some none distinct = absurd cc
-distinct_all (name ∷ names) d some none distinct = distinct_rest name names none distinct
+distinct_all : (names : List (List ℕ)) (first : List ℕ) → false ≡ (length names == 0) → first ≡ get_or names 0 first → true ≡ not (has (drop 1 names) first) → AreDistinct (drop 1 names) → AreDistinct names
+distinct_all [] first some is none distinct = absurd cc
+distinct_all (name ∷ names) first some is none distinct = distinct_rest name names (subst (λ (n : List ℕ). true ≡ not (has names n)) is none) distinct
 
 distinct_none : (names : List (List ℕ)) → true ≡ (length names == 0) → AreDistinct names
 unfolding IsDistinct
@@ -34,6 +34,6 @@ pub returns-then-is_none_of : goal.returns-then-is_none_of
 returns-then-is_none_of t c test =
     let names = c.args.names.now in
     let rest = take_rest names 1 in
-    distinct_all names c.index-names-0.result c.if-is_empty.ensures
-    (c.if-is_none_of.ensures ∙ ap (λ (ns : List (List ℕ)). not (has ns (get_or names 0 c.index-names-0.result))) rest)
+    distinct_all names c.index-names-0.result c.if-is_empty.ensures c.index-names-0.is
+    (c.if-is_none_of.ensures ∙ ap (λ (ns : List (List ℕ)). not (has ns c.index-names-0.result)) rest)
     (subst (λ (ns : List (List ℕ)). AreDistinct ns) rest (c.are_distinct.ensures test))

@@ -1,0 +1,11 @@
+pub mod Asks
+pub mod Bodied
+pub mod Broken
+pub mod Exchanging
+pub mod Fielded
+pub mod Headed
+pub mod OneAnswer
+pub mod OneReply
+pub mod Replying
+pub mod Sent
+pub mod Steps

@@ -1,0 +1,10 @@
+pub mod Asking
+pub mod Bodies
+pub mod Exchanges
+pub mod Fields
+pub mod Heads
+pub mod Reading
+pub mod Replies
+pub mod Requests
+pub mod Responses
+pub mod Sending
