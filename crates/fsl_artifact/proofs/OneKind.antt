@@ -19,7 +19,7 @@ use Rattle.fsl_forms.specs.declared.technote.Technote as technote_types
 use Rattle.fsl_forms.specs.declared.forum.Forum as forum_types
 use Rattle.fsl_artifact.specs.declared.Artifact.{Artifact}
 use Rattle.fsl_artifact.specs.declared.Artifact.TheVariants.{Plain, Manifest, Cluster, Control, Wiki, Ticket, Attachment, Technote, Forum}
-use Rattle.fsl_artifact.specs.Kind.{IsOfKind, AreOfKind, IsOfOneKind, IsOneArtifact}
+use Rattle.fsl_artifact.specs.Kind.{IsOfKind, AreOfKind, IsKind, IsOfOneKind, IsOneArtifact}
 
 manifest_is : (cards : List Card) (a b : manifests.Manifest) → IsManifest cards a → IsManifest cards b → a ≡ b
 manifest_is cards a b h k =
@@ -184,6 +184,18 @@ of_one_kind text a b h k =
 -- a text whose cards are of no kind is of none
 pub of_no_kind : (text : List ℕ) (cards : List Card) → IsCards text cards → ((a : Artifact) → AreOfKind cards a → ⊥) → (a : Artifact) → IsOfKind text a → ⊥
 of_no_kind text cards h none a k = none a (subst (λ (others : List Card). AreOfKind others a) (unambiguous text k.0 cards k.1 h) k.2)
+
+-- a text whose cards are of a kind is of this
+pub of_this_kind : (text : List ℕ) (cards : List Card) (a : Artifact) → IsCards text cards → AreOfKind cards a → IsKind text a
+of_this_kind text cards Plain h k = absurd k
+of_this_kind text cards (Manifest x) h k = (cards, h, k)
+of_this_kind text cards (Cluster x) h k = (cards, h, k)
+of_this_kind text cards (Control x) h k = (cards, h, k)
+of_this_kind text cards (Wiki x) h k = (cards, h, k)
+of_this_kind text cards (Ticket x) h k = (cards, h, k)
+of_this_kind text cards (Attachment x) h k = (cards, h, k)
+of_this_kind text cards (Technote x) h k = (cards, h, k)
+of_this_kind text cards (Forum x) h k = (cards, h, k)
 
 pub one_artifact : IsOneArtifact
 one_artifact text Plain Plain h k = refl
