@@ -20,8 +20,8 @@ build-requires-2 c =
     = c.in_ok-links.ensures.facts ∙ ap (by_name (λ f. f.name)) (c.deref.ensures.value ∙ c.in_ok-of_items.ensures) ∙ links-by_name items rise in
     subst AreTagFacts (sym (c.deref-2.ensures.value ∙ c.in_ok-of_items-2.ensures ∙ ap (λ facts. filter_map (tags_fact_over facts) items) links)) (tags-fit items rise)
 
-pub build-requires-3 : goal.build-requires-3
-build-requires-3 c =
+pub from_facts-requires : goal.from_facts-requires
+from_facts-requires c =
     let items = c.args.items.now in
     let rise = c.requires in
     let links : c.in_ok-links.links.facts ≡ links_facts items
