@@ -1,6 +1,6 @@
 -- What the commands did that don't touch the file.
 use Rattle.std.proofs.Common.{◌≡◌, inl, inr, ℕ, ◌≤◌, Bool, true, false, List, [], length, Option, Some, None, Result, Ok, Err, IfOk, IfErr, IsTrue, refl, sym, ap, ◌∙◌, arith}
-use Rattle.std.specs.Prelude.{◌^◌, nat_lt, IfSome, MatchBool, MatchOption}
+use Rattle.std.specs.Prelude.{◌^◌, nat_lt, MatchBool}
 use Rattle.std.specs.Io.KnownBytes.{IsAtEnd}
 use Rattle.fsl_artifact.specs.Kind.{IsKind}
 use Rattle.fsl_disk.specs.Disk.{DiskState}
@@ -8,7 +8,6 @@ use Rattle.fsl_words.specs.declared.Command.{Command}
 use Rattle.fsl_words.specs.declared.Command.TheVariants as command_of
 use Rattle.fossil.specs.declared.fault.Fault.{Fault}
 use Rattle.fossil.specs.declared.fault.Fault.TheVariants as fault_is
-use Rattle.fossil.specs.Sets.{Sent}
 use Rattle.fossil.specs.Printed.{Printed}
 use Rattle.fossil.specs.Printed as printing
 use Rattle.fossil.specs.Ingest as ingest
@@ -16,7 +15,7 @@ use Rattle.fossil.specs.Outcome.{Outcome, without_commit, printed_of, usage, IsS
 use Rattle.fossil.specs.Run.{Input, Output, Agrees, reads, opens, IsSaid, IsTold, cut_off_status, HasRun}
 use Rattle.fossil.specs.Acts.{HasActed, IsCaused, IsUnread, IsIngestRun, fault_status}
 use Rattle.fossil.proofs.InputLemmas.{some_bytes}
-use Rattle.fossil.proofs.RefusedLemmas.{first_status}
+use Rattle.fossil.proofs.MessageLemmas.{refused_status}
 use Rattle.fossil.proofs.FileLemmas.{both, quiet_none, idle_left, idle_touches, fault_undone, fault_fades}
 use Rattle.fossil.proofs.SomeOutcome.{some_said_outcome}
 use Rattle.fossil.proofs.PrintedLemmas.{written}
@@ -100,13 +99,9 @@ usage_run input file no_other out status one said =
 
 -- ---- ingest
 
-small_taken : (files : List Sent) (o : Option Printed) (answer : Printed) → IfSome o (λ r. r.status ≡ 3) → MatchOption o (ingest.IsReported IsKind files answer) (λ refusal. answer ≡ refusal) → answer.status ≤ 3
-small_taken files None answer status h = let z = ap (λ (a : Printed). a.status) h.2 in omega (arith, z)
-small_taken files (Some refusal) answer status h = let e = ap (λ (a : Printed). a.status) h in omega (arith, e, status)
-
 small_read : (read : List ℕ) (answer : Printed) → ingest.IsRead IsKind read answer → answer.status ≤ 3
-small_read read answer (inl h) = let e = ap (λ (a : Printed). a.status) h.2 in omega (arith, e)
-small_read read answer (inr h) = small_taken h.0 (printing.first_refusal h.0) answer (first_status h.0) h.2
+small_read read answer (inl h) = let e = refused_status read answer h in omega (arith, e)
+small_read read answer (inr h) = let z = ap (λ (a : Printed). a.status) h.2.2 in omega (arith, z)
 
 small_ingest : (read : List ℕ) (t : Bool) (answer : Printed) → MatchBool t (answer ≡ printing.too_long) (ingest.IsRead IsKind read answer) → answer.status ≤ 3
 small_ingest read true answer h = let e = ap (λ (a : Printed). a.status) h in omega (arith, e)

@@ -1,12 +1,7 @@
-pub mod OneWayFiles
 pub mod OneList
 pub mod OneOutcome
 pub mod SomeOutcome
-pub mod TokenLemmas
-pub mod LineLemmas
-pub mod FrontLemmas
 pub mod MessageLemmas
-pub mod NameLemmas
 pub mod RefusedLemmas
 pub mod SentLemmas
 pub mod ReportLemmas

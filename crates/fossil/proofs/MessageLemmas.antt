@@ -1,112 +1,178 @@
--- Facts on a message that is read line by line.
-use Rattle.std.proofs.Common.{◌≡◌, ℕ, ◌+◌, ◌-◌, ◌<◌, ◌≤◌, false, List, [], ◌∷◌, ◌++◌, length, map, take, drop, All, refl, sym, ap, ◌∙◌, arith, append_assoc, subst}
-use Rattle.std.specs.Prelude.{flat_map, slice_range}
-use Rattle.std.specs.List.{AllByRecursion}
-use Rattle.std.proofs.lemmas.List.{append-nil, length-append, length-drop, take_rest, drop-drop, map-append}
-use Rattle.std.proofs.lemmas.List.Concat.{flat_map-append}
-use Rattle.std.proofs.lemmas.List.Elements.{All-append, All-cons, All-nil}
-use Rattle.fossil.specs.declared.line.Line.{Line}
-use Rattle.fossil.specs.declared.front.Front.TheVariants.{Blank, Content}
-use Rattle.fossil.specs.declared.message.File.{File}
-use Rattle.fossil.specs.Sets.{Sent}
-use Rattle.fossil.specs.Files.{IsWithin, sent_in}
-use Rattle.fossil.specs.FileLines.{line_of, line_file, Part, parts_bytes, IsPart}
-use Rattle.fossil.specs.Fronts.{IsFrontOf, IsReadTo}
+-- What a message is as one of files, by its cards.
+use Rattle.std.proofs.Common.{◌≡◌, ◌⊎◌, inl, inr, ℕ, suc, ◌+◌, ◌<◌, ◌≤◌, Bool, true, false, not, cond, List, [], ◌∷◌, ◌++◌, length, map, position, Option, Some, None, refl, sym, ap, subst, ◌∙◌, arith, append_assoc}
+use Rattle.std.specs.Prelude.{nat_lt, slice_get, IfSome, find}
+use Rattle.std.specs.Option.{option_map}
+use Rattle.std.specs.List.{position_or_len}
+use Rattle.std.proofs.lemmas.List.{append-nil}
+use Rattle.fsl_wire.specs.declared.WireCard.{WireCard}
+use Rattle.fsl_wire.specs.declared.WireCard.TheVariants as wire_card
+use Rattle.fsl_wire.specs.declared.WireFault.{WireFault}
+use Rattle.fsl_wire.specs.declared.WireFault.TheVariants as faults
+use Rattle.fsl_wire.specs.Messages.{IsNumberedMessage, IsMessage, IsLineOf, IsFirstFault, IsReadFault}
+use Rattle.fsl_wire.proofs.OneWay.{reads_one_way}
+use Rattle.fossil.specs.declared.message.Sent.{Sent}
+use Rattle.fossil.specs.declared.message.MessageFault.TheVariants as fault_is
+use Rattle.fossil.specs.Printed.{Printed, bad_line, not_a_file, first_refusal}
+use Rattle.fossil.specs.Messages.{fault_line, is_other, other_line, files_of, IsFileList, AreFilesOf, IsMessageRefused, IsFaultOf, unread_as}
+use Rattle.fossil.proofs.RefusedLemmas.{first_status}
 
-AllByRecursion-push : {X : Type 0} (P : X → Type 0) (xs : List X) (x : X) → AllByRecursion P xs → P x → AllByRecursion P (xs ++ x ∷ [])
-AllByRecursion-push P [] x all p = (p, tt)
-AllByRecursion-push P (y ∷ ys) x all p = (all.0, AllByRecursion-push P ys x all.1 p)
+abbrev Lines : Type 0
+Lines = List (ℕ × WireCard)
 
-abbrev part_bytes : Part → List ℕ
-part_bytes p = p.line ++ 10 ∷ p.content
+abbrev cards_in : Lines → List WireCard
+cards_in lines = map (λ l. l.1) lines
 
-abbrev part_files : Part → List Sent
-part_files p = line_file (line_of p.line) p.content
+abbrev files_in : Lines → List Sent
+files_in lines = files_of false (cards_in lines)
 
--- one line more, with its content
-read_more : (message : List ℕ) (lines at next : ℕ) (files new : List File) (p : Part) → IsReadTo message lines at files → IsPart p → drop at message ≡ part_bytes p ++ drop next message
-    → at < next → next ≤ length message → map (sent_in message) new ≡ map (sent_in message) files ++ part_files p → All (IsWithin (length message)) new → IsReadTo message (lines + 1) next new
-read_more message lines at next files new p r is e later within more inside =
-    let count = r.count in
-    let room = r.room in
-    let n = length-append r.parts (p ∷ []) in
-    record {
-      parts = r.parts ++ p ∷ [];
-      split =
-          r.split ∙ ap (λ (t : List ℕ). parts_bytes r.parts ++ t) e ∙ sym (append_assoc (parts_bytes r.parts) (part_bytes p) (drop next message))
-          ∙ ap (λ (t : List ℕ). t ++ drop next message) (ap (λ (t : List ℕ). parts_bytes r.parts ++ t) (sym (append-nil (part_bytes p))) ∙ sym (flat_map-append part_bytes r.parts (p ∷ [])));
-      each = AllByRecursion-push IsPart r.parts p r.each is;
-      count = omega (arith, count, n);
-      same =
-          more ∙ ap (λ (fs : List Sent). fs ++ part_files p) r.same
-          ∙ ap (λ (fs : List Sent). flat_map part_files r.parts ++ fs) (sym (append-nil (part_files p))) ∙ sym (flat_map-append part_files r.parts (p ∷ []));
-      inside = inside;
-      within = within;
-      room = omega arith;
-    }
+some_is : {X : Type 0} (a b : X) → Some a ≡ Some b → a ≡ b
+some_is a b e = cc
 
-read_same : (message : List ℕ) (lines at next : ℕ) (files new : List File) → next ≡ at → new ≡ files → IsReadTo message lines at files → IsReadTo message lines next new
-read_same message lines at next files new e f r =
-    let P : ℕ → Type 0 = λ n. IsReadTo message lines n new in
-    let Q : List File → Type 0 = λ fs. IsReadTo message lines at fs in
-    subst P (sym e) (subst Q (sym f) r)
+-- ---- one message
 
--- a line without meaning
-blank_read : (message rest : List ℕ) (lines at after : ℕ) (files : List File) → IsReadTo message lines at files → rest ≡ take (length message - at) (drop at message) → IsFrontOf rest (Blank after)
-    → IsReadTo message (lines + 1) (at + after) files
-blank_read message rest lines at after files r is front =
-    let here : rest ≡ drop at message = is ∙ take_rest message at in
-    let behind : drop after rest ≡ drop (at + after) message = ap (λ (t : List ℕ). drop after t) here ∙ drop-drop after at message in
-    let n = ap length front.4 in
-    let m = length-append front.0 (10 ∷ drop after rest) in
-    let k = length-drop after rest in
-    let l = ap length here ∙ length-drop at message in
-    let some = front.3 in
-    read_more message lines at (at + after) files files (record { line = front.0; content = [] }) r front.1
-    (sym here ∙ front.4 ∙ ap (λ (t : List ℕ). front.0 ++ 10 ∷ t) behind ∙ sym (append_assoc front.0 (10 ∷ []) (drop (at + after) message)))
-    (omega (arith, n, m, k)) (let within = r.within in omega (arith, l, some, within))
-    (sym (append-nil (map (sent_in message) files)) ∙ ap (λ (x : Line). map (sent_in message) files ++ line_file x []) (sym front.2)) r.inside
+one_list : (message : List ℕ) (a b : List Sent) → IsFileList message a → IsFileList message b → a ≡ b
+one_list message a b h k = h.3 ∙ ap files_in (reads_one_way.one_numbering message h.0 k.0 h.1 k.1) ∙ sym k.3
 
-pub read_blank : (message rest : List ℕ) (lines at next after : ℕ) (files new : List File) → IsReadTo message lines at files → rest ≡ take (length message - at) (drop at message) → IsFrontOf rest (Blank after)
-    → next ≡ at + after → new ≡ files → IsReadTo message (lines + 1) next new
-read_blank message rest lines at next after files new r is front e f =
-    read_same message (lines + 1) (at + after) next files new e f (blank_read message rest lines at after files r is front)
+no_fault : (message : List ℕ) (lines : Lines) (fault : WireFault) → IsNumberedMessage message lines → IsFirstFault message fault → ⊥
+no_fault message lines fault h k = reads_one_way.not_both message (cards_in lines) fault (lines, h, refl) k
 
--- the range of a rest is a range of the whole
-range_in : (message rest : List ℕ) (at from to : ℕ) → rest ≡ drop at message → slice_range rest from to ≡ slice_range message (at + from) (at + to)
-range_in message rest at from to here =
-    let n : to - from ≡ at + to - (at + from) = omega arith in
-    ap (λ (t : List ℕ). take (to - from) (drop from t)) here ∙ ap (λ (t : List ℕ). take (to - from) t) (drop-drop from at message)
-    ∙ ap (λ (k : ℕ). take k (drop (at + from) message)) n
+one_other : (message : List ℕ) (a b : Lines) → IsNumberedMessage message a → IsNumberedMessage message b → other_line a ≡ other_line b
+one_other message a b h k = ap other_line (reads_one_way.one_numbering message a b h k)
 
--- a file with its content
-content_read : (message rest name : List ℕ) (lines at from to : ℕ) (files new : List File) → IsReadTo message lines at files → rest ≡ take (length message - at) (drop at message) → IsFrontOf rest (Content name from to)
-    → new ≡ files ++ (record { name = name; from = at + from; to = at + to }) ∷ [] → IsReadTo message (lines + 1) (at + to) new
-content_read message rest name lines at from to files new r is front more =
-    let here : rest ≡ drop at message = is ∙ take_rest message at in
-    let inner = slice_range rest from to in
-    let behind : drop to rest ≡ drop (at + to) message = ap (λ (t : List ℕ). drop to t) here ∙ drop-drop to at message in
-    let n = ap length front.5 in
-    let m = length-append front.0 (10 ∷ (inner ++ drop to rest)) in
-    let o = length-append inner (drop to rest) in
-    let k = length-drop to rest in
-    let l = ap length here ∙ length-drop at message in
-    let forward = front.3 in
-    let some = front.4 in
-    let within = r.within in
-    let file : File = record { name = name; from = at + from; to = at + to } in
-    let sent : Sent = record { name = name; bytes = inner; private = false } in
-    let placed : sent ≡ sent_in message file = ap (λ (t : List ℕ). record { name = name; bytes = t; private = false }) (range_in message rest at from to here) in
-    let P : List File → Type 0 = λ fs. All (IsWithin (length message)) fs in
-    read_more message lines at (at + to) files new (record { line = front.0; content = inner }) r front.1
-    (sym here ∙ front.5 ∙ ap (λ (t : List ℕ). front.0 ++ 10 ∷ (inner ++ t)) behind ∙ sym (append_assoc front.0 (10 ∷ inner) (drop (at + to) message)))
-    (omega (arith, n, m, o, k)) (omega (arith, l, some, within))
-    (ap (λ (fs : List File). map (sent_in message) fs) more ∙ map-append (sent_in message) files (file ∷ [])
-    ∙ ap (λ (x : Sent). map (sent_in message) files ++ x ∷ []) (sym placed)
-    ∙ ap (λ (x : Line). map (sent_in message) files ++ line_file x inner) (sym front.2))
-    (subst P (sym more) (All-append (IsWithin (length message)) files (file ∷ []) r.inside (All-cons (IsWithin (length message)) file [] (record { forward = omega arith; inside = omega (arith, l, some, within) }) (All-nil (IsWithin (length message))))))
+all_files : (message : List ℕ) (a b : Lines) (n : ℕ) → IsNumberedMessage message a → IsNumberedMessage message b → other_line a ≡ Some n → other_line b ≡ None → ⊥
+all_files message a b n h k some none = let same = one_other message a b h k in cc
 
-pub read_content : (message rest name : List ℕ) (lines at next from to : ℕ) (files new : List File) → IsReadTo message lines at files → rest ≡ take (length message - at) (drop at message) → IsFrontOf rest (Content name from to)
-    → next ≡ at + to → new ≡ files ++ (record { name = name; from = at + from; to = at + to }) ∷ [] → IsReadTo message (lines + 1) next new
-read_content message rest name lines at next from to files new r is front e more =
-    read_same message (lines + 1) (at + to) next new new e refl (content_read message rest name lines at from to files new r is front more)
+pub one_files : (message : List ℕ) (a b : List Sent) → AreFilesOf message a → AreFilesOf message b → a ≡ b
+one_files message a b h k = one_list message a b h.0 k.0
+
+one_first : (message : List ℕ) (a b : List Sent) → IsFileList message a → IsFileList message b → first_refusal a ≡ first_refusal b
+one_first message a b h k = ap first_refusal (one_list message a b h k)
+
+pub one_refused : (message : List ℕ) (a b : Printed) → IsMessageRefused message a → IsMessageRefused message b → a ≡ b
+one_refused message a b (inl h) (inl k) = h.2 ∙ ap (λ (f : WireFault). bad_line (fault_line f)) (reads_one_way.one_fault message h.0 k.0 h.1 k.1) ∙ sym k.2
+one_refused message a b (inl h) (inr (inl k)) = absurd (no_fault message k.0 h.0 k.2 h.1)
+one_refused message a b (inl h) (inr (inr k)) = absurd (no_fault message k.1.0 h.0 k.1.1 h.1)
+one_refused message a b (inr (inl h)) (inl k) = absurd (no_fault message h.0 k.0 h.2 k.1)
+one_refused message a b (inr (inl h)) (inr (inl k)) = h.4 ∙ ap not_a_file (some_is h.1 k.1 (sym h.3 ∙ one_other message h.0 k.0 h.2 k.2 ∙ k.3)) ∙ sym k.4
+one_refused message a b (inr (inl h)) (inr (inr k)) = absurd (all_files message h.0 k.1.0 h.1 h.2 k.1.1 h.3 k.1.2)
+one_refused message a b (inr (inr h)) (inl k) = absurd (no_fault message h.1.0 k.0 h.1.1 k.1)
+one_refused message a b (inr (inr h)) (inr (inl k)) = absurd (all_files message k.0 h.1.0 k.1 k.2 h.1.1 k.3 h.1.2)
+one_refused message a b (inr (inr h)) (inr (inr k)) = some_is a b (sym h.2 ∙ one_first message h.0 k.0 h.1 k.1 ∙ k.2)
+
+pub not_both : (message : List ℕ) (files : List Sent) (refusal : Printed) → AreFilesOf message files → IsMessageRefused message refusal → ⊥
+not_both message files refusal h (inl k) = no_fault message h.0.0 k.0 h.0.1 k.1
+not_both message files refusal h (inr (inl k)) = all_files message k.0 h.0.0 k.1 k.2 h.0.1 k.3 h.0.2
+not_both message files refusal h (inr (inr k)) = let same = one_first message files k.0 h.0 k.1 in let none = h.1 in let some = k.2 in cc
+
+-- ---- some message
+
+abbrev pub IsSomeMessage : List ℕ → Type 0
+IsSomeMessage message = ((files : List Sent) × AreFilesOf message files) ⊎ ((refusal : Printed) × IsMessageRefused message refusal)
+
+by_files : (message : List ℕ) (files : List Sent) → IsFileList message files → (o : Option Printed) → first_refusal files ≡ o → IsSomeMessage message
+by_files message files list None e = inl (files, (list, e))
+by_files message files list (Some refusal) e = inr (refusal, inr (inr (files, list, e)))
+
+by_cards : (message : List ℕ) (lines : Lines) → IsNumberedMessage message lines → (o : Option ℕ) → other_line lines ≡ o → IsSomeMessage message
+by_cards message lines is None e = by_files message (files_in lines) (lines, is, e, refl) (first_refusal (files_in lines)) refl
+by_cards message lines is (Some n) e = inr (not_a_file n, inr (inl (lines, n, is, e, refl)))
+
+by_lines : (message : List ℕ) → ((cards : List WireCard) × IsMessage message cards) ⊎ ((fault : WireFault) × IsFirstFault message fault) → IsSomeMessage message
+by_lines message (inl h) = by_cards message h.1.0 h.1.1 (other_line h.1.0) refl
+by_lines message (inr h) = inr (bad_line (fault_line h.0), inl (h.0, h.1, refl))
+
+pub some_message : (message : List ℕ) → IsSomeMessage message
+some_message message = by_lines message (reads_one_way.some message)
+
+-- a refusal has status 3
+pub refused_status : (message : List ℕ) (refusal : Printed) → IsMessageRefused message refusal → refusal.status ≡ 3
+refused_status message refusal (inl h) = ap (λ (p : Printed). p.status) h.2
+refused_status message refusal (inr (inl h)) = ap (λ (p : Printed). p.status) h.4
+refused_status message refusal (inr (inr h)) = subst (λ (o : Option Printed). IfSome o (λ r. r.status ≡ 3)) h.2 (first_status h.0)
+
+-- ---- the first card that is none of files
+
+abbrev first_of : Lines → ℕ
+first_of lines = position_or_len is_other (cards_in lines)
+
+at_first : (lines : Lines) (n : ℕ) → slice_get (map (λ l. l.0) lines) (first_of lines) ≡ Some n → other_line lines ≡ Some n
+at_first [] n e = absurd (cc)
+at_first (l ∷ lines) n e =
+    elim (is_other l.1) as (λ b.
+    slice_get (l.0 ∷ map (λ x. x.0) lines) (cond (not b) (1 + first_of lines) 0) ≡ Some n → option_map (λ x. x.0) (cond b (Some l) (find (λ x. is_other (x.1)) lines)) ≡ Some n) [
+      | true ↦ λ f. f
+      | false ↦ λ f.
+          let up : 1 + first_of lines ≡ suc (first_of lines) = omega arith in
+          at_first lines n (subst (λ (k : ℕ). slice_get (l.0 ∷ map (λ x. x.0) lines) k ≡ Some n) up f)
+    ] e
+
+past_all : (lines : Lines) → length (cards_in lines) ≤ first_of lines → other_line lines ≡ None
+past_all [] h = refl
+past_all (l ∷ lines) h =
+    elim (is_other l.1) as (λ b.
+    suc (length (cards_in lines)) ≤ cond (not b) (1 + first_of lines) 0 → option_map (λ x. x.0) (cond b (Some l) (find (λ x. is_other (x.1)) lines)) ≡ None) [
+      | true ↦ λ f. absurd (omega (arith, f))
+      | false ↦ λ f. past_all lines (omega (arith, f))
+    ] h
+
+none_past : (i n : ℕ) → cond (nat_lt i n) (Some i) None ≡ None → n ≤ i
+none_past i n h = grind (arith)
+
+some_at : (i n m : ℕ) → cond (nat_lt i n) (Some i) None ≡ Some m → m ≡ i
+some_at i n m h = grind (arith)
+
+some_in : (i n m : ℕ) → cond (nat_lt i n) (Some i) None ≡ Some m → m < n
+some_in i n m h = grind (arith)
+
+pub place_in : (cards : List WireCard) (place : ℕ) → position is_other cards ≡ Some place → place < length cards
+place_in cards place e = some_in (position_or_len is_other cards) (length cards) place e
+
+pub other_fault : (message : List ℕ) (cards : List WireCard) (place n : ℕ) → IsMessage message cards → position is_other cards ≡ Some place → IsLineOf message place n → IsFaultOf message (fault_is.NotFile n)
+other_fault message cards place n is found (lines, numbered, here) =
+    let same : is.0 ≡ lines = reads_one_way.one_numbering message is.0 lines is.1 numbered in
+    let of_lines : cards ≡ cards_in lines = is.2 ∙ ap cards_in same in
+    let at : place ≡ first_of lines = some_at _ _ place (sym (ap (position is_other) of_lines) ∙ found) in
+    (lines, numbered, at_first lines n (ap (slice_get (map (λ l. l.0) lines)) (sym at) ∙ here))
+
+pub files_read : (message : List ℕ) (cards : List WireCard) (files : List Sent) → IsMessage message cards → position is_other cards ≡ None → files ≡ files_of false cards → IsFileList message files
+files_read message cards files is none e =
+    let past = none_past (first_of is.0) (length (cards_in is.0)) (sym (ap (position is_other) is.2) ∙ none) in
+    (is.0, is.1, past_all is.0 past, e ∙ ap (files_of false) is.2)
+
+pub read_fault : (message : List ℕ) (fault : WireFault) → IsReadFault message fault → IsFaultOf message (unread_as fault)
+read_fault message (faults.Unknown n) is = (faults.Unknown n, is, refl)
+read_fault message (faults.Args n) is = (faults.Args n, is, refl)
+read_fault message (faults.Delta n) is = (faults.Delta n, is, refl)
+read_fault message (faults.Size n) is = (faults.Size n, is, refl)
+read_fault message (faults.Short n) is = (faults.Short n, is, refl)
+read_fault message faults.Memory is = tt
+
+-- ---- the files of cards
+
+pub first_card : (file : Sent) (files new : List Sent) (name bytes : List ℕ) (marked : Bool) (rest : List WireCard) → file ≡ record { name = name; bytes = bytes; private = marked } → new ≡ files ++ file ∷ []
+    → new ++ files_of false rest ≡ files ++ files_of marked (wire_card.File name bytes ∷ rest)
+first_card file files new name bytes marked rest is grown =
+    ap (λ (fs : List Sent). fs ++ files_of false rest) grown ∙ append_assoc files (file ∷ []) (files_of false rest) ∙ ap (λ (f : Sent). files ++ f ∷ files_of false rest) is
+
+pub other_card : (marked : Bool) (card : WireCard) (rest : List WireCard) → ((name bytes : List ℕ) → card ≡ wire_card.File name bytes → ⊥) → (card ≡ wire_card.Private → ⊥) → files_of marked rest ≡ files_of marked (card ∷ rest)
+other_card marked (wire_card.Login user nonce signature tail line) rest file private = refl
+other_card marked (wire_card.Push server project) rest file private = refl
+other_card marked (wire_card.Pull server project) rest file private = refl
+other_card marked (wire_card.Clone from) rest file private = refl
+other_card marked (wire_card.CloneSeqno next) rest file private = refl
+other_card marked (wire_card.File name bytes) rest file private = absurd (file name bytes refl)
+other_card marked wire_card.Private rest file private = absurd (private refl)
+other_card marked (wire_card.Igot name flag) rest file private = refl
+other_card marked (wire_card.Gimme name) rest file private = refl
+other_card marked (wire_card.Error text) rest file private = refl
+other_card marked (wire_card.Message text) rest file private = refl
+other_card marked wire_card.SendPrivate rest file private = refl
+
+-- one card more
+pub card_read : (cards rest new : List WireCard) (files more : List Sent) (card : WireCard) (marked next : Bool) → files ++ files_of marked rest ≡ files_of false cards → rest ≡ card ∷ new
+    → ((after : List WireCard) → more ++ files_of next after ≡ files ++ files_of marked (card ∷ after)) → more ++ files_of next new ≡ files_of false cards
+card_read cards rest new files more card marked next so_far split add =
+    add new ∙ ap (λ (cs : List WireCard). files ++ files_of marked cs) (sym split) ∙ so_far
+
+pub all_read : (cards rest : List WireCard) (files : List Sent) (marked : Bool) → files ++ files_of marked rest ≡ files_of false cards → rest ≡ [] → files ≡ files_of false cards
+all_read cards rest files marked so_far none = sym (append-nil files) ∙ ap (λ (cs : List WireCard). files ++ files_of marked cs) (sym none) ∙ so_far

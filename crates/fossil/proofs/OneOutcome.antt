@@ -1,6 +1,6 @@
 -- Words, an input and a file have one outcome.
 use Rattle.std.proofs.Common.{◌≡◌, ℕ, Bool, true, false, List, [], ◌∷◌, length, ltb, Option, Some, None, refl, sym, ap, subst, ◌∙◌, inl, inr}
-use Rattle.std.specs.Prelude.{◌^◌, MatchBool, MatchOption}
+use Rattle.std.specs.Prelude.{◌^◌, MatchBool}
 use Rattle.std.specs.List.{AllZip}
 use Rattle.fsl_artifact.specs.declared.Artifact.{Artifact}
 use Rattle.fsl_artifact.specs.Kind.{IsKind, IsOneAtMost}
@@ -13,14 +13,15 @@ use Rattle.fsl_record.specs.declared.Record.{Record}
 use Rattle.fsl_words.specs.declared.Question.{Question}
 use Rattle.fsl_words.specs.declared.Command.{Command}
 use Rattle.fsl_words.specs.declared.Command.TheVariants as command_of
-use Rattle.fossil.specs.Sets.{Sent, set_of, IsFactOf, fact_of, report}
+use Rattle.fossil.specs.declared.message.Sent.{Sent}
+use Rattle.fossil.specs.Sets.{set_of, IsFactOf, fact_of, report}
 use Rattle.fossil.specs.Printed.{Printed}
 use Rattle.fossil.specs.Printed as printing
 use Rattle.fossil.specs.Ingest as ingest
-use Rattle.fossil.specs.Put.{put_files, IsPut, IsPutRead, IsPutFiles}
+use Rattle.fossil.specs.Put.{IsPut, IsPutRead, IsPutFiles}
 use Rattle.fossil.specs.Outcome.{Outcome, without_commit, with_commit, not_repository, report_outcome, IsAnswered, IsIngestOfFiles, IsPutOfFiles, IsLoaded, IsCommandOutcome, said, IsSaidOutcome, HasOneOutcome}
 use Rattle.fossil.proofs.OneList.{one_result}
-use Rattle.fossil.proofs.OneWayFiles.{one_file_list, one_bad_line, not_both}
+use Rattle.fossil.proofs.MessageLemmas.{one_files, one_refused, not_both}
 
 -- ---- ingest
 
@@ -44,18 +45,11 @@ module _ (IsWhat : List ℕ → Artifact → Type 0) (one : IsOneAtMost IsWhat) 
   one_report : (files : List Sent) (a b : Printed) → ingest.IsReported IsWhat files a → ingest.IsReported IsWhat files b → a ≡ b
   one_report files a b h k = h.2 ∙ ap reported (facts_are (set_of files) h.0 k.0 h.1 k.1) ∙ sym k.2
 
-  one_taken : (files : List Sent) (o : Option Printed) (a b : Printed) → MatchOption o (ingest.IsReported IsWhat files a) (λ refusal. a ≡ refusal)
-      → MatchOption o (ingest.IsReported IsWhat files b) (λ refusal. b ≡ refusal) → a ≡ b
-  one_taken files None a b h k = one_report files a b h k
-  one_taken files (Some refusal) a b h k = h ∙ sym k
-
   one_read : (input : List ℕ) (a b : Printed) → ingest.IsRead IsWhat input a → ingest.IsRead IsWhat input b → a ≡ b
-  one_read input a b (inl h) (inl k) = h.2 ∙ ap printing.bad_line (one_bad_line input h.0 k.0 h.1 k.1) ∙ sym k.2
-  one_read input a b (inl h) (inr k) = absurd (not_both input k.0 h.0 k.1 h.1)
-  one_read input a b (inr h) (inl k) = absurd (not_both input h.0 k.0 h.1 k.1)
-  one_read input a b (inr h) (inr k) =
-      let same = one_file_list input h.0 k.0 h.1 k.1 in
-      one_taken k.0 (printing.first_refusal k.0) a b (subst (λ (files : List Sent). ingest.IsFirstRefusedOr IsWhat files a) same h.2) k.2
+  one_read input a b (inl h) (inl k) = one_refused input a b h k
+  one_read input a b (inl h) (inr k) = absurd (not_both input k.0 a k.1 h)
+  one_read input a b (inr h) (inl k) = absurd (not_both input h.0 b h.1 k)
+  one_read input a b (inr h) (inr k) = one_report k.0 a b (subst (λ (files : List Sent). ingest.IsReported IsWhat files a) (one_files input h.0 k.0 h.1 k.1) h.2) k.2
 
   by_length : (input : List ℕ) (t : Bool) (a b : Printed) → MatchBool t (a ≡ printing.too_long) (ingest.IsRead IsWhat input a) → MatchBool t (b ≡ printing.too_long) (ingest.IsRead IsWhat input b) → a ≡ b
   by_length input true a b h k = h ∙ sym k
@@ -77,20 +71,12 @@ module _ (old : List Record) (a b : Printed) (xs ys : List Record) where
   same_refusal : (refusal : Printed) → (a ≡ refusal) × (xs ≡ []) → (b ≡ refusal) × (ys ≡ []) → Same a b xs ys
   same_refusal refusal h k = (h.0 ∙ sym k.0, h.1 ∙ sym k.1)
 
-  same_files : (files : List Sent) (o : Option Printed)
-      → MatchOption o ((a ≡ record { status = 0; text = (put_files old files).text }) × (xs ≡ (put_files old files).records)) (λ refusal. (a ≡ refusal) × (xs ≡ []))
-      → MatchOption o ((b ≡ record { status = 0; text = (put_files old files).text }) × (ys ≡ (put_files old files).records)) (λ refusal. (b ≡ refusal) × (ys ≡ []))
-      → Same a b xs ys
-  same_files files None h k = (h.0 ∙ sym k.0, h.1 ∙ sym k.1)
-  same_files files (Some refusal) h k = same_refusal refusal h k
-
   same_read : (input : List ℕ) → IsPutRead input old a xs → IsPutRead input old b ys → Same a b xs ys
-  same_read input (inl h) (inl k) = (h.2 ∙ ap printing.bad_line (one_bad_line input h.0 k.0 h.1 k.1) ∙ sym k.2, h.3 ∙ sym k.3)
-  same_read input (inl h) (inr k) = absurd (not_both input k.0 h.0 k.1 h.1)
-  same_read input (inr h) (inl k) = absurd (not_both input h.0 k.0 h.1 k.1)
+  same_read input (inl h) (inl k) = (one_refused input a b h.0 k.0, h.1 ∙ sym k.1)
+  same_read input (inl h) (inr k) = absurd (not_both input k.0 a k.1 h.0)
+  same_read input (inr h) (inl k) = absurd (not_both input h.0 b h.1 k.0)
   same_read input (inr h) (inr k) =
-      let same = one_file_list input h.0 k.0 h.1 k.1 in
-      same_files k.0 (printing.first_refusal k.0) (subst (λ (files : List Sent). IsPutFiles files old a xs) same h.2) k.2
+      let f = subst (λ (files : List Sent). IsPutFiles files old a xs) (one_files input h.0 k.0 h.1 k.1) h.2 in (f.0 ∙ sym k.2.0, f.1 ∙ sym k.2.1)
 
   same_put : (input : List ℕ) (t : Bool) → MatchBool t ((a ≡ printing.too_long) × (xs ≡ [])) (IsPutRead input old a xs) → MatchBool t ((b ≡ printing.too_long) × (ys ≡ [])) (IsPutRead input old b ys) → Same a b xs ys
   same_put input true h k = same_refusal printing.too_long h k

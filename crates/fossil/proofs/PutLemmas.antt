@@ -1,6 +1,6 @@
 -- What `put` did, once the file was loaded.
 use Rattle.std.proofs.Common.{◌≡◌, ◌≢◌, ◌⊎◌, inl, inr, ⊎_elim, ℕ, ◌<◌, ◌≤◌, Bool, true, false, List, [], ◌∷◌, ◌++◌, length, take, Option, Some, None, Ok, Err, IsTrue, refl, sym, ap, subst, ◌∙◌, arith, append_assoc, length-append}
-use Rattle.std.specs.Prelude.{◌^◌, nat_lt, IfSome, MatchBool, MatchOption}
+use Rattle.std.specs.Prelude.{◌^◌, nat_lt, MatchBool}
 use Rattle.std.proofs.lemmas.List.{append-nil, take_all, take_at}
 use Rattle.fsl_order.specs.Causes.{Rose}
 use Rattle.fsl_record.specs.declared.Record.{Record}
@@ -16,15 +16,14 @@ use Rattle.fsl_words.specs.declared.Command.TheVariants as command_of
 use Rattle.fossil.specs.declared.fault.Fault.{Fault}
 use Rattle.fossil.specs.declared.fault.Fault.TheVariants as fault_is
 use Rattle.fossil.specs.declared.load.Loaded.{Loaded}
-use Rattle.fossil.specs.Sets.{Sent}
 use Rattle.fossil.specs.Printed.{Printed}
 use Rattle.fossil.specs.Printed as printing
-use Rattle.fossil.specs.Put.{IsPutRead, put_files}
+use Rattle.fossil.specs.Put.{IsPutRead}
 use Rattle.fossil.specs.Outcome.{Outcome, with_commit, one_commit, IsSaidOutcome}
 use Rattle.fossil.specs.Run.{Input, Agrees, AreImages, StandsFor, StandsForAll, StandsForSome, IsLeft, IsWholeAtAnyMoment}
 use Rattle.fossil.specs.Acts.{HasActed, Touches, IsOpened, IsPutRun, IsUnread, KeepsUnreadable}
 use Rattle.fossil.proofs.InputLemmas.{some_bytes}
-use Rattle.fossil.proofs.RefusedLemmas.{first_status}
+use Rattle.fossil.proofs.MessageLemmas.{refused_status}
 use Rattle.fossil.proofs.FileLemmas.{both, stands, agrees, none_committed, all_committed, one_is_all, readable, loaded_touches}
 use Rattle.fossil.proofs.SomeOutcome.{some_said_outcome}
 use Rattle.fossil.proofs.ActLemmas.{put_loads, unread_by, disk_by}
@@ -61,14 +60,9 @@ belongs_more (r ∷ more) log disk belongs runs =
 abbrev IsPlain : Printed → List Record → Type 0
 IsPlain answer appended = (answer.status ≡ 0) ⊎ ((answer.status ≡ 3) × (appended ≡ []))
 
-plain_files : (files : List Sent) (old : List Record) (answer : Printed) (appended : List Record) (o : Option Printed) → IfSome o (λ r. r.status ≡ 3)
-    → MatchOption o ((answer ≡ record { status = 0; text = (put_files old files).text }) × (appended ≡ (put_files old files).records)) (λ refusal. (answer ≡ refusal) × (appended ≡ [])) → IsPlain answer appended
-plain_files files old answer appended None status h = inl (ap (λ (a : Printed). a.status) h.0)
-plain_files files old answer appended (Some refusal) status h = inr (ap (λ (a : Printed). a.status) h.0 ∙ status, h.1)
-
 plain_read : (input : List ℕ) (old : List Record) (answer : Printed) (appended : List Record) → IsPutRead input old answer appended → IsPlain answer appended
-plain_read input old answer appended (inl h) = inr (ap (λ (a : Printed). a.status) h.2, h.3)
-plain_read input old answer appended (inr h) = plain_files h.0 old answer appended (printing.first_refusal h.0) (first_status h.0) h.2
+plain_read input old answer appended (inl h) = inr (refused_status input answer h.0, h.1)
+plain_read input old answer appended (inr h) = inl (ap (λ (a : Printed). a.status) h.2.0)
 
 plain_put : (input : List ℕ) (old : List Record) (answer : Printed) (appended : List Record) (t : Bool)
     → MatchBool t ((answer ≡ printing.too_long) × (appended ≡ [])) (IsPutRead input old answer appended) → IsPlain answer appended

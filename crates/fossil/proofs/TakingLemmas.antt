@@ -1,13 +1,17 @@
 -- Files that are taken one after another.
-use Rattle.std.proofs.Common.{◌≡◌, ℕ, List, [], ◌∷◌, ◌++◌, refl, sym, ap, ◌∙◌, append_assoc}
+use Rattle.std.proofs.Common.{◌≡◌, ℕ, suc, List, [], ◌∷◌, ◌++◌, All, refl, sym, ap, subst, ◌∙◌, arith, append_assoc}
 use Rattle.std.proofs.lemmas.List.{append-nil}
 use Rattle.fsl_record.specs.declared.Record.{Record}
 use Rattle.fsl_blobs.specs.Fold.{contents}
 use Rattle.fsl_journal.specs.Log.{Log}
 use Rattle.fossil.specs.declared.load.Loaded.{Loaded}
-use Rattle.fossil.specs.Sets.{Sent}
+use Rattle.fossil.specs.declared.message.Sent.{Sent}
 use Rattle.fossil.specs.Put.{TextAndRecords, text_and_records_of, and_taken, all_taken, put_files}
-use Rattle.fossil.specs.Taking.{AreTaken, IsFileTaken}
+use Rattle.fossil.specs.Taking.{AreTaken, IsFileTaken, IsSound}
+
+-- nothing is appended
+pub none_appended : (log : Log) → log ≡ record log { records = log.records ++ [] }
+none_appended log = λ i. record log { records = sym (append-nil log.records) i }
 
 -- before the first file
 pub none_taken : (now : Loaded) (all : List Sent) (text : List ℕ) → text ≡ [] → now.blobs.records ≡ now.journal.records → AreTaken now.journal all all now text
@@ -37,6 +41,10 @@ one_taken before all left rest f now next text text_next are split more =
           ap (λ (rs : List Record). all_taken before.records (and_taken so_far (text_and_records_of (contents rs) f)) rest) here
           ∙ sym (ap (all_taken before.records so_far) split) ∙ are.rest;
     }
+
+-- the sound files that are left
+pub sound_left : (left rest : List Sent) (f : Sent) → left ≡ f ∷ rest → All IsSound left → All IsSound rest
+sound_left left rest f split sound = λ i d lt. subst (All IsSound) split sound (suc i) d (omega (arith, lt))
 
 -- after the last
 pub all_text : (before : Log) (all left : List Sent) (now : Loaded) (text : List ℕ) → AreTaken before all left now text → left ≡ [] → text ≡ (put_files before.records all).text

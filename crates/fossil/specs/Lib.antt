@@ -1,11 +1,9 @@
-pub mod FileLines
 pub mod Sets
 pub mod Printed
+pub mod Messages
 pub mod Ingest
 pub mod Put
 pub mod Outcome
-pub mod Files
-pub mod Fronts
 pub mod Run
 pub mod Acts
 pub mod Taking

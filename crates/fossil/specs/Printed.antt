@@ -2,7 +2,7 @@
 use Rattle.std.specs.Prelude.{ℕ, ◌^◌, nat_lt, List, [], ◌∷◌, ◌++◌, length, filter_map, slice_get, Option, Some, None, if◌then◌else◌, codes, decimal}
 use Rattle.std.specs.Str.{bytes_eq}
 use Rattle.fsl_name.specs.Name.{name_of, name_text}
-use Rattle.fossil.specs.Sets.{Sent}
+use Rattle.fossil.specs.declared.message.Sent.{Sent}
 
 -- the status, and the text that is written
 pub record Printed : Type 0 where
@@ -24,6 +24,10 @@ too_long = refused (codes "input too long")
 -- a line that doesn't read, by its number
 abbrev pub bad_line : ℕ → Printed
 bad_line n = refused (codes "line " ++ decimal n)
+
+-- a card that is none of files, by the line on which it stands
+abbrev pub not_a_file : ℕ → Printed
+not_a_file n = refused (codes "not a file line " ++ decimal n)
 
 -- a file that was sent under a wrong name, by this and the name of its bytes
 abbrev pub wrong : List ℕ × List ℕ → Printed

@@ -1,15 +1,16 @@
 -- What `put` prints and appends, by its input and the records of the file.
-use Rattle.std.specs.Prelude.{◌≡◌, ℕ, ◌^◌, ◌⊎◌, ◌||◌, nat_lt, not, List, [], ◌∷◌, ◌++◌, length, codes, MatchBool, MatchOption, if◌then◌else◌}
+use Rattle.std.specs.Prelude.{◌≡◌, ℕ, ◌^◌, ◌⊎◌, ◌||◌, nat_lt, not, List, [], ◌∷◌, ◌++◌, length, codes, MatchBool, if◌then◌else◌}
 use Rattle.std.specs.Option.{option_map_or}
 use Rattle.std.specs.FinMap as map_of
 use Rattle.std.specs.FinSet as set
 use Rattle.fsl_record.specs.declared.Record.{Record}
 use Rattle.fsl_record.specs.declared.Record.TheVariants as record_of
 use Rattle.fsl_blobs.specs.Fold.{Contents, contents}
-use Rattle.fossil.specs.FileLines.{IsFileList, IsBadLine}
-use Rattle.fossil.specs.Sets.{Sent, name_line}
+use Rattle.fossil.specs.declared.message.Sent.{Sent}
+use Rattle.fossil.specs.Sets.{name_line}
 use Rattle.fossil.specs.Printed.{Printed}
 use Rattle.fossil.specs.Printed as printing
+use Rattle.fossil.specs.Messages.{IsMessageRefused, AreFilesOf}
 
 -- what a rightly named file prints, and what it appends
 pub record TextAndRecords : Type 0 where
@@ -40,20 +41,18 @@ all_taken old so_far (f ∷ files) = all_taken old (and_taken so_far (text_and_r
 abbrev pub put_files : List Record → List Sent → TextAndRecords
 put_files old files = all_taken old (record { text = []; records = [] }) files
 
--- the first file that is refused refuses all; else all are taken
+-- all files are taken
 abbrev pub IsPutFiles : List Sent → List Record → Printed → List Record → Type 0
 IsPutFiles files old printed appended =
-    MatchOption (printing.first_refusal files)
-    ((printed ≡ record { status = 0; text = (put_files old files).text }) × (appended ≡ (put_files old files).records))
-    (λ refusal. (printed ≡ refusal) × (appended ≡ []))
+    (printed ≡ record { status = 0; text = (put_files old files).text }) × (appended ≡ (put_files old files).records)
 
--- the first line that doesn't read is refused
+-- a message is refused, and nothing is taken of it; or all its files are taken
 abbrev pub IsPutRead : List ℕ → List Record → Printed → List Record → Type 0
 IsPutRead input old printed appended =
-    ((n : ℕ) × IsBadLine input n × (printed ≡ printing.bad_line n) × (appended ≡ []))
-    ⊎ ((files : List Sent) × IsFileList input files × IsPutFiles files old printed appended)
+    (IsMessageRefused input printed × (appended ≡ []))
+    ⊎ ((files : List Sent) × AreFilesOf input files × IsPutFiles files old printed appended)
 
--- the length of the input first, then its lines, then its files
+-- the length of the input first, and then what its message comes to
 abbrev pub IsPut : List ℕ → List Record → Printed → List Record → Type 0
 IsPut input old printed appended =
     MatchBool (nat_lt (2 ^ 27) (length input)) ((printed ≡ printing.too_long) × (appended ≡ [])) (IsPutRead input old printed appended)

@@ -63,6 +63,13 @@ pub fn bad_line(alloc: Global, line: u64) -> Result<Answer, Memory>
     numbered_refusal(alloc, b"line ", line)
 }
 
+/// The refusal of the line with this number, on which a card stands that is none of files.
+pub fn not_a_file(alloc: Global, line: u64) -> Result<Answer, Memory>
+    ensures { IfOk result (λ a. a ≡ printing.not_a_file line) }
+{
+    numbered_refusal(alloc, b"not a file line ", line)
+}
+
 /// The refusal of an input with more than 2^27 bytes.
 pub fn too_long(alloc: Global) -> Result<Answer, Memory>
     ensures { IfOk result (λ a. a ≡ printing.too_long) }

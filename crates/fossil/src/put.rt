@@ -9,37 +9,32 @@ ghost use Rattle.fsl_words.specs.declared.Command.TheVariants as command_of;
 ghost use Rattle.fossil.specs.declared.fault.Fault.TheVariants as fault_is;
 ghost use Rattle.fossil.specs.Acts.{input_of, IsMessagePut, IsPutRun, IsUnread, Acts};
 
-use super::answer::{Answer, bad_line, file_refusal, too_long};
+use super::answer::{Answer, too_long};
+use super::checking::{Checked, check_message};
 use super::fault::Fault;
 use super::input::read_input;
 use super::load::{Loaded, load, not_loaded};
-use super::message::{MessageFault, read_message};
-use super::refused::first_refused;
 use super::status::DONE;
 use super::taking::take_files;
 use fsl_disk::Disk;
 use fsl_journal::{CommitFault, Journal};
 use fsl_outside::Source;
-use fsl_text::Memory;
+use fsl_text::{Memory, Text};
 use std::alloc::Global;
 
-/// Takes a message: the refusal of its first bad line, or else of its first file that isn't taken, or else the lines of
-/// its files, which are then appended in memory.
-fn take_message(alloc: Global, message: &[u8], loaded: &mut Loaded) -> Result<Answer, Memory>
+/// Takes a message: its refusal, or else the lines of its files, which are then appended in memory.
+fn take_message(alloc: Global, message: Text, loaded: &mut Loaded) -> Result<Answer, Memory>
     requires runs { loaded.old.journal.stopped ≡ None }
     requires same { loaded.old.blobs.records ≡ loaded.old.journal.records }
-    ensures { IfOk result (λ a. IsMessagePut message.now loaded.old loaded.new a) }
+    ensures { IfOk result (λ a. IsMessagePut message loaded.old loaded.new a) }
 {
-    let files = match read_message(alloc, message) {
-        Ok(files) => files,
-        Err(MessageFault::BadLine { line }) => return bad_line(alloc, line),
-        Err(MessageFault::Memory) => return Err(Memory),
-    };
-    if let Some(refused) = first_refused(message, files.items()) {
-        return file_refusal(alloc, refused);
+    match check_message(alloc, message)? {
+        Checked::Files(files) => Ok(Answer {
+            status: DONE,
+            text: take_files(alloc, files, loaded)?,
+        }),
+        Checked::Refused(answer) => Ok(answer),
     }
-    let text = take_files(alloc, message, files.items(), loaded)?;
-    Ok(Answer { status: DONE, text })
 }
 
 /// Reads the input and takes it, in memory alone.
@@ -52,7 +47,7 @@ fn take_input<S: Source>(alloc: Global, input: &mut S, loaded: &mut Loaded) -> R
     let Some(message) = read_input(alloc, input)? else {
         return Ok(too_long(alloc)?);
     };
-    Ok(take_message(alloc, message.bytes(), loaded)?)
+    Ok(take_message(alloc, message, loaded)?)
 }
 
 /// Puts what was appended on the disk, all of it or nothing.

@@ -1,14 +1,11 @@
 //! Files that aren't taken.
-ghost use Rattle.std.specs.Prelude.{◌≡◌, map, length, All, IfNone, false};
+ghost use Rattle.std.specs.Prelude.{◌≡◌, All, IfNone};
+ghost use Rattle.std.specs.Str.{bytes_eq};
 ghost use Rattle.std.specs.Option.{option_map};
-ghost use Rattle.fsl_record.specs.declared.Record.TheVariants as record_of;
-ghost use Rattle.fsl_record.specs.Records.{IsWritable};
-ghost use Rattle.fossil.specs.Files.{IsWithin, sent_in};
 ghost use Rattle.fossil.specs.Printed.{file_refusal, first_refusal};
 ghost use Rattle.fossil.specs.Taking.{refused_as, IsSound};
 
-use super::message::File;
-use super::names::{are_same, content};
+use super::message::Sent;
 use fsl_name::Name;
 
 /// The most bytes that an artifact has.
@@ -23,11 +20,20 @@ pub enum Refused {
     WrongName { name: Name, found: Name },
 }
 
-/// Why a file of this name and with these bytes isn't taken: first that it is too large, then that its name is wrong.
-fn why_refused(name: Name, bytes: &[u8]) -> Option<Refused>
-    ensures refused { option_map refused_as result ≡ file_refusal (record { name = name; bytes = bytes.now; private = false }) }
-    ensures sound { IfNone result (IsWritable (record_of.Blob false name bytes.now)) }
+/// Whether two names are the same.
+fn are_same(name: &Name, found: &Name) -> bool
+    ensures { result ≡ bytes_eq name.now found.now }
 {
+    name == found
+}
+
+/// Why a file isn't taken: first that it is too large, then that its name is wrong.
+fn why_refused(file: &Sent) -> Option<Refused>
+    ensures refused { option_map refused_as result ≡ file_refusal file.now }
+    ensures sound { IfNone result (IsSound file.now) }
+{
+    let bytes = file.bytes.bytes();
+    let name = file.name;
     if bytes.len() > MOST_BYTES {
         let size = bytes.len() as u64;
         return Some(Refused::TooLarge { name, size });
@@ -41,13 +47,12 @@ fn why_refused(name: Name, bytes: &[u8]) -> Option<Refused>
 }
 
 /// Why the first file that isn't taken isn't.
-pub fn first_refused(message: &[u8], files: &[File]) -> Option<Refused>
-    requires { All (IsWithin (length message.now)) files.now }
-    ensures first { option_map refused_as result ≡ first_refusal (map (sent_in message.now) files.now) }
-    ensures sound { IfNone result (All (IsSound message.now) files.now) }
+pub fn first_refused(files: &[Sent]) -> Option<Refused>
+    ensures first { option_map refused_as result ≡ first_refusal files.now }
+    ensures sound { IfNone result (All IsSound files.now) }
 {
     for file in files {
-        if let Some(refused) = why_refused(file.name, content(message, file)) {
+        if let Some(refused) = why_refused(file) {
             return Some(refused);
         }
     }

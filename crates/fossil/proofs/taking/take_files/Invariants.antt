@@ -1,7 +1,9 @@
-use Rattle.std.proofs.Common.{map, drop}
-use Rattle.fossil.specs.Files.{sent_in}
-use Rattle.fossil.specs.Taking.{AreTaken}
+use Rattle.std.proofs.Common.{All}
+use Rattle.fossil.specs.Taking.{IsSound, AreTaken}
 use Rattle.fossil.proofs.taking.take_files.Given as goal
 
 abbrev pub invariant-loop-file : goal.invariant-loop-file
-invariant-loop-file l = AreTaken l.fn.loaded.journal (map (sent_in l.message) l.files) (map (sent_in l.message) (drop l.file-index l.files)) l.loaded l.text
+invariant-loop-file l = record {
+  taken : AreTaken l.fn.loaded.journal l.fn.files l.file-iterator.rest.items l.loaded l.text;
+  sound : All IsSound l.file-iterator.rest.items;
+}
