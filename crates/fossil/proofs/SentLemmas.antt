@@ -174,11 +174,13 @@ after_each : (public : BTreeSet (List ℕ)) (file : Sent) (held : List Sent) (it
 after_each public file [] [] all = tt
 after_each public file [] (x ∷ items) all = absurd all
 after_each public file (h ∷ held) [] all = absurd all
-after_each public file (h ∷ held) (x ∷ items) all =
-    (elim (is_of file.name h) as (λ b. IsItemAmong public (cond b (record h { private = h.private && file.private }) h) x) [
-      | true ↦ record { name = all.0.name; private = all.0.private; kind = all.0.kind }
-      | false ↦ all.0
-    ], after_each public file held items all.1)
+after_each public file (h ∷ held) (x ∷ items) all = (
+  elim (is_of file.name h) as (λ b. IsItemAmong public (cond b (record h { private = h.private && file.private }) h) x) [
+    | true ↦ record { name = all.0.name; private = all.0.private; kind = all.0.kind }
+    | false ↦ all.0
+  ],
+  after_each public file held items all.1,
+)
 
 after_all_names : (file : Sent) (held : List Sent) → map (λ h. h.name) (map (held_after file) held) ≡ map (λ h. h.name) held
 after_all_names file [] = refl

@@ -40,11 +40,7 @@ fn item_of(alloc: Global, file: &Sent, private: bool) -> Result<Item, Memory>
 }
 
 /// An artifact for each name, of the first file of this name; it is private where the name isn't among these.
-fn items_among(
-    alloc: Global,
-    files: &[Sent],
-    public: &BTreeSet<Name>,
-) -> Result<List<Item>, Memory>
+fn items_among(alloc: Global, files: &[Sent], public: &BTreeSet<Name>) -> Result<List<Item>, Memory>
     requires { (name : Items ℕ) → contains bytes_cmp public.now name ≡ is_sent_public files.now name }
     ensures set { IfOk result (λ items. AllZip IsItemSent (set_of files.now) items) }
     ensures apart { IfOk result (λ items. AreDistinct (map (λ i. i.name) items)) }

@@ -51,11 +51,7 @@ fn take_file(loaded: &mut Loaded, file: Sent, text: &mut Text) -> Result<(), Mem
 }
 
 /// Takes the files one after another, and gives their lines. Contents are moved.
-pub fn take_files(
-    alloc: Global,
-    files: List<Sent>,
-    loaded: &mut Loaded,
-) -> Result<Text, Memory>
+pub fn take_files(alloc: Global, files: List<Sent>, loaded: &mut Loaded) -> Result<Text, Memory>
     requires sound { All IsSound files }
     requires runs { loaded.old.journal.stopped ≡ None }
     requires same { loaded.old.blobs.records ≡ loaded.old.journal.records }
