@@ -16,7 +16,14 @@ use std::process::ExitCode;
 fn over_file(rt: &HostRuntime, words: &[String], command: &Command) -> u8 {
     let mut input = StdSource::new(rt.stdin());
     let mut out = StdSink::new(io::writer(rt));
-    run(rt.alloc(), words, &mut input, &mut out, open(rt, words, command)).status
+    run(
+        rt.alloc(),
+        words,
+        &mut input,
+        &mut out,
+        open(rt, words, command),
+    )
+    .status
 }
 
 /// Runs words outside the grammar, which get no input and no file.

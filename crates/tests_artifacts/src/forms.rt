@@ -32,9 +32,15 @@ fn cluster(alloc: Global, cards: &Cards) -> Result<Text, Fail> {
 
 #[test]
 fn reads_and_writes_clusters(rt: HostRuntime) -> Result<(), Fail> {
-    let cards = cards_of(rt.alloc(), b"M a9993e364706816aba3e25717850c26c9cd0d89d\nM da39a3ee5e6b4b0d3255bfef95601890afd80709\nZ e0cf20572212c897087e610a9c073ee3\n")?;
+    let cards = cards_of(
+        rt.alloc(),
+        b"M a9993e364706816aba3e25717850c26c9cd0d89d\nM da39a3ee5e6b4b0d3255bfef95601890afd80709\nZ e0cf20572212c897087e610a9c073ee3\n",
+    )?;
     let found = cluster(rt.alloc(), &cards)?;
-    assert_eq!(rt; found.bytes(), b"M a9993e364706816aba3e25717850c26c9cd0d89d\nM da39a3ee5e6b4b0d3255bfef95601890afd80709\nZ e0cf20572212c897087e610a9c073ee3\n".as_slice());
+    assert_eq!(rt;
+        found.bytes(),
+        b"M a9993e364706816aba3e25717850c26c9cd0d89d\nM da39a3ee5e6b4b0d3255bfef95601890afd80709\nZ e0cf20572212c897087e610a9c073ee3\n".as_slice()
+    );
     Ok(())
 }
 
@@ -56,9 +62,15 @@ fn control(alloc: Global, cards: &Cards) -> Result<Text, Fail> {
 
 #[test]
 fn reads_and_writes_control_artifacts(rt: HostRuntime) -> Result<(), Fail> {
-    let cards = cards_of(rt.alloc(), b"D 2024-02-29T12:00:00\nT \\+a da39a3ee5e6b4b0d3255bfef95601890afd80709 v\nU\nZ bec4de15cf6a0e17378c44b9bdd686b8\n")?;
+    let cards = cards_of(
+        rt.alloc(),
+        b"D 2024-02-29T12:00:00\nT \\+a da39a3ee5e6b4b0d3255bfef95601890afd80709 v\nU\nZ bec4de15cf6a0e17378c44b9bdd686b8\n",
+    )?;
     let found = control(rt.alloc(), &cards)?;
-    assert_eq!(rt; found.bytes(), b"D 2024-02-29T12:00:00.000\nT +a da39a3ee5e6b4b0d3255bfef95601890afd80709 v\nU anonymous\nZ a6312c2d00e9929d8baec138ad163cde\n".as_slice());
+    assert_eq!(rt;
+        found.bytes(),
+        b"D 2024-02-29T12:00:00.000\nT +a da39a3ee5e6b4b0d3255bfef95601890afd80709 v\nU anonymous\nZ a6312c2d00e9929d8baec138ad163cde\n".as_slice()
+    );
     Ok(())
 }
 
@@ -80,9 +92,15 @@ fn wiki(alloc: Global, cards: &Cards) -> Result<Text, Fail> {
 
 #[test]
 fn reads_and_writes_pages(rt: HostRuntime) -> Result<(), Fail> {
-    let cards = cards_of(rt.alloc(), b"C a\\sb\nD 2024-02-29T12:00:00\nL t\nN text/plain\nP\nU\nW 03\na c\nZ 7703a6c9b5065d51ae6a389844e3b330\n")?;
+    let cards = cards_of(
+        rt.alloc(),
+        b"C a\\sb\nD 2024-02-29T12:00:00\nL t\nN text/plain\nP\nU\nW 03\na c\nZ 7703a6c9b5065d51ae6a389844e3b330\n",
+    )?;
     let found = wiki(rt.alloc(), &cards)?;
-    assert_eq!(rt; found.bytes(), b"C a\\sb\nD 2024-02-29T12:00:00.000\nL t\nN text/plain\nU anonymous\nW 3\na c\nZ a14965e1eeecdbc660809608d6b62967\n".as_slice());
+    assert_eq!(rt;
+        found.bytes(),
+        b"C a\\sb\nD 2024-02-29T12:00:00.000\nL t\nN text/plain\nU anonymous\nW 3\na c\nZ a14965e1eeecdbc660809608d6b62967\n".as_slice()
+    );
     Ok(())
 }
 
@@ -104,9 +122,15 @@ fn ticket(alloc: Global, cards: &Cards) -> Result<Text, Fail> {
 
 #[test]
 fn reads_and_writes_ticket_changes(rt: HostRuntime) -> Result<(), Fail> {
-    let cards = cards_of(rt.alloc(), b"D 2024-02-29T12:00:00\nJ \\+f v\nJ g\nJ h \nK da39a3ee5e6b4b0d3255bfef95601890afd80709\nU\nZ d744b502c177ab6e8f191ac95784b568\n")?;
+    let cards = cards_of(
+        rt.alloc(),
+        b"D 2024-02-29T12:00:00\nJ \\+f v\nJ g\nJ h \nK da39a3ee5e6b4b0d3255bfef95601890afd80709\nU\nZ d744b502c177ab6e8f191ac95784b568\n",
+    )?;
     let found = ticket(rt.alloc(), &cards)?;
-    assert_eq!(rt; found.bytes(), b"D 2024-02-29T12:00:00.000\nJ +f v\nJ g\nJ h \nK da39a3ee5e6b4b0d3255bfef95601890afd80709\nU anonymous\nZ 0d466a5145d53bb32374da83a2d157a2\n".as_slice());
+    assert_eq!(rt;
+        found.bytes(),
+        b"D 2024-02-29T12:00:00.000\nJ +f v\nJ g\nJ h \nK da39a3ee5e6b4b0d3255bfef95601890afd80709\nU anonymous\nZ 0d466a5145d53bb32374da83a2d157a2\n".as_slice()
+    );
     Ok(())
 }
 
@@ -128,9 +152,15 @@ fn attachment(alloc: Global, cards: &Cards) -> Result<Text, Fail> {
 
 #[test]
 fn reads_and_writes_attachments(rt: HostRuntime) -> Result<(), Fail> {
-    let cards = cards_of(rt.alloc(), b"A f t a9993e364706816aba3e25717850c26c9cd0d89d\nC c\nD 2024-02-29T12:00:00\nN m\nU\nZ 9368150b902c518c43b7d88000352dd0\n")?;
+    let cards = cards_of(
+        rt.alloc(),
+        b"A f t a9993e364706816aba3e25717850c26c9cd0d89d\nC c\nD 2024-02-29T12:00:00\nN m\nU\nZ 9368150b902c518c43b7d88000352dd0\n",
+    )?;
     let found = attachment(rt.alloc(), &cards)?;
-    assert_eq!(rt; found.bytes(), b"A f t a9993e364706816aba3e25717850c26c9cd0d89d\nC c\nD 2024-02-29T12:00:00.000\nN m\nU anonymous\nZ 29d7ebab6fb8f5edbb752ecb63a8d3f6\n".as_slice());
+    assert_eq!(rt;
+        found.bytes(),
+        b"A f t a9993e364706816aba3e25717850c26c9cd0d89d\nC c\nD 2024-02-29T12:00:00.000\nN m\nU anonymous\nZ 29d7ebab6fb8f5edbb752ecb63a8d3f6\n".as_slice()
+    );
     Ok(())
 }
 
@@ -152,9 +182,15 @@ fn technote(alloc: Global, cards: &Cards) -> Result<Text, Fail> {
 
 #[test]
 fn reads_and_writes_technotes(rt: HostRuntime) -> Result<(), Fail> {
-    let cards = cards_of(rt.alloc(), b"C c\nD 2024-02-29T12:00:00\nE 2024-03-01T00:00:00 da39a3ee5e6b4b0d3255bfef95601890afd80709\nP\nT +a * v\nU\nW 3\na c\nZ 8f2684d8bf96ad04fde235de5b58afeb\n")?;
+    let cards = cards_of(
+        rt.alloc(),
+        b"C c\nD 2024-02-29T12:00:00\nE 2024-03-01T00:00:00 da39a3ee5e6b4b0d3255bfef95601890afd80709\nP\nT +a * v\nU\nW 3\na c\nZ 8f2684d8bf96ad04fde235de5b58afeb\n",
+    )?;
     let found = technote(rt.alloc(), &cards)?;
-    assert_eq!(rt; found.bytes(), b"C c\nD 2024-02-29T12:00:00.000\nE 2024-03-01T00:00:00.000 da39a3ee5e6b4b0d3255bfef95601890afd80709\nT +a * v\nU anonymous\nW 3\na c\nZ b4bf8eb44131bd6c0c2841af5aff84ec\n".as_slice());
+    assert_eq!(rt;
+        found.bytes(),
+        b"C c\nD 2024-02-29T12:00:00.000\nE 2024-03-01T00:00:00.000 da39a3ee5e6b4b0d3255bfef95601890afd80709\nT +a * v\nU anonymous\nW 3\na c\nZ b4bf8eb44131bd6c0c2841af5aff84ec\n".as_slice()
+    );
     Ok(())
 }
 
@@ -176,9 +212,15 @@ fn post(alloc: Global, cards: &Cards) -> Result<Text, Fail> {
 
 #[test]
 fn reads_and_writes_posts(rt: HostRuntime) -> Result<(), Fail> {
-    let cards = cards_of(rt.alloc(), b"D 2024-02-29T12:00:00\nG da39a3ee5e6b4b0d3255bfef95601890afd80709\nH t\nP a9993e364706816aba3e25717850c26c9cd0d89d\nU\nW 3\na c\nZ 626a7ca051c465b3169eea13af00f393\n")?;
+    let cards = cards_of(
+        rt.alloc(),
+        b"D 2024-02-29T12:00:00\nG da39a3ee5e6b4b0d3255bfef95601890afd80709\nH t\nP a9993e364706816aba3e25717850c26c9cd0d89d\nU\nW 3\na c\nZ 626a7ca051c465b3169eea13af00f393\n",
+    )?;
     let found = post(rt.alloc(), &cards)?;
-    assert_eq!(rt; found.bytes(), b"D 2024-02-29T12:00:00.000\nG da39a3ee5e6b4b0d3255bfef95601890afd80709\nH t\nP a9993e364706816aba3e25717850c26c9cd0d89d\nU anonymous\nW 3\na c\nZ 774dfc6701e4ad542ef320ea9ac847eb\n".as_slice());
+    assert_eq!(rt;
+        found.bytes(),
+        b"D 2024-02-29T12:00:00.000\nG da39a3ee5e6b4b0d3255bfef95601890afd80709\nH t\nP a9993e364706816aba3e25717850c26c9cd0d89d\nU anonymous\nW 3\na c\nZ 774dfc6701e4ad542ef320ea9ac847eb\n".as_slice()
+    );
     Ok(())
 }
 

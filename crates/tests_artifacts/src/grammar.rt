@@ -169,7 +169,10 @@ fn tells_what_can_be_written(rt: HostRuntime) -> Result<(), Fail> {
     ];
     assert_eq!(rt; tags, [true, false, false]);
     let (one, two) = (Name::of(b""), Name::of(b"abc"));
-    assert_eq!(rt; [all_differ(&[one, two]), all_differ(&[one, two, one])], [true, false]);
+    assert_eq!(rt;
+        [all_differ(&[one, two]), all_differ(&[one, two, one])],
+        [true, false]
+    );
     Ok(())
 }
 

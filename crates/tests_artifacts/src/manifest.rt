@@ -10,8 +10,7 @@ const EVERY_CARD: &[u8] =
     b"B da39a3ee5e6b4b0d3255bfef95601890afd80709\nC a\\sb\nD 2024-02-29T12:00:00.000\nF a da39a3ee5e6b4b0d3255bfef95601890afd80709\nF b a9993e364706816aba3e25717850c26c9cd0d89d x\nF c da39a3ee5e6b4b0d3255bfef95601890afd80709 l d\\se\nF d a9993e364706816aba3e25717850c26c9cd0d89d w\nF e\nN text/plain\nP a9993e364706816aba3e25717850c26c9cd0d89d da39a3ee5e6b4b0d3255bfef95601890afd80709\nQ +da39a3ee5e6b4b0d3255bfef95601890afd80709\nQ -a9993e364706816aba3e25717850c26c9cd0d89d da39a3ee5e6b4b0d3255bfef95601890afd80709\nR d41d8cd98f00b204e9800998ecf8427e\nT *branch * trunk\nT +sym-trunk *\nT -a da39a3ee5e6b4b0d3255bfef95601890afd80709 v\nU a\\nb\nZ 151bc5f717682e5de5c1a746a16895bd\n";
 
 /// A date without milliseconds, a P card without names, a user without a name.
-const LENIENT: &[u8] =
-    b"C c\nD 2024-02-29T12:00:00\nP\nU\nZ 82589cc5aa11c95de78fccc297e50120\n";
+const LENIENT: &[u8] = b"C c\nD 2024-02-29T12:00:00\nP\nU\nZ 82589cc5aa11c95de78fccc297e50120\n";
 
 /// How its value is written.
 const STRICT: &[u8] =

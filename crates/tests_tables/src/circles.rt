@@ -165,6 +165,9 @@ fn posts_in_a_circle_stand_where_they_say(rt: HostRuntime) -> Result<(), Fail> {
 fn a_post_that_replies_and_edits_follows_its_reply(rt: HostRuntime) -> Result<(), Fail> {
     let mut both = reply(rt.alloc(), b'a', b'k')?;
     both.prior = Some(letter(b'q'));
-    assert_eq!(rt; (both.next(), both.kind()), (Some(letter(b'k')), PostKind::Edit));
+    assert_eq!(rt;
+        (both.next(), both.kind()),
+        (Some(letter(b'k')), PostKind::Edit)
+    );
     Ok(())
 }

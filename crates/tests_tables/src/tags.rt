@@ -10,12 +10,7 @@ use std::alloc::Global;
 use std::test::Fail;
 
 /// A tag of `a` on itself, with the value `v`.
-fn assertion(
-    alloc: Global,
-    place: u64,
-    prefix: Prefix,
-    tag: &[u8],
-) -> Result<Assertion, Fail> {
+fn assertion(alloc: Global, place: u64, prefix: Prefix, tag: &[u8]) -> Result<Assertion, Fail> {
     let date = Moment::new(1).ok_or("no moment")?;
     let tag = Text::of(alloc, tag)?;
     let value = Text::of(alloc, b"v")?;

@@ -18,13 +18,19 @@ fn gives_back_its_digits_and_bytes(rt: HostRuntime) {
     let name = Name::of(b"abc");
     assert_eq!(rt; Name::read(ABC), Ok(name));
     assert_eq!(rt; Name::from_bytes(name.bytes()), name);
-    assert_eq!(rt; &Name::from_bytes([0x0f; 20]).text(), b"0f0f0f0f0f0f0f0f0f0f0f0f0f0f0f0f0f0f0f0f");
+    assert_eq!(rt;
+        &Name::from_bytes([0x0f; 20]).text(),
+        b"0f0f0f0f0f0f0f0f0f0f0f0f0f0f0f0f0f0f0f0f"
+    );
 }
 
 /// What is wrong first, and names in the order of their bytes.
 #[test]
 fn tells_faults_and_order(rt: HostRuntime) {
-    assert_eq!(rt; Name::read(&ABC[..39]), Err(NameFault::Length { found: 39 }));
+    assert_eq!(rt;
+        Name::read(&ABC[..39]),
+        Err(NameFault::Length { found: 39 })
+    );
     let upper = b"a9993e364706816aba3e25717850c26c9Cd0d89D";
     assert_eq!(rt; Name::read(upper), Err(NameFault::Digit { at: 33 }));
     assert!(rt; Name::from_bytes([0x7f; 20]) < Name::from_bytes([0x80; 20]));

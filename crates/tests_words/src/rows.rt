@@ -64,7 +64,10 @@ fn number(rows: &Rows<Numbered>, byte: u8) -> Option<u64> {
 
 fn check_rows<R: Abort + AllocGlobal>(rt: &R, rows: &Rows<Numbered>) -> Result<(), Memory> {
     let found = shown(rt.alloc(), rows)?;
-    assert_eq!(rt; found.as_slice(), [(0x11, 3), (0x13, 4), (0x22, 1), (0x86, 5)].as_slice());
+    assert_eq!(rt;
+        found.as_slice(),
+        [(0x11, 3), (0x13, 4), (0x22, 1), (0x86, 5)].as_slice()
+    );
     let numbers = [number(rows, b'a'), number(rows, b'q'), number(rows, b'b')];
     assert_eq!(rt; numbers, [Some(5), Some(1), None]);
     Ok(())

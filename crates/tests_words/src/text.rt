@@ -20,7 +20,10 @@ fn writes_and_reads_escapes(rt: HostRuntime) -> Result<(), Memory> {
 fn reads_decimals_and_paths(rt: HostRuntime) {
     assert_eq!(rt; decimal(b"0018446744073709551615"), Ok(u64::MAX));
     assert_eq!(rt; decimal(b"18446744073709551616"), Err(DecimalFault::Range));
-    assert_eq!(rt; decimal(b"99999999999999999999a"), Err(DecimalFault::Digit { at: 20 }));
+    assert_eq!(rt;
+        decimal(b"99999999999999999999a"),
+        Err(DecimalFault::Digit { at: 20 })
+    );
     assert_eq!(rt; decimal(b""), Err(DecimalFault::Empty));
     assert_eq!(rt; (path_ok(b"a/..b/.c"), path_ok(b"a/../b")), (true, false));
 }
@@ -67,7 +70,10 @@ fn keeps_lists(rt: HostRuntime) {
     let mut list: List<u32> = List::new(rt.alloc());
     let pushed = (list.push(7), list.push(8));
     let list = List::from_vec(list.into_vec());
-    assert_eq!(rt; (pushed, list.items()), ((Ok(()), Ok(())), [7, 8].as_slice()));
+    assert_eq!(rt;
+        (pushed, list.items()),
+        ((Ok(()), Ok(())), [7, 8].as_slice())
+    );
 }
 
 fn counted<L: Ledger>(blank: Blank) -> bool

@@ -41,17 +41,7 @@ pub const ROOT: &[u8] =
     b"C two\nD 2024-01-02T03:04:05\nF a.txt a9993e364706816aba3e25717850c26c9cd0d89d\nF b.txt a9993e364706816aba3e25717850c26c9cd0d89d\nT *branch * b\nT *sym-b *\nU ann\nZ e01b3102cc98a5e064da4b2d73e7edeb\n";
 
 const TEXTS: [&[u8]; 11] = [
-    CLUSTER,
-    REPLY,
-    POST,
-    TICKET,
-    NOTE,
-    FILE,
-    PAGE,
-    CONTROL,
-    CHILD,
-    ROOT,
-    b"161",
+    CLUSTER, REPLY, POST, TICKET, NOTE, FILE, PAGE, CONTROL, CHILD, ROOT, b"161",
 ];
 
 /// The artifacts, and one that is none of these kinds. It has no contract, which keeps the texts out of the proofs of the tests.
