@@ -1,0 +1,15 @@
+use Rattle.std.proofs.Common.{◌≡◌, ◌≤◌, length, drop}
+use Rattle.std.specs.Option.{option_map}
+use Rattle.fsl_table.specs.Contents.{entries_after, first_of}
+use Rattle.fsl_table.specs.Weave.{weave}
+use Rattle.fsl_table.proofs.table.Table.next_after.Given as goal
+
+-- the first above the key, of the tree and of what waits from `at` on
+abbrev pub invariant-loop-at : goal.invariant-loop-at
+invariant-loop-at g l = record {
+  within : l.at ≤ length l.self-inside.waiting.items;
+  next : option_map (λ p. (p.0.now, p.1.now)) l.best ≡ first_of (entries_after g.K.Ord.cmp l.key (weave g.K.Ord.cmp (drop l.at l.self-inside.waiting.items) l.self-inside.tree.entries));
+}
+
+abbrev pub decreases-loop-at : goal.decreases-loop-at
+decreases-loop-at g l = l.at

@@ -1,0 +1,5 @@
+pub mod Contents
+pub mod Exact
+pub mod Kept
+pub mod Undo
+pub mod Weave

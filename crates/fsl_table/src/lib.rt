@@ -1,0 +1,17 @@
+//! An ordered map that can be put back without taking memory, and logs of what puts it back.
+//!
+//! A [`Table`] is seen by contracts as its entries in the order of their keys, and as a number that it has to spare: so many new
+//! keys can be put without memory. Each call with a counter of steps adds one to it: such a call is a touch of the table.
+//! [`log::put`] and [`log::remove`] change a table and log the step that undoes that; [`log::undo`] takes a table back, the last
+//! step first, and needs no memory.
+#![tactic(auto)]
+
+pub mod key;
+pub mod log;
+pub mod step;
+pub mod table;
+mod waiting;
+
+pub use key::{Key, Pair};
+pub use log::Log;
+pub use table::Table;

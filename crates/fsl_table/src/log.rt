@@ -1,0 +1,147 @@
+//! The steps that take tables back, the last one first.
+ghost use Rattle.std.specs.Prelude.{◌≡◌, ◌+◌, ◌≤◌, length, [], ◌∷◌, ◌++◌, OnOk, OnErr, IfErr, MatchOption};
+ghost use Rattle.fsl_table.specs.Contents.{Contents, with_entry, without_key};
+ghost use Rattle.fsl_table.specs.Undo.{stepped, undone, IsAllowed, IsAsGood, CanUndo, Undoes};
+
+use crate::step::Step;
+use crate::key::Key;
+use fsl_text::{Memory, Steps};
+use std::alloc::Global;
+use std::marker::Model;
+use std::sync::ledger::Ledger;
+use crate::table::Table;
+
+/// The steps that take a table back.
+#[derive(Drop)]
+pub struct Log<K, V> {
+    steps: Vec<Step<K, V>>,
+}
+
+impl<K, V> Model for Log<K, V> {
+    ghost use Rattle.std.specs.Prelude.{List};
+    ghost use Rattle.fsl_table.specs.declared.step.Step as step;
+
+    ghost Value = { List (step.Step K V) };
+
+    ghost view = { λ l. l.steps.items };
+}
+
+impl<K, V> Log<K, V> {
+    pub fn new(alloc: Global) -> Log<K, V>
+        ensures { result ≡ [] }
+    {
+        Log {
+            steps: Vec::new(alloc),
+        }
+    }
+
+    fn push(&mut self, step: Step<K, V>) -> Result<(), Step<K, V>>
+        ensures ok { OnOk result (self.new ≡ self.old ++ step ∷ []) }
+        ensures back { IfErr result (λ back. back ≡ step) }
+        ensures err { OnErr result (self.new ≡ self.old) }
+    {
+        match self.steps.push(step) {
+            Ok(()) => Ok(()),
+            Err(refused) => Err(refused.value),
+        }
+    }
+
+    fn pop(&mut self) -> Option<Step<K, V>>
+        ensures { MatchOption result ((self.old ≡ []) × (self.new ≡ [])) (λ step. self.old ≡ self.new ++ step ∷ []) }
+    {
+        self.steps.pop()
+    }
+}
+
+/// Does one step, which finds its memory.
+fn step_back<K: Key + Drop, V: Drop, L: Ledger>(
+    table: &mut Table<K, V>,
+    step: Step<K, V>,
+    steps: &mut Steps<L>,
+)
+    requires { IsAllowed K.cmp step table.old }
+    ensures good { IsAsGood (stepped K.cmp step table.old) table.new }
+    ensures cost { steps.new ≡ steps.old + 1 }
+{
+    match step {
+        Step::Put(key, value) => {
+            let _ = table.put(key, value, steps);
+        }
+        Step::Remove(key) => {
+            let _ = table.remove(&key, steps);
+        }
+    }
+}
+
+/// Takes the table back. It takes no memory.
+pub fn undo<K: Key + Drop, V: Drop, L: Ledger>(
+    table: &mut Table<K, V>,
+    log: Log<K, V>,
+    steps: &mut Steps<L>,
+)
+    requires { CanUndo K.cmp log table.old }
+    ensures good { IsAsGood (undone K.cmp log table.old) table.new }
+    ensures cost { steps.new ≡ steps.old + length log }
+{
+    let mut left = log;
+    while let Some(step) = left.pop() {
+        step_back(table, step, steps);
+    }
+}
+
+/// Puts a value, and logs what takes it back. For want of memory all stays.
+pub fn put<K: Key + Drop, V: Drop, L: Ledger>(
+    table: &mut Table<K, V>,
+    log: &mut Log<K, V>,
+    key: K,
+    again: K,
+    value: V,
+    steps: &mut Steps<L>,
+) -> Result<(), Memory>
+    requires { again ≡ key }
+    ensures logged { length log.new ≤ length log.old + 1 }
+    ensures ok { OnOk result (table.new.entries ≡ with_entry K.cmp key value table.old.entries) }
+    ensures err { OnErr result (table.new ≡ table.old) }
+    ensures undoes { (before : Contents K V) → Undoes K.cmp log.old table.old before → Undoes K.cmp log.new table.new before }
+    ensures cost { steps.new ≤ steps.old + 1 }
+{
+    if log.steps.reserve(1).is_err() {
+        return Err(Memory);
+    }
+    match table.put(key, value, steps) {
+        Ok(None) => {
+            let _ = log.steps.push(Step::Remove(again));
+            Ok(())
+        }
+        Ok(Some(before)) => {
+            let _ = log.steps.push(Step::Put(again, before));
+            Ok(())
+        }
+        Err(_) => Err(Memory),
+    }
+}
+
+/// Removes a key, and logs what takes it back. For want of memory all stays.
+pub fn remove<K: Key + Drop, V: Drop, L: Ledger>(
+    table: &mut Table<K, V>,
+    log: &mut Log<K, V>,
+    key: K,
+    steps: &mut Steps<L>,
+) -> Result<(), Memory>
+    ensures logged { length log.new ≤ length log.old + 1 }
+    ensures ok { OnOk result (table.new.entries ≡ without_key K.cmp key table.old.entries) }
+    ensures err { OnErr result (table.new ≡ table.old) }
+    ensures undoes { (before : Contents K V) → Undoes K.cmp log.old table.old before → Undoes K.cmp log.new table.new before }
+    ensures cost { steps.new ≤ steps.old + 1 }
+{
+    if log.steps.reserve(1).is_err() {
+        return Err(Memory);
+    }
+    match table.remove(&key, steps) {
+        Some(before) => {
+            let _ = log.steps.push(Step::Put(key, before));
+            Ok(())
+        }
+        None => Ok(()),
+    }
+}

@@ -1,0 +1,153 @@
+//! An ordered map, as its entries in the order of their keys.
+ghost use Rattle.std.specs.Prelude.{◌≡◌, ◌+◌, ◌-◌, ◌<◌, ◌≤◌, [], length, IsSome, IfOk, IfErr, OnOk, OnErr, IfSome, IfNone, None};
+ghost use Rattle.std.specs.Option.{option_map, option_copied};
+ghost use Rattle.std.specs.List.Sorted.{IsStrictlySortedBy};
+ghost use Rattle.std.specs.Map.{keys_of};
+ghost use Rattle.fsl_table.specs.Contents.{value_at, with_entry, without_key, entries_after, first_of};
+
+use crate::waiting::{has_room, lower_of, place_of, replace_at};
+use fsl_text::Steps;
+use std::alloc::Global;
+use std::collections::BTreeMap;
+use std::marker::Model;
+use std::ops::Bound;
+use std::sync::ledger::Ledger;
+
+/// An ordered map. What the tree finds no memory for waits beside it, where there is always room.
+#[derive(Drop)]
+pub struct Table<K: Ord, V> {
+    tree: BTreeMap<K, V>,
+    waiting: Vec<(K, V)>,
+}
+
+impl<K: Ord, V> Model for Table<K, V> {
+    ghost use Rattle.std.specs.Prelude.{◌+◌, ◌-◌, length, vec_capacity};
+    ghost use Rattle.fsl_table.specs.Contents.{Contents};
+    ghost use Rattle.fsl_table.specs.Weave.{weave};
+    ghost use Rattle.fsl_table.specs.Kept.{IsKept};
+
+    ghost Value = { Contents K V };
+
+    ghost view = { λ t. record { entries = weave K.cmp t.waiting.items t.tree.entries; spare = vec_capacity t.waiting - (length t.tree.entries + length t.waiting.items) } };
+
+    ghost invariant = { λ t. IsKept K.cmp (vec_capacity t.waiting) t.waiting.items t.tree.entries };
+}
+
+impl<K: Ord, V> Table<K, V> {
+    pub fn new(alloc: Global) -> Table<K, V>
+        ensures { result.entries ≡ [] }
+    {
+        Table {
+            tree: BTreeMap::new(alloc),
+            waiting: Vec::new(alloc),
+        }
+    }
+
+    pub fn len(&self) -> u64
+        ensures len { result ≡ length self.now.entries }
+        ensures ordered { IsStrictlySortedBy K.cmp (keys_of self.now.entries) }
+    {
+        (self.tree.len() + self.waiting.len()) as u64
+    }
+
+    pub fn get<L: Ledger>(&self, key: &K, steps: &mut Steps<L>) -> Option<&V>
+        ensures value { option_copied result ≡ value_at K.cmp key.now self.now.entries }
+        ensures cost { steps.new ≡ steps.old + 1 }
+    {
+        steps.tick();
+        match place_of(&self.waiting, key) {
+            Some(at) => Some(&self.waiting[at].1),
+            None => self.tree.get(key),
+        }
+    }
+
+    /// The pair comes back for want of memory. That isn't so at a key that is there, nor where anything is spare.
+    pub fn put<L: Ledger>(
+        &mut self,
+        key: K,
+        value: V,
+        steps: &mut Steps<L>,
+    ) -> Result<Option<V>, (K, V)>
+    where
+        K: Drop,
+        ensures before { IfOk result (λ before. before ≡ value_at K.cmp key self.old.entries) }
+        ensures ok { OnOk result (self.new.entries ≡ with_entry K.cmp key value self.old.entries) }
+        ensures spare_of_new { IfOk result (λ before. IfNone before (self.old.spare ≤ self.new.spare + 1)) }
+        ensures spare_of_old { IfOk result (λ before. IfSome before (λ _. self.new.spare ≡ self.old.spare)) }
+        ensures back { IfErr result (λ pair. pair ≡ (key, value)) }
+        ensures unchanged { OnErr result (self.new ≡ self.old) }
+        ensures none_spare { OnErr result (self.old.spare ≡ 0) }
+        ensures absent { OnErr result (value_at K.cmp key self.old.entries ≡ None) }
+        ensures was_ordered { IsStrictlySortedBy K.cmp (keys_of self.old.entries) }
+        ensures cost { steps.new ≡ steps.old + 1 }
+    {
+        steps.tick();
+        if let Some(at) = place_of(&self.waiting, &key) {
+            return Ok(Some(replace_at(&mut self.waiting, at, value)));
+        }
+        if !has_room(&self.tree, &mut self.waiting, &key) {
+            return Err((key, value));
+        }
+        match self.tree.insert(key, value) {
+            Ok(before) => Ok(before),
+            Err(refused) => match self.waiting.insert(0, refused.value) {
+                Ok(()) => Ok(None),
+                Err(refused) => Err(refused.value),
+            },
+        }
+    }
+
+    pub fn remove<L: Ledger>(&mut self, key: &K, steps: &mut Steps<L>) -> Option<V>
+    where
+        K: Drop,
+        ensures value { result ≡ value_at K.cmp key.now self.old.entries }
+        ensures entries { self.new.entries ≡ without_key K.cmp key.now self.old.entries }
+        ensures spare { IfSome result (λ _. self.new.spare ≡ self.old.spare + 1) }
+        ensures unchanged { IfNone result (self.new ≡ self.old) }
+        ensures was_ordered { IsStrictlySortedBy K.cmp (keys_of self.old.entries) }
+        ensures cost { steps.new ≡ steps.old + 1 }
+    {
+        steps.tick();
+        match place_of(&self.waiting, key) {
+            Some(at) => {
+                let (_, value) = self.waiting.remove(at);
+                Some(value)
+            }
+            None => self.tree.remove(key),
+        }
+    }
+
+    pub fn first<L: Ledger>(&self, steps: &mut Steps<L>) -> Option<(&K, &V)>
+        ensures entry { option_map (λ p. (p.0.now, p.1.now)) result ≡ first_of self.now.entries }
+        ensures cost { steps.new ≡ steps.old + 1 }
+    {
+        steps.tick();
+        let mut best = self.tree.first_key_value();
+        let mut at = self.waiting.len();
+        while at > 0 {
+            at -= 1;
+            best = lower_of(&self.waiting[at], best);
+        }
+        best
+    }
+
+    pub fn next_after<L: Ledger>(&self, key: &K, steps: &mut Steps<L>) -> Option<(&K, &V)>
+        ensures entry { option_map (λ p. (p.0.now, p.1.now)) result ≡ first_of (entries_after K.cmp key.now self.now.entries) }
+        ensures cost { steps.new ≡ steps.old + 1 }
+    {
+        steps.tick();
+        let mut best = self
+            .tree
+            .range((Bound::Excluded(key), Bound::Unbounded))
+            .next();
+        let mut at = self.waiting.len();
+        while at > 0 {
+            at -= 1;
+            let entry = &self.waiting[at];
+            if key.cmp(&entry.0).is_lt() {
+                best = lower_of(entry, best);
+            }
+        }
+        best
+    }
+}

@@ -1,0 +1,71 @@
+//! The entries that wait beside the tree, in no order.
+ghost use Rattle.std.specs.Prelude.{◌≡◌, ◌+◌, ◌<◌, ◌≤◌, ◌⊎◌, false, length, slice_index_or, slice_set, vec_capacity, vec_len, IsSome, IsTrue, None};
+ghost use Rattle.std.specs.Option.{option_map};
+ghost use Rattle.std.specs.BTreeMap.{btree_map_len, get, is_at};
+ghost use Rattle.fsl_table.specs.Weave.{lower, place};
+
+use std::collections::BTreeMap;
+use std::mem;
+
+/// The place of a key.
+pub(crate) fn place_of<K: Ord, V>(waiting: &[(K, V)], key: &K) -> Option<usize>
+    ensures { result ≡ place (is_at (K.cmp key.now)) waiting.now }
+{
+    for at in 0..waiting.len() {
+        if key.cmp(&waiting[at].0).is_eq() {
+            return Some(at);
+        }
+    }
+    None
+}
+
+/// Puts a value in the place of another.
+pub(crate) fn replace_at<K, V>(waiting: &mut Vec<(K, V)>, at: usize, value: V) -> V
+    requires { at < vec_len waiting.old }
+    ensures items { (d : K × V) → waiting.new.items ≡ slice_set waiting.old.items at ((slice_index_or waiting.old.items at d).0, value) }
+    ensures before { (d : K × V) → result ≡ (slice_index_or waiting.old.items at d).1 }
+    ensures room { vec_capacity waiting.new ≡ vec_capacity waiting.old }
+{
+    let slot = &mut waiting[at];
+    mem::replace(&mut slot.1, value)
+}
+
+/// The lower of an entry and what may be there.
+pub(crate) fn lower_of<'a, K: Ord, V>(
+    entry: &'a (K, V),
+    other: Option<(&'a K, &'a V)>,
+) -> Option<(&'a K, &'a V)>
+    ensures { option_map (λ p. (p.0.now, p.1.now)) result ≡ lower K.cmp entry.now (option_map (λ p. (p.0.now, p.1.now)) other.entry) }
+{
+    match other {
+        None => Some((&entry.0, &entry.1)),
+        Some((key, value)) => {
+            if entry.0.cmp(key).is_lt() {
+                Some((&entry.0, &entry.1))
+            } else {
+                Some((key, value))
+            }
+        }
+    }
+}
+
+/// Makes room for one more entry, unless the tree has the key.
+pub(crate) fn has_room<K: Ord, V>(tree: &BTreeMap<K, V>, waiting: &mut Vec<(K, V)>, key: &K) -> bool
+    requires { btree_map_len tree.now + vec_len waiting.old ≤ vec_capacity waiting.old }
+    ensures items { waiting.new.items ≡ waiting.old.items }
+    ensures len { vec_len waiting.new ≡ vec_len waiting.old }
+    ensures grows { vec_capacity waiting.old ≤ vec_capacity waiting.new }
+    ensures room { IsTrue result → get K.cmp tree.now key.now ≡ None → btree_map_len tree.now + vec_len waiting.new < vec_capacity waiting.new }
+    ensures same_room { IsSome (get K.cmp tree.now key.now) → vec_capacity waiting.new ≡ vec_capacity waiting.old }
+    ensures full { result ≡ false → vec_capacity waiting.old ≡ btree_map_len tree.now + vec_len waiting.old }
+    ensures unchanged { result ≡ false → vec_capacity waiting.new ≡ vec_capacity waiting.old }
+    ensures absent { result ≡ false → get K.cmp tree.now key.now ≡ None }
+{
+    if tree.len() < waiting.capacity() - waiting.len() {
+        return true;
+    }
+    if tree.contains_key(key) {
+        return true;
+    }
+    waiting.reserve(tree.len() + 1).is_ok()
+}
