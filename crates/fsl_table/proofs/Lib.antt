@@ -1,5 +1,10 @@
 pub mod Entries
+pub mod Finding
 pub mod Keeping
+pub mod Linking
+pub mod Outcomes
+pub mod PairOrder
 pub mod Places
+pub mod Seconds
 pub mod Steps
 pub mod Weaving

@@ -1,0 +1,151 @@
+//! Pairs of a name and one that belongs to it: put, taken out, and walked by their first name.
+ghost use Rattle.std.specs.Prelude.{◌≡◌, ◌+◌, ◌≤◌, ◌&&◌, ◌||◌, not, is_some, length, option_and_then, None, OnOk, IfOk};
+ghost use Rattle.std.specs.List.Sorted.{IsStrictlySortedBy};
+ghost use Rattle.std.specs.Map.{keys_of};
+ghost use Rattle.fsl_order.specs.Names.{has};
+ghost use Rattle.fsl_table.specs.Contents.{Contents, value_at, first_of, entries_after};
+ghost use Rattle.fsl_table.specs.Exact.{pair_cmp};
+ghost use Rattle.fsl_table.specs.Pairs.{is_name, second_of, seconds as seconds_of};
+ghost use Rattle.fsl_table.specs.Undo.{Undoes};
+ghost use Rattle.fsl_table.specs.declared.key.Pair as pair;
+
+use crate::key::Pair;
+use crate::log;
+use crate::log::Log;
+use crate::table::Table;
+use fsl_name::Name;
+use fsl_text::{List, Memory, Steps};
+use std::alloc::Global;
+use std::sync::ledger::Ledger;
+
+/// The name that comes next among those that belong to a name: the least one, or the least above another.
+pub fn second_after<L: Ledger>(
+    pairs: &Table<Pair, ()>,
+    first: Name,
+    after: Option<Name>,
+    steps: &mut Steps<L>,
+) -> Option<Name>
+    ensures next { result ≡ option_and_then (second_of first) (first_of (entries_after pair_cmp (record { first = first; second = after }) pairs.now.entries)) }
+    ensures cost { steps.new ≡ steps.old + 1 }
+{
+    let key = Pair {
+        first,
+        second: after,
+    };
+    let (next, _) = pairs.next_after(&key, steps)?;
+    if next.first == first {
+        next.second
+    } else {
+        None
+    }
+}
+
+/// The names that belong to a name, ascending. `Memory` is the only error.
+pub fn seconds<L: Ledger>(
+    alloc: Global,
+    pairs: &Table<Pair, ()>,
+    first: Name,
+    steps: &mut Steps<L>,
+) -> Result<List<Name>, Memory>
+    requires { IsStrictlySortedBy pair_cmp (keys_of pairs.now.entries) }
+    ensures seconds { IfOk result (λ list. list ≡ seconds_of first pairs.now.entries) }
+    ensures cost { steps.new ≤ steps.old + (1 + length (seconds_of first pairs.now.entries)) }
+{
+    let mut list = List::new(alloc);
+    let mut next = second_after(pairs, first, None, steps);
+    while let Some(second) = next {
+        if list.push(second).is_err() {
+            return Err(Memory);
+        }
+        next = second_after(pairs, first, Some(second), steps);
+    }
+    Ok(list)
+}
+
+/// Puts the pair of a name and of the one to which it belongs, where it belongs to one. For want of memory all stays.
+pub fn link<L: Ledger>(
+    pairs: &mut Table<Pair, ()>,
+    log: &mut Log<Pair, ()>,
+    second: Name,
+    first: Option<Name>,
+    steps: &mut Steps<L>,
+) -> Result<(), Memory>
+    requires { IsStrictlySortedBy pair_cmp (keys_of pairs.old.entries) }
+    ensures ordered { OnOk result (IsStrictlySortedBy pair_cmp (keys_of pairs.new.entries)) }
+    ensures pairs { OnOk result ((k : pair.Pair) → is_some (value_at pair_cmp k pairs.new.entries) ≡ ((is_name k.second second && is_name first k.first) || is_some (value_at pair_cmp k pairs.old.entries))) }
+    ensures undoes { (before : Contents pair.Pair Unit) → Undoes pair_cmp log.old pairs.old before → Undoes pair_cmp log.new pairs.new before }
+    ensures most { steps.new ≤ steps.old + 1 }
+    ensures logged { length log.new ≤ length log.old + 1 }
+{
+    match first {
+        Some(first) => {
+            let key = Pair {
+                first,
+                second: Some(second),
+            };
+            let again = Pair {
+                first,
+                second: Some(second),
+            };
+            log::put(pairs, log, key, again, (), steps)
+        }
+        None => Ok(()),
+    }
+}
+
+/// Takes the pair of a name and of the one to which it belongs out, where it belongs to one. For want of memory all stays.
+pub fn unlink<L: Ledger>(
+    pairs: &mut Table<Pair, ()>,
+    log: &mut Log<Pair, ()>,
+    second: Name,
+    first: Option<Name>,
+    steps: &mut Steps<L>,
+) -> Result<(), Memory>
+    requires { IsStrictlySortedBy pair_cmp (keys_of pairs.old.entries) }
+    ensures ordered { OnOk result (IsStrictlySortedBy pair_cmp (keys_of pairs.new.entries)) }
+    ensures pairs { OnOk result ((k : pair.Pair) → is_some (value_at pair_cmp k pairs.new.entries) ≡ (not (is_name k.second second && is_name first k.first) && is_some (value_at pair_cmp k pairs.old.entries))) }
+    ensures undoes { (before : Contents pair.Pair Unit) → Undoes pair_cmp log.old pairs.old before → Undoes pair_cmp log.new pairs.new before }
+    ensures none { first ≡ None → steps.new ≡ steps.old }
+    ensures none_logged { first ≡ None → length log.new ≡ length log.old }
+    ensures most { steps.new ≤ steps.old + 1 }
+    ensures logged { length log.new ≤ length log.old + 1 }
+{
+    match first {
+        Some(first) => {
+            let key = Pair {
+                first,
+                second: Some(second),
+            };
+            log::remove(pairs, log, key, steps)
+        }
+        None => Ok(()),
+    }
+}
+
+/// Puts the pairs of a name and of each of those to which it belongs. After `Memory` some may be put; the log has them.
+pub fn link_each<L: Ledger>(
+    pairs: &mut Table<Pair, ()>,
+    log: &mut Log<Pair, ()>,
+    second: Name,
+    firsts: &[Name],
+    steps: &mut Steps<L>,
+) -> Result<(), Memory>
+    ensures pairs { OnOk result ((k : pair.Pair) → is_some (value_at pair_cmp k pairs.new.entries) ≡ (is_some (value_at pair_cmp k pairs.old.entries) || (is_name k.second second && has firsts.now k.first))) }
+    ensures ordered { OnOk result (IsStrictlySortedBy pair_cmp (keys_of pairs.old.entries) → IsStrictlySortedBy pair_cmp (keys_of pairs.new.entries)) }
+    ensures undoes { (before : Contents pair.Pair Unit) → Undoes pair_cmp log.old pairs.old before → Undoes pair_cmp log.new pairs.new before }
+    ensures most { steps.new ≤ steps.old + length firsts.now }
+    ensures logged { length log.new ≤ length log.old + length firsts.now }
+{
+    for first in firsts {
+        let key = Pair {
+            first: *first,
+            second: Some(second),
+        };
+        let again = Pair {
+            first: *first,
+            second: Some(second),
+        };
+        log::put(pairs, log, key, again, (), steps)?;
+    }
+    Ok(())
+}
