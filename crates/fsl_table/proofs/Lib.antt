@@ -8,3 +8,4 @@ pub mod Places
 pub mod Seconds
 pub mod Steps
 pub mod Weaving
+pub mod Trails

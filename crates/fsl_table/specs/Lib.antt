@@ -4,3 +4,4 @@ pub mod Kept
 pub mod Pairs
 pub mod Undo
 pub mod Weave
+pub mod Trail
