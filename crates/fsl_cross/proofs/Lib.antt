@@ -4,3 +4,4 @@ pub mod FactLemmas
 pub mod TipLemmas
 pub mod FileLemmas
 pub mod TableLemmas
+pub mod Without

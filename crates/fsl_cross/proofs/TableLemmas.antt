@@ -205,11 +205,11 @@ put-on (Err e) old new with_it key same put = tt
 
 -- ---- a table of these facts
 
-pub held-if : {F E : Type 0} (r : Result (Held F) E) (given wanted : List F) → given ≡ wanted → IfOk r (λ t. t.facts ≡ given) → IfOk r (λ t. t.spare ≡ []) → IfOk r (λ t. t ≡ record { facts = wanted; spare = [] })
-held-if (Ok t) given wanted same facts spare = λ i. record { facts = (facts ∙ same) i; spare = spare i }
-held-if (Err e) given wanted same facts spare = tt
+pub held-if : {F E : Type 0} (r : Result (Held F) E) (given wanted : List F) → given ≡ wanted → IfOk r (λ t. t.facts ≡ given) → IfOk r (λ t. t.facts ≡ wanted)
+held-if (Ok t) given wanted same facts = facts ∙ same
+held-if (Err e) given wanted same facts = tt
 
-pub seen-if : {E : Type 0} (r : Result Seen E) (fields : List (List ℕ)) (given wanted : List ticket.Fact) → given ≡ wanted → IfOk r (λ t. t.fields ≡ fields) → IfOk r (λ t. t.facts ≡ given) → IfOk r (λ t. t.spare ≡ [])
-    → IfOk r (λ t. t ≡ record { fields = fields; facts = wanted; spare = [] })
-seen-if (Ok t) fields given wanted same named facts spare = λ i. record { fields = named i; facts = (facts ∙ same) i; spare = spare i }
-seen-if (Err e) fields given wanted same named facts spare = tt
+pub seen-if : {E : Type 0} (r : Result Seen E) (fields : List (List ℕ)) (given wanted : List ticket.Fact) → given ≡ wanted → IfOk r (λ t. t.fields ≡ fields) → IfOk r (λ t. t.facts ≡ given)
+    → IfOk r (λ t. (t.fields ≡ fields) × (t.facts ≡ wanted))
+seen-if (Ok t) fields given wanted same named facts = (named, facts ∙ same)
+seen-if (Err e) fields given wanted same named facts = tt

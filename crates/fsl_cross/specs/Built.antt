@@ -1,5 +1,5 @@
 -- What the tables of a set hold.
-use Rattle.std.specs.Prelude.{◌≡◌, ℕ, List, [], map}
+use Rattle.std.specs.Prelude.{◌≡◌, ℕ, List, All, map}
 use Rattle.std.specs.List.Sorted.{IsStrictlySortedBy}
 use Rattle.fsl_order.specs.Names.{bytes_cmp}
 use Rattle.fsl_cross.specs.declared.Item.{Item}
@@ -7,25 +7,27 @@ use Rattle.fsl_cross.specs.declared.history.History.{History}
 use Rattle.fsl_cross.specs.declared.contents.Contents.{Contents}
 use Rattle.fsl_cross.specs.declared.derived.Derived.{Derived}
 use Rattle.fsl_cross.specs.Checkins.{links_facts, tags_facts}
-use Rattle.fsl_cross.specs.Tables.{leaves_facts, files_facts, pages_facts, ticket_facts, forum_facts, cluster_facts, timeline_rows}
+use Rattle.fsl_cross.specs.Tables.{IsItem, leaves_facts, files_facts, pages_facts, ticket_facts, forum_facts, cluster_facts, timeline_rows}
 
 -- the tables of parentage, tags and leaves have the facts that the items give
 pub record IsHistoryOf (items : List Item) (h : History) : Type 0 where
-  pub links : h.links ≡ record { facts = links_facts items; spare = [] }
-  pub tags : h.tags ≡ record { facts = tags_facts items; spare = [] }
-  pub leaves : h.leaves ≡ record { facts = leaves_facts items; spare = [] }
+  pub links : h.links.facts ≡ links_facts items
+  pub tags : h.tags.facts ≡ tags_facts items
+  pub leaves : h.leaves.facts ≡ leaves_facts items
 
 -- so have those of files, pages, tickets, posts and clusters
 pub record AreContentsOf (fields : List (List ℕ)) (items : List Item) (c : Contents) : Type 0 where
-  pub files : c.files ≡ record { facts = files_facts items; spare = [] }
-  pub pages : c.pages ≡ record { facts = pages_facts items; spare = [] }
-  pub tickets : c.tickets ≡ record { fields = fields; facts = ticket_facts items; spare = [] }
-  pub threads : c.threads ≡ record { facts = forum_facts items; spare = [] }
-  pub clusters : c.clusters ≡ record { facts = cluster_facts items; spare = [] }
+  pub files : c.files.facts ≡ files_facts items
+  pub pages : c.pages.facts ≡ pages_facts items
+  pub configured : c.tickets.fields ≡ fields
+  pub tickets : c.tickets.facts ≡ ticket_facts items
+  pub threads : c.threads.facts ≡ forum_facts items
+  pub clusters : c.clusters.facts ≡ cluster_facts items
 
--- the items rise by name, and each table has the facts that they give
+-- the items rise by name, each is what some bytes are, and each table has the facts that they give
 pub record AreTablesOf (fields : List (List ℕ)) (items : List Item) (d : Derived) : Type 0 where
   pub rising : IsStrictlySortedBy bytes_cmp (map (λ item. item.name) items)
+  pub kinds : All IsItem items
   pub history : IsHistoryOf items d.history
   pub contents : AreContentsOf fields items d.contents
-  pub timeline : d.timeline ≡ record { facts = timeline_rows items; spare = [] }
+  pub timeline : d.timeline.facts ≡ timeline_rows items

@@ -34,11 +34,11 @@ impl Contents {
     ) -> Result<Contents, Memory>
         requires rising { IsStrictlySortedBy bytes_cmp (map (λ i. i.name) items.now) }
         requires kinds { All IsItem items.now }
-        ensures files { IfOk result (λ t. t.files ≡ record { facts = files_facts items.now; spare = [] }) }
-        ensures pages { IfOk result (λ t. t.pages ≡ record { facts = pages_facts items.now; spare = [] }) }
-        ensures tickets { IfOk result (λ t. t.tickets ≡ record { fields = fields.now; facts = ticket_facts items.now; spare = [] }) }
-        ensures threads { IfOk result (λ t. t.threads ≡ record { facts = forum_facts items.now; spare = [] }) }
-        ensures clusters { IfOk result (λ t. t.clusters ≡ record { facts = cluster_facts items.now; spare = [] }) }
+        ensures files { IfOk result (λ t. t.files.facts ≡ files_facts items.now) }
+        ensures pages { IfOk result (λ t. t.pages.facts ≡ pages_facts items.now) }
+        ensures tickets { IfOk result (λ t. (t.tickets.fields ≡ fields.now) × (t.tickets.facts ≡ ticket_facts items.now)) }
+        ensures threads { IfOk result (λ t. t.threads.facts ≡ forum_facts items.now) }
+        ensures clusters { IfOk result (λ t. t.clusters.facts ≡ cluster_facts items.now) }
     {
         let files = facts::files::table(alloc, items)?;
         let pages = facts::pages::table(alloc, items);

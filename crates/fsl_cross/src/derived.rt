@@ -61,6 +61,7 @@ impl Derived {
         contents: Contents,
     ) -> Result<Derived, Memory>
         requires rising { IsStrictlySortedBy bytes_cmp (map (λ i. i.name) items.now) }
+        requires kinds { All IsItem items.now }
         requires history { IsHistoryOf items.now history }
         requires contents { AreContentsOf fields.now items.now contents }
         ensures { IfOk result (λ d. AreTablesOf fields.now items.now d) }

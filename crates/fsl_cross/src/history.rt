@@ -26,9 +26,9 @@ impl History {
     /// The tables of some artifacts. `Memory` is the only error.
     pub(crate) fn build(alloc: Global, items: &Items) -> Result<History, Memory>
         requires { IsStrictlySortedBy bytes_cmp (map (λ i. i.name) items.now) }
-        ensures links { IfOk result (λ t. t.links ≡ record { facts = links_facts items.now; spare = [] }) }
-        ensures tags { IfOk result (λ t. t.tags ≡ record { facts = tags_facts items.now; spare = [] }) }
-        ensures leaves { IfOk result (λ t. t.leaves ≡ record { facts = leaves_facts items.now; spare = [] }) }
+        ensures links { IfOk result (λ t. t.links.facts ≡ links_facts items.now) }
+        ensures tags { IfOk result (λ t. t.tags.facts ≡ tags_facts items.now) }
+        ensures leaves { IfOk result (λ t. t.leaves.facts ≡ leaves_facts items.now) }
     {
         let links = facts::links::table(alloc, items)?;
         let tags = facts::tags::table(alloc, &links, items);

@@ -9,6 +9,7 @@ mod checkin;
 mod contents;
 mod derived;
 mod facts;
+mod held;
 mod history;
 mod items;
 mod tables;

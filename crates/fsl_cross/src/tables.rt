@@ -2,7 +2,9 @@
 ghost use Rattle.std.specs.Prelude.{◌≡◌, [], All, IfOk, map};
 ghost use Rattle.fsl_order.specs.Rows.{AreDistinct};
 ghost use Rattle.fsl_cross.specs.Checkins as checkins;
-ghost use Rattle.fsl_cross.specs.Tables.{IsItem, item_set, tables};
+ghost use Rattle.fsl_cross.specs.Tables.{IsItem, item_set, tables, without};
+ghost use Rattle.std.specs.List.Sorted.{IsStrictlySortedBy};
+ghost use Rattle.fsl_order.specs.Names.{bytes_cmp};
 
 use super::checkin::manifest;
 use super::derived::Derived;
@@ -47,10 +49,32 @@ impl Tables {
     pub fn build(alloc: Global, fields: &List<Text>, items: List<Item>) -> Result<Tables, Memory>
         requires names { AreDistinct (map (λ item. item.name) items) }
         requires kinds { All IsItem items }
-        ensures { IfOk result (λ t. t ≡ record { fields = fields.now; items = item_set items }) }
+        ensures fields { IfOk result (λ t. t.fields ≡ fields.now) }
+        ensures items { IfOk result (λ t. t.items ≡ item_set items) }
     {
         let fields = copied(alloc, fields.items())?;
         let items = Items::of(alloc, items)?;
+        Tables::of_set(alloc, fields, items)
+    }
+
+    /// The tables of the set without the artifact of a name, which need not be there. They are built anew; the artifacts
+    /// themselves aren't copied. `Memory` is the only error.
+    pub fn without(&self, alloc: Global, name: Name) -> Result<Tables, Memory>
+        ensures fields { IfOk result (λ t. t.fields ≡ self.now.fields) }
+        ensures items { IfOk result (λ t. t.items ≡ without name self.now.items) }
+    {
+        let fields = copied(alloc, self.fields.items())?;
+        let items = self.items.without(alloc, name)?;
+        Tables::of_set(alloc, fields, items)
+    }
+
+    /// The tables of a set.
+    fn of_set(alloc: Global, fields: List<Text>, items: Items) -> Result<Tables, Memory>
+        requires rising { IsStrictlySortedBy bytes_cmp (map (λ i. i.name) items) }
+        requires kinds { All IsItem items }
+        ensures fields { IfOk result (λ t. t.fields ≡ fields) }
+        ensures items { IfOk result (λ t. t.items ≡ items) }
+    {
         let derived = Derived::build(alloc, &fields, &items)?;
         Ok(Tables {
             fields,
@@ -62,7 +86,6 @@ impl Tables {
     /// The table of parentage.
     pub fn links(&self) -> &Links
         ensures facts { result.now.facts ≡ (tables self.now.fields self.now.items).links }
-        ensures spare { result.now.spare ≡ [] }
     {
         &self.derived.history.links
     }
@@ -70,7 +93,6 @@ impl Tables {
     /// The table of tags.
     pub fn tags(&self) -> &Tags
         ensures facts { result.now.facts ≡ (tables self.now.fields self.now.items).tags }
-        ensures spare { result.now.spare ≡ [] }
     {
         &self.derived.history.tags
     }
@@ -78,7 +100,6 @@ impl Tables {
     /// The table of leaves.
     pub fn leaves(&self) -> &Leaves
         ensures facts { result.now.facts ≡ (tables self.now.fields self.now.items).leaves }
-        ensures spare { result.now.spare ≡ [] }
     {
         &self.derived.history.leaves
     }
@@ -86,7 +107,6 @@ impl Tables {
     /// The table of the files of check-ins.
     pub fn files(&self) -> &Files
         ensures facts { result.now.facts ≡ (tables self.now.fields self.now.items).files }
-        ensures spare { result.now.spare ≡ [] }
     {
         &self.derived.contents.files
     }
@@ -94,7 +114,6 @@ impl Tables {
     /// The timeline.
     pub fn timeline(&self) -> &Timeline
         ensures facts { result.now.facts ≡ (tables self.now.fields self.now.items).timeline }
-        ensures spare { result.now.spare ≡ [] }
     {
         &self.derived.timeline
     }
@@ -102,7 +121,6 @@ impl Tables {
     /// The table of wiki pages, technotes and attachments.
     pub fn wiki(&self) -> &Pages
         ensures facts { result.now.facts ≡ (tables self.now.fields self.now.items).pages }
-        ensures spare { result.now.spare ≡ [] }
     {
         &self.derived.contents.pages
     }
@@ -111,7 +129,6 @@ impl Tables {
     pub fn ticket(&self) -> &Tickets
         ensures fields { result.now.fields ≡ (tables self.now.fields self.now.items).fields }
         ensures facts { result.now.facts ≡ (tables self.now.fields self.now.items).tickets }
-        ensures spare { result.now.spare ≡ [] }
     {
         &self.derived.contents.tickets
     }
@@ -119,7 +136,6 @@ impl Tables {
     /// The table of forum posts.
     pub fn forum(&self) -> &Threads
         ensures facts { result.now.facts ≡ (tables self.now.fields self.now.items).threads }
-        ensures spare { result.now.spare ≡ [] }
     {
         &self.derived.contents.threads
     }
@@ -127,7 +143,6 @@ impl Tables {
     /// The table of clusters.
     pub fn cluster(&self) -> &Clusters
         ensures facts { result.now.facts ≡ (tables self.now.fields self.now.items).clusters }
-        ensures spare { result.now.spare ≡ [] }
     {
         &self.derived.contents.clusters
     }
@@ -141,7 +156,7 @@ impl Tables {
         let Some(item) = self.items.get(name) else {
             return Ok(None);
         };
-        let Some(manifest) = manifest(&item.artifact) else {
+        let Some(manifest) = manifest(item.artifact()) else {
             return Ok(None);
         };
         Ok(Some(checkin::values(alloc, &self.derived.history.tags, name, manifest)?))

@@ -6,7 +6,7 @@ ghost use Rattle.fsl_name.specs.Name.{name_text};
 ghost use Rattle.fsl_tags.specs.Gathered.{in_set};
 ghost use Rattle.fsl_cross.specs.Inside.{has_ticket, has_note, is_ticket, is_note, kind_by};
 
-use crate::Item;
+use crate::held::Held;
 use crate::items::Items;
 use fsl_artifact::Artifact;
 use fsl_name::Name;
@@ -32,20 +32,20 @@ fn insert(alloc: Global, set: &mut BTreeSet<Text>, id: Name) -> Result<(), Memor
 }
 
 /// Puts the id of an artifact into a set, where it is a ticket change.
-fn insert_ticket(alloc: Global, set: &mut BTreeSet<Text>, item: &Item) -> Result<(), Memory>
+fn insert_ticket(alloc: Global, set: &mut BTreeSet<Text>, item: &Held) -> Result<(), Memory>
     ensures { OnOk result ((q : List ℕ) → in_set set.new q ≡ (in_set set.old q || has_ticket item.now q)) }
 {
-    match &item.artifact {
+    match item.artifact() {
         Artifact::Ticket(ticket) => insert(alloc, set, ticket.id),
         _ => Ok(()),
     }
 }
 
 /// Puts the id of an artifact into a set, where it is a technote.
-fn insert_note(alloc: Global, set: &mut BTreeSet<Text>, item: &Item) -> Result<(), Memory>
+fn insert_note(alloc: Global, set: &mut BTreeSet<Text>, item: &Held) -> Result<(), Memory>
     ensures { OnOk result ((q : List ℕ) → in_set set.new q ≡ (in_set set.old q || has_note item.now q)) }
 {
-    match &item.artifact {
+    match item.artifact() {
         Artifact::Technote(note) => insert(alloc, set, note.id),
         _ => Ok(()),
     }

@@ -10,7 +10,7 @@ ghost use Rattle.fsl_cross.specs.Checkins.{tags_facts};
 ghost use Rattle.fsl_cross.specs.Tables.{sign, tag_text, pages_facts, forum_facts, timeline_rows};
 ghost use Rattle.fsl_cross.specs.Inside.{checkin_row, note_row, attachment_row, post_row, control_row, item_row_over};
 
-use crate::Item;
+use crate::held::Held;
 use crate::checkin::{date, text};
 use crate::facts::{append, given};
 use crate::items::Items;
@@ -163,12 +163,12 @@ fn row_of(
     pages: &Pages,
     threads: &Threads,
     targets: &Targets,
-    item: &Item,
+    item: &Held,
 ) -> Result<Option<Row>, Memory>
     ensures { IfOk result (λ r. r ≡ item_row_over tags.now.facts pages.now.facts threads.now.facts (in_set targets.now.tickets) (in_set targets.now.notes) item.now) }
 {
-    let name = item.name;
-    let found = match &item.artifact {
+    let name = item.name();
+    let found = match item.artifact() {
         Artifact::Manifest(manifest) => checkin(alloc, tags, name, manifest)?,
         Artifact::Wiki(page) => row(
             alloc,
@@ -228,7 +228,7 @@ pub(crate) fn table(
     requires tags { tags.now.facts ≡ tags_facts items.now }
     requires pages { pages.now.facts ≡ pages_facts items.now }
     requires threads { threads.now.facts ≡ forum_facts items.now }
-    ensures { IfOk result (λ t. t ≡ record { facts = timeline_rows items.now; spare = [] }) }
+    ensures { IfOk result (λ t. t.facts ≡ timeline_rows items.now) }
 {
     let targets = Targets::of(alloc, items)?;
     let rows = of_items(alloc, tags, pages, threads, &targets, items)?;

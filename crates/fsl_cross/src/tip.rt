@@ -53,7 +53,7 @@ fn dated_checkin(items: &Items, tags: &Tags, name: Name) -> Option<Dated>
     ensures { result ≡ dated_over tags.now.facts items.now name }
 {
     let item = items.get(name)?;
-    let manifest = manifest(&item.artifact)?;
+    let manifest = manifest(item.artifact())?;
     Some(Dated {
         date: date(tags, name, manifest),
         name,

@@ -5,7 +5,7 @@ ghost use Rattle.fsl_order.specs.Names.{bytes_cmp};
 ghost use Rattle.fsl_cross.specs.Facts.{cluster_fact};
 ghost use Rattle.fsl_cross.specs.Tables.{cluster_facts};
 
-use crate::Item;
+use crate::held::Held;
 use crate::checkin::copied;
 use crate::items::Items;
 use fsl_artifact::{members, refs};
@@ -14,14 +14,14 @@ use fsl_text::Memory;
 use std::alloc::Global;
 
 /// The fact that an artifact gives.
-fn fact_of(alloc: Global, item: &Item) -> Result<Fact, Memory>
+fn fact_of(alloc: Global, item: &Held) -> Result<Fact, Memory>
     ensures { IfOk result (λ fact. fact ≡ cluster_fact item.now) }
 {
     Ok(Fact {
-        name: item.name,
-        private: item.private,
-        members: copied(alloc, members(&item.artifact))?,
-        refs: refs(alloc, &item.artifact)?,
+        name: item.name(),
+        private: item.is_private(),
+        members: copied(alloc, members(item.artifact()))?,
+        refs: refs(alloc, item.artifact())?,
     })
 }
 
@@ -39,7 +39,7 @@ fn of_items(alloc: Global, items: &Items) -> Result<Vec<Fact>, Memory>
 /// The table of clusters. `Memory` is the only error.
 pub(crate) fn table(alloc: Global, items: &Items) -> Result<Clusters, Memory>
     requires { IsStrictlySortedBy bytes_cmp (map (λ i. i.name) items.now) }
-    ensures { IfOk result (λ t. t ≡ record { facts = cluster_facts items.now; spare = [] }) }
+    ensures { IfOk result (λ t. t.facts ≡ cluster_facts items.now) }
 {
     Clusters::build(alloc, &of_items(alloc, items)?)
 }

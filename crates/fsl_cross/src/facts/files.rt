@@ -6,7 +6,7 @@ ghost use Rattle.fsl_cross.specs.Facts.{file_row, files_fact, row_perm_of};
 ghost use Rattle.fsl_cross.specs.Tables.{IsItem, files_facts};
 
 use super::append;
-use crate::Item;
+use crate::held::Held;
 use crate::checkin::manifest;
 use crate::items::Items;
 use fsl_files::{Fact, FileRow, Files, Perm};
@@ -61,14 +61,14 @@ fn first(names: &[Name]) -> Option<Name>
 }
 
 /// The fact that an artifact gives, where it is a check-in.
-fn fact_of(alloc: Global, item: &Item) -> Result<Option<Fact>, Memory>
+fn fact_of(alloc: Global, item: &Held) -> Result<Option<Fact>, Memory>
     ensures { IfOk result (λ fact. fact ≡ files_fact item.now) }
 {
-    let Some(manifest) = manifest(&item.artifact) else {
+    let Some(manifest) = manifest(item.artifact()) else {
         return Ok(None);
     };
     Ok(Some(Fact {
-        name: item.name,
+        name: item.name(),
         baseline: manifest.baseline,
         parent: first(manifest.parents.items()),
         files: rows_of(alloc, manifest.files.items())?,
@@ -90,7 +90,7 @@ fn of_items(alloc: Global, items: &Items) -> Result<Vec<Fact>, Memory>
 pub(crate) fn table(alloc: Global, items: &Items) -> Result<Files, Memory>
     requires rising { IsStrictlySortedBy bytes_cmp (map (λ i. i.name) items.now) }
     requires kinds { All IsItem items.now }
-    ensures { IfOk result (λ t. t ≡ record { facts = files_facts items.now; spare = [] }) }
+    ensures { IfOk result (λ t. t.facts ≡ files_facts items.now) }
 {
     Files::build(alloc, &of_items(alloc, items)?)
 }

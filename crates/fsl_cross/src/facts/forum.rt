@@ -6,7 +6,7 @@ ghost use Rattle.fsl_cross.specs.Facts.{forum_fact};
 ghost use Rattle.fsl_cross.specs.Tables.{forum_facts};
 
 use super::append;
-use crate::Item;
+use crate::held::Held;
 use crate::items::Items;
 use fsl_artifact::Artifact;
 use fsl_forum::{Fact, Threads};
@@ -14,12 +14,12 @@ use fsl_text::{Memory, Text};
 use std::alloc::Global;
 
 /// The fact that an artifact gives, where it is a forum post.
-fn fact_of(alloc: Global, item: &Item) -> Result<Option<Fact>, Memory>
+fn fact_of(alloc: Global, item: &Held) -> Result<Option<Fact>, Memory>
     ensures { IfOk result (λ fact. fact ≡ forum_fact item.now) }
 {
-    match &item.artifact {
+    match item.artifact() {
         Artifact::Forum(post) => Ok(Some(Fact {
-            name: item.name,
+            name: item.name(),
             date: post.date,
             user: Text::of(alloc, post.user.bytes())?,
             root: post.root,
@@ -44,7 +44,7 @@ fn of_items(alloc: Global, items: &Items) -> Result<Vec<Fact>, Memory>
 /// The table of forum posts. `Memory` is the only error.
 pub(crate) fn table(alloc: Global, items: &Items) -> Result<Threads, Memory>
     requires { IsStrictlySortedBy bytes_cmp (map (λ i. i.name) items.now) }
-    ensures { IfOk result (λ t. t ≡ record { facts = forum_facts items.now; spare = [] }) }
+    ensures { IfOk result (λ t. t.facts ≡ forum_facts items.now) }
 {
     Threads::build(alloc, &of_items(alloc, items)?)
 }

@@ -7,7 +7,7 @@ ghost use Rattle.fsl_cross.specs.Tables.{leaves_facts};
 ghost use Rattle.fsl_cross.specs.Inside.{leaves_fact_over};
 
 use super::append;
-use crate::Item;
+use crate::held::Held;
 use crate::checkin::{branch, copied, manifest};
 use crate::items::Items;
 use fsl_leaves::{Fact, Leaves};
@@ -16,16 +16,16 @@ use fsl_text::{List, Memory, Text};
 use std::alloc::Global;
 
 /// The fact that an artifact gives, where it is a check-in.
-fn fact_of(alloc: Global, tags: &Tags, item: &Item) -> Result<Option<Fact>, Memory>
+fn fact_of(alloc: Global, tags: &Tags, item: &Held) -> Result<Option<Fact>, Memory>
     ensures { IfOk result (λ fact. fact ≡ leaves_fact_over tags.now.facts item.now) }
 {
-    let Some(manifest) = manifest(&item.artifact) else {
+    let Some(manifest) = manifest(item.artifact()) else {
         return Ok(None);
     };
     Ok(Some(Fact {
-        name: item.name,
+        name: item.name(),
         parents: copied(alloc, manifest.parents.items())?,
-        branch: Text::of(alloc, branch(tags, item.name))?,
+        branch: Text::of(alloc, branch(tags, item.name()))?,
     }))
 }
 
@@ -44,7 +44,7 @@ fn of_items(alloc: Global, tags: &Tags, items: &Items) -> Result<Vec<Fact>, Memo
 pub(crate) fn table(alloc: Global, tags: &Tags, items: &Items) -> Result<Leaves, Memory>
     requires rising { IsStrictlySortedBy bytes_cmp (map (λ i. i.name) items.now) }
     requires tags { tags.now.facts ≡ tags_facts items.now }
-    ensures { IfOk result (λ t. t ≡ record { facts = leaves_facts items.now; spare = [] }) }
+    ensures { IfOk result (λ t. t.facts ≡ leaves_facts items.now) }
 {
     let facts = of_items(alloc, tags, items)?;
     Leaves::from_facts(alloc, List::from_vec(facts))

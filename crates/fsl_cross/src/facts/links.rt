@@ -6,7 +6,7 @@ ghost use Rattle.fsl_cross.specs.Facts.{links_fact};
 ghost use Rattle.fsl_cross.specs.Checkins.{links_facts};
 
 use super::append;
-use crate::Item;
+use crate::held::Held;
 use crate::checkin::{copied, manifest};
 use crate::items::Items;
 use fsl_links::{Fact, Links};
@@ -14,14 +14,14 @@ use fsl_text::Memory;
 use std::alloc::Global;
 
 /// The fact that an artifact gives, where it is a check-in.
-fn fact_of(alloc: Global, item: &Item) -> Result<Option<Fact>, Memory>
+fn fact_of(alloc: Global, item: &Held) -> Result<Option<Fact>, Memory>
     ensures { IfOk result (λ fact. fact ≡ links_fact item.now) }
 {
-    let Some(manifest) = manifest(&item.artifact) else {
+    let Some(manifest) = manifest(item.artifact()) else {
         return Ok(None);
     };
     Ok(Some(Fact {
-        name: item.name,
+        name: item.name(),
         parents: copied(alloc, manifest.parents.items())?,
     }))
 }
@@ -40,7 +40,7 @@ fn of_items(alloc: Global, items: &Items) -> Result<Vec<Fact>, Memory>
 /// The table of parentage. `Memory` is the only error.
 pub(crate) fn table(alloc: Global, items: &Items) -> Result<Links, Memory>
     requires { IsStrictlySortedBy bytes_cmp (map (λ i. i.name) items.now) }
-    ensures { IfOk result (λ t. t ≡ record { facts = links_facts items.now; spare = [] }) }
+    ensures { IfOk result (λ t. t.facts ≡ links_facts items.now) }
 {
     Links::build(alloc, &of_items(alloc, items)?)
 }

@@ -6,7 +6,7 @@ ghost use Rattle.fsl_cross.specs.Facts.{pages_fact};
 ghost use Rattle.fsl_cross.specs.Tables.{pages_facts};
 
 use super::append;
-use crate::Item;
+use crate::held::Held;
 use crate::items::Items;
 use fsl_artifact::Artifact;
 use fsl_forms as forms;
@@ -41,11 +41,11 @@ fn attached_of(alloc: Global, name: Name, file: &forms::Attachment) -> Result<At
 }
 
 /// The fact that an artifact gives, where it is a wiki page, a technote or an attachment.
-fn fact_of(alloc: Global, item: &Item) -> Result<Option<Fact>, Memory>
+fn fact_of(alloc: Global, item: &Held) -> Result<Option<Fact>, Memory>
     ensures { IfOk result (λ fact. fact ≡ pages_fact item.now) }
 {
-    let name = item.name;
-    match &item.artifact {
+    let name = item.name();
+    match item.artifact() {
         Artifact::Wiki(page) => Ok(Some(Fact::Page(page_of(alloc, name, page)?))),
         Artifact::Attachment(file) => Ok(Some(Fact::Attached(attached_of(alloc, name, file)?))),
         Artifact::Technote(note) => Ok(Some(Fact::Note(Note {
@@ -72,7 +72,7 @@ fn of_items(alloc: Global, items: &Items) -> Result<Vec<Fact>, Memory>
 /// The table of pages, technotes and attachments. `Memory` is the only error.
 pub(crate) fn table(alloc: Global, items: &Items) -> Result<Pages, Memory>
     requires { IsStrictlySortedBy bytes_cmp (map (λ i. i.name) items.now) }
-    ensures { IfOk result (λ t. t ≡ record { facts = pages_facts items.now; spare = [] }) }
+    ensures { IfOk result (λ t. t.facts ≡ pages_facts items.now) }
 {
     Pages::build(alloc, &of_items(alloc, items)?)
 }

@@ -8,7 +8,7 @@ ghost use Rattle.fsl_cross.specs.Facts.{assertion, tag_cards, tag_prefix_of};
 ghost use Rattle.fsl_cross.specs.Inside.{tags_fact_over};
 
 use super::append;
-use crate::Item;
+use crate::held::Held;
 use crate::checkin::manifest;
 use crate::items::Items;
 use fsl_artifact::Artifact;
@@ -104,17 +104,17 @@ fn assertions_of(
 }
 
 /// The fact that an artifact gives, where it may have T cards.
-fn fact_of(alloc: Global, links: &Links, item: &Item) -> Result<Option<Fact>, Memory>
+fn fact_of(alloc: Global, links: &Links, item: &Held) -> Result<Option<Fact>, Memory>
     ensures { IfOk result (λ fact. fact ≡ tags_fact_over links.now.facts item.now) }
 {
-    let Some((date, cards)) = cards(&item.artifact) else {
+    let Some((date, cards)) = cards(item.artifact()) else {
         return Ok(None);
     };
     Ok(Some(Fact {
-        name: item.name,
-        checkin: manifest(&item.artifact).is_some(),
-        parent: links.primary(item.name),
-        tags: assertions_of(alloc, date, item.name, cards)?,
+        name: item.name(),
+        checkin: manifest(item.artifact()).is_some(),
+        parent: links.primary(item.name()),
+        tags: assertions_of(alloc, date, item.name(), cards)?,
     }))
 }
 
@@ -133,7 +133,7 @@ fn of_items(alloc: Global, links: &Links, items: &Items) -> Result<Vec<Fact>, Me
 pub(crate) fn table(alloc: Global, links: &Links, items: &Items) -> Result<Tags, Memory>
     requires rising { IsStrictlySortedBy bytes_cmp (map (λ i. i.name) items.now) }
     requires links { links.now.facts ≡ links_facts items.now }
-    ensures { IfOk result (λ t. t ≡ record { facts = tags_facts items.now; spare = [] }) }
+    ensures { IfOk result (λ t. t.facts ≡ tags_facts items.now) }
 {
     Tags::build(alloc, &of_items(alloc, links, items)?)
 }

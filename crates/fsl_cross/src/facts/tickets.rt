@@ -6,7 +6,7 @@ ghost use Rattle.fsl_cross.specs.Facts.{field_change, ticket_fact};
 ghost use Rattle.fsl_cross.specs.Tables.{ticket_facts};
 
 use super::{append, given};
-use crate::Item;
+use crate::held::Held;
 use crate::items::Items;
 use fsl_artifact::Artifact;
 use fsl_forms::TicketChange;
@@ -37,12 +37,12 @@ fn changes_of(alloc: Global, cards: &[TicketChange]) -> Result<List<FieldChange>
 }
 
 /// The fact that an artifact gives, where it is a ticket change.
-fn fact_of(alloc: Global, item: &Item) -> Result<Option<Fact>, Memory>
+fn fact_of(alloc: Global, item: &Held) -> Result<Option<Fact>, Memory>
     ensures { IfOk result (λ fact. fact ≡ ticket_fact item.now) }
 {
-    match &item.artifact {
+    match item.artifact() {
         Artifact::Ticket(ticket) => Ok(Some(Fact {
-            name: item.name,
+            name: item.name(),
             date: ticket.date,
             id: ticket.id,
             changes: changes_of(alloc, ticket.changes.items())?,
@@ -65,7 +65,7 @@ fn of_items(alloc: Global, items: &Items) -> Result<Vec<Fact>, Memory>
 /// The table of the configured fields and of ticket changes. `Memory` is the only error.
 pub(crate) fn table(alloc: Global, fields: &List<Text>, items: &Items) -> Result<Tickets, Memory>
     requires { IsStrictlySortedBy bytes_cmp (map (λ i. i.name) items.now) }
-    ensures { IfOk result (λ t. t ≡ record { fields = fields.now; facts = ticket_facts items.now; spare = [] }) }
+    ensures { IfOk result (λ t. (t.fields ≡ fields.now) × (t.facts ≡ ticket_facts items.now)) }
 {
     Tickets::build(alloc, fields, &of_items(alloc, items)?)
 }

@@ -1,4 +1,4 @@
-use Rattle.std.proofs.Common.{false, sym, ap}
+use Rattle.std.proofs.Common.{false, sym, ap, ◌∙◌}
 use Rattle.std.specs.Option.{option_map_or}
 use Rattle.std.specs.Str.{bytes_eq}
 use Rattle.fsl_name.specs.Name.{name_text}
@@ -10,4 +10,4 @@ use Rattle.fsl_cross.proofs.targets.insert_ticket.Goals as goal
 
 pub returns-in-Ticket : goal.returns-in-Ticket
 returns-in-Ticket c =
-    put-on c.insert.result (in_set c.args.set.now) (in_set c.insert.new.set) (has_ticket c.args.item.now) (name_text c.in-Ticket.ticket.id) (λ q. ap (λ a. option_map_or (λ f. bytes_eq (name_text f.id) q) (ticket_fact_of c.args.item.now.name a) false) (sym c.in-Ticket.is)) c.insert.ensures
+    put-on c.insert.result (in_set c.args.set.now) (in_set c.insert.new.set) (has_ticket c.args.item.now) (name_text c.in-Ticket.ticket.id) (λ q. ap (λ a. option_map_or (λ f. bytes_eq (name_text f.id) q) (ticket_fact_of c.args.item.now.name a) false) (sym c.in-Ticket.is ∙ c.artifact.ensures)) c.insert.ensures

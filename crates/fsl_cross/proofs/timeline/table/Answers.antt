@@ -20,4 +20,4 @@ returns c =
     let rows : c.from_vec.result ≡ timeline_rows items
     = c.from_vec.ensures ∙ c.in_ok-rows.ensures
     ∙ (λ i. filter_map (item_row_over (c.requires.tags i) (c.requires.pages i) (c.requires.threads i) (λ q. c.in_ok-targets.ensures.tickets q i) (λ q. c.in_ok-targets.ensures.notes q i)) items) ∙ rows-by_facts items in
-    held-if c.from_rows.result (by_name (λ r. r.name) c.from_vec.result) (timeline_rows items) (ap (by_name (λ r. r.name)) rows ∙ rows-by_name items c.requires.rising) c.from_rows.ensures.facts c.from_rows.ensures.spare
+    held-if c.from_rows.result (by_name (λ r. r.name) c.from_vec.result) (timeline_rows items) (ap (by_name (λ r. r.name)) rows ∙ rows-by_name items c.requires.rising) c.from_rows.ensures.facts

@@ -16,4 +16,4 @@ pub returns : goal.returns
 returns c =
     let same : by_name (λ f. f.name) c.deref.result.now ≡ files_facts c.args.items.now
     = ap (by_name (λ f. f.name)) (c.deref.ensures.value ∙ c.in_ok-of_items.ensures) ∙ files-by_name c.args.items.now c.requires.rising in
-    held-if c.build.result (by_name (λ f. f.name) c.deref.result.now) (files_facts c.args.items.now) same c.build.ensures.facts c.build.ensures.spare
+    held-if c.build.result (by_name (λ f. f.name) c.deref.result.now) (files_facts c.args.items.now) same c.build.ensures.facts

@@ -11,4 +11,4 @@ pub returns : goal.returns
 returns c =
     let same : by_name (λ f. f.name) c.deref.result.now ≡ forum_facts c.args.items.now
     = ap (by_name (λ f. f.name)) (c.deref.ensures.value ∙ c.in_ok-of_items.ensures) ∙ forum-by_name c.args.items.now c.requires in
-    held-if c.build.result (by_name (λ f. f.name) c.deref.result.now) (forum_facts c.args.items.now) same c.build.ensures.facts c.build.ensures.spare
+    held-if c.build.result (by_name (λ f. f.name) c.deref.result.now) (forum_facts c.args.items.now) same c.build.ensures.facts

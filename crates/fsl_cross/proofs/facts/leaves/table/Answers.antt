@@ -18,4 +18,4 @@ returns c =
     let same : by_name (λ f. f.name) c.from_vec.result ≡ leaves_facts items
     = ap (by_name (λ f. f.name)) (c.from_vec.ensures ∙ c.in_ok-facts.ensures ∙ ap (λ facts. filter_map (leaves_fact_over facts) items) c.requires.tags)
     ∙ leaves-by_name items c.requires.rising in
-    held-if c.from_facts.result (by_name (λ f. f.name) c.from_vec.result) (leaves_facts items) same c.from_facts.ensures.facts c.from_facts.ensures.spare
+    held-if c.from_facts.result (by_name (λ f. f.name) c.from_vec.result) (leaves_facts items) same c.from_facts.ensures.facts

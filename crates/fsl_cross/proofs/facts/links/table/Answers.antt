@@ -13,4 +13,4 @@ returns c =
     let items = c.args.items.now in
     let same : by_name (λ f. f.name) c.deref.result.now ≡ links_facts items
     = ap (by_name (λ f. f.name)) (c.deref.ensures.value ∙ c.in_ok-of_items.ensures) ∙ links-by_name items c.requires in
-    held-if c.build.result (by_name (λ f. f.name) c.deref.result.now) (links_facts items) same c.build.ensures.facts c.build.ensures.spare
+    held-if c.build.result (by_name (λ f. f.name) c.deref.result.now) (links_facts items) same c.build.ensures.facts

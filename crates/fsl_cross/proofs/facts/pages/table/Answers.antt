@@ -12,4 +12,4 @@ pub returns : goal.returns
 returns c =
     let same : by_name name_of c.deref.result.now ≡ pages_facts c.args.items.now
     = ap (by_name name_of) (c.deref.ensures.value ∙ c.in_ok-of_items.ensures) ∙ pages-by_name c.args.items.now c.requires in
-    held-if c.build.result (by_name name_of c.deref.result.now) (pages_facts c.args.items.now) same c.build.ensures.facts c.build.ensures.spare
+    held-if c.build.result (by_name name_of c.deref.result.now) (pages_facts c.args.items.now) same c.build.ensures.facts

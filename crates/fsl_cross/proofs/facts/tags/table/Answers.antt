@@ -19,4 +19,4 @@ returns c =
     let same : by_name (λ f. f.name) c.deref.result.now ≡ tags_facts items
     = ap (by_name (λ f. f.name)) (c.deref.ensures.value ∙ c.in_ok-of_items.ensures ∙ ap (λ facts. filter_map (tags_fact_over facts) items) c.requires.links)
     ∙ tags-by_name items c.requires.rising in
-    held-if c.build.result (by_name (λ f. f.name) c.deref.result.now) (tags_facts items) same c.build.ensures.facts c.build.ensures.spare
+    held-if c.build.result (by_name (λ f. f.name) c.deref.result.now) (tags_facts items) same c.build.ensures.facts

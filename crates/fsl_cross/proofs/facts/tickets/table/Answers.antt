@@ -11,4 +11,4 @@ pub returns : goal.returns
 returns c =
     let same : by_name (λ f. f.name) c.deref.result.now ≡ ticket_facts c.args.items.now
     = ap (by_name (λ f. f.name)) (c.deref.ensures.value ∙ c.in_ok-of_items.ensures) ∙ tickets-by_name c.args.items.now c.requires in
-    seen-if c.build.result c.args.fields.now (by_name (λ f. f.name) c.deref.result.now) (ticket_facts c.args.items.now) same c.build.ensures.fields c.build.ensures.facts c.build.ensures.spare
+    seen-if c.build.result c.args.fields.now (by_name (λ f. f.name) c.deref.result.now) (ticket_facts c.args.items.now) same c.build.ensures.fields c.build.ensures.facts

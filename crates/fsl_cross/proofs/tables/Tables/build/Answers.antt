@@ -6,7 +6,7 @@ use Rattle.fsl_cross.specs.Tables.{IsItem}
 use Rattle.fsl_cross.proofs.Moved.{item_name}
 use Rattle.fsl_cross.proofs.tables.Tables.build.Goals as goal
 
-pub build-requires-clause-kinds : goal.build-requires-clause-kinds
-build-requires-clause-kinds c =
+pub of_set-requires-clause-kinds : goal.of_set-requires-clause-kinds
+of_set-requires-clause-kinds c =
     let given = c.args.items in
     subst (All IsItem) (sym c.in_ok-items.ensures.items) (All-permutation IsItem given (by_name item_name given) (IsPermutation-by_name item_name given c.requires.names) c.requires.kinds)

@@ -5,10 +5,13 @@ use Rattle.fsl_cross.proofs.FactLemmas.{set-rising}
 use Rattle.fsl_cross.proofs.TableLemmas.{files-by_name}
 use Rattle.fsl_cross.proofs.tables.Tables.files.Goals as goal
 
-pub returns-clause-facts : goal.returns-clause-facts
-returns-clause-facts c =
+pub returns : goal.returns
+returns c =
     let items = c.self.inside.items in
     let rise = c.self.invariant.rising in
-    ap (λ h. h.facts) c.self.invariant.contents.files
-    ∙ sym (ap (λ set. by_name (λ f. f.name) (files_facts set)) (set-rising items rise) ∙ files-by_name items rise)
-    ∙ ap (λ (s : Seen). by_name (λ f. f.name) (files_facts (item_set s.items))) c.self.view_is
+    record {
+      facts =
+        c.self.invariant.contents.files
+        ∙ sym (ap (λ set. by_name (λ f. f.name) (files_facts set)) (set-rising items rise) ∙ files-by_name items rise)
+        ∙ ap (λ (s : Seen). by_name (λ f. f.name) (files_facts (item_set s.items))) c.self.view_is;
+    }

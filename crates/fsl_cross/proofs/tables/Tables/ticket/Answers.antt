@@ -6,12 +6,12 @@ use Rattle.fsl_cross.proofs.TableLemmas.{tickets-by_name}
 use Rattle.fsl_cross.proofs.tables.Tables.ticket.Goals as goal
 
 pub returns-clause-fields : goal.returns-clause-fields
-returns-clause-fields c = ap (λ h. h.fields) c.self.invariant.contents.tickets ∙ ap (λ (s : Seen). s.fields) c.self.view_is
+returns-clause-fields c = c.self.invariant.contents.configured ∙ ap (λ (s : Seen). s.fields) c.self.view_is
 
 pub returns-clause-facts : goal.returns-clause-facts
 returns-clause-facts c =
     let items = c.self.inside.items in
     let rise = c.self.invariant.rising in
-    ap (λ h. h.facts) c.self.invariant.contents.tickets
+    c.self.invariant.contents.tickets
     ∙ sym (ap (λ set. by_name (λ f. f.name) (ticket_facts set)) (set-rising items rise) ∙ tickets-by_name items rise)
     ∙ ap (λ (s : Seen). by_name (λ f. f.name) (ticket_facts (item_set s.items))) c.self.view_is

@@ -13,7 +13,7 @@ pub returns : goal.returns
 returns c =
     let items = c.self.inside.items in
     let symbol = c.args.symbol.now in
-    let facts : c.self.inside.derived.history.tags.facts ≡ tags_facts items = ap (λ h. h.facts) c.self.invariant.history.tags in
+    let facts : c.self.inside.derived.history.tags.facts ≡ tags_facts items = c.self.invariant.history.tags in
     let names : c.items.result.now ≡ holders (tags_facts items) (codes "sym-" ++ symbol)
     = c.items.ensures ∙ c.in_ok-holders.ensures ∙ (λ i. holders (facts i) ((c.bytes.ensures ∙ c.in_ok-tag.ensures) i)) in
     c.latest.ensures ∙ (λ i. option_map (λ (d : ℕ × List ℕ). d.1) (greatest dated_cmp (filter_map (dated_over (facts i) items) (names i))))
