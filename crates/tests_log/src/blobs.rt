@@ -96,3 +96,27 @@ fn reads_a_content(rt: HostRuntime) -> Result<(), Memory> {
     assert!(rt; are_answered(rt.alloc(), &mut blobs));
     Ok(())
 }
+
+fn counted(number: u32) -> Name {
+    let mut bytes = [0u8; 20];
+    let [a, b, c, d] = number.to_be_bytes();
+    (bytes[0], bytes[1], bytes[2], bytes[3]) = (a, b, c, d);
+    Name::from_bytes(bytes)
+}
+
+/// How many names are announced as new, one after another, before one is not.
+fn count_new(blobs: &mut Blobs) -> Result<u32, Memory> {
+    for number in 0..70_000u32 {
+        if blobs.announce(counted(number))? != Known::New {
+            return Ok(number);
+        }
+    }
+    Ok(70_000)
+}
+
+#[test]
+fn announces_so_many_names(rt: HostRuntime) -> Result<(), Memory> {
+    let mut blobs = filled(rt.alloc())?;
+    assert!(rt; count_new(&mut blobs) == Ok(65_536));
+    Ok(())
+}

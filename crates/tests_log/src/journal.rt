@@ -1,9 +1,9 @@
-// The bytes of a file. What a disk that fails and a crash leave is tried by runs of the program, in `tests_top`.
+// The bytes of a file, and what crashes leave of a commit. A disk that fails is tried by runs of the program, in `tests_top`.
 ghost use Rattle.std.specs.Prelude.{◌≡◌, None, false, IfOk};
 ghost use Rattle.fsl_record.specs.Records.{AreFields, IsWritable, is_config};
 ghost use Rattle.fsl_journal.specs.Journal.{Belongs};
 
-use fsl_disk::{Disk, MemoryDisk};
+use fsl_disk::{Disk, FuseDisk, MemoryDisk};
 use fsl_journal::{Journal, create};
 use fsl_name::Name;
 use fsl_record::{Config, Record};
@@ -91,5 +91,54 @@ fn commits_a_blob(rt: HostRuntime) -> Result<(), Fail> {
     let found = committed(rt.alloc(), &mut disk)?;
     assert_eq!(rt; found, (Some(2), 2, 2));
     assert_eq!(rt; disk.bytes(), ONE_BLOB);
+    Ok(())
+}
+
+/// Whether a commit of two blobs and a shun is done.
+fn commits_three<D: Disk>(alloc: Global, disk: &mut D) -> Result<bool, Fail> {
+    let (mut journal, _) = Journal::load(alloc, disk)?;
+    let entry = blob(alloc)?;
+    add(&mut journal, disk, &entry)?;
+    add(&mut journal, disk, &entry)?;
+    let name = Name::of(b"abc");
+    add(&mut journal, disk, &Record::Shun { name })?;
+    Ok(journal.commit(disk).is_ok())
+}
+
+/// How many records one of the files stands for that a crash leaves.
+fn count_after(alloc: Global, disk: &MemoryDisk, pick: u64) -> Result<usize, Fail> {
+    let mut left = disk.crash(alloc, pick)?;
+    let (_, records) = Journal::load(alloc, &mut left)?;
+    Ok(records.items().len())
+}
+
+/// How many of the files that crashes leave stand for the Config alone, and how many for three records behind it.
+fn counts_after(alloc: Global, disk: &MemoryDisk) -> Result<(u64, u64), Fail> {
+    let (mut none, mut all) = (0u64, 0u64);
+    for pick in 0..16 {
+        match count_after(alloc, disk, pick)? {
+            1 => none = none.saturating_add(1),
+            4 => all = all.saturating_add(1),
+            _ => {}
+        }
+    }
+    Ok((none, all))
+}
+
+/// Whether the commit is done over a disk that fails after so many calls, of which three load the journal, and the counts.
+fn crashed_after(alloc: Global, calls: u64) -> Result<(bool, (u64, u64)), Fail> {
+    let mut disk = FuseDisk::new(disk_of(alloc, CONFIG_ALONE)?, calls);
+    let done = commits_three(alloc, &mut disk)?;
+    Ok((done, counts_after(alloc, &disk.inner())?))
+}
+
+#[test]
+fn crashes_leave_none_or_all(rt: HostRuntime) -> Result<(), Fail> {
+    for calls in 3..10 {
+        let (done, (none, all)) = crashed_after(rt.alloc(), calls)?;
+        assert_eq!(rt; done, calls == 9, "after {calls} calls");
+        assert_eq!(rt; none.saturating_add(all), 16, "after {calls} calls");
+        assert!(rt; !done || none == 0);
+    }
     Ok(())
 }
