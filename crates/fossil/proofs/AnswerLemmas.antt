@@ -3,11 +3,10 @@ use Rattle.std.proofs.Common.{◌≡◌, ℕ, Bool, List, [], Option, Some, sym,
 use Rattle.std.specs.Prelude.{MatchBool}
 use Rattle.std.specs.List.{AllZip}
 use Rattle.fsl_artifact.specs.Kind.{IsKind}
-use Rattle.fsl_cross.specs.declared.Item.{Item}
-use Rattle.fsl_cross.specs.Tables.{cluster_facts}
+use Rattle.fsl_cluster.specs.declared.Fact.{Fact}
 use Rattle.fossil.specs.declared.load.Loaded.{Loaded}
 use Rattle.fossil.specs.declared.message.Sent.{Sent}
-use Rattle.fossil.specs.Sets.{set_of, IsItemSent, report}
+use Rattle.fossil.specs.Sets.{set_of, IsFactOf, report}
 use Rattle.fossil.specs.Printed.{Printed, too_long}
 use Rattle.fossil.specs.Messages.{IsMessageRefused, AreFilesOf}
 use Rattle.fossil.specs.Ingest.{IsReported, IsRead}
@@ -15,14 +14,13 @@ use Rattle.fossil.specs.Put.{put_files, IsPutRead}
 use Rattle.fossil.specs.Taking.{with_files}
 use Rattle.fossil.specs.Acts.{IsInput, IsMessagePut, IsIngestRun, IsPutRun}
 use Rattle.fossil.specs.Run.{Input}
-use Rattle.fossil.proofs.SentLemmas.{facts_are}
 use Rattle.fossil.proofs.TakingLemmas.{none_appended}
 
 -- ---- ingest
 
 -- the set of the files is reported
-pub set_reported : (files : List Sent) (set : List Item) (text : List ℕ) → AllZip IsItemSent (set_of files) set → text ≡ report (cluster_facts set) → IsReported IsKind files (record { status = 0; text = text })
-set_reported files set text each printed = (cluster_facts set, facts_are (set_of files) set each, λ i. record { status = 0; text = printed i })
+pub set_reported : (files : List Sent) (facts : List Fact) (text : List ℕ) → AllZip (IsFactOf IsKind) (set_of files) facts → text ≡ report facts → IsReported IsKind files (record { status = 0; text = text })
+set_reported files facts text each printed = (facts, each, λ i. record { status = 0; text = printed i })
 
 -- ---- put
 

@@ -1,4 +1,4 @@
--- The set that files make, and the items of the tables that it is, one file after another.
+-- The set that files make, and the facts of the table of clusters that it is, one file after another.
 use Rattle.std.proofs.Common.{◌≡◌, ℕ, zero, suc, ◌+◌, ◌<◌, Bool, true, false, not, ◌&&◌, ◌||◌, cond, List, [], ◌∷◌, ◌++◌, length, map, take, get_or, refl, sym, ap, subst, ◌∙◌, arith, append_assoc}
 use Rattle.std.specs.Prelude.{All, fold}
 use Rattle.std.specs.List.{AllZip, AllByRecursion, IsDistinct, list_any}
@@ -13,13 +13,12 @@ use Rattle.std.proofs.lemmas.List.Folds.{list_any-append}
 use Rattle.std.proofs.lemmas.Map.Keys.{IsDistinct-push}
 use Rattle.fsl_order.specs.Names.{bytes_cmp}
 use Rattle.fsl_order.specs.Rows.{AreDistinct}
+use Rattle.fsl_artifact.specs.declared.Artifact.{Artifact}
 use Rattle.fsl_artifact.specs.Kind.{IsKind}
 use Rattle.fsl_artifact.specs.References.{members, references}
-use Rattle.fsl_cross.specs.declared.Item.{Item}
-use Rattle.fsl_cross.specs.Facts.{cluster_fact}
-use Rattle.fsl_cross.specs.Tables.{IsItem, cluster_facts}
+use Rattle.fsl_cluster.specs.declared.Fact.{Fact}
 use Rattle.fossil.specs.declared.message.Sent.{Sent}
-use Rattle.fossil.specs.Sets.{held_after, after_arrival, set_of, is_sent_public, IsFactOf, IsItemSent, fact_of}
+use Rattle.fossil.specs.Sets.{held_after, after_arrival, set_of, is_sent_public, IsFactOf, fact_of}
 
 abbrev is_of : List ℕ → Sent → Bool
 is_of name held = bytes_eq held.name name
@@ -144,17 +143,17 @@ held_all done held (f ∷ rest) t =
 set_private : (files : List Sent) → AllByRecursion (λ h. h.private ≡ not (is_sent_public files h.name)) (set_of files)
 set_private files = (held_all [] [] files (record { each = tt; known = λ name. refl })).each
 
--- ---- the items so far
+-- ---- the facts so far
 
--- an item has the name of a held artifact and what its bytes are, and is private where no file of its name is public
-pub record IsItemAmong (public : BTreeSet (List ℕ)) (held : Sent) (item : Item) : Type 0 where
-  pub name : item.name ≡ held.name
-  pub private : item.private ≡ not (contains bytes_cmp public held.name)
-  pub kind : IsKind held.bytes item.artifact
+-- a fact has the name of a held artifact and the names in what its bytes are, and is private where no file of its name is public
+pub record IsFactAmong (public : BTreeSet (List ℕ)) (held : Sent) (fact : Fact) : Type 0 where
+  pub name : fact.name ≡ held.name
+  pub private : fact.private ≡ not (contains bytes_cmp public held.name)
+  pub kind : (a : Artifact) × IsKind held.bytes a × (fact.members ≡ members a) × (fact.refs ≡ references a)
 
--- the held artifacts, their items, and the names that were seen
-pub record AreTaken (public : BTreeSet (List ℕ)) (held : List Sent) (items : List Item) (seen : BTreeSet (List ℕ)) : Type 0 where
-  pub each : AllZip (IsItemAmong public) held items
+-- the held artifacts, their facts, and the names that were seen
+pub record AreTaken (public : BTreeSet (List ℕ)) (held : List Sent) (facts : List Fact) (seen : BTreeSet (List ℕ)) : Type 0 where
+  pub each : AllZip (IsFactAmong public) held facts
   pub known : (name : List ℕ) → contains bytes_cmp seen name ≡ list_any (λ h. bytes_eq h.name name) held
   pub apart : AreDistinct (map (λ h. h.name) held)
 
@@ -170,16 +169,16 @@ arrived_more files i f lt is =
 
 -- ---- a name that was seen
 
-after_each : (public : BTreeSet (List ℕ)) (file : Sent) (held : List Sent) (items : List Item) → AllZip (IsItemAmong public) held items → AllZip (IsItemAmong public) (map (held_after file) held) items
+after_each : (public : BTreeSet (List ℕ)) (file : Sent) (held : List Sent) (facts : List Fact) → AllZip (IsFactAmong public) held facts → AllZip (IsFactAmong public) (map (held_after file) held) facts
 after_each public file [] [] all = tt
-after_each public file [] (x ∷ items) all = absurd all
+after_each public file [] (x ∷ facts) all = absurd all
 after_each public file (h ∷ held) [] all = absurd all
-after_each public file (h ∷ held) (x ∷ items) all = (
-  elim (is_of file.name h) as (λ b. IsItemAmong public (cond b (record h { private = h.private && file.private }) h) x) [
+after_each public file (h ∷ held) (x ∷ facts) all = (
+  elim (is_of file.name h) as (λ b. IsFactAmong public (cond b (record h { private = h.private && file.private }) h) x) [
     | true ↦ record { name = all.0.name; private = all.0.private; kind = all.0.kind }
     | false ↦ all.0
   ],
-  after_each public file held items all.1,
+  after_each public file held facts all.1,
 )
 
 after_all_names : (file : Sent) (held : List Sent) → map (λ h. h.name) (map (held_after file) held) ≡ map (λ h. h.name) held
@@ -189,15 +188,15 @@ after_all_names file (h ∷ held) =
     elim (is_of file.name h) as (λ b. (cond b (record h { private = h.private && file.private }) h).name ≡ h.name) [ true ↦ refl | false ↦ refl ] in
     let more = after_all_names file held in λ i. first i ∷ more i
 
-taken_again : (public : BTreeSet (List ℕ)) (held : List Sent) (items : List Item) (seen new : BTreeSet (List ℕ)) (file : Sent) → AreTaken public held items seen → contains bytes_cmp seen file.name ≡ true → IsUnchanged seen new
-    → AreTaken public (after_arrival held file) items new
-taken_again public held items seen new file t there same =
+taken_again : (public : BTreeSet (List ℕ)) (held : List Sent) (facts : List Fact) (seen new : BTreeSet (List ℕ)) (file : Sent) → AreTaken public held facts seen → contains bytes_cmp seen file.name ≡ true → IsUnchanged seen new
+    → AreTaken public (after_arrival held file) facts new
+taken_again public held facts seen new file t there same =
     let met : after_arrival held file ≡ map (held_after file) held = ap (λ (b : Bool). cond b (map (held_after file) held) (held ++ file ∷ [])) (sym (t.known file.name) ∙ there) in
-    let P : List Sent → Type 0 = λ hs. AreTaken public hs items new in
+    let P : List Sent → Type 0 = λ hs. AreTaken public hs facts new in
     let Q : List (List ℕ) → Type 0 = AreDistinct in
     subst P (sym met)
     (record {
-      each = after_each public file held items t.each;
+      each = after_each public file held facts t.each;
       known = λ name. ap (λ (ks : List (List ℕ)). list_any (is_at (bytes_cmp name)) ks) same ∙ t.known name ∙ sym (after_names file held name);
       apart = subst Q (sym (after_all_names file held)) t.apart;
     })
@@ -221,16 +220,16 @@ among_names [] name = refl
 among_names (h ∷ held) name =
     ap (λ (b : Bool). b || list_any (bytes_eq name) (map (λ h. h.name) held)) (nat_list_eq_equiv.symm name h.name) ∙ ap (λ (b : Bool). bytes_eq h.name name || b) (among_names held name)
 
-taken_new : (public : BTreeSet (List ℕ)) (held : List Sent) (items : List Item) (seen new : BTreeSet (List ℕ)) (file : Sent) (item : Item) → AreTaken public held items seen → contains bytes_cmp seen file.name ≡ false
-    → Updates bytes_cmp seen new file.name true → IsItemAmong public file item → AreTaken public (after_arrival held file) (items ++ item ∷ []) new
-taken_new public held items seen new file item t absent updates is =
+taken_new : (public : BTreeSet (List ℕ)) (held : List Sent) (facts : List Fact) (seen new : BTreeSet (List ℕ)) (file : Sent) (fact : Fact) → AreTaken public held facts seen → contains bytes_cmp seen file.name ≡ false
+    → Updates bytes_cmp seen new file.name true → IsFactAmong public file fact → AreTaken public (after_arrival held file) (facts ++ fact ∷ []) new
+taken_new public held facts seen new file fact t absent updates is =
     let more : after_arrival held file ≡ held ++ file ∷ [] =
     ap (λ (b : Bool). cond b (map (held_after file) held) (held ++ file ∷ [])) (sym (t.known file.name) ∙ absent) in
-    let P : List Sent → Type 0 = λ hs. AreTaken public hs (items ++ item ∷ []) new in
+    let P : List Sent → Type 0 = λ hs. AreTaken public hs (facts ++ fact ∷ []) new in
     let Q : List (List ℕ) → Type 0 = AreDistinct in
     subst P (sym more)
     (record {
-      each = AllZip-push (IsItemAmong public) held items file item t.each is;
+      each = AllZip-push (IsFactAmong public) held facts file fact t.each is;
       known = λ name.
           updates.0 name ∙ ap (λ (b : Bool). cond b true (contains bytes_cmp seen name)) (sym (texts_ties file.name name))
           ∙ ap (λ (b : Bool). cond (bytes_eq file.name name) true b) (t.known name)
@@ -241,52 +240,56 @@ taken_new public held items seen new file item t absent updates is =
 
 -- ---- in the loop
 
-pub file_again : (public : BTreeSet (List ℕ)) (files : List Sent) (i : ℕ) (f : Sent) (items same_items : List Item) (seen new : BTreeSet (List ℕ)) → i < length files → f ≡ get_or files i f
-    → AreTaken public (held_to files i) items seen → contains bytes_cmp seen f.name ≡ true → IsUnchanged seen new → same_items ≡ items → AreTaken public (held_to files (i + 1)) same_items new
-file_again public files i f items same_items seen new lt is t there same stay =
-    let P : List Sent → Type 0 = λ hs. AreTaken public hs same_items new in
-    let Q : List Item → Type 0 = λ fs. AreTaken public (held_to files i) fs seen in
-    subst P (sym (arrived_more files i f lt is)) (taken_again public (held_to files i) same_items seen new f (subst Q (sym stay) t) there same)
+pub file_again : (public : BTreeSet (List ℕ)) (files : List Sent) (i : ℕ) (f : Sent) (facts same_facts : List Fact) (seen new : BTreeSet (List ℕ)) → i < length files → f ≡ get_or files i f
+    → AreTaken public (held_to files i) facts seen → contains bytes_cmp seen f.name ≡ true → IsUnchanged seen new → same_facts ≡ facts → AreTaken public (held_to files (i + 1)) same_facts new
+file_again public files i f facts same_facts seen new lt is t there same stay =
+    let P : List Sent → Type 0 = λ hs. AreTaken public hs same_facts new in
+    let Q : List Fact → Type 0 = λ fs. AreTaken public (held_to files i) fs seen in
+    subst P (sym (arrived_more files i f lt is)) (taken_again public (held_to files i) same_facts seen new f (subst Q (sym stay) t) there same)
 
-pub file_new : (public : BTreeSet (List ℕ)) (files : List Sent) (i : ℕ) (f : Sent) (items more : List Item) (item : Item) (seen new : BTreeSet (List ℕ)) (there : Bool) → i < length files → f ≡ get_or files i f
-    → AreTaken public (held_to files i) items seen → contains bytes_cmp seen f.name ≡ false → Updates bytes_cmp seen new f.name true → there ≡ contains bytes_cmp public f.name
-    → IsItemSent (record f { private = not there }) item → more ≡ items ++ item ∷ [] → AreTaken public (held_to files (i + 1)) more new
-file_new public files i f items more item seen new there lt is t absent updates at fits grown =
-    let P : List Sent → Type 0 = λ hs. AreTaken public hs (items ++ item ∷ []) new in
-    let Q : List Item → Type 0 = λ fs. AreTaken public (held_to files (i + 1)) fs new in
+pub file_new : (public : BTreeSet (List ℕ)) (files : List Sent) (i : ℕ) (f : Sent) (facts more : List Fact) (fact : Fact) (seen new : BTreeSet (List ℕ)) (there : Bool) → i < length files → f ≡ get_or files i f
+    → AreTaken public (held_to files i) facts seen → contains bytes_cmp seen f.name ≡ false → Updates bytes_cmp seen new f.name true → there ≡ contains bytes_cmp public f.name
+    → IsFactOf IsKind (record f { private = not there }) fact → more ≡ facts ++ fact ∷ [] → AreTaken public (held_to files (i + 1)) more new
+file_new public files i f facts more fact seen new there lt is t absent updates at fits grown =
+    let P : List Sent → Type 0 = λ hs. AreTaken public hs (facts ++ fact ∷ []) new in
+    let Q : List Fact → Type 0 = λ fs. AreTaken public (held_to files (i + 1)) fs new in
     subst Q (sym grown)
     (subst P (sym (arrived_more files i f lt is))
-    (taken_new public (held_to files i) items seen new f item t absent updates (record { name = fits.name; private = fits.private ∙ ap not at; kind = fits.kind })))
+    (taken_new public (held_to files i) facts seen new f fact t absent updates (record { name = ap (λ (g : Fact). g.name) fits.2; private = ap (λ (g : Fact). g.private) fits.2 ∙ ap not at; kind = (fits.0, fits.1, ap (λ (g : Fact). g.members) fits.2, ap (λ (g : Fact). g.refs) fits.2) })))
 
-item_names : (public : BTreeSet (List ℕ)) (held : List Sent) (items : List Item) → AllZip (IsItemAmong public) held items → map (λ f. f.name) items ≡ map (λ h. h.name) held
-item_names public [] [] all = refl
-item_names public [] (f ∷ items) all = absurd all
-item_names public (h ∷ held) [] all = absurd all
-item_names public (h ∷ held) (f ∷ items) all =
-    let first : f.name ≡ h.name = all.0.name in let more = item_names public held items all.1 in λ i. first i ∷ more i
+fact_names : (public : BTreeSet (List ℕ)) (held : List Sent) (facts : List Fact) → AllZip (IsFactAmong public) held facts → map (λ f. f.name) facts ≡ map (λ h. h.name) held
+fact_names public [] [] all = refl
+fact_names public [] (f ∷ facts) all = absurd all
+fact_names public (h ∷ held) [] all = absurd all
+fact_names public (h ∷ held) (f ∷ facts) all =
+    let first : f.name ≡ h.name = all.0.name in let more = fact_names public held facts all.1 in λ i. first i ∷ more i
 
-pub items_apart : (public : BTreeSet (List ℕ)) (held : List Sent) (items : List Item) (seen : BTreeSet (List ℕ)) → AreTaken public held items seen → AreDistinct (map (λ f. f.name) items)
-items_apart public held items seen t = let Q : List (List ℕ) → Type 0 = AreDistinct in subst Q (sym (item_names public held items t.each)) t.apart
+pub facts_apart : (public : BTreeSet (List ℕ)) (held : List Sent) (facts : List Fact) (seen : BTreeSet (List ℕ)) → AreTaken public held facts seen → AreDistinct (map (λ f. f.name) facts)
+facts_apart public held facts seen t = let Q : List (List ℕ) → Type 0 = AreDistinct in subst Q (sym (fact_names public held facts t.each)) t.apart
 
-pub none_taken : (public : BTreeSet (List ℕ)) (items : List Item) (seen : BTreeSet (List ℕ)) → items ≡ [] → seen.keys ≡ [] → AreTaken public [] items seen
+pub none_taken : (public : BTreeSet (List ℕ)) (facts : List Fact) (seen : BTreeSet (List ℕ)) → facts ≡ [] → seen.keys ≡ [] → AreTaken public [] facts seen
 unfolding IsDistinct
-none_taken public items seen none empty =
-    let P : List Item → Type 0 = λ fs. AreTaken public [] fs seen in
+none_taken public facts seen none empty =
+    let P : List Fact → Type 0 = λ fs. AreTaken public [] fs seen in
     subst P (sym none) (record { each = tt; known = λ name. ap (λ (ks : List (List ℕ)). list_any (is_at (bytes_cmp name)) ks) empty; apart = tt })
 
 -- all files were taken
-items_are_sent : (public : BTreeSet (List ℕ)) (files held : List Sent) (items : List Item) → ((name : List ℕ) → contains bytes_cmp public name ≡ is_sent_public files name)
-    → AllByRecursion (λ h. h.private ≡ not (is_sent_public files h.name)) held → AllZip (IsItemAmong public) held items → AllZip IsItemSent held items
-items_are_sent public files [] [] are right all = tt
-items_are_sent public files [] (x ∷ items) are right all = absurd all
-items_are_sent public files (h ∷ held) [] are right all = absurd all
-items_are_sent public files (h ∷ held) (x ∷ items) are right all =
-    (record { name = all.0.name; private = all.0.private ∙ ap not (are h.name) ∙ sym right.0; kind = all.0.kind }, items_are_sent public files held items are right.1 all.1)
+facts_are_sent : (public : BTreeSet (List ℕ)) (files held : List Sent) (facts : List Fact) → ((name : List ℕ) → contains bytes_cmp public name ≡ is_sent_public files name)
+    → AllByRecursion (λ h. h.private ≡ not (is_sent_public files h.name)) held → AllZip (IsFactAmong public) held facts → AllZip (IsFactOf IsKind) held facts
+facts_are_sent public files [] [] are right all = tt
+facts_are_sent public files [] (x ∷ facts) are right all = absurd all
+facts_are_sent public files (h ∷ held) [] are right all = absurd all
+facts_are_sent public files (h ∷ held) (x ∷ facts) are right all =
+    let is = all.0 in
+    let a = is.kind.0 in
+    let private : x.private ≡ h.private = is.private ∙ ap not (are h.name) ∙ sym right.0 in
+    let same : x ≡ fact_of h a = λ j. record { name = is.name j; private = private j; members = is.kind.2 j; refs = is.kind.3 j } in
+    ((a, is.kind.1, same), facts_are_sent public files held facts are right.1 all.1)
 
-pub all_sent : (public : BTreeSet (List ℕ)) (files done : List Sent) (items : List Item) (seen : BTreeSet (List ℕ)) → ((name : List ℕ) → contains bytes_cmp public name ≡ is_sent_public files name)
-    → done ≡ files → AreTaken public (set_of done) items seen → AllZip IsItemSent (set_of files) items
-all_sent public files done items seen are all t =
-    items_are_sent public files (set_of files) items are (set_private files) (subst (λ (fs : List Sent). AllZip (IsItemAmong public) (set_of fs) items) all t.each)
+pub all_sent : (public : BTreeSet (List ℕ)) (files done : List Sent) (facts : List Fact) (seen : BTreeSet (List ℕ)) → ((name : List ℕ) → contains bytes_cmp public name ≡ is_sent_public files name)
+    → done ≡ files → AreTaken public (set_of done) facts seen → AllZip (IsFactOf IsKind) (set_of files) facts
+all_sent public files done facts seen are all t =
+    facts_are_sent public files (set_of files) facts are (set_private files) (subst (λ (fs : List Sent). AllZip (IsFactAmong public) (set_of fs) facts) all t.each)
 
 seen_before : (b added : Bool) → added ≡ not b → added ≡ false → b ≡ true
 seen_before true added e h = refl
@@ -334,27 +337,9 @@ names_more files i f names new after lt is so_far public updates e name =
     ∙ ap (λ (b : Bool). cond (bytes_eq f.name name) true b) (so_far name)
     ∙ is_more (is_sent_public (take i files) name) (is_of name f) f.private public ∙ sym (public_next files i f name lt is)
 
--- ---- what the items are
-
-pub facts_are : (held : List Sent) (items : List Item) → AllZip IsItemSent held items → AllZip (IsFactOf IsKind) held (cluster_facts items)
-facts_are [] [] all = tt
-facts_are [] (i ∷ items) all = absurd all
-facts_are (h ∷ held) [] all = absurd all
-facts_are (h ∷ held) (i ∷ items) all =
-    let is = all.0 in
-    let fact : cluster_fact i ≡ fact_of h i.artifact = λ j. record { name = is.name j; private = is.private j; members = members i.artifact; refs = references i.artifact } in
-    ((i.artifact, is.kind, fact), facts_are held items all.1)
-
-each_kind : (held : List Sent) (items : List Item) → AllZip IsItemSent held items → AllByRecursion IsItem items
-each_kind [] [] all = tt
-each_kind [] (i ∷ items) all = absurd all
-each_kind (h ∷ held) [] all = absurd all
-each_kind (h ∷ held) (i ∷ items) all = ((h.bytes, all.0.kind), each_kind held items all.1)
+-- ---- lists
 
 pub all_of : {X : Type 0} (P : X → Type 0) (xs : List X) → AllByRecursion P xs → All P xs
 all_of P [] h i d lt = absurd (omega (arith, lt))
 all_of P (x ∷ xs) h zero d lt = h.0
 all_of P (x ∷ xs) h (suc i) d lt = all_of P xs h.1 i d (omega (arith, lt))
-
-pub items_kinds : (held : List Sent) (items : List Item) → AllZip IsItemSent held items → All IsItem items
-items_kinds held items each = all_of IsItem items (each_kind held items each)

@@ -10,7 +10,7 @@ use super::fault::Fault;
 use super::input::read_input;
 use super::message::Sent;
 use super::report::report_of;
-use super::sent::items_sent;
+use super::sent::facts_sent;
 use super::status::DONE;
 use fsl_outside::Source;
 use fsl_text::{List, Memory, Text};
@@ -20,10 +20,10 @@ use std::alloc::Global;
 fn report_on(alloc: Global, files: List<Sent>) -> Result<Answer, Memory>
     ensures { IfOk result (λ a. ingest.IsReported IsKind files a) }
 {
-    let set = items_sent(alloc, files)?;
+    let facts = facts_sent(alloc, files)?;
     Ok(Answer {
         status: DONE,
-        text: report_of(alloc, set)?,
+        text: report_of(alloc, facts.items())?,
     })
 }
 

@@ -1,13 +1,11 @@
 //! What is printed of a set of artifacts.
-ghost use Rattle.std.specs.Prelude.{◌≡◌, ◌++◌, map, flat_map, All, OnOk, IfOk, codes};
+ghost use Rattle.std.specs.Prelude.{◌≡◌, ◌++◌, map, flat_map, OnOk, IfOk, codes};
 ghost use Rattle.fsl_order.specs.Rows.{AreDistinct};
-ghost use Rattle.fsl_cross.specs.Tables.{IsItem, cluster_facts};
 ghost use Rattle.fossil.specs.Sets.{name_line, report};
 
-use fsl_cluster::Clusters;
-use fsl_cross::{Item, Tables};
+use fsl_cluster::{Clusters, Fact};
 use fsl_name::Name;
-use fsl_text::{List, Memory, Text};
+use fsl_text::{Memory, Text};
 use std::alloc::Global;
 
 /// Puts a line of a word and a name at the end.
@@ -41,13 +39,12 @@ fn lines_of(alloc: Global, clusters: &Clusters) -> Result<Text, Memory>
     Ok(text)
 }
 
-/// The unclustered names of a set of artifacts, and then the wanted ones, both ascending, each on a line.
-pub fn report_of(alloc: Global, set: List<Item>) -> Result<Text, Memory>
-    requires names { AreDistinct (map (λ item. item.name) set) }
-    requires kinds { All IsItem set }
-    ensures { IfOk result (λ text. text ≡ report (cluster_facts set)) }
+/// The unclustered names of a set of artifacts, and then the wanted ones, both ascending, each on a line. The set is given
+/// by its facts, in any order.
+pub fn report_of(alloc: Global, facts: &[Fact]) -> Result<Text, Memory>
+    requires { AreDistinct (map (λ f. f.name) facts.now) }
+    ensures { IfOk result (λ text. text ≡ report facts.now) }
 {
-    let fields = List::new(alloc);
-    let tables = Tables::build(alloc, &fields, set)?;
-    lines_of(alloc, tables.cluster())
+    let clusters = Clusters::build(alloc, facts)?;
+    lines_of(alloc, &clusters)
 }

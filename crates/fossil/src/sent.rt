@@ -1,15 +1,17 @@
-//! The set of artifacts that the files of a message make.
-ghost use Rattle.std.specs.Prelude.{◌≡◌, map, All, ℕ, List as Items, IfOk};
+//! The set of artifacts that the files of a message make, by what it tells the table of clusters.
+ghost use Rattle.std.specs.Prelude.{◌≡◌, map, ℕ, List as Items, IfOk};
 ghost use Rattle.std.specs.List.{AllZip};
 ghost use Rattle.std.specs.BTreeSet.{contains};
 ghost use Rattle.fsl_order.specs.Names.{bytes_cmp};
 ghost use Rattle.fsl_order.specs.Rows.{AreDistinct};
-ghost use Rattle.fsl_cross.specs.Tables.{IsItem};
-ghost use Rattle.fossil.specs.Sets.{set_of, is_sent_public, IsItemSent};
+ghost use Rattle.fsl_artifact.specs.Kind.{IsKind};
+ghost use Rattle.fsl_artifact.specs.References as told;
+ghost use Rattle.fossil.specs.Sets.{set_of, is_sent_public, IsFactOf};
 
 use super::artifact::read_artifact;
 use super::message::Sent;
-use fsl_cross::Item;
+use fsl_artifact::{Artifact, members, refs};
+use fsl_cluster::Fact;
 use fsl_name::Name;
 use fsl_text::{List, Memory};
 use std::alloc::Global;
@@ -28,42 +30,51 @@ fn public_names(alloc: Global, files: &[Sent]) -> Result<BTreeSet<Name>, Memory>
     Ok(names)
 }
 
-/// The artifact of a file, as what its bytes are.
-fn item_of(alloc: Global, file: &Sent, private: bool) -> Result<Item, Memory>
-    ensures { IfOk result (IsItemSent (record file.now { private = private })) }
+/// What a file tells the table of clusters, by what its bytes are.
+fn fact_of(alloc: Global, file: &Sent, private: bool) -> Result<Fact, Memory>
+    ensures { IfOk result (IsFactOf IsKind (record file.now { private = private })) }
 {
-    Ok(Item {
-        name: file.name,
+    let artifact = read_artifact(alloc, file.bytes.bytes())?;
+    let fact = named_in(alloc, file.name, private, &artifact)?;
+    Ok(fact)
+}
+
+/// The fact of an artifact of a name.
+fn named_in(alloc: Global, name: Name, private: bool, artifact: &Artifact) -> Result<Fact, Memory>
+    ensures { IfOk result (λ fact. fact ≡ record { name = name; private = private; members = told.members artifact.now; refs = told.references artifact.now }) }
+{
+    let members = members(artifact).to_vec(alloc)?;
+    Ok(Fact {
+        name,
         private,
-        artifact: read_artifact(alloc, file.bytes.bytes())?,
+        members: List::from_vec(members),
+        refs: refs(alloc, artifact)?,
     })
 }
 
-/// An artifact for each name, of the first file of this name; it is private where the name isn't among these.
-fn items_among(alloc: Global, files: &[Sent], public: &BTreeSet<Name>) -> Result<List<Item>, Memory>
+/// A fact for each name, of the first file of this name; it is private where the name isn't among these.
+fn facts_among(alloc: Global, files: &[Sent], public: &BTreeSet<Name>) -> Result<List<Fact>, Memory>
     requires { (name : Items ℕ) → contains bytes_cmp public.now name ≡ is_sent_public files.now name }
-    ensures set { IfOk result (λ items. AllZip IsItemSent (set_of files.now) items) }
-    ensures apart { IfOk result (λ items. AreDistinct (map (λ i. i.name) items)) }
-    ensures kinds { IfOk result (λ items. All IsItem items) }
+    ensures set { IfOk result (λ facts. AllZip (IsFactOf IsKind) (set_of files.now) facts) }
+    ensures apart { IfOk result (λ facts. AreDistinct (map (λ f. f.name) facts)) }
 {
-    let mut items = Vec::new(alloc);
+    let mut facts = Vec::new(alloc);
     let mut seen = BTreeSet::new(alloc);
     for file in files {
         if seen.insert(file.name)? {
-            let item = item_of(alloc, file, !public.contains(&file.name))?;
-            items.push(item)?;
+            let fact = fact_of(alloc, file, !public.contains(&file.name))?;
+            facts.push(fact)?;
         }
     }
-    Ok(List::from_vec(items))
+    Ok(List::from_vec(facts))
 }
 
-/// The set that the files of a message make: an artifact for each name, of the first content that was sent under it, and
-/// private where each file of the name is. The contents are let go.
-pub fn items_sent(alloc: Global, files: List<Sent>) -> Result<List<Item>, Memory>
-    ensures set { IfOk result (λ items. AllZip IsItemSent (set_of files) items) }
-    ensures apart { IfOk result (λ items. AreDistinct (map (λ i. i.name) items)) }
-    ensures kinds { IfOk result (λ items. All IsItem items) }
+/// What the set that the files of a message make tells the table of clusters: a fact for each name, of the first content
+/// that was sent under it, and private where each file of the name is. The contents are let go.
+pub fn facts_sent(alloc: Global, files: List<Sent>) -> Result<List<Fact>, Memory>
+    ensures set { IfOk result (λ facts. AllZip (IsFactOf IsKind) (set_of files) facts) }
+    ensures apart { IfOk result (λ facts. AreDistinct (map (λ f. f.name) facts)) }
 {
     let public = public_names(alloc, files.items())?;
-    items_among(alloc, files.items(), &public)
+    facts_among(alloc, files.items(), &public)
 }

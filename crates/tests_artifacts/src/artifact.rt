@@ -1,4 +1,4 @@
-//! What texts are, and which names they name. The digits are those of Python's `hashlib`.
+//! What a text is, and which names it names. The digits are those of Python's `hashlib`.
 ghost use Rattle.std.specs.Prelude.{◌≡◌, ◌<◌};
 
 use fsl_artifact::{
@@ -10,10 +10,6 @@ use fsl_text::{List, Memory, Steps};
 use std::alloc::Global;
 use std::marker::Brand;
 use std::sync::ledger::{Blank, Ledger};
-
-/// A check-in with two parents and a tag on another artifact.
-const CHECKIN: &[u8] =
-    b"C m\nD 2024-01-02T03:04:05\nP 7777777777777777777777777777777777777777 2222222222222222222222222222222222222222\nT +closed 5555555555555555555555555555555555555555\nT *branch * b\nU ann\nZ 19abe9ba0c04abb9ea9068b2b1961145\n";
 
 /// A cluster of two.
 const CLUSTER: &[u8] =
@@ -28,43 +24,16 @@ fn read_counted<L: Ledger>(alloc: Global, text: &[u8], blank: Blank) -> Result<A
     parse(alloc, text, &mut steps)
 }
 
-fn kind_of(artifact: &Artifact) -> &'static str {
-    match artifact {
-        Artifact::Plain => "plain",
-        Artifact::Manifest(_) => "manifest",
-        Artifact::Cluster(_) => "cluster",
-        Artifact::Control(_) => "control",
-        Artifact::Wiki(_) => "wiki",
-        Artifact::Ticket(_) => "ticket",
-        Artifact::Attachment(_) => "attachment",
-        Artifact::Technote(_) => "technote",
-        Artifact::Forum(_) => "forum",
-    }
+/// What a text is.
+pub fn parsed(alloc: Global, text: &[u8]) -> Result<Artifact, Memory> {
+    read_counted::<Brand>(alloc, text, Blank::new(1))
 }
 
-/// What a text is, its references and its members.
-fn read(alloc: Global, text: &[u8]) -> Result<(&'static str, List<Name>, usize), Memory> {
-    let artifact = read_counted::<Brand>(alloc, text, Blank::new(1))?;
-    let names = refs(alloc, &artifact)?;
-    Ok((kind_of(&artifact), names, members(&artifact).len()))
-}
-
-/// The first bytes of names.
-fn firsts(alloc: Global, names: &[Name]) -> Result<Vec<u8>, Memory> {
-    let mut bytes = Vec::new(alloc);
-    for name in names {
-        bytes.push(name.bytes()[0])?;
-    }
-    Ok(bytes)
-}
-
-#[test]
-fn tells_what_a_check_in_refers_to(rt: HostRuntime) -> Result<(), Memory> {
-    let (kind, names, count) = read(rt.alloc(), CHECKIN)?;
-    let names = firsts(rt.alloc(), names.items())?;
-    assert_eq!(rt; (kind, count), ("manifest", 0));
-    assert_eq!(rt; names.as_slice(), b"\x22\x55\x77".as_slice());
-    Ok(())
+/// The references of a text, and how many members it has.
+fn names_of(alloc: Global, text: &[u8]) -> Result<(List<Name>, usize), Memory> {
+    let artifact = parsed(alloc, text)?;
+    let count = members(&artifact).len();
+    Ok((refs(alloc, &artifact)?, count))
 }
 
 #[test]
@@ -72,9 +41,8 @@ fn tells_the_members_of_a_cluster(rt: HostRuntime) -> Result<(), Memory> {
     text_is_one_artifact();
     text_is_some_artifact();
     text_is_of_one_kind();
-    let (kind, names, count) = read(rt.alloc(), CLUSTER)?;
-    let names = firsts(rt.alloc(), names.items())?;
-    assert_eq!(rt; (kind, count), ("cluster", 2));
-    assert_eq!(rt; names.as_slice(), b"\xA9\xDA".as_slice());
+    let (names, count) = names_of(rt.alloc(), CLUSTER)?;
+    assert_eq!(rt; count, 2);
+    assert_eq!(rt; names.items(), [Name::of(b"abc"), Name::of(b"")].as_slice());
     Ok(())
 }

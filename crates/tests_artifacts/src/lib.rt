@@ -1,4 +1,4 @@
-//! Tests of artifacts: cards and the eight kinds, by their public calls alone. They stand apart, so that no crate is proved once more for its tests.
+//! Tests of artifacts, by their public calls alone: what no command shows is how a value is written. What texts are is shown by transcripts.
 #![tactic(auto)]
 
 #[cfg(test)]
@@ -6,8 +6,4 @@ mod artifact;
 #[cfg(test)]
 mod card;
 #[cfg(test)]
-mod forms;
-#[cfg(test)]
-mod grammar;
-#[cfg(test)]
-mod manifest;
+mod writing;

@@ -7,7 +7,6 @@ use fsl_name::Name;
 use fsl_record::{Config, Record};
 use fsl_text::{List, Memory, Text};
 use std::alloc::Global;
-use std::test::Fail;
 
 /// The only record of a repository that holds nothing.
 fn first_record(alloc: Global) -> Result<List<Record>, Memory>
@@ -32,117 +31,69 @@ fn blob(alloc: Global, private: bool, bytes: &[u8]) -> Result<Record, Memory>
     })
 }
 
-fn empty_disk(alloc: Global) -> MemoryDisk {
-    MemoryDisk::new(alloc, Vec::new(alloc), Vec::new(alloc))
+/// A private artifact and its publication, one more, and one that is shunned.
+fn fill(alloc: Global, blobs: &mut Blobs) -> Result<(), Memory> {
+    blobs.apply(blob(alloc, true, b"abc")?)?;
+    blobs.apply(Record::Publish {
+        name: Name::of(b"abc"),
+    })?;
+    blobs.apply(blob(alloc, false, b"2939")?)?;
+    blobs.apply(Record::Shun {
+        name: Name::of(b""),
+    })
 }
 
-fn is_content(alloc: Global, blobs: &mut Blobs, name: Name, want: &[u8]) -> bool {
-    let mut disk = empty_disk(alloc);
-    match blobs.content(alloc, &mut disk, name) {
-        Ok(text) => text.bytes() == want && blobs.bytes_of(name) == Some(want),
+fn filled(alloc: Global) -> Result<Blobs, Memory> {
+    let mut blobs = Blobs::fold(alloc, first_record(alloc)?)?;
+    fill(alloc, &mut blobs)?;
+    Ok(blobs)
+}
+
+/// What names are, and what prefixes find. The names of `abc` and `2939` begin with the same three digits, and no more.
+fn are_found(blobs: &Blobs) -> bool {
+    let (first, second) = (Name::of(b"abc"), Name::of(b"2939"));
+    blobs.config().project == Name::of(b"project")
+        && blobs.state(first) == BlobState::Public { size: 3 }
+        && blobs.state(Name::of(b"")) == BlobState::Shunned
+        && blobs.bytes_of(second) == Some(b"2939".as_slice())
+        && blobs.find(b"a99") == Found::Several
+        && blobs.find(b"a9993") == Found::One(first)
+}
+
+#[test]
+fn finds_names(rt: HostRuntime) -> Result<(), Memory> {
+    let blobs = filled(rt.alloc())?;
+    assert!(rt; are_found(&blobs));
+    Ok(())
+}
+
+/// How many artifacts are held from the fourth record on, and how many in all.
+fn counts(alloc: Global, blobs: &Blobs) -> Result<(usize, usize), Memory> {
+    let later = blobs.held(alloc, 3)?.items().len();
+    Ok((later, blobs.holdings(alloc)?.len()))
+}
+
+#[test]
+fn lends_artifacts(rt: HostRuntime) -> Result<(), Memory> {
+    let blobs = filled(rt.alloc())?;
+    assert!(rt; counts(rt.alloc(), &blobs) == Ok((1, 2)));
+    Ok(())
+}
+
+/// Whether a content is read and a name announced.
+fn are_answered(alloc: Global, blobs: &mut Blobs) -> bool {
+    let mut disk = MemoryDisk::new(alloc, Vec::new(alloc), Vec::new(alloc));
+    let known = blobs.announce(Name::of(b"161"));
+    match blobs.content(alloc, &mut disk, Name::of(b"abc")) {
+        Ok(text) => text.bytes() == b"abc".as_slice() && known == Ok(Known::New),
         Err(_) => false,
     }
 }
 
-fn are_placed(
-    alloc: Global,
-    blobs: &Blobs,
-    from: u64,
-    want: &[(u64, Name)],
-) -> Result<bool, Memory> {
-    let placed = blobs.held(alloc, from)?;
-    let mut same = placed.items().len() == want.len();
-    for (found, wanted) in placed.items().iter().zip(want) {
-        same = same && found.place == wanted.0 && found.name == wanted.1;
-    }
-    Ok(same)
-}
-
-/// A private artifact, its publication, and that it isn't held again once it is shunned.
 #[test]
-fn reads_records(rt: HostRuntime) -> Result<(), Fail> {
-    let mut blobs = Blobs::fold(rt.alloc(), first_record(rt.alloc())?)?;
-    let name = Name::of(b"abc");
-    assert!(rt; blobs.config().project == Name::of(b"project"));
-    assert_eq!(rt; blobs.state(name), BlobState::Absent);
-    blobs.apply(blob(rt.alloc(), true, b"abc")?)?;
-    assert_eq!(rt; blobs.state(name), BlobState::Private { size: 3 });
-    assert!(rt; is_content(rt.alloc(), &mut blobs, name, b"abc"));
-    blobs.apply(blob(rt.alloc(), false, b"abc")?)?;
-    assert_eq!(rt; blobs.state(name), BlobState::Private { size: 3 });
-    blobs.apply(Record::Publish { name })?;
-    assert_eq!(rt; blobs.state(name), BlobState::Public { size: 3 });
-    assert!(rt; is_content(rt.alloc(), &mut blobs, name, b"abc"));
-    blobs.apply(Record::Shun { name })?;
-    blobs.apply(blob(rt.alloc(), false, b"abc")?)?;
-    assert_eq!(rt; blobs.state(name), BlobState::Shunned);
-    assert!(rt; blobs.bytes_of(name).is_none());
-    let mut disk = empty_disk(rt.alloc());
-    assert!(rt;
-        matches!(
-            blobs.content(rt.alloc(), &mut disk, name),
-            Err(BlobFault::Absent)
-        )
-    );
-    Ok(())
-}
-
-/// The names of `abc` and of `2939` begin with the same three digits, and no more.
-#[test]
-fn looks_names_up(rt: HostRuntime) -> Result<(), Fail> {
-    let mut blobs = Blobs::fold(rt.alloc(), first_record(rt.alloc())?)?;
-    let (first, second) = (Name::of(b"abc"), Name::of(b"2939"));
-    blobs.apply(blob(rt.alloc(), true, b"2939")?)?;
-    assert_eq!(rt; blobs.find(b"a99"), Found::One(second));
-    blobs.apply(blob(rt.alloc(), false, b"abc")?)?;
-    blobs.apply(Record::Publish { name: second })?;
-    let table: [(&[u8], Found); 6] = [
-        (b"a99", Found::Several),
-        (b"", Found::Several),
-        (
-            b"a9993e364706816aba3e25717850c26c9cd0d89d",
-            Found::One(first),
-        ),
-        (b"a9993e364706816aba3e25717850c26c9cd0d89d0", Found::Nothing),
-        (b"A9993", Found::Nothing),
-        (b"a9993", Found::One(first)),
-    ];
-    for (prefix, want) in table {
-        assert_eq!(rt; blobs.find(prefix), want);
-    }
-    assert!(rt; are_placed(rt.alloc(), &blobs, 0, &[(2, second), (3, first)])?);
-    assert!(rt; are_placed(rt.alloc(), &blobs, 3, &[(3, first)])?);
-    assert!(rt; are_placed(rt.alloc(), &blobs, 4, &[])?);
-    Ok(())
-}
-
-/// Whether the held artifacts are these, in this order.
-fn are_lent(alloc: Global, blobs: &Blobs, want: &[(bool, &[u8])]) -> Result<bool, Memory> {
-    let Ok(held) = blobs.holdings(alloc) else {
-        return Err(Memory);
-    };
-    let mut same = held.len() == want.len();
-    for (found, wanted) in held.iter().zip(want) {
-        same = same && found.private == wanted.0 && found.bytes == wanted.1;
-        same = same && found.name == Name::of(wanted.1);
-    }
-    Ok(same)
-}
-
-/// The names of these bytes begin with a99, a99 and da3.
-#[test]
-fn lends_artifacts(rt: HostRuntime) -> Result<(), Fail> {
-    let mut blobs = Blobs::fold(rt.alloc(), first_record(rt.alloc())?)?;
-    blobs.apply(blob(rt.alloc(), false, b"")?)?;
-    blobs.apply(blob(rt.alloc(), false, b"2939")?)?;
-    blobs.apply(blob(rt.alloc(), true, b"abc")?)?;
-    assert!(rt;
-        are_lent(
-            rt.alloc(),
-            &blobs,
-            &[(true, b"abc"), (false, b"2939"), (false, b"")]
-        )?
-    );
+fn reads_a_content(rt: HostRuntime) -> Result<(), Memory> {
+    let mut blobs = filled(rt.alloc())?;
+    assert!(rt; are_answered(rt.alloc(), &mut blobs));
     Ok(())
 }
 
@@ -153,23 +104,19 @@ fn counted(number: u32) -> Name {
     Name::from_bytes(bytes)
 }
 
-/// What an announcement meets, and that a name that comes to be held isn't announced any more.
-#[test]
-fn announces_names(rt: HostRuntime) -> Result<(), Fail> {
-    let mut blobs = Blobs::fold(rt.alloc(), first_record(rt.alloc())?)?;
-    let (held, shunned) = (Name::of(b""), Name::of(b"abc"));
-    assert_eq!(rt; blobs.announce(held)?, Known::New);
-    assert_eq!(rt; blobs.announce(held)?, Known::Again);
-    blobs.apply(blob(rt.alloc(), false, b"")?)?;
-    blobs.apply(Record::Shun { name: shunned })?;
-    for number in 0..65_536u32 {
-        assert_eq!(rt; blobs.announce(counted(number))?, Known::New);
+/// How many names are announced as new, one after another, before one is not.
+fn count_new(blobs: &mut Blobs) -> Result<u32, Memory> {
+    for number in 0..70_000u32 {
+        if blobs.announce(counted(number))? != Known::New {
+            return Ok(number);
+        }
     }
-    assert_eq!(rt; blobs.announce(held)?, Known::Held);
-    assert_eq!(rt; blobs.announce(shunned)?, Known::Shunned);
-    assert_eq!(rt; blobs.announce(counted(65_535))?, Known::Again);
-    assert_eq!(rt; blobs.announce(counted(65_536))?, Known::Full);
-    blobs.apply(Record::Shun { name: counted(7) })?;
-    assert_eq!(rt; blobs.announce(counted(65_536))?, Known::New);
+    Ok(70_000)
+}
+
+#[test]
+fn announces_so_many_names(rt: HostRuntime) -> Result<(), Memory> {
+    let mut blobs = filled(rt.alloc())?;
+    assert!(rt; count_new(&mut blobs) == Ok(65_536));
     Ok(())
 }

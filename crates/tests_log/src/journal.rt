@@ -1,10 +1,10 @@
-// What no clause says: the bytes of a file, that calls succeed with ample memory, and what crashes leave.
+// The bytes of a file, and what crashes leave of a commit. A disk that fails is tried by runs of the program, in `tests_top`.
 ghost use Rattle.std.specs.Prelude.{◌≡◌, None, false, IfOk};
 ghost use Rattle.fsl_record.specs.Records.{AreFields, IsWritable, is_config};
 ghost use Rattle.fsl_journal.specs.Journal.{Belongs};
 
 use fsl_disk::{Disk, FuseDisk, MemoryDisk};
-use fsl_journal::{CommitFault, CreateFault, Journal, LoadFault, create};
+use fsl_journal::{Journal, create};
 use fsl_name::Name;
 use fsl_record::{Config, Record};
 use fsl_text::{List, Memory, Text};
@@ -58,104 +58,87 @@ fn add<D: Disk>(journal: &mut Journal, disk: &D, entry: &Record) -> Result<(), M
     Ok(())
 }
 
-/// The file of a Config, and that of a blob behind it, which is appended and committed; one more is taken back.
+/// The file of a new repository.
+fn created(alloc: Global) -> Result<MemoryDisk, Fail> {
+    let mut disk = disk_of(alloc, b"")?;
+    create(alloc, &mut disk, &config(alloc))?;
+    Ok(disk)
+}
+
 #[test]
-fn writes_the_bytes_of_the_format(rt: HostRuntime) -> Result<(), Fail> {
-    let mut disk = disk_of(rt.alloc(), b"")?;
-    create(rt.alloc(), &mut disk, &config(rt.alloc()))?;
+fn creates_a_file(rt: HostRuntime) -> Result<(), Fail> {
+    let disk = created(rt.alloc())?;
     assert_eq!(rt; disk.bytes(), CONFIG_ALONE);
-    let (mut journal, records) = Journal::load(rt.alloc(), &mut disk)?;
-    assert_eq!(rt; records.items().len(), 1);
-    let entry = blob(rt.alloc())?;
-    add(&mut journal, &disk, &entry)?;
-    assert_eq!(rt; (journal.count(), journal.stable()), (2, 1));
-    assert_eq!(rt; journal.commit(&mut disk)?, 2);
-    assert_eq!(rt; (journal.count(), journal.stable()), (2, 2));
-    journal.append(&entry)?;
-    journal.take_back();
-    assert_eq!(rt; journal.count(), 2);
+    Ok(())
+}
+
+/// Commits a blob, and appends it once more and takes it back: what the commit answers, how many records there are, and
+/// how many of them are stable.
+fn committed<D: Disk>(alloc: Global, disk: &mut D) -> Result<(Option<u64>, u64, u64), Fail> {
+    let (mut journal, _) = Journal::load(alloc, disk)?;
+    let entry = blob(alloc)?;
+    add(&mut journal, disk, &entry)?;
+    let done = journal.commit(disk).ok();
+    if done.is_some() && journal.append(&entry).is_ok() {
+        journal.take_back();
+    }
+    Ok((done, journal.count(), journal.stable()))
+}
+
+#[test]
+fn commits_a_blob(rt: HostRuntime) -> Result<(), Fail> {
+    let mut disk = disk_of(rt.alloc(), CONFIG_ALONE)?;
+    let found = committed(rt.alloc(), &mut disk)?;
+    assert_eq!(rt; found, (Some(2), 2, 2));
     assert_eq!(rt; disk.bytes(), ONE_BLOB);
     Ok(())
 }
 
-/// Files that stand for no records, and the places at which they fail to.
-#[test]
-fn tells_where_a_file_fails(rt: HostRuntime) -> Result<(), Fail> {
-    let mut wrong = ONE_BLOB.to_vec(rt.alloc())?;
-    wrong[108] = b'd';
-    let table: [(&[u8], u64); 6] = [
-        (b"", 0),
-        (b"hello", 0),
-        (b"fossil-blobs-1\n", 15),
-        (b"fossil-blobs-1\nC", 15),
-        (&CONFIG_ALONE[..67], 15),
-        (&wrong, 67),
-    ];
-    for (bytes, at) in table {
-        let mut disk = disk_of(rt.alloc(), bytes)?;
-        let loaded = Journal::load(rt.alloc(), &mut disk);
-        assert_eq!(rt; loaded.err(), Some(LoadFault::NotRepository { at }));
-    }
-    let mut disk = disk_of(rt.alloc(), ONE_BLOB)?;
-    let made = create(rt.alloc(), &mut disk, &config(rt.alloc()));
-    assert_eq!(rt; made, Err(CreateFault::NotEmpty { len: 110 }));
-    Ok(())
-}
-
-/// Whether a blob is committed, where the disk loads. After a fault the journal is stopped.
-fn commits<D: Disk>(alloc: Global, disk: &mut D) -> Result<Option<bool>, Memory> {
-    let Ok((mut journal, _)) = Journal::load(alloc, disk) else {
-        return Ok(None);
-    };
-    add(&mut journal, disk, &blob(alloc)?)?;
-    if journal.commit(disk).is_ok() {
-        return Ok(Some(true));
-    }
-    let stopped = journal.commit(disk);
-    Ok(Some(stopped != Err(CommitFault::Stopped { faults: 1 })))
-}
-
-/// A disk that fails at each call in turn: nine of `create`, three of `load` and six of `commit`.
-#[test]
-fn answers_a_disk_that_fails(rt: HostRuntime) -> Result<(), Fail> {
-    for calls in 0..10 {
-        let mut disk = FuseDisk::new(disk_of(rt.alloc(), b"")?, calls);
-        let made = create(rt.alloc(), &mut disk, &config(rt.alloc()));
-        assert_eq!(rt; made.is_ok(), calls == 9, "create at {calls}");
-        let mut disk = FuseDisk::new(disk_of(rt.alloc(), CONFIG_ALONE)?, calls);
-        let committed = commits(rt.alloc(), &mut disk)?;
-        assert_eq!(rt; committed.is_some(), calls >= 3, "load at {calls}");
-        assert_eq!(rt; committed == Some(true), calls == 9, "commit at {calls}");
-    }
-    Ok(())
-}
-
-/// Whether what crashes leave of a commit of two blobs and a shun loads with none of the three or with all, and with all
-/// after the answer. The disk fails after so many calls, of which three load the journal.
-fn loads_with_none_or_all(alloc: Global, calls: u64) -> Result<bool, Fail> {
-    let mut disk = FuseDisk::new(disk_of(alloc, CONFIG_ALONE)?, calls);
-    let (mut journal, _) = Journal::load(alloc, &mut disk)?;
-    add(&mut journal, &disk, &blob(alloc)?)?;
-    add(&mut journal, &disk, &blob(alloc)?)?;
+/// Whether a commit of two blobs and a shun is done.
+fn commits_three<D: Disk>(alloc: Global, disk: &mut D) -> Result<bool, Fail> {
+    let (mut journal, _) = Journal::load(alloc, disk)?;
+    let entry = blob(alloc)?;
+    add(&mut journal, disk, &entry)?;
+    add(&mut journal, disk, &entry)?;
     let name = Name::of(b"abc");
-    add(&mut journal, &disk, &Record::Shun { name })?;
-    let done = journal.commit(&mut disk).is_ok();
-    let disk = disk.inner();
+    add(&mut journal, disk, &Record::Shun { name })?;
+    Ok(journal.commit(disk).is_ok())
+}
+
+/// How many records one of the files stands for that a crash leaves.
+fn count_after(alloc: Global, disk: &MemoryDisk, pick: u64) -> Result<usize, Fail> {
+    let mut left = disk.crash(alloc, pick)?;
+    let (_, records) = Journal::load(alloc, &mut left)?;
+    Ok(records.items().len())
+}
+
+/// How many of the files that crashes leave stand for the Config alone, and how many for three records behind it.
+fn counts_after(alloc: Global, disk: &MemoryDisk) -> Result<(u64, u64), Fail> {
+    let (mut none, mut all) = (0u64, 0u64);
     for pick in 0..16 {
-        let mut left = disk.crash(alloc, pick)?;
-        let (_, records) = Journal::load(alloc, &mut left)?;
-        let count = records.items().len();
-        if count != 4 && (done || count != 1) {
-            return Ok(false);
+        match count_after(alloc, disk, pick)? {
+            1 => none = none.saturating_add(1),
+            4 => all = all.saturating_add(1),
+            _ => {}
         }
     }
-    Ok(done == (calls == 9))
+    Ok((none, all))
+}
+
+/// Whether the commit is done over a disk that fails after so many calls, of which three load the journal, and the counts.
+fn crashed_after(alloc: Global, calls: u64) -> Result<(bool, (u64, u64)), Fail> {
+    let mut disk = FuseDisk::new(disk_of(alloc, CONFIG_ALONE)?, calls);
+    let done = commits_three(alloc, &mut disk)?;
+    Ok((done, counts_after(alloc, &disk.inner())?))
 }
 
 #[test]
 fn crashes_leave_none_or_all(rt: HostRuntime) -> Result<(), Fail> {
     for calls in 3..10 {
-        assert!(rt; loads_with_none_or_all(rt.alloc(), calls)?, "at {calls}");
+        let (done, (none, all)) = crashed_after(rt.alloc(), calls)?;
+        assert_eq!(rt; done, calls == 9, "after {calls} calls");
+        assert_eq!(rt; none.saturating_add(all), 16, "after {calls} calls");
+        assert!(rt; !done || none == 0);
     }
     Ok(())
 }

@@ -1,33 +1,29 @@
+//! Each call of each disk once, a call that fails half done, and what crashes leave.
 use fsl_disk::{Disk, FileDisk, FuseDisk, MemoryDisk};
 use fsl_outside::Failed;
+use fsl_text::Memory;
+use std::alloc::Global;
 use std::fs;
 use std::fs::OpenOptions;
 use std::test::Fail;
 
-fn disk(rt: &HostRuntime, bytes: &[u8], fails: &[u64]) -> Result<MemoryDisk, Fail> {
-    let bytes = bytes.to_vec(rt.alloc())?;
-    let fails = fails.to_vec(rt.alloc())?;
-    Ok(MemoryDisk::new(rt.alloc(), bytes, fails))
+fn disk_of(alloc: Global, bytes: &[u8], fails: &[u64]) -> Result<MemoryDisk, Memory> {
+    let bytes = bytes.to_vec(alloc)?;
+    let fails = fails.to_vec(alloc)?;
+    Ok(MemoryDisk::new(alloc, bytes, fails))
 }
 
-fn write(disk: &mut MemoryDisk, at: u64, bytes: &[u8]) -> Result<(), Failed> {
-    if at > disk.bytes().len() as u64 {
-        return Err(Failed);
-    }
-    disk.write_at(at, bytes)
-}
-
-fn cut(disk: &mut MemoryDisk, len: u64) -> Result<(), Failed> {
-    if len > disk.bytes().len() as u64 {
-        return Err(Failed);
-    }
-    disk.cut(len)
-}
-
-// Asks for the length first, and so makes two calls.
-fn write_on<D: Disk>(disk: &mut D, bytes: &[u8]) -> Result<(), Failed> {
+fn append<D: Disk>(disk: &mut D, bytes: &[u8]) -> Result<(), Failed> {
     let len = disk.len()?;
     disk.write_at(len, bytes)
+}
+
+fn drop_last<D: Disk>(disk: &mut D) -> Result<(), Failed> {
+    let len = disk.len()?;
+    if len == 0 {
+        return Err(Failed);
+    }
+    disk.cut(len - 1)
 }
 
 fn read_front<D: Disk>(disk: &mut D, into: &mut [u8]) -> Result<(), Failed> {
@@ -37,102 +33,92 @@ fn read_front<D: Disk>(disk: &mut D, into: &mut [u8]) -> Result<(), Failed> {
     disk.read_at(0, into)
 }
 
-#[test]
-fn writes_cuts_and_reads(rt: HostRuntime) -> Result<(), Fail> {
-    let mut disk = disk(&rt, b"abcdef", &[])?;
-    write(&mut disk, 2, b"XY")?;
-    assert_eq!(rt; disk.bytes(), b"abXYef".as_slice());
-    write(&mut disk, 5, b"123")?;
-    assert_eq!(rt; disk.bytes(), b"abXYe123".as_slice());
-    cut(&mut disk, 3)?;
-    write(&mut disk, 3, b"!")?;
+/// Seven calls, each kind once at least: bytes are put behind the end, the last of them is dropped, and the front is read.
+fn use_disk<D: Disk>(disk: &mut D, into: &mut [u8]) -> Result<(), Failed> {
+    append(disk, b"defg")?;
+    drop_last(disk)?;
     disk.sync()?;
-    assert_eq!(rt; disk.len()?, 4);
-    let mut into = [0u8; 4];
-    read_front(&mut disk, &mut into)?;
-    assert_eq!(rt; into, *b"abX!");
-    assert_eq!(rt; disk.faults(), 0);
-    Ok(())
+    read_front(disk, into)
 }
 
-// Of the four calls one fails: a half of it is done, and the others are done whole.
-#[test]
-fn fails_at_the_numbers_listed(rt: HostRuntime) -> Result<(), Fail> {
-    let table = [
-        (1u64, "WXYZXY"),
-        (2, "WXcdXY"),
-        (3, "WXYZeXY"),
-        (4, "WXYZX"),
-        (5, "WXYZXY"),
-    ];
-    for (failing, left) in table {
-        let mut disk = disk(&rt, b"abcdef", &[failing])?;
-        let first = disk.sync();
-        let second = write(&mut disk, 0, b"WXYZ");
-        let third = cut(&mut disk, 4);
-        let len = disk.bytes().len() as u64;
-        let fourth = write(&mut disk, len, b"XY");
-        let failed = [first, second, third, fourth]
-            .iter()
-            .filter(|answer| answer.is_err())
-            .count();
-        assert_eq!(rt; failed, usize::from(failing < 5), "{failing}");
-        assert_eq!(rt; disk.faults(), u64::from(failing < 5), "{failing}");
-        assert_eq!(rt; disk.bytes(), left.as_bytes(), "{failing}");
-    }
-    Ok(())
+/// Whether the calls over `abc` were done behind a fuse that passes so many.
+fn passes(alloc: Global, calls: u64) -> Result<bool, Memory> {
+    let mut fuse = FuseDisk::new(disk_of(alloc, b"abc", &[])?, calls);
+    let mut into = [0u8; 6];
+    let done = use_disk(&mut fuse, &mut into).is_ok() && into == *b"abcdef";
+    Ok(done && fuse.faults() == 0 && fuse.inner().bytes() == b"abcdef".as_slice())
 }
 
-// A crash leaves the places that weren't written since the sync.
 #[test]
-fn crashes_between_the_last_sync_and_now(rt: HostRuntime) -> Result<(), Fail> {
-    let mut disk = disk(&rt, b"abc", &[])?;
-    write(&mut disk, 3, b"defgh")?;
-    disk.sync()?;
-    write(&mut disk, 2, b"123")?;
-    cut(&mut disk, 6)?;
-    write(&mut disk, 6, b"4567")?;
-    assert_eq!(rt; disk.crash(rt.alloc(), 0)?.bytes(), b"abcdefgh".as_slice());
+fn a_fuse_passes_so_many_calls(rt: HostRuntime) -> Result<(), Memory> {
     assert_eq!(rt;
-        disk.crash(rt.alloc(), 1)?.bytes(),
-        b"ab123f4567".as_slice()
+        [passes(rt.alloc(), 7)?, passes(rt.alloc(), 6)?],
+        [true, false]
     );
-    let (mut shorter, mut longer, mut mixed) = (false, false, false);
-    for pick in 2..40u64 {
-        let left = disk.crash(rt.alloc(), pick)?;
-        let bytes = left.bytes();
-        assert!(rt; bytes.len() >= 6 && bytes.len() <= 10, "{pick}");
-        assert!(rt; bytes.starts_with(b"ab") && bytes[5] == b'f', "{pick}");
-        shorter |= bytes.len() < 8;
-        longer |= bytes.len() > 8;
-        mixed |= bytes[2] == b'1' && bytes[4] == b'e';
-    }
-    assert!(rt; shorter && longer && mixed);
     Ok(())
 }
 
-// Each step makes two calls but for the last, which makes one.
+/// The bytes that a write of four behind `abc` leaves where the second call fails.
+fn half_written(alloc: Global) -> Result<Vec<u8>, Memory> {
+    let mut disk = disk_of(alloc, b"abc", &[2])?;
+    let _ = append(&mut disk, b"defg");
+    Ok(disk.bytes().to_vec(alloc)?)
+}
+
 #[test]
-fn blows_after_so_many_calls(rt: HostRuntime) -> Result<(), Fail> {
-    let table = [
-        (0u64, "abc"),
-        (1, "abc"),
-        (2, "abcd"),
-        (3, "abcd"),
-        (4, "abcdef"),
-        (5, "abcdef"),
-    ];
-    for (calls, left) in table {
-        let mut fuse = FuseDisk::new(disk(&rt, b"abc", &[])?, calls);
-        let first = write_on(&mut fuse, b"d");
-        let second = write_on(&mut fuse, b"ef");
-        let last = fuse.sync();
-        assert_eq!(rt; first.is_ok(), calls >= 2);
-        assert_eq!(rt; second.is_ok(), calls >= 4);
-        assert_eq!(rt; last.is_ok(), calls >= 5);
-        assert_eq!(rt; fuse.inner().bytes(), left.as_bytes(), "{calls}");
-    }
+fn a_call_that_fails_is_half_done(rt: HostRuntime) -> Result<(), Memory> {
+    let left = half_written(rt.alloc())?;
+    assert_eq!(rt; left.as_slice(), b"abcde".as_slice());
     Ok(())
+}
+
+/// `abc` stable, and `def` behind it.
+fn changed(alloc: Global) -> Result<MemoryDisk, Memory> {
+    let mut disk = disk_of(alloc, b"abc", &[])?;
+    let _ = append(&mut disk, b"def");
+    Ok(disk)
+}
+
+/// How long what a crash leaves is, whether `abc` stands, and whether what was written does, as far as it goes.
+fn crashed(alloc: Global, disk: &MemoryDisk, pick: u64) -> Result<(usize, bool, bool), Memory> {
+    let left = disk.crash(alloc, pick)?;
+    let bytes = left.bytes();
+    Ok((
+        bytes.len(),
+        bytes.starts_with(b"abc"),
+        b"abcdef".as_slice().starts_with(bytes),
+    ))
+}
+
+/// Of the crashes of these numbers, whether each leaves `abc`, whether one is shorter, and whether one has other bytes
+/// behind.
+fn all_crashed(alloc: Global, disk: &MemoryDisk) -> Result<[bool; 3], Memory> {
+    let mut found = [true, false, false];
+    for pick in 0..40 {
+        let (len, kept, written) = crashed(alloc, disk, pick)?;
+        found[0] &= kept;
+        found[1] |= len == 4 || len == 5;
+        found[2] |= !written;
+    }
+    Ok(found)
+}
+
+fn crashes(alloc: Global) -> Result<[bool; 3], Memory> {
+    let disk = changed(alloc)?;
+    all_crashed(alloc, &disk)
+}
+
+#[test]
+fn crashes_leave_a_part_or_other_bytes(rt: HostRuntime) -> Result<(), Memory> {
+    assert_eq!(rt; crashes(rt.alloc())?, [true; 3]);
+    Ok(())
+}
+
+/// Two calls that a file refuses, and how many it has refused then.
+fn refused(disk: &mut FileDisk) -> (bool, bool, u64) {
+    let read = disk.read_at(4, &mut [0u8; 3]);
+    let written = disk.write_at(1 << 63, b"");
+    (read.is_err(), written.is_err(), disk.faults())
 }
 
 #[test]
@@ -140,23 +126,18 @@ fn works_on_a_real_file(rt: HostRuntime) -> Result<(), Fail> {
     let path = "fsl_disk_test_file";
     let mut options = OpenOptions::new();
     options.read(true).write(true).create(true).truncate(true);
-    let mut disk = FileDisk::over(options.open(&rt, path)?);
-    fs::remove_file(&rt, path)?;
-    disk.write_at(0, b"abcdef")?;
-    disk.write_at(4, b"XYZ")?;
-    disk.cut(6)?;
-    disk.sync()?;
-    assert_eq!(rt; disk.len()?, 6);
-    let mut into = [0u8; 5];
-    disk.read_at(1, &mut into)?;
-    assert_eq!(rt; into, *b"bcdXY");
-    assert_eq!(rt; disk.faults(), 0);
-    assert_eq!(rt; disk.read_at(2, &mut into), Err(Failed));
-    assert_eq!(rt; disk.write_at(1 << 63, b""), Err(Failed));
-    assert_eq!(rt; disk.faults(), 2);
-    let mut none = FileDisk::none();
-    assert_eq!(rt; none.len(), Err(Failed));
-    assert_eq!(rt; none.sync(), Err(Failed));
-    assert_eq!(rt; none.faults(), 2);
+    let file = options.open(&rt, path)?;
+    let mut disk = FileDisk::over(file);
+    let mut into = [0u8; 3];
+    let done = fs::remove_file(&rt, path).is_ok() && use_disk(&mut disk, &mut into).is_ok();
+    assert_eq!(rt; (done, into), (true, *b"def"));
+    assert_eq!(rt; refused(&mut disk), (true, true, 2));
     Ok(())
+}
+
+#[test]
+fn no_file_fails_each_call(rt: HostRuntime) {
+    let mut none = FileDisk::none();
+    let failed = [none.len().is_err(), none.sync().is_err()];
+    assert_eq!(rt; (failed, none.faults()), ([true; 2], 2));
 }

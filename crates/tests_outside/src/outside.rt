@@ -1,10 +1,10 @@
+//! Reads and writes that fail, and the adapters over std's readers and writers.
 use fsl_outside::{
-    Failed, MemorySink, MemorySource, ReadFault, Sink, Source, StdSink, StdSource, read_whole,
-    write_whole,
+    Failed, MemorySink, MemorySource, Sink, Source, StdSink, StdSource, read_whole, write_whole,
 };
+use std::alloc::{AllocError, Global};
 use std::io;
 use std::io::{ErrorKind, Read, Write};
-use std::test::Fail;
 
 // Is interrupted at its first call, moves a byte at each later one, and breaks at this one.
 #[derive(Drop)]
@@ -48,104 +48,73 @@ impl Write for Drip {
     }
 }
 
-// Seven bytes by pieces of three, where one call fails: nothing is lost by the failure.
+fn dripping(breaks: u64) -> Drip {
+    Drip { calls: 0, breaks }
+}
+
+/// How many bytes a source gives up to its end, where it has at most so many, and how often it failed.
+fn count_read<S: Source>(alloc: Global, source: &mut S, limit: usize) -> (Option<usize>, u64) {
+    let count = match read_whole(alloc, source, limit) {
+        Ok(Some(text)) => Some(text.bytes().len()),
+        _ => None,
+    };
+    (count, source.faults())
+}
+
+/// The same of 70,000 bytes in memory, where this call fails. They take three reads, the last of which finds the end.
+fn read_memory(
+    alloc: Global,
+    failing: u64,
+    limit: usize,
+) -> Result<(Option<usize>, u64), AllocError> {
+    let bytes = vec![in alloc; 7u8; 70_000]?;
+    let mut source = MemorySource::new(bytes, vec![in alloc; failing]?);
+    Ok(count_read(alloc, &mut source, limit))
+}
+
 #[test]
-fn reads_on_after_a_failure(rt: HostRuntime) -> Result<(), Fail> {
-    for failing in 1..6u64 {
-        let bytes = b"abcdefg".to_vec(rt.alloc())?;
-        let mut source = MemorySource::new(bytes, vec![in rt.alloc(); failing]?);
-        let mut into = [0u8; 3];
-        let mut read = Vec::new(rt.alloc());
-        for call in 1..6u64 {
-            match source.read(&mut into) {
-                Ok(count) => read.extend_from_slice(&into[..count])?,
-                Err(Failed) => assert_eq!(rt; call, failing),
-            }
-        }
-        assert_eq!(rt; read.as_slice(), b"abcdefg".as_slice());
-        assert_eq!(rt; source.faults(), 1);
-    }
+fn reads_whole(rt: HostRuntime) -> Result<(), AllocError> {
+    assert_eq!(rt; read_memory(rt.alloc(), 0, 70_000)?, (Some(70_000), 0));
+    assert_eq!(rt; read_memory(rt.alloc(), 0, 69_999)?, (None, 0));
+    assert_eq!(rt; read_memory(rt.alloc(), 2, 70_000)?, (None, 1));
+    assert_eq!(rt; read_memory(rt.alloc(), 3, 70_000)?, (None, 1));
     Ok(())
 }
 
-// Three pieces, of which one call fails.
-#[test]
-fn takes_what_did_not_fail(rt: HostRuntime) -> Result<(), Fail> {
-    for (failing, taken) in [(1u64, "c"), (2, "abc"), (3, "ab"), (4, "abc")] {
-        let mut sink = MemorySink::new(rt.alloc(), vec![in rt.alloc(); failing]?);
-        assert_eq!(rt; sink.write(b"ab").is_err(), failing == 1);
-        assert_eq!(rt; sink.write(b"").is_err(), failing == 2);
-        assert_eq!(rt; sink.write(b"c").is_err(), failing == 3);
-        assert_eq!(rt; sink.taken(), taken.as_bytes());
-        assert_eq!(rt; sink.faults(), u64::from(failing < 4));
-    }
-    Ok(())
-}
-
-// 70,000 bytes take three reads, the last of which finds the end.
-#[test]
-fn reads_whole(rt: HostRuntime) -> Result<(), Fail> {
-    let table: [(u64, usize, Result<bool, ReadFault>); 6] = [
-        (0, 70_000, Ok(true)),
-        (0, 69_999, Ok(false)),
-        (1, 70_000, Err(ReadFault::Failed)),
-        (2, 70_000, Err(ReadFault::Failed)),
-        (3, 70_000, Err(ReadFault::Failed)),
-        (4, 70_000, Ok(true)),
+/// Whether two writes were done, and how often the sink failed.
+fn write_twice<K: Sink>(sink: &mut K) -> ([bool; 2], u64) {
+    let done = [
+        write_whole(sink, b"seven b").is_ok(),
+        write_whole(sink, b"8").is_ok(),
     ];
-    for (failing, limit, want) in table {
-        let bytes = vec![in rt.alloc(); 7u8; 70_000]?;
-        let mut source = MemorySource::new(bytes, vec![in rt.alloc(); failing]?);
-        let found = match read_whole(rt.alloc(), &mut source, limit) {
-            Ok(Some(text)) => Ok(text.bytes().len() == 70_000),
-            Ok(None) => Ok(false),
-            Err(fault) => Err(fault),
-        };
-        assert_eq!(rt; found, want, "{failing} {limit}");
-    }
-    Ok(())
+    (done, sink.faults())
 }
 
 #[test]
-fn writes_whole(rt: HostRuntime) -> Result<(), Fail> {
+fn writes_whole(rt: HostRuntime) -> Result<(), AllocError> {
     let mut sink = MemorySink::new(rt.alloc(), vec![in rt.alloc(); 2u64]?);
-    assert_eq!(rt; write_whole(&mut sink, b"text"), Ok(()));
-    assert_eq!(rt; write_whole(&mut sink, b"more"), Err(Failed));
-    assert_eq!(rt; sink.taken(), b"text".as_slice());
+    assert_eq!(rt; write_twice(&mut sink), ([true, false], 1));
+    assert_eq!(rt; sink.taken(), b"seven b".as_slice());
     Ok(())
 }
 
 #[test]
-fn adapts_readers(rt: HostRuntime) -> Result<(), Fail> {
+fn adapts_readers(rt: HostRuntime) {
     let mut whole = StdSource::new(b"text".as_slice());
-    let text = read_whole(rt.alloc(), &mut whole, 4)?.ok_or("long")?;
-    assert_eq!(rt; text.bytes(), b"text".as_slice());
-    let mut drip = StdSource::new(Drip {
-        calls: 0,
-        breaks: 9,
-    });
-    assert_eq!(rt; read_whole(rt.alloc(), &mut drip, 6)?.is_none(), true);
-    assert_eq!(rt; drip.read(&mut [0u8; 4]), Err(Failed));
-    assert_eq!(rt; drip.faults(), 1);
+    assert_eq!(rt; count_read(rt.alloc(), &mut whole, 4), (Some(4), 0));
+    let mut drip = StdSource::new(dripping(9));
+    assert_eq!(rt; count_read(rt.alloc(), &mut drip, 6), (None, 0));
+    assert_eq!(rt; (drip.read(&mut [0u8; 4]), drip.faults()), (Err(Failed), 1));
     let mut none = StdSource::<Drip>::none();
-    assert_eq!(rt; none.read(&mut [0u8; 4]), Err(Failed));
-    assert_eq!(rt; none.faults(), 1);
-    Ok(())
+    assert_eq!(rt; count_read(rt.alloc(), &mut none, 6), (None, 1));
 }
 
 #[test]
-fn adapts_writers(rt: HostRuntime) -> Result<(), Fail> {
+fn adapts_writers(rt: HostRuntime) {
     let mut whole = StdSink::new(Vec::<u8>::new(rt.alloc()));
-    assert_eq!(rt; write_whole(&mut whole, b"text"), Ok(()));
-    let mut drip = StdSink::new(Drip {
-        calls: 0,
-        breaks: 9,
-    });
-    assert_eq!(rt; write_whole(&mut drip, b"seven b"), Ok(()));
-    assert_eq!(rt; write_whole(&mut drip, b"8"), Err(Failed));
-    assert_eq!(rt; drip.faults(), 1);
+    assert_eq!(rt; write_twice(&mut whole), ([true; 2], 0));
+    let mut drip = StdSink::new(dripping(9));
+    assert_eq!(rt; write_twice(&mut drip), ([true, false], 1));
     let mut none = StdSink::<Drip>::none();
-    assert_eq!(rt; write_whole(&mut none, b"8"), Err(Failed));
-    assert_eq!(rt; none.faults(), 1);
-    Ok(())
+    assert_eq!(rt; write_twice(&mut none), ([false; 2], 2));
 }

@@ -1,11 +1,7 @@
-//! Tests of the tables, one by one and all together, by their public calls alone. They stand apart, so that no crate is proved once more for its tests.
+//! Tests of the tables, by their public calls alone: facts in a circle, which no artifacts make. What the tables tell of artifacts is shown by transcripts.
 #![tactic(auto)]
 
 #[cfg(test)]
 mod circles;
 #[cfg(test)]
-mod cross;
-#[cfg(test)]
 mod names;
-#[cfg(test)]
-mod tags;

@@ -1,10 +1,10 @@
-//! Names of one letter each. In rising order the letters are x k q z d f r p e m c a y n b.
+//! Names of one letter each.
 ghost use Rattle.std.specs.Prelude.{◌≡◌, IsTrue, not};
 ghost use Rattle.fsl_order.specs.Names.{has};
 ghost use Rattle.fsl_order.specs.Rows.{AreDistinct};
 
 use fsl_name::Name;
-use fsl_text::{List, Memory, Text};
+use fsl_text::{List, Memory};
 use std::alloc::Global;
 
 pub fn letter(byte: u8) -> Name {
@@ -34,26 +34,4 @@ pub fn are_distinct(names: &[Name]) -> bool
     }
     let rest = &names[1..];
     is_none_of(rest, &names[0]) && are_distinct(rest)
-}
-
-/// Adds a word behind a space.
-pub fn add(into: &mut Text, word: &[u8]) -> Result<(), Memory> {
-    into.append(b" ")?;
-    into.append(word)
-}
-
-/// Adds the first digits of a name, or `-` for none.
-pub fn add_name(into: &mut Text, name: Option<Name>) -> Result<(), Memory> {
-    match name {
-        Some(name) => add(into, &name.text()[..4]),
-        None => add(into, b"-"),
-    }
-}
-
-/// Adds the first digits of each name.
-pub fn add_names(into: &mut Text, names: &[Name]) -> Result<(), Memory> {
-    for name in names {
-        add_name(into, Some(*name))?;
-    }
-    Ok(())
 }

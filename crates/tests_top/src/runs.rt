@@ -39,52 +39,62 @@ fn disk_of(alloc: Global, bytes: &[u8]) -> Result<MemoryDisk, AllocError> {
     Ok(MemoryDisk::new(alloc, bytes.to_vec(alloc)?, Vec::new(alloc)))
 }
 
-/// A status, and what was printed.
-fn shown(alloc: Global, status: u8, printed: &[u8]) -> Result<String, AllocError> {
-    let printed = String::from_utf8_lossy(alloc, printed)?;
-    format!(in alloc; "{status} {printed}")
+/// Runs over a disk, where this call of the input fails.
+fn ran<D: Disk + Drop>(
+    alloc: Global,
+    words: &[&str],
+    input: (&[u8], u64),
+    sink: &mut MemorySink,
+    repo: D,
+) -> Result<Ran<D>, AllocError> {
+    let words = owned(alloc, words)?;
+    let bytes = input.0.to_vec(alloc)?;
+    let fails = vec![in alloc; input.1]?;
+    let mut source = MemorySource::new(bytes, fails);
+    Ok(run(alloc, words.as_slice(), &mut source, sink, repo))
 }
 
-/// Runs over a disk, where this call of the input and this call of the output fail, and gives the status with what was
-/// printed, and the disk.
+/// The status, and what was printed.
 fn end<D: Disk + Drop>(
     alloc: Global,
     words: &[&str],
     input: &[u8],
     fails: (u64, u64),
     repo: D,
-) -> Result<(String, D), AllocError> {
-    let words = owned(alloc, words)?;
-    let mut source = MemorySource::new(input.to_vec(alloc)?, vec![in alloc; fails.0]?);
+) -> Result<(u8, Vec<u8>), AllocError> {
     let mut sink = MemorySink::new(alloc, vec![in alloc; fails.1]?);
-    let Ran { status, repo } = run(alloc, words.as_slice(), &mut source, &mut sink, repo);
-    Ok((shown(alloc, status, sink.taken())?, repo))
+    let Ran { status, repo: _ } = ran(alloc, words, (input, fails.0), &mut sink, repo)?;
+    Ok((status, sink.taken().to_vec(alloc)?))
 }
 
-/// What `cat` says of one of the files that a crash leaves.
-fn cat_after(alloc: Global, disk: &MemoryDisk, pick: u64) -> Result<String, Fail> {
-    let (text, _) = end(alloc, &CAT, b"", (0, 0), disk.crash(alloc, pick)?)?;
-    Ok(text)
+/// Whether `cat` finds `abc`, or no such artifact, in one of the files that a crash leaves.
+fn stands_or_not(alloc: Global, disk: &MemoryDisk, pick: u64) -> Result<bool, Fail> {
+    let (status, printed) = end(alloc, &CAT, b"", (0, 0), disk.crash(alloc, pick)?)?;
+    Ok(match status {
+        0 => printed.as_slice() == b"abc".as_slice(),
+        3 => printed.as_slice() == b"refused: no artifact a999\n".as_slice(),
+        _ => false,
+    })
 }
 
 /// How many of eight files that a crash leaves hold neither `abc` nor nothing.
 fn count_others(alloc: Global, disk: &MemoryDisk) -> Result<u64, Fail> {
     let mut others = 0u64;
     for pick in 0..8 {
-        let text = cat_after(alloc, disk, pick)?;
-        if text.as_str() != "0 abc" && text.as_str() != "3 refused: no artifact a999\n" {
+        if !stands_or_not(alloc, disk, pick)? {
             others = others.saturating_add(1);
         }
     }
     Ok(others)
 }
 
-/// What `put` says over a disk that fails after so many calls, and of what crashes leave how many are wrong.
-fn put_after(alloc: Global, calls: u64) -> Result<(String, u64), Fail> {
+/// The status of `put` over a disk that fails after so many calls, and of what crashes leave how many are wrong.
+fn put_after(alloc: Global, calls: u64) -> Result<(u8, u64), Fail> {
+    let mut sink = MemorySink::new(alloc, Vec::new(alloc));
     let disk = FuseDisk::new(disk_of(alloc, NEW_FILE)?, calls);
-    let (text, disk) = end(alloc, &PUT, ABC, (0, 0), disk)?;
-    let others = count_others(alloc, &disk.inner())?;
-    Ok((text, others))
+    let Ran { status, repo } = ran(alloc, &PUT, (ABC, 0), &mut sink, disk)?;
+    let others = count_others(alloc, &repo.inner())?;
+    Ok((status, others))
 }
 
 // It loads by three calls, and commits by six, of which the last is the second sync.
@@ -93,82 +103,65 @@ fn put_tells_a_disk_that_fails(rt: HostRuntime) -> Result<(), Fail> {
     one_outcome();
     some_outcome();
     for calls in 0..10 {
-        let (text, others) = put_after(rt.alloc(), calls)?;
-        let want = if calls < 9 {
-            "4 disk fault\n"
-        } else {
-            "0 stored a9993e364706816aba3e25717850c26c9cd0d89d\n"
-        };
-        assert_eq!(rt; (text.as_str(), others), (want, 0), "after {calls} calls");
+        let want = if calls < 9 { 4 } else { 0 };
+        assert_eq!(rt;
+            put_after(rt.alloc(), calls)?,
+            (want, 0),
+            "after {calls} calls"
+        );
     }
     Ok(())
 }
 
-/// What `init` says over a disk that fails after so many calls.
-fn init_after(alloc: Global, calls: u64) -> Result<String, AllocError> {
+/// The status of `init` over a disk that fails after so many calls, and how many bytes it prints.
+fn init_after(alloc: Global, calls: u64) -> Result<(u8, usize), AllocError> {
     let disk = FuseDisk::new(disk_of(alloc, b"")?, calls);
-    let (text, _) = end(alloc, &INIT, b"", (0, 0), disk)?;
-    Ok(text)
+    let (status, printed) = end(alloc, &INIT, b"", (0, 0), disk)?;
+    Ok((status, printed.len()))
 }
 
-// It makes nine calls.
+// It makes nine calls. A disk that fails is told by a line of eleven bytes.
 #[test]
 fn init_tells_a_disk_that_fails(rt: HostRuntime) -> Result<(), Fail> {
     for calls in 0..10 {
-        let text = init_after(rt.alloc(), calls)?;
-        let want = if calls < 9 { "4 disk fault\n" } else { "0 " };
-        assert_eq!(rt; text.as_str(), want, "after {calls} calls");
+        let want = if calls < 9 { (4, 11) } else { (0, 0) };
+        assert_eq!(rt; init_after(rt.alloc(), calls)?, want, "after {calls} calls");
     }
     Ok(())
 }
 
-/// What `put` says where calls of the input and the output fail, and how long the file is then.
-fn put_with(alloc: Global, fails: (u64, u64)) -> Result<(String, usize), AllocError> {
-    let (text, disk) = end(alloc, &PUT, ABC, fails, disk_of(alloc, NEW_FILE)?)?;
-    Ok((text, disk.bytes().len()))
-}
-
-// A failed read commits nothing; what is committed stays where the output fails.
-#[test]
-fn put_tells_an_input_and_an_output_that_fail(rt: HostRuntime) -> Result<(), Fail> {
-    let (text, len) = put_with(rt.alloc(), (2, 0))?;
-    assert_eq!(rt; (text.as_str(), len), ("5 input fault\n", 68));
-    let (text, len) = put_with(rt.alloc(), (0, 1))?;
-    assert_eq!(rt; (text.as_str(), len), ("6 ", 110));
-    Ok(())
-}
-
-/// What `ingest` says of an input, where calls of the input and the output fail.
-fn ingest_with(alloc: Global, input: &[u8], fails: (u64, u64)) -> Result<String, AllocError> {
-    let (text, _) = end(alloc, &INGEST, input, fails, FileDisk::none())?;
-    Ok(text)
-}
-
-const FAULTS: [(&[u8], (u64, u64), &str); 7] = [
-    (ABC, (1, 0), "5 input fault\n"),
-    (ABC, (2, 0), "5 input fault\n"),
+const FAULTS: [(&[u8], (u64, u64), u8, &[u8]); 7] = [
+    (ABC, (1, 0), 5, b"input fault\n"),
+    (ABC, (2, 0), 5, b"input fault\n"),
     (
         ABC,
         (3, 0),
-        "0 unclustered a9993e364706816aba3e25717850c26c9cd0d89d\n",
+        0,
+        b"unclustered a9993e364706816aba3e25717850c26c9cd0d89d\n",
     ),
-    (ABC, (0, 1), "6 "),
-    (ABC, (1, 1), "5 "),
-    (b"frob\n", (0, 1), "3 "),
-    (b"", (0, 1), "0 "),
+    (ABC, (0, 1), 6, b""),
+    (ABC, (1, 1), 5, b""),
+    (b"frob\n", (0, 1), 3, b""),
+    (b"", (0, 1), 0, b""),
 ];
 
 /// They stand behind a call without a contract, which keeps them out of the proof of the test.
-fn faults() -> &'static [(&'static [u8], (u64, u64), &'static str)] {
+fn faults() -> &'static [(&'static [u8], (u64, u64), u8, &'static [u8])] {
     &FAULTS
 }
 
 // An input of one piece takes two reads, the second of which finds the end.
 #[test]
 fn ingest_tells_an_input_and_an_output_that_fail(rt: HostRuntime) -> Result<(), Fail> {
-    for (input, fails, want) in faults() {
-        let text = ingest_with(rt.alloc(), *input, *fails)?;
-        assert_eq!(rt; text.as_str(), *want, "{} {}", fails.0, fails.1);
+    for (input, fails, status, printed) in faults() {
+        let found = end(rt.alloc(), &INGEST, *input, *fails, FileDisk::none())?;
+        assert_eq!(rt;
+            (found.0, found.1.as_slice()),
+            (*status, *printed),
+            "{} {}",
+            fails.0,
+            fails.1
+        );
     }
     Ok(())
 }
@@ -185,8 +178,14 @@ fn large_message(alloc: Global) -> Result<Vec<u8>, AllocError> {
 #[test]
 fn ingest_refuses_a_file_that_is_too_large(rt: HostRuntime) -> Result<(), Fail> {
     let message = large_message(rt.alloc())?;
-    let text = ingest_with(rt.alloc(), message.as_slice(), (0, 0))?;
-    let want = "3 refused: too large a9993e364706816aba3e25717850c26c9cd0d89d 16777217\n";
-    assert_eq!(rt; text.as_str(), want);
+    let (status, printed) = end(
+        rt.alloc(),
+        &INGEST,
+        message.as_slice(),
+        (0, 0),
+        FileDisk::none(),
+    )?;
+    let want = b"refused: too large a9993e364706816aba3e25717850c26c9cd0d89d 16777217\n";
+    assert_eq!(rt; (status, printed.as_slice()), (3, want.as_slice()));
     Ok(())
 }

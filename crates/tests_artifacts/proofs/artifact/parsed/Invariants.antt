@@ -1,4 +1,4 @@
-use Rattle.tests_tables.proofs.cross.item_of.Given as goal
+use Rattle.tests_artifacts.proofs.artifact.parsed.Given as goal
 
 abbrev pub ghosts-read_counted : goal.ghosts-read_counted
 ghosts-read_counted a = record { name = a.blank.name; parts = a.blank.parts }
