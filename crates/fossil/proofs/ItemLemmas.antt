@@ -93,6 +93,6 @@ pub set_items : (held : HeldSet) (items seen : List Item) → AreItems held item
 set_items held items seen each is = subst (AreItems held) (sym (is ∙ set-rising items (items_rise held items each))) each
 
 -- the tables of the items have them
-pub tables_items : (held : HeldSet) (items : List Item) (fields : List (List ℕ)) (r : Result Seen Memory) → AreItems held items → IfOk r (λ t. t ≡ record { fields = fields; items = item_set items }) → IfOk r (λ t. AreItems held t.items)
-tables_items held items fields (Ok t) each is = set_items held items t.items each (ap (λ (s : Seen). s.items) is)
-tables_items held items fields (Err x) each is = tt
+pub tables_items : (held : HeldSet) (items : List Item) (r : Result Seen Memory) → AreItems held items → IfOk r (λ t. t.items ≡ item_set items) → IfOk r (λ t. AreItems held t.items)
+tables_items held items (Ok t) each is = set_items held items t.items each is
+tables_items held items (Err x) each is = tt

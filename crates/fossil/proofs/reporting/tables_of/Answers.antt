@@ -9,4 +9,4 @@ pub build-requires-clause-kinds : goal.build-requires-clause-kinds
 build-requires-clause-kinds c = items_are (contents c.args.blobs.now.records).held c.in_ok-items.items c.in_ok-items.ensures
 
 pub returns-clause-items : goal.returns-clause-items
-returns-clause-items c = tables_items (contents c.args.blobs.now.records).held c.in_ok-items.items _ c.build.result c.in_ok-items.ensures c.build.ensures
+returns-clause-items c = tables_items (contents c.args.blobs.now.records).held c.in_ok-items.items c.build.result c.in_ok-items.ensures c.build.ensures.items
