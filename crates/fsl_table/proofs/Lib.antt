@@ -1,7 +1,10 @@
 pub mod Entries
 pub mod Finding
 pub mod Keeping
+pub mod Facts
+pub mod Leading
 pub mod Linking
+pub mod Noting
 pub mod Outcomes
 pub mod PairOrder
 pub mod Places

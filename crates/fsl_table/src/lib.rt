@@ -8,6 +8,7 @@
 
 pub mod key;
 pub mod log;
+pub mod names;
 pub mod pairs;
 pub mod step;
 pub mod table;
