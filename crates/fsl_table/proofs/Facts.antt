@@ -1,21 +1,24 @@
 -- Facts that a table holds by their names: with one more, without one, and looked up.
 use Rattle.std.proofs.Common.{◌≡◌, ℕ, List, [], ◌∷◌, Bool, true, false, cond, not, ◌||◌, Option, Some, None, is_some, option_map, map, filter, refl, sym, ap, ◌∙◌}
 use Rattle.std.specs.Str.{bytes_eq}
-use Rattle.std.specs.List.{AllByRecursion}
+use Rattle.std.specs.List.{AllByRecursion, IsDistinct}
 use Rattle.std.specs.List.Sorted.{IsStrictlySortedBy}
 use Rattle.std.specs.Map.{keys_of}
-use Rattle.std.specs.BTreeMap.{insert_entry}
+use Rattle.std.specs.BTreeMap.{insert_entry, is_at}
 use Rattle.std.specs.Ordering.{is_eq, match_ordering}
 use Rattle.std.specs.declared.cmp.Ordering.TheVariants.{Less, Equal, Greater}
 use Rattle.std.specs.Cmp.Lexicographic.{texts_ties, bytes_decides, nat_list_eq_equiv}
 use Rattle.std.specs.FinMap.{put}
 use Rattle.std.specs.FinMap.Entries.{by_order}
 use Rattle.fsl_order.specs.Names.{bytes_cmp, has}
-use Rattle.fsl_order.specs.Rows.{keyed, by_name, named}
-use Rattle.fsl_order.proofs.Orders.{bytes_cmp-IsAntisymmetric}
+use Rattle.fsl_order.specs.Rows.{keyed, by_name, named, AreDistinct}
+use Rattle.fsl_order.proofs.NamedLemmas.{named-by_name}
+use Rattle.fsl_order.proofs.Orders.{bytes_cmp-IsAntisymmetric, bytes_cmp-IsTotalOrder}
+use Rattle.std.proofs.lemmas.Map.Lookups.{exact_bytes}
 use Rattle.fsl_order.proofs.RowLemmas.{is_some-named}
 use Rattle.fsl_table.specs.Contents.{value_at, with_entry, without_key}
-use Rattle.fsl_table.proofs.Finding.{none_from}
+use Rattle.fsl_table.proofs.Entries.{sorted-insert_entry, sorted-remove_entry}
+use Rattle.fsl_table.proofs.Finding.{none_from, same_found, value-with, value-without}
 
 module _ {V F : Type 0} (fact_of : List ℕ × V → F) (name_of : F → List ℕ) (own : (e : List ℕ × V) → name_of (fact_of e) ≡ e.0) where
   abbrev lift : List (List ℕ × V) → List (List ℕ × F)
@@ -104,3 +107,30 @@ module _ {V F : Type 0} (fact_of : List ℕ × V → F) (name_of : F → List �
     pub same_facts : (es fs : List (List ℕ × V)) → map fact_of es ≡ map fact_of fs → es ≡ fs
     same_facts es fs h = sym (entries-facts es) ∙ ap entries_of h ∙ entries-facts fs
 
+-- ---- a fact in the place of another
+module _ {V : Type 0} where
+  pub none-without : (k : List ℕ) (es : List (List ℕ × V)) → IsStrictlySortedBy bytes_cmp (keys_of es) → value_at bytes_cmp k (without_key bytes_cmp k es) ≡ None
+  none-without k es sorted = value-without k es sorted k ∙ ap (λ b. cond b None (value_at bytes_cmp k es)) (nat_list_eq_equiv.refl k)
+
+  -- what is put where the key was taken out is put over it
+  pub with-without : (k : List ℕ) (v : V) (es : List (List ℕ × V)) → IsStrictlySortedBy bytes_cmp (keys_of es) → with_entry bytes_cmp k v (without_key bytes_cmp k es) ≡ with_entry bytes_cmp k v es
+  with-without k v es sorted =
+      let less = sorted-remove_entry bytes_cmp-IsTotalOrder (is_at (bytes_cmp k)) es sorted in
+      same_found bytes_cmp bytes_cmp-IsTotalOrder exact_bytes _ _ (sorted-insert_entry bytes_cmp-IsTotalOrder k v _ less) (sorted-insert_entry bytes_cmp-IsTotalOrder k v es sorted)
+      (λ q. value-with k v (without_key bytes_cmp k es) q ∙ ap (cond (bytes_eq q k) (Some v)) (value-without k es sorted q) ∙ over (bytes_eq q k) (value_at bytes_cmp q es) ∙ sym (value-with k v es q))
+    where
+      over : (b : Bool) (r : Option V) → cond b (Some v) (cond b None r) ≡ cond b (Some v) r
+      over true r = refl
+      over false r = refl
+
+-- ---- a fact more before those that are there already
+module _ {F : Type 0} (name_of : F → List ℕ) where
+  none_has : (q : List ℕ) (ns : List (List ℕ)) → AllByRecursion (λ n. bytes_eq q n ≡ false) ns → has ns q ≡ false
+  none_has q [] h = refl
+  none_has q (n ∷ ns) h = (λ i. h.0 i || has ns q) ∙ none_has q ns h.1
+
+  pub absent_before : (f : F) (fs : List F) → AreDistinct (map name_of (f ∷ fs)) → has (map name_of (by_name name_of fs)) (name_of f) ≡ false
+  unfolding IsDistinct
+  absent_before f fs d =
+      sym (is_some-named name_of (by_name name_of fs) (name_of f)) ∙ ap is_some (named-by_name name_of fs (name_of f))
+      ∙ is_some-named name_of fs (name_of f) ∙ none_has (name_of f) (map name_of fs) d.0
