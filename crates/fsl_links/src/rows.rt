@@ -178,11 +178,7 @@ fn set_of(alloc: Global, names: &[Name]) -> Result<BTreeSet<Name>, Memory>
 }
 
 /// The names that are in one list and not in the other.
-fn differing(
-    alloc: Global,
-    before: &[Name],
-    after: &[Name],
-) -> Result<BTreeSet<Name>, Memory>
+fn differing(alloc: Global, before: &[Name], after: &[Name]) -> Result<BTreeSet<Name>, Memory>
     ensures { IfOk result (λ set. (q : List ℕ) → has set.keys q ≡ in_one before.now after.now q) }
 {
     let old = set_of(alloc, before)?;

@@ -1,5 +1,5 @@
 -- Facts that a table holds by their names: with one more, without one, and looked up.
-use Rattle.std.proofs.Common.{◌≡◌, ℕ, List, [], ◌∷◌, Bool, true, false, cond, not, ◌||◌, Option, Some, None, is_some, option_map, map, filter, refl, sym, ap, ◌∙◌}
+use Rattle.std.proofs.Common.{◌≡◌, ℕ, List, [], ◌∷◌, ◌++◌, Bool, true, false, cond, not, ◌||◌, Option, Some, None, is_some, option_map, map, filter, refl, sym, ap, ◌∙◌}
 use Rattle.std.specs.Str.{bytes_eq}
 use Rattle.std.specs.List.{AllByRecursion, IsDistinct}
 use Rattle.std.specs.List.Sorted.{IsStrictlySortedBy}
@@ -134,3 +134,8 @@ module _ {F : Type 0} (name_of : F → List ℕ) where
   absent_before f fs d =
       sym (is_some-named name_of (by_name name_of fs) (name_of f)) ∙ ap is_some (named-by_name name_of fs (name_of f))
       ∙ is_some-named name_of fs (name_of f) ∙ none_has (name_of f) (map name_of fs) d.0
+
+  pub distinct_rear : (xs ys : List F) → AreDistinct (map name_of (xs ++ ys)) → AreDistinct (map name_of ys)
+  unfolding IsDistinct
+  distinct_rear [] ys d = d
+  distinct_rear (x ∷ xs) ys d = distinct_rear xs ys d.1

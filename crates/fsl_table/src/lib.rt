@@ -7,6 +7,7 @@
 #![tactic(auto)]
 
 pub mod key;
+pub mod keys;
 pub mod log;
 pub mod names;
 pub mod pairs;
