@@ -102,9 +102,7 @@ fn unlink_line<L: Ledger>(
     ensures undoes_leaves { (before : Contents (List ℕ) Unit) → Undoes bytes_cmp leaves_log.old leaves.old before → Undoes bytes_cmp leaves_log.new leaves.new before }
 {
     unlink_each(children, children_log, name, parents, steps)?;
-    recount(
-        facts, children, leaves, leaves_log, changed, parents, steps,
-    )?;
+    recount(facts, children, leaves, leaves_log, changed, parents, steps)?;
     set_leaf(leaves, leaves_log, changed, name, false, steps)
 }
 

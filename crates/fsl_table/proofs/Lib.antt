@@ -10,4 +10,5 @@ pub mod PairOrder
 pub mod Places
 pub mod Seconds
 pub mod Steps
+pub mod Walk
 pub mod Weaving

@@ -14,6 +14,6 @@ pub returns-clause-flips : goal.returns-clause-flips
 returns-clause-flips g c =
     on_ok_map c.write_leaf.result
     (λ written before all q.
-      set_flips c.is_leaf-there.result c.args.wanted c.args.name before (λ q. is_some (value_at bytes_cmp q c.args.leaves.now.entries)) (λ q. is_some (value_at bytes_cmp q c.write_leaf.new.leaves.entries))
-      (has c.args.changed.now.keys) (has c.flip.new.names.keys) c.is_leaf-there.ensures.is (sym c.differ.ensures ∙ c.if-not-differ.false) c.in_ok-flip.ensures.flipped written all q)
+    set_flips c.is_leaf-there.result c.args.wanted c.args.name before (λ q. is_some (value_at bytes_cmp q c.args.leaves.now.entries)) (λ q. is_some (value_at bytes_cmp q c.write_leaf.new.leaves.entries))
+    (has c.args.changed.now.keys) (has c.flip.new.names.keys) c.is_leaf-there.ensures.is (sym c.differ.ensures ∙ c.if-not-differ.false) c.in_ok-flip.ensures.flipped written all q)
     c.write_leaf.ensures.leaves

@@ -15,7 +15,7 @@ returns-clause-changed g c =
     λ q. ap (λ ks. has ks q) c.new-changed.ensures.empty ∙ same_differs (is_some (value_at bytes_cmp q c.args.leaves.now.entries)) in
     if_ok _ c.listed.result c.put_either.new.changed.keys c.listed.ensures.names
     (lists_flipped old new c.requires.kept c.in_ok-put_either.ensures.kept c.put_either.new.changed.keys c.listed.ensures.rising
-      (c.in_ok-put_either.ensures.flips (λ q. is_some (value_at bytes_cmp q c.args.leaves.now.entries)) start))
+    (c.in_ok-put_either.ensures.flips (λ q. is_some (value_at bytes_cmp q c.args.leaves.now.entries)) start))
 
 pub returns-clause-entries : goal.returns-clause-entries
 returns-clause-entries g c = always_ok c.listed.result c.in_ok-put_either.ensures.entries
