@@ -1,1 +1,5 @@
-pub mod Continuing
+pub mod Canonical
+pub mod Counting
+pub mod Facts
+pub mod Finds
+pub mod Reading

@@ -1,17 +1,20 @@
 //! Leaves: check-ins without a child in their own branch. `Leaves` is the table of them, and its answer is that of the
-//! definition over the facts it was built from. In whatever order these stand it is the same:
-//! `fsl_order::by_name_in_any_order`. It keeps the names of the leaves alone.
+//! definition over the facts that it holds. In whatever order these came it is the same: `fsl_order::by_name_in_any_order`. A
+//! check-in more, or one with other parents or in another branch, is a call of its own, which tells the names whose rows differ
+//! and can be taken back.
 #![tactic(auto)]
 
 ghost use Rattle.std.specs.Prelude.{◌≡◌, IfOk};
 
-mod continued;
+mod ends;
 mod leaves;
+mod line;
+mod rows;
 
 use fsl_name::Name;
 use fsl_rows::Named;
 use fsl_text::{List, Memory, Text};
-pub use leaves::Leaves;
+pub use leaves::{Leaves, Undo};
 use std::alloc::Global;
 
 /// A check-in with the names of its P card and its branch.

@@ -1,17 +1,18 @@
 //! Parentage of check-ins: the primary parent and the children of each. `Links` is the table of both, and its answers are
-//! those of the definitions over the facts it was built from. In whatever order these stand it
-//! is the same: `fsl_order::by_name_in_any_order`.
+//! those of the definitions over the facts that it holds. In whatever order these came it is the same:
+//! `fsl_order::by_name_in_any_order`. A check-in more, or one with other parents, is a call of its own, which tells the names
+//! whose rows differ and can be taken back.
 #![tactic(auto)]
 
 ghost use Rattle.std.specs.Prelude.{◌≡◌, IfOk};
 
-mod children;
 mod links;
+mod rows;
 
 use fsl_name::Name;
 use fsl_rows::Named;
 use fsl_text::{List, Memory};
-pub use links::Links;
+pub use links::{Links, Undo};
 use std::alloc::Global;
 
 /// A check-in with the names of its P card.

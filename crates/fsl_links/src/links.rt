@@ -1,69 +1,278 @@
 //! The table of parentage.
-ghost use Rattle.std.specs.Prelude.{◌≡◌, [], IfOk, map};
-ghost use Rattle.fsl_order.specs.Rows.{by_name, AreDistinct};
-ghost use Rattle.fsl_links.specs.Links as table;
+ghost use Rattle.std.specs.Prelude.{◌≡◌, ◌+◌, ◌*◌, ◌≤◌, [], ◌∷◌, ◌<◌, length, false, true, map, OnOk, OnErr, IfOk};
+ghost use Rattle.fsl_order.specs.Names.{has};
+ghost use Rattle.fsl_order.specs.Rows.{by_name, AreDistinct, ListsChanged};
+ghost use Rattle.fsl_order.specs.Held.{IsAsBefore};
+ghost use Rattle.fsl_links.specs.Links.{links_row, children as children_of, primary as primary_of};
 
-use super::{Fact, children, copy};
+use super::Fact;
+use super::rows::{first_parent, is_there, put_either, put_fact};
 use fsl_name::Name;
-use fsl_rows::Rows;
-use fsl_text::{List, Memory};
+use fsl_rows::Named;
+use fsl_table::{Log, Pair, Table, log, pairs};
+use fsl_text::{List, Memory, Steps};
 use std::alloc::Global;
-use std::collections::BTreeMap;
-use std::marker::Model;
+use std::marker::{Brand, Model};
+use std::snapshot::Snapshot;
+use std::sync::ledger::{Blank, Ledger};
 
-/// The parents and the children of check-ins. Contracts see it as the facts by name.
+/// The parents and the children of check-ins. Contracts see it as the facts by name, and the room that its maps have to spare.
 #[derive(Drop)]
 pub struct Links {
-    rows: Rows<Fact>,
-    /// By each name of a P card the check-ins that name it, ascending.
-    by_parent: BTreeMap<Name, List<Name>>,
+    /// The names of each P card, by the name of its check-in.
+    facts: Table<Name, List<Name>>,
+    /// A pair for each name of a P card and the check-in that has it.
+    children: Table<Pair, ()>,
 }
 
 impl Model for Links {
-    ghost use Rattle.std.specs.Prelude.{◌≡◌, List, ℕ, []};
     ghost use Rattle.fsl_order.specs.Held.{Held};
     ghost use Rattle.fsl_links.specs.declared.Fact.{Fact};
-    ghost use Rattle.fsl_links.specs.Kept.{kept};
-    ghost use Rattle.fsl_links.specs.Links.{children};
+    ghost use Rattle.fsl_links.specs.Kept.{held_of, IsKept};
 
     ghost Value = { Held Fact };
 
-    ghost view = { λ l. record { facts = l.rows; spare = [] } };
+    ghost view = { λ l. held_of (record { facts = l.facts; children = l.children }) };
 
-    ghost invariant = { λ l. (q : List ℕ) → kept l.by_parent.entries q ≡ children l.rows q };
+    ghost invariant = { λ l. IsKept (record { facts = l.facts; children = l.children }) };
+}
+
+/// What takes a change back, and the names whose rows it changed. Contracts see it as both, with the table before and after.
+#[derive(Drop)]
+pub struct Undo {
+    facts: Log<Name, List<Name>>,
+    children: Log<Pair, ()>,
+    changed: List<Name>,
+    before: Snapshot<Links>,
+    after: Snapshot<Links>,
+}
+
+impl Model for Undo {
+    ghost use Rattle.fsl_order.specs.Held.{Change, IsAsBefore};
+    ghost use Rattle.fsl_links.specs.declared.Fact.{Fact};
+    ghost use Rattle.fsl_links.specs.Kept.{Rows, IsKept, held_of, TakesBack};
+
+    ghost Value = { Change Fact };
+
+    ghost view = { λ u. record { before = u.before.value; after = u.after.value; changed = u.changed } };
+
+    ghost invariant = { λ u. (now : Rows) → IsKept now → IsAsBefore u.after.value (held_of now) → TakesBack u.facts u.children u.before.value now };
+}
+
+impl Undo {
+    /// The names whose rows the change changed, ascending. A row is the primary parent and the children of a name.
+    pub fn changed(&self) -> &List<Name>
+        ensures { result.now ≡ self.now.changed }
+    {
+        &self.changed
+    }
 }
 
 impl Links {
+    /// The table without check-ins. Takes no memory.
+    pub fn new(alloc: Global) -> Links
+        ensures { result.facts ≡ [] }
+    {
+        Links {
+            facts: Table::new(alloc),
+            children: Table::new(alloc),
+        }
+    }
+
     /// The table of some facts, of which no two have one name. It is the same in whatever order they stand:
     /// that is the law `fsl_order::by_name_in_any_order`. `Memory` is the only error.
     pub fn build(alloc: Global, facts: &[Fact]) -> Result<Links, Memory>
         requires { AreDistinct (map (λ f. f.name) facts.now) }
         ensures facts { IfOk result (λ t. t.facts ≡ by_name (λ f. f.name) facts.now) }
-        ensures spare { IfOk result (λ t. t.spare ≡ []) }
     {
-        let rows = Rows::build(alloc, facts)?;
-        let by_parent = children::of_rows(alloc, &rows)?;
-        Ok(Links { rows, by_parent })
+        Links::build_counted::<Brand>(alloc, facts, Blank::new(1))
+    }
+
+    fn build_counted<L: Ledger>(
+        alloc: Global,
+        facts: &[Fact],
+        blank: Blank,
+    ) -> Result<Links, Memory>
+        requires name { blank.name ≡ L.name }
+        requires parts { blank.parts ≡ L.parts }
+        requires counts { 0 < L.parts }
+        requires distinct { AreDistinct (map (λ f. f.name) facts.now) }
+        ensures facts { IfOk result (λ t. t.facts ≡ by_name (λ f. f.name) facts.now) }
+    {
+        let mut steps: Steps<L> = Steps::new(blank);
+        let mut rows = Table::new(alloc);
+        let mut children = Table::new(alloc);
+        let mut left = facts.len();
+        while left > 0 {
+            left -= 1;
+            let fact = facts[left].copied(alloc)?;
+            put_fact(
+                &mut rows,
+                &mut children,
+                &mut Log::new(alloc),
+                &mut Log::new(alloc),
+                fact,
+                &mut steps,
+            )?;
+        }
+        Ok(Links {
+            facts: rows,
+            children,
+        })
+    }
+
+    /// Adds a check-in whose name isn't there. `Memory` is the only error, and the table then holds what it held.
+    /// Where no check-in names it as a parent, it takes at most 6 touches, and 6 for each parent.
+    pub fn add<L: Ledger>(
+        &mut self,
+        alloc: Global,
+        fact: Fact,
+        steps: &mut Steps<L>,
+    ) -> Result<Undo, Memory>
+        requires absent { has (map (λ f. f.name) self.old.facts) fact.name ≡ false }
+        ensures facts { OnOk result (self.new.facts ≡ by_name (λ f. f.name) (fact ∷ self.old.facts)) }
+        ensures before { IfOk result (λ undo. undo.before ≡ self.old) }
+        ensures after { IfOk result (λ undo. undo.after ≡ self.new) }
+        ensures changed { IfOk result (λ undo. ListsChanged (links_row self.old.facts) (links_row self.new.facts) undo.changed) }
+        ensures err { OnErr result (IsAsBefore self.old self.new) }
+        ensures cost { children_of self.old.facts fact.name ≡ [] → steps.new ≤ steps.old + 6 * (1 + length fact.parents) }
+    {
+        self.put(alloc, fact, steps)
+    }
+
+    /// Puts a check-in in the place of that of its name, which is there. `Memory` is the only error, and the table then holds
+    /// what it held.
+    pub fn change<L: Ledger>(
+        &mut self,
+        alloc: Global,
+        fact: Fact,
+        steps: &mut Steps<L>,
+    ) -> Result<Undo, Memory>
+        requires there { has (map (λ f. f.name) self.old.facts) fact.name ≡ true }
+        ensures facts { OnOk result (self.new.facts ≡ by_name (λ f. f.name) (fact ∷ self.old.facts)) }
+        ensures before { IfOk result (λ undo. undo.before ≡ self.old) }
+        ensures after { IfOk result (λ undo. undo.after ≡ self.new) }
+        ensures changed { IfOk result (λ undo. ListsChanged (links_row self.old.facts) (links_row self.new.facts) undo.changed) }
+        ensures err { OnErr result (IsAsBefore self.old self.new) }
+    {
+        self.put(alloc, fact, steps)
+    }
+
+    /// Puts a check-in, in the place of that of its name where there is one.
+    fn put<L: Ledger>(
+        &mut self,
+        alloc: Global,
+        fact: Fact,
+        steps: &mut Steps<L>,
+    ) -> Result<Undo, Memory>
+        ensures facts { OnOk result (self.new.facts ≡ by_name (λ f. f.name) (fact ∷ self.old.facts)) }
+        ensures before { IfOk result (λ undo. undo.before ≡ self.old) }
+        ensures after { IfOk result (λ undo. undo.after ≡ self.new) }
+        ensures changed { IfOk result (λ undo. ListsChanged (links_row self.old.facts) (links_row self.new.facts) undo.changed) }
+        ensures err { OnErr result (IsAsBefore self.old self.new) }
+        ensures cost { has (map (λ f. f.name) self.old.facts) fact.name ≡ false → children_of self.old.facts fact.name ≡ [] → steps.new ≤ steps.old + 6 * (1 + length fact.parents) }
+    {
+        let before = Snapshot::of(&*self);
+        let mut facts = Log::new(alloc);
+        let mut children = Log::new(alloc);
+        match put_either(
+            alloc,
+            &mut self.facts,
+            &mut self.children,
+            &mut facts,
+            &mut children,
+            fact,
+            steps,
+        ) {
+            Ok(changed) => {
+                let after = Snapshot::of(&*self);
+                Ok(Undo {
+                    facts,
+                    children,
+                    changed,
+                    before,
+                    after,
+                })
+            }
+            Err(Memory) => {
+                log::undo(&mut self.facts, facts, steps);
+                log::undo(&mut self.children, children, steps);
+                Err(Memory)
+            }
+        }
+    }
+
+    /// Takes the last change back that wasn't taken back. It takes no memory.
+    pub fn undo(&mut self, undo: Undo)
+        requires { IsAsBefore undo.after self.old }
+        ensures { IsAsBefore undo.before self.new }
+    {
+        self.take_back::<Brand>(undo, Blank::new(1));
+    }
+
+    fn take_back<L: Ledger>(&mut self, undo: Undo, blank: Blank)
+        requires name { blank.name ≡ L.name }
+        requires parts { blank.parts ≡ L.parts }
+        requires counts { 0 < L.parts }
+        requires last { IsAsBefore undo.after self.old }
+        ensures { IsAsBefore undo.before self.new }
+    {
+        let mut steps: Steps<L> = Steps::new(blank);
+        let Undo {
+            facts,
+            children,
+            ..
+        } = undo;
+        log::undo(&mut self.facts, facts, &mut steps);
+        log::undo(&mut self.children, children, &mut steps);
     }
 
     /// The primary parent of a check-in: the first name of its P card. None where there is no check-in of the given name, it
     /// has no P card, or no check-in has that first name.
     pub fn primary(&self, name: Name) -> Option<Name>
-        ensures { result ≡ table.primary self.now.facts name }
+        ensures { result ≡ primary_of self.now.facts name }
     {
-        let fact = self.rows.get(name)?;
-        let first = fact.parents.items().first()?;
-        let parent = self.rows.get(*first)?;
-        Some(parent.name)
+        self.primary_counted::<Brand>(name, Blank::new(1))
+    }
+
+    fn primary_counted<L: Ledger>(&self, name: Name, blank: Blank) -> Option<Name>
+        requires name { blank.name ≡ L.name }
+        requires parts { blank.parts ≡ L.parts }
+        requires counts { 0 < L.parts }
+        ensures { result ≡ primary_of self.now.facts name }
+    {
+        let mut steps: Steps<L> = Steps::new(blank);
+        match first_parent(&self.facts, name, &mut steps) {
+            None => None,
+            Some(first) => {
+                if is_there(&self.facts, &first, &mut steps) {
+                    Some(first)
+                } else {
+                    None
+                }
+            }
+        }
     }
 
     /// The check-ins whose P card has the name, ascending, whether or not it is itself a check-in. `Memory` is the only error.
     pub fn children(&self, alloc: Global, name: Name) -> Result<List<Name>, Memory>
-        ensures { IfOk result (λ names. names ≡ table.children self.now.facts name) }
+        ensures { IfOk result (λ names. names ≡ children_of self.now.facts name) }
     {
-        match self.by_parent.get(&name) {
-            Some(names) => copy(alloc, names.items()),
-            None => Ok(List::new(alloc)),
-        }
+        self.children_counted::<Brand>(alloc, name, Blank::new(1))
+    }
+
+    fn children_counted<L: Ledger>(
+        &self,
+        alloc: Global,
+        name: Name,
+        blank: Blank,
+    ) -> Result<List<Name>, Memory>
+        requires name { blank.name ≡ L.name }
+        requires parts { blank.parts ≡ L.parts }
+        requires counts { 0 < L.parts }
+        ensures { IfOk result (λ names. names ≡ children_of self.now.facts name) }
+    {
+        let mut steps: Steps<L> = Steps::new(blank);
+        pairs::seconds(alloc, &self.children, name, &mut steps)
     }
 }

@@ -83,7 +83,7 @@ module _ {K X : Type 0} (R : K → K → Ordering) where
   below_is x [] h = tt
   below_is x (e ∷ es) h = subst (λ r. T (is_lt r && below_all R x es)) (sym h.0) (below_is x es h.1)
 
-  sorted_is : (es : List (K × X)) → IsStrictlySortedBy R (keys_of es) → T (is_sorted R es)
+  pub sorted_is : (es : List (K × X)) → IsStrictlySortedBy R (keys_of es) → T (is_sorted R es)
   unfolding IsStrictlySortedBy
   sorted_is [] h = tt
   sorted_is (e ∷ es) h = both (below_all R e.0 es) (is_sorted R es) (below_is e.0 es h.0) (sorted_is es h.1)
@@ -92,7 +92,7 @@ module _ {K X : Type 0} (R : K → K → Ordering) where
       both true b p q = q
       both false b p q = p
 
-  find_is : (q : K) (es : List (K × X)) → find R q es ≡ value_at R q es
+  pub find_is : (q : K) (es : List (K × X)) → find R q es ≡ value_at R q es
   find_is q [] = refl
   find_is q (e ∷ es) = λ i. cond (is_eq (R q e.0)) (Some e.1) (find_is q es i)
 

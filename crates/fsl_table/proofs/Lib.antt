@@ -1,11 +1,15 @@
 pub mod Entries
 pub mod Finding
 pub mod Keeping
+pub mod Facts
+pub mod Leading
 pub mod Linking
+pub mod Noting
 pub mod Outcomes
 pub mod PairOrder
 pub mod Places
 pub mod Seconds
 pub mod Steps
+pub mod Walk
 pub mod Weaving
 pub mod Trails

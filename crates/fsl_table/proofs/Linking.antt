@@ -70,3 +70,13 @@ link-step true true s r w p = or-true s ∙ p
     or-true false = refl
 link-step true false s r w p = p
 link-step false e s r w p = p
+
+-- one step of unlinking
+pub unlink-step : (d e r s w : Bool) → (not (d && (e || r)) && s) ≡ w → (not (d && r) && (not (d && e) && s)) ≡ w
+unlink-step true true r s w p = none (not r) ∙ p
+  where
+    none : (b : Bool) → (b && false) ≡ false
+    none true = refl
+    none false = refl
+unlink-step true false r s w p = p
+unlink-step false e r s w p = p

@@ -8,7 +8,7 @@ use Rattle.std.specs.List.{AllByRecursion}
 use Rattle.std.specs.List.Sorted.{IsStrictlySortedBy}
 use Rattle.std.specs.Map.{keys_of}
 use Rattle.std.specs.Ordering.{is_eq, is_lt, ordering_then, ordering_reverse}
-use Rattle.std.specs.Option.{option_cmp, option_and_then}
+use Rattle.std.specs.Option.{option_cmp, option_and_then, option_map}
 use Rattle.std.specs.declared.cmp.Ordering.{Ordering}
 use Rattle.std.specs.declared.cmp.Ordering.TheVariants.{Less, Equal, Greater}
 use Rattle.std.specs.Cmp.{tied_itself}
@@ -219,3 +219,22 @@ rest_none (x ∷ xs) = ap (λ l. x ∷ l) (rest_none xs)
 pub on_ok : {X E : Type 0} (P : Type 0) (r : Result X E) → is_err r ≡ false → OnOk r P → P
 on_ok P (Ok x) h p = p
 on_ok P (Err e) h p = cc
+
+-- the names of entries, first and above another
+pub first_key : (es : List (List ℕ × Unit {0})) (o : Option (List ℕ × Unit {0})) → o ≡ first_of es → option_map (λ e. e.0) o ≡ first_of (rest_after None (keys_of es))
+first_key es o h = ap (option_map (λ e. e.0)) h ∙ front es ∙ ap first_of (sym (rest_none (keys_of es)))
+  where
+    front : (es : List (List ℕ × Unit {0})) → option_map (λ e. e.0) (first_of es) ≡ first_of (keys_of es)
+    front [] = refl
+    front (e ∷ es) = refl
+
+pub next_key : (k : List ℕ) (es : List (List ℕ × Unit {0})) (o : Option (List ℕ × Unit {0})) → o ≡ first_of (entries_after bytes_cmp k es) → option_map (λ e. e.0) o ≡ first_of (rest_after (Some k) (keys_of es))
+next_key k es o h = ap (option_map (λ e. e.0)) h ∙ front es
+  where
+    front : (es : List (List ℕ × Unit {0})) → option_map (λ e. e.0) (first_of (entries_after bytes_cmp k es)) ≡ first_of (rest_after (Some k) (keys_of es))
+    front [] = refl
+    front (e ∷ es) =
+        elim (is_lt (bytes_cmp k e.0)) as (λ b. option_map (λ f. f.0) (first_of (cond b (e ∷ entries_after bytes_cmp k es) (entries_after bytes_cmp k es))) ≡ first_of (cond b (e.0 ∷ rest_after (Some k) (keys_of es)) (rest_after (Some k) (keys_of es)))) [
+          | true ↦ refl
+          | false ↦ front es
+        ]

@@ -7,7 +7,9 @@
 #![tactic(auto)]
 
 pub mod key;
+pub mod keys;
 pub mod log;
+pub mod names;
 pub mod pairs;
 pub mod step;
 pub mod table;

@@ -149,3 +149,28 @@ pub fn link_each<L: Ledger>(
     }
     Ok(())
 }
+
+/// Takes the pairs of a name and of each of those to which it belongs out. After `Memory` some may be out; the log has them.
+pub fn unlink_each<L: Ledger>(
+    pairs: &mut Table<Pair, ()>,
+    log: &mut Log<Pair, ()>,
+    second: Name,
+    firsts: &[Name],
+    steps: &mut Steps<L>,
+) -> Result<(), Memory>
+    requires { IsStrictlySortedBy pair_cmp (keys_of pairs.old.entries) }
+    ensures pairs { OnOk result ((k : pair.Pair) → is_some (value_at pair_cmp k pairs.new.entries) ≡ (not (is_name k.second second && has firsts.now k.first) && is_some (value_at pair_cmp k pairs.old.entries))) }
+    ensures ordered { OnOk result (IsStrictlySortedBy pair_cmp (keys_of pairs.new.entries)) }
+    ensures undoes { (before : Contents pair.Pair Unit) → Undoes pair_cmp log.old pairs.old before → Undoes pair_cmp log.new pairs.new before }
+    ensures most { steps.new ≤ steps.old + length firsts.now }
+    ensures logged { length log.new ≤ length log.old + length firsts.now }
+{
+    for first in firsts {
+        let key = Pair {
+            first: *first,
+            second: Some(second),
+        };
+        log::remove(pairs, log, key, steps)?;
+    }
+    Ok(())
+}

@@ -1,2 +1,5 @@
 mod WorkedRows
+pub mod Canonical
+pub mod Changing
+pub mod Placing
 pub mod Timelines

@@ -1,17 +1,21 @@
 //! The timeline: rows with a time, the latest first. `Timeline` is the table of them, and its answers are those of the
-//! definitions over the rows it was built from. In whatever order these stand it is the same: `fsl_order::by_name_in_any_order`.
+//! definitions over the rows that it holds. In whatever order these came it is the same: `fsl_order::by_name_in_any_order`. A row
+//! more, another in the place of one, and one less are calls of their own, which tell the names whose rows differ and can be
+//! taken back.
 #![tactic(auto)]
 
 ghost use Rattle.std.specs.Prelude.{◌≡◌, IfOk};
 
+mod entry;
 mod place;
+mod rows;
 mod timeline;
 
 use fsl_date::Moment;
 use fsl_name::Name;
 use fsl_text::{Memory, Text};
 use std::alloc::Global;
-pub use timeline::Timeline;
+pub use timeline::{Timeline, Undo};
 
 /// What a row of the timeline tells of.
 #[derive(Clone, Copy, PartialEq, Eq, Debug)]

@@ -3,10 +3,11 @@ ghost use Rattle.std.specs.Prelude.{◌≡◌, refl};
 ghost use Rattle.std.specs.Cmp.{partial_order_from_total, partial_equiv_from_equiv, eq_by_cmp_equiv};
 ghost use Rattle.std.specs.Ordering.{eq_by_cmp, as_partial_cmp};
 ghost use Rattle.fsl_order.specs.Names.{latest_first};
-ghost use Rattle.fsl_order.proofs.Orders.{latest_first-IsTotalOrder};
+ghost use Rattle.fsl_order.proofs.Orders.{latest_first-IsTotalOrder, latest_first-IsAntisymmetric};
 
 use fsl_date::Moment;
 use fsl_name::Name;
+use fsl_table::Key;
 use std::cmp::Ordering;
 use std::marker::Model;
 
@@ -31,6 +32,13 @@ impl Place {
         ensures { result ≡ (time, name) }
     {
         Place { time, name }
+    }
+
+    /// Its name.
+    pub fn name(&self) -> Name
+        ensures { result ≡ self.now.1 }
+    {
+        self.name
     }
 }
 
@@ -70,4 +78,8 @@ impl Ord for Place {
     fn cmp(&self, other: &Place) -> Ordering {
         other.time.cmp(&self.time).then(self.name.cmp(&other.name))
     }
+}
+
+impl Key for Place {
+    ghost exact = { latest_first-IsAntisymmetric };
 }

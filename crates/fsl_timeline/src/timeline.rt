@@ -1,47 +1,71 @@
 //! The table of rows.
-ghost use Rattle.std.specs.Prelude.{◌≡◌, [], IfOk, OnOk, map, take};
-ghost use Rattle.std.specs.Map.{values_of};
-ghost use Rattle.std.specs.BTreeMap.{insert_entry};
-ghost use Rattle.fsl_order.specs.Names.{latest_first};
-ghost use Rattle.fsl_order.specs.Rows.{by_name, keyed, AreDistinct};
+ghost use Rattle.std.specs.Prelude.{◌≡◌, ◌+◌, ◌≤◌, ◌<◌, [], ◌∷◌, false, true, map, OnOk, OnErr, IfOk};
+ghost use Rattle.fsl_order.specs.Names.{has};
+ghost use Rattle.fsl_order.specs.Rows.{by_name, AreDistinct, ListsChanged};
+ghost use Rattle.fsl_order.specs.Held.{IsAsBefore};
+ghost use Rattle.fsl_timeline.specs.Timeline.{timeline_row, retired};
 ghost use Rattle.fsl_timeline.specs.Timeline as table;
 
 use super::Row;
+use super::entry::Entry;
 use super::place::Place;
-use fsl_text::{List, Memory};
+use super::rows::{first_rows, put_either, put_row, retire_row};
+use fsl_name::Name;
+use fsl_table::{Log, Table, log};
+use fsl_text::{List, Memory, Steps};
 use std::alloc::Global;
-use std::collections::BTreeMap;
-use std::marker::Model;
+use std::marker::{Brand, Model};
+use std::snapshot::Snapshot;
+use std::sync::ledger::{Blank, Ledger};
 
-/// The rows of the timeline. Contracts see it as the rows by name.
+/// The rows of the timeline. Contracts see it as the rows by name, and the room that its maps have to spare.
 #[derive(Drop)]
 pub struct Timeline {
-    rows: BTreeMap<Place, Row>,
+    rows: Table<Name, Entry>,
+    /// The time and name of each row, in the order of the timeline.
+    places: Table<Place, ()>,
 }
 
 impl Model for Timeline {
-    ghost use Rattle.std.specs.Prelude.{◌≡◌, []};
-    ghost use Rattle.std.specs.Map.{values_of};
-    ghost use Rattle.fsl_order.specs.Rows.{by_name};
     ghost use Rattle.fsl_order.specs.Held.{Held};
     ghost use Rattle.fsl_timeline.specs.declared.Row.{Row};
-    ghost use Rattle.fsl_timeline.specs.Timeline as table;
+    ghost use Rattle.fsl_timeline.specs.Kept.{held_of, IsKept};
 
     ghost Value = { Held Row };
 
-    ghost view = { λ t. record { facts = by_name (λ r. r.name) (values_of t.rows.entries); spare = [] } };
+    ghost view = { λ t. held_of (record { rows = t.rows; places = t.places }) };
 
-    ghost invariant = { λ t. values_of t.rows.entries ≡ table.timeline (by_name (λ r. r.name) (values_of t.rows.entries)) };
+    ghost invariant = { λ t. IsKept (record { rows = t.rows; places = t.places }) };
 }
 
-/// Puts a row in at its place.
-fn put(tree: &mut BTreeMap<Place, Row>, row: Row) -> Result<(), Memory>
-    ensures { OnOk result (tree.new.entries ≡ insert_entry latest_first tree.old.entries (row.time, row.name) row) }
-{
-    let place = Place::new(row.time, row.name);
-    match tree.insert(place, row) {
-        Ok(_) => Ok(()),
-        Err(_) => Err(Memory),
+/// What takes a change back, and the names whose rows it changed. Contracts see it as both, with the table before and after.
+#[derive(Drop)]
+pub struct Undo {
+    rows: Log<Name, Entry>,
+    places: Log<Place, ()>,
+    changed: List<Name>,
+    before: Snapshot<Timeline>,
+    after: Snapshot<Timeline>,
+}
+
+impl Model for Undo {
+    ghost use Rattle.fsl_order.specs.Held.{Change, IsAsBefore};
+    ghost use Rattle.fsl_timeline.specs.declared.Row.{Row};
+    ghost use Rattle.fsl_timeline.specs.Kept.{Rows, IsKept, held_of, TakesBack};
+
+    ghost Value = { Change Row };
+
+    ghost view = { λ u. record { before = u.before.value; after = u.after.value; changed = u.changed } };
+
+    ghost invariant = { λ u. (now : Rows) → IsKept now → IsAsBefore u.after.value (held_of now) → TakesBack u.rows u.places u.before.value now };
+}
+
+impl Undo {
+    /// The names whose rows the change changed, ascending: one or none.
+    pub fn changed(&self) -> &List<Name>
+        ensures { result.now ≡ self.now.changed }
+    {
+        &self.changed
     }
 }
 
@@ -56,43 +80,22 @@ fn copies(alloc: Global, rows: &[Row]) -> Result<List<Row>, Memory>
     Ok(List::from_vec(list))
 }
 
-/// The rows by their places. They are moved.
-fn placed(alloc: Global, rows: List<Row>) -> Result<BTreeMap<Place, Row>, Memory>
-    ensures { IfOk result (λ tree. tree.entries ≡ keyed latest_first (λ r. (r.time, r.name)) rows) }
-{
-    let mut left = rows.into_vec();
-    let mut tree = BTreeMap::new(alloc);
-    while let Some(row) = left.pop() {
-        put(&mut tree, row)?;
-    }
-    Ok(tree)
-}
-
-/// Copies of so many of the first rows, or of all where there are fewer.
-fn first_rows(alloc: Global, rows: &BTreeMap<Place, Row>, count: u64) -> Result<List<Row>, Memory>
-    ensures { IfOk result (λ first. first ≡ take count (values_of rows.now.entries)) }
-{
-    let mut first = List::new(alloc);
-    let mut left = count;
-    for row in rows.values() {
-        if left == 0 {
-            return Ok(first);
-        }
-        left -= 1;
-        if first.push(row.copied(alloc)?).is_err() {
-            return Err(Memory);
-        }
-    }
-    Ok(first)
-}
-
 impl Timeline {
+    /// The table without rows. Takes no memory.
+    pub fn new(alloc: Global) -> Timeline
+        ensures { result.facts ≡ [] }
+    {
+        Timeline {
+            rows: Table::new(alloc),
+            places: Table::new(alloc),
+        }
+    }
+
     /// The table of some rows, of which no two have one name. They are copied. The table is the same in whatever order they stand: that
     /// is the law `fsl_order::by_name_in_any_order`. `Memory` is the only error.
     pub fn build(alloc: Global, rows: &[Row]) -> Result<Timeline, Memory>
         requires { AreDistinct (map (λ r. r.name) rows.now) }
         ensures facts { IfOk result (λ t. t.facts ≡ by_name (λ r. r.name) rows.now) }
-        ensures spare { IfOk result (λ t. t.spare ≡ []) }
     {
         Timeline::from_rows(alloc, copies(alloc, rows)?)
     }
@@ -101,18 +104,210 @@ impl Timeline {
     pub fn from_rows(alloc: Global, rows: List<Row>) -> Result<Timeline, Memory>
         requires { AreDistinct (map (λ r. r.name) rows) }
         ensures facts { IfOk result (λ t. t.facts ≡ by_name (λ r. r.name) rows) }
-        ensures spare { IfOk result (λ t. t.spare ≡ []) }
     {
+        Timeline::from_counted::<Brand>(alloc, rows, Blank::new(1))
+    }
+
+    fn from_counted<L: Ledger>(
+        alloc: Global,
+        rows: List<Row>,
+        blank: Blank,
+    ) -> Result<Timeline, Memory>
+        requires name { blank.name ≡ L.name }
+        requires parts { blank.parts ≡ L.parts }
+        requires counts { 0 < L.parts }
+        requires distinct { AreDistinct (map (λ r. r.name) rows) }
+        ensures facts { IfOk result (λ t. t.facts ≡ by_name (λ r. r.name) rows) }
+    {
+        let mut steps: Steps<L> = Steps::new(blank);
+        let mut left = rows.into_vec();
+        let mut entries = Table::new(alloc);
+        let mut places = Table::new(alloc);
+        while let Some(row) = left.pop() {
+            put_row(
+                &mut entries,
+                &mut places,
+                &mut Log::new(alloc),
+                &mut Log::new(alloc),
+                row,
+                &mut steps,
+            )?;
+        }
         Ok(Timeline {
-            rows: placed(alloc, rows)?,
+            rows: entries,
+            places,
         })
     }
 
-    /// So many of the first rows, or all where there are fewer: the latest time first, equal times by rising name. `Memory` is
-    /// the only error.
+    /// Adds a row whose name isn't there, which is moved. `Memory` is the only error, and the table then holds what it held. It
+    /// takes at most 4 touches.
+    pub fn add<L: Ledger>(
+        &mut self,
+        alloc: Global,
+        fact: Row,
+        steps: &mut Steps<L>,
+    ) -> Result<Undo, Memory>
+        requires absent { has (map (λ f. f.name) self.old.facts) fact.name ≡ false }
+        ensures facts { OnOk result (self.new.facts ≡ by_name (λ f. f.name) (fact ∷ self.old.facts)) }
+        ensures before { IfOk result (λ undo. undo.before ≡ self.old) }
+        ensures after { IfOk result (λ undo. undo.after ≡ self.new) }
+        ensures changed { IfOk result (λ undo. ListsChanged (timeline_row self.old.facts) (timeline_row self.new.facts) undo.changed) }
+        ensures err { OnErr result (IsAsBefore self.old self.new) }
+        ensures cost { steps.new ≤ steps.old + 4 }
+    {
+        self.put(alloc, fact, true, steps)
+    }
+
+    /// Puts a row in the place of that of its name, which is there. It is moved. `Memory` is the only error, and the table then
+    /// holds what it held.
+    pub fn change<L: Ledger>(
+        &mut self,
+        alloc: Global,
+        fact: Row,
+        steps: &mut Steps<L>,
+    ) -> Result<Undo, Memory>
+        requires there { has (map (λ f. f.name) self.old.facts) fact.name ≡ true }
+        ensures facts { OnOk result (self.new.facts ≡ by_name (λ f. f.name) (fact ∷ self.old.facts)) }
+        ensures before { IfOk result (λ undo. undo.before ≡ self.old) }
+        ensures after { IfOk result (λ undo. undo.after ≡ self.new) }
+        ensures changed { IfOk result (λ undo. ListsChanged (timeline_row self.old.facts) (timeline_row self.new.facts) undo.changed) }
+        ensures err { OnErr result (IsAsBefore self.old self.new) }
+    {
+        self.put(alloc, fact, false, steps)
+    }
+
+    /// Puts a row, a new one where `new` says so, or in the place of that of its name.
+    fn put<L: Ledger>(
+        &mut self,
+        alloc: Global,
+        fact: Row,
+        new: bool,
+        steps: &mut Steps<L>,
+    ) -> Result<Undo, Memory>
+        requires absent { new ≡ true → has (map (λ f. f.name) self.old.facts) fact.name ≡ false }
+        ensures facts { OnOk result (self.new.facts ≡ by_name (λ f. f.name) (fact ∷ self.old.facts)) }
+        ensures before { IfOk result (λ undo. undo.before ≡ self.old) }
+        ensures after { IfOk result (λ undo. undo.after ≡ self.new) }
+        ensures changed { IfOk result (λ undo. ListsChanged (timeline_row self.old.facts) (timeline_row self.new.facts) undo.changed) }
+        ensures err { OnErr result (IsAsBefore self.old self.new) }
+        ensures cost { new ≡ true → steps.new ≤ steps.old + 4 }
+    {
+        let before = Snapshot::of(&*self);
+        let mut rows = Log::new(alloc);
+        let mut places = Log::new(alloc);
+        match put_either(
+            alloc,
+            &mut self.rows,
+            &mut self.places,
+            &mut rows,
+            &mut places,
+            fact,
+            new,
+            steps,
+        ) {
+            Ok(changed) => {
+                let after = Snapshot::of(&*self);
+                Ok(Undo {
+                    rows,
+                    places,
+                    changed,
+                    before,
+                    after,
+                })
+            }
+            Err(Memory) => {
+                log::undo(&mut self.rows, rows, steps);
+                log::undo(&mut self.places, places, steps);
+                Err(Memory)
+            }
+        }
+    }
+
+    /// Takes a row out that is there. `Memory` is the only error, and the table then holds what it held.
+    pub fn retire<L: Ledger>(
+        &mut self,
+        alloc: Global,
+        name: Name,
+        steps: &mut Steps<L>,
+    ) -> Result<Undo, Memory>
+        requires there { has (map (λ r. r.name) self.old.facts) name ≡ true }
+        ensures facts { OnOk result (self.new.facts ≡ retired name self.old.facts) }
+        ensures before { IfOk result (λ undo. undo.before ≡ self.old) }
+        ensures after { IfOk result (λ undo. undo.after ≡ self.new) }
+        ensures changed { IfOk result (λ undo. ListsChanged (timeline_row self.old.facts) (timeline_row self.new.facts) undo.changed) }
+        ensures err { OnErr result (IsAsBefore self.old self.new) }
+    {
+        let before = Snapshot::of(&*self);
+        let mut rows = Log::new(alloc);
+        let mut places = Log::new(alloc);
+        match retire_row(
+            alloc,
+            &mut self.rows,
+            &mut self.places,
+            &mut rows,
+            &mut places,
+            name,
+            steps,
+        ) {
+            Ok(changed) => {
+                let after = Snapshot::of(&*self);
+                Ok(Undo {
+                    rows,
+                    places,
+                    changed,
+                    before,
+                    after,
+                })
+            }
+            Err(Memory) => {
+                log::undo(&mut self.rows, rows, steps);
+                log::undo(&mut self.places, places, steps);
+                Err(Memory)
+            }
+        }
+    }
+
+    /// Takes the last change back that wasn't taken back. It takes no memory.
+    pub fn undo(&mut self, undo: Undo)
+        requires { IsAsBefore undo.after self.old }
+        ensures { IsAsBefore undo.before self.new }
+    {
+        self.take_back::<Brand>(undo, Blank::new(1));
+    }
+
+    fn take_back<L: Ledger>(&mut self, undo: Undo, blank: Blank)
+        requires name { blank.name ≡ L.name }
+        requires parts { blank.parts ≡ L.parts }
+        requires counts { 0 < L.parts }
+        requires last { IsAsBefore undo.after self.old }
+        ensures { IsAsBefore undo.before self.new }
+    {
+        let mut steps: Steps<L> = Steps::new(blank);
+        let Undo { rows, places, .. } = undo;
+        log::undo(&mut self.rows, rows, &mut steps);
+        log::undo(&mut self.places, places, &mut steps);
+    }
+
+    /// So many of the first rows, or all where there are fewer: the latest time first, equal times by rising name. They are copied.
+    /// `Memory` is the only error.
     pub fn latest(&self, alloc: Global, count: u64) -> Result<List<Row>, Memory>
         ensures { IfOk result (λ rows. rows ≡ table.latest self.now.facts count) }
     {
-        first_rows(alloc, &self.rows, count)
+        self.latest_counted::<Brand>(alloc, count, Blank::new(1))
+    }
+
+    fn latest_counted<L: Ledger>(
+        &self,
+        alloc: Global,
+        count: u64,
+        blank: Blank,
+    ) -> Result<List<Row>, Memory>
+        requires name { blank.name ≡ L.name }
+        requires parts { blank.parts ≡ L.parts }
+        requires counts { 0 < L.parts }
+        ensures { IfOk result (λ rows. rows ≡ table.latest self.now.facts count) }
+    {
+        let mut steps: Steps<L> = Steps::new(blank);
+        first_rows(alloc, &self.rows, &self.places, count, &mut steps)
     }
 }

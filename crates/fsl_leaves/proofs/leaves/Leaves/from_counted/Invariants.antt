@@ -1,0 +1,13 @@
+use Rattle.std.proofs.Common.{◌≡◌, ◌++◌, List, vec_len}
+use Rattle.fsl_order.specs.Rows.{by_name}
+use Rattle.fsl_leaves.specs.declared.Fact.{Fact}
+use Rattle.fsl_leaves.specs.Kept.{IsKept, facts_of}
+use Rattle.fsl_leaves.proofs.leaves.Leaves.from_counted.Given as goal
+
+-- the facts behind those that are left are there
+abbrev pub invariant-loop-fact : goal.invariant-loop-fact
+invariant-loop-fact g l =
+    (done : List Fact) × (l.left.items ++ done ≡ l.fn.facts) × (facts_of l.rows.entries ≡ by_name (λ f. f.name) done) × IsKept (record { facts = l.rows; children = l.children; leaves = l.leaves })
+
+abbrev pub decreases-loop-fact : goal.decreases-loop-fact
+decreases-loop-fact g l = vec_len l.left

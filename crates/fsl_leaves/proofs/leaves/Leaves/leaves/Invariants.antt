@@ -1,0 +1,4 @@
+use Rattle.fsl_leaves.proofs.leaves.Leaves.leaves.Given as goal
+
+abbrev pub ghosts-leaves_counted : goal.ghosts-leaves_counted
+ghosts-leaves_counted a = record { name = a.blank.name; parts = a.blank.parts }
