@@ -1,6 +1,5 @@
 //! Tags of artifacts, and what check-ins take over from their primary ancestors. `Tags` is the table of them, and its answers are
-//! those of the definitions over the facts it was built from. In whatever order these stand it
-//! is the same: `fsl_order::by_name_in_any_order`.
+//! those of the definitions over the facts it was built from, in whatever order these stand.
 //!
 //! The table keeps for each name that can have tags the row of its effective assertions by rising tag; rows share the assertions.
 //! `build` takes time by n log n in the facts and assertions, and by the sizes of the rows: each row is merged from the newest
@@ -10,26 +9,33 @@
 #![tactic(auto)]
 
 ghost use Rattle.std.specs.Prelude.{◌≡◌, IfOk};
+ghost use Rattle.fsl_tags.specs.Laws.{EffectiveByRow, OthersStay};
 ghost use Rattle.fsl_tags.specs.Tags.{EffectiveByParent};
 
-mod by_tag;
-mod direct;
+mod arrive;
+mod build;
+mod changed;
+mod find;
 mod gathered;
-mod index;
+mod lay;
 mod merge;
+mod node;
 mod order;
-mod row;
+mod renew;
+mod rows;
+mod same;
 mod settle;
 mod shared;
+mod spread;
 mod tags;
-mod walk;
+mod take;
 
 use fsl_date::Moment;
 use fsl_name::Name;
 use fsl_rows::Named;
 use fsl_text::{List, Memory, Text};
 use std::alloc::Global;
-pub use tags::Tags;
+pub use tags::{Tags, Undo};
 
 /// How a tag is set.
 #[derive(Clone, Copy, PartialEq, Eq, Debug)]
@@ -122,4 +128,14 @@ fn copy_all(alloc: Global, assertions: &[Assertion]) -> Result<List<Assertion>, 
 /// The effective assertion is the newer of the direct one and the parent's, where that propagates.
 pub fn effective_by_parent()
     ensures { EffectiveByParent }
+{}
+
+/// Facts that give a name the same row give it the same effective assertion of each tag.
+pub fn effective_by_row()
+    ensures { EffectiveByRow }
+{}
+
+/// A fact more whose assertions are all on its own name leaves the row of each other name as it was.
+pub fn others_stay()
+    ensures { OthersStay }
 {}
