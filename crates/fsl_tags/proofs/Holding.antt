@@ -47,7 +47,6 @@ shown_next p name some wanted is =
     ap (λ b. cond b (name ∷ filter p some) (filter p some)) (sym is)
     ∙ elim wanted as (λ b. cond b (name ∷ filter p some) (filter p some) ≡ cond b (name ∷ []) [] ++ filter p some) [ true ↦ refl | false ↦ refl ]
 
-
 holds-is : (facts : List Fact) (tag name : List ℕ) → is_shown (effective facts name tag) ≡ is_some (force facts name tag)
 holds-is facts tag name = elim (effective facts name tag) as (λ o. is_shown o ≡ is_some (only (λ a. not (cancels a.prefix)) o)) [
   | None ↦ refl

@@ -1,6 +1,6 @@
 //! A fact more, or another parent of a fact: all tables follow, and logs know what takes that back.
-ghost use Rattle.std.specs.Prelude.{◌≡◌, ◌+◌, ◌*◌, ◌≤◌, [], ◌∷◌, List, ℕ, length, OnOk, IfOk};
 ghost use Rattle.std.specs.List.{AllByRecursion};
+ghost use Rattle.std.specs.Prelude.{◌≡◌, ◌+◌, ◌*◌, ◌≤◌, [], ◌∷◌, List, ℕ, length, OnOk, IfOk};
 ghost use Rattle.fsl_order.specs.Names.{bytes_cmp};
 ghost use Rattle.fsl_order.specs.Rows.{by_name, ListsChanged};
 ghost use Rattle.fsl_table.specs.Contents.{Contents};
@@ -8,11 +8,11 @@ ghost use Rattle.fsl_table.specs.Exact.{pair_cmp};
 ghost use Rattle.fsl_table.specs.Pairs.{seconds};
 ghost use Rattle.fsl_table.specs.Undo.{Undoes};
 ghost use Rattle.fsl_table.specs.declared.key.Pair as pair;
-ghost use Rattle.fsl_tags.specs.declared.Assertion as made;
-ghost use Rattle.fsl_tags.specs.declared.node.Node as given;
 ghost use Rattle.fsl_tags.specs.Conditions.{IsParentChange};
 ghost use Rattle.fsl_tags.specs.Held.{facts_of, IsKept};
 ghost use Rattle.fsl_tags.specs.Tags as table;
+ghost use Rattle.fsl_tags.specs.declared.Assertion as made;
+ghost use Rattle.fsl_tags.specs.declared.node.Node as given;
 
 use super::Fact;
 use super::changed::changed_names;

@@ -1,7 +1,7 @@
 //! All tables from facts: first the facts and what they assert, then the row of each name, once.
-ghost use Rattle.std.specs.Prelude.{◌≡◌, [], List, ℕ, OnOk, IfOk, unwrap_or};
 ghost use Rattle.std.specs.List.Sorted.{IsStrictlySortedBy};
 ghost use Rattle.std.specs.Map.{keys_of};
+ghost use Rattle.std.specs.Prelude.{◌≡◌, [], List, ℕ, OnOk, unwrap_or};
 ghost use Rattle.fsl_order.specs.Names.{bytes_cmp};
 ghost use Rattle.fsl_order.specs.Rows.{by_name};
 ghost use Rattle.fsl_table.specs.Contents.{value_at};

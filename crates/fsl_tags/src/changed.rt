@@ -1,24 +1,20 @@
 //! The names whose rows have changed.
 ghost use Rattle.std.specs.Prelude.{◌+◌, ◌≤◌, length, ◌≡◌, ◌++◌, ◌∷◌, [], List, ℕ, OnOk, IfOk, MatchOption, cond};
-ghost use Rattle.std.specs.List.Sorted.{IsStrictlySortedBy};
-ghost use Rattle.std.specs.Map.{keys_of};
-ghost use Rattle.fsl_order.specs.Names.{bytes_cmp};
 ghost use Rattle.fsl_order.specs.Rows.{ListsChanged};
-ghost use Rattle.fsl_tags.specs.declared.Assertion as made;
 ghost use Rattle.fsl_tags.specs.Changed.{changed_of};
-ghost use Rattle.fsl_tags.specs.Same.{same_rows};
 ghost use Rattle.fsl_tags.specs.Laid.{row_in, AreNoted};
+ghost use Rattle.fsl_tags.specs.Same.{same_rows};
+ghost use Rattle.fsl_tags.specs.declared.Assertion as made;
 
 use super::rows::row_of;
 use super::same::is_same;
 use super::shared::Shared;
-
 use fsl_name::Name;
+use fsl_table::Table;
 use fsl_text::{List, Memory, Steps};
 use std::alloc::Global;
 use std::collections::BTreeMap;
 use std::sync::ledger::Ledger;
-use fsl_table::Table;
 
 /// Puts a name at the end, unless its row is the same.
 fn append_unless(same: bool, list: &mut List<Name>, name: Name) -> Result<(), Memory>

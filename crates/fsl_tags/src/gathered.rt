@@ -1,8 +1,8 @@
 //! What is in force on a name, and the names on which a tag is.
-ghost use Rattle.std.specs.Prelude.{◌≡◌, ◌++◌, ◌∷◌, [], ℕ, List, OnOk, IfOk, cond, filter, option_map};
 ghost use Rattle.std.specs.List.Sorted.{IsStrictlySortedBy};
 ghost use Rattle.std.specs.Map.{keys_of};
 ghost use Rattle.std.specs.Option.{option_copied};
+ghost use Rattle.std.specs.Prelude.{◌≡◌, ◌++◌, ◌∷◌, [], ℕ, List, OnOk, IfOk, cond, filter, option_map};
 ghost use Rattle.fsl_order.specs.Names.{bytes_cmp};
 ghost use Rattle.fsl_table.specs.Contents.{first_of, entries_after};
 ghost use Rattle.fsl_tags.specs.Gathered.{puts, is_shown};
@@ -72,10 +72,7 @@ fn append_if(wanted: bool, list: &mut List<Name>, name: Name) -> Result<(), Memo
 }
 
 /// The first name that has a row.
-fn first_name<L: Ledger>(
-    rows: &Table<Name, List<Shared>>,
-    steps: &mut Steps<L>,
-) -> Option<Name>
+fn first_name<L: Ledger>(rows: &Table<Name, List<Shared>>, steps: &mut Steps<L>) -> Option<Name>
     ensures { result ≡ option_map (λ e. e.0) (first_of rows.now.entries) }
 {
     let (name, _) = rows.first(steps)?;

@@ -1,11 +1,14 @@
-//! Tags of artifacts, and what check-ins take over from their primary ancestors. `Tags` is the table of them, and its answers are
-//! those of the definitions over the facts it was built from, in whatever order these stand.
+//! Tags of artifacts, and what check-ins take over from their primary ancestors. `Tags` is the table of them. It is built from facts
+//! at once, or takes facts in one after the other; its answers are those of the definitions over its facts, in whatever order they
+//! came: `fsl_order::by_name_in_any_order`.
 //!
-//! The table keeps for each name that can have tags the row of its effective assertions by rising tag; rows share the assertions.
-//! `build` takes time by n log n in the facts and assertions, and by the sizes of the rows: each row is merged from the newest
-//! assertions on its name and from the row of the primary parent, which is made before it. Only for parents in a circle, which no
-//! hashes make, a walk along the ancestors scans all assertions at each step. `effective` is a look-up of a name and a binary search
-//! in its row, `in_force` copies the row of its name, and `holders` searches each row.
+//! The table keeps the facts by name, the pairs of a primary parent and a child, the newest assertions on each name, and for each
+//! name the row of its effective assertions by rising tag, where it has any; rows share the assertions. `build` takes time by n log n
+//! in the facts and assertions, and by the sizes of the rows: each row is merged from the assertions on its name and from the row of
+//! the primary parent, which is made before it. Only for parents in a circle, which no hashes make, it climbs along as many ancestors
+//! as there are facts. `add` and `change` write the row of the name that they change, and those of its descendants as far as they
+//! differ. `effective` is a look-up of a name and a binary search in its row, `in_force` copies the row of its name, and `holders`
+//! searches each row.
 #![tactic(auto)]
 
 ghost use Rattle.std.specs.Prelude.{◌≡◌, IfOk};

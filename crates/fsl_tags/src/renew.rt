@@ -1,15 +1,15 @@
 //! A new row of a name, and the rows of its descendants by it.
-ghost use Rattle.std.specs.Prelude.{◌≡◌, ◌⊎◌, ◌+◌, ◌≤◌, List, ℕ, length, true, false, OnOk, IfOk};
 ghost use Rattle.std.specs.List.{AllByRecursion};
-ghost use Rattle.fsl_table.specs.Pairs.{seconds};
+ghost use Rattle.std.specs.Prelude.{◌≡◌, ◌⊎◌, ◌+◌, ◌≤◌, List, ℕ, length, true, false, OnOk};
 ghost use Rattle.std.specs.Str.{bytes_eq};
 ghost use Rattle.fsl_order.specs.Names.{bytes_cmp};
 ghost use Rattle.fsl_table.specs.Contents.{Contents};
+ghost use Rattle.fsl_table.specs.Pairs.{seconds};
 ghost use Rattle.fsl_table.specs.Undo.{Undoes};
-ghost use Rattle.fsl_tags.specs.declared.Assertion as assertion;
 ghost use Rattle.fsl_tags.specs.Climbed.{row_up};
 ghost use Rattle.fsl_tags.specs.Joined.{joined};
 ghost use Rattle.fsl_tags.specs.Laid.{row_in, Rises, AreFull, AreLaid, AreNoted, parent_in, settled};
+ghost use Rattle.fsl_tags.specs.declared.Assertion as assertion;
 
 use super::merge::merged;
 use super::node::Node;
@@ -17,15 +17,12 @@ use super::rows::{place, row_of};
 use super::same::is_same;
 use super::shared::Shared;
 use super::spread::spread;
-use fsl_table::Pair;
-
 use fsl_name::Name;
+use fsl_table::{Log, Pair, Table};
 use fsl_text::{List, Memory, Steps};
 use std::alloc::Global;
 use std::collections::BTreeMap;
 use std::sync::ledger::Ledger;
-use fsl_table::Table;
-use fsl_table::Log;
 
 /// The row of what may be there.
 fn row_above<'a, L: Ledger>(

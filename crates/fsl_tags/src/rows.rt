@@ -1,22 +1,19 @@
 //! Rows by name: how one is read, and put with what takes it back.
-ghost use Rattle.std.specs.Prelude.{◌≡◌, ◌+◌, ◌≤◌, List, ℕ, length, OnOk, OnErr, IfOk, cond, false};
+ghost use Rattle.std.specs.Prelude.{◌≡◌, ◌+◌, ◌≤◌, List, ℕ, length, OnOk, cond, false};
 ghost use Rattle.std.specs.Str.{bytes_eq};
 ghost use Rattle.fsl_order.specs.Names.{bytes_cmp};
 ghost use Rattle.fsl_table.specs.Contents.{Contents};
 ghost use Rattle.fsl_table.specs.Undo.{Undoes};
-ghost use Rattle.fsl_tags.specs.declared.Assertion as assertion;
 ghost use Rattle.fsl_tags.specs.Laid.{row_in, AreFull, AreNoted};
+ghost use Rattle.fsl_tags.specs.declared.Assertion as assertion;
 
 use super::shared::{Shared, again};
-
 use fsl_name::Name;
+use fsl_table::{Log, Table, log};
 use fsl_text::{List, Memory, Steps};
 use std::alloc::Global;
 use std::collections::BTreeMap;
 use std::sync::ledger::Ledger;
-use fsl_table::Table;
-use fsl_table::log;
-use fsl_table::Log;
 
 /// The row of a name.
 pub(crate) fn row_of<'a, L: Ledger>(

@@ -1,12 +1,11 @@
 //! The rows of names, each after that of its primary parent. Only in a circle of parents, which no hashes make, the row is worked
 //! out from as many names above as there are facts.
-ghost use Rattle.std.specs.Prelude.{◌≡◌, List, ℕ, [], length, IfOk, OnOk};
 ghost use Rattle.std.specs.List.{AllByRecursion};
+ghost use Rattle.std.specs.Prelude.{◌≡◌, List, ℕ, [], length, IfOk, OnOk};
 ghost use Rattle.fsl_tags.specs.Climbed.{climbed as climbed_row};
 ghost use Rattle.fsl_tags.specs.Laid.{row_in, Rises, parent_in, settled as settled_row};
 ghost use Rattle.fsl_tags.specs.Laying.{AreSettled, IsKnown, AreKnown, line, down};
 
-use super::changed::pop;
 use super::merge::merged;
 use super::node::Node;
 use super::rows::row_of;

@@ -1,36 +1,31 @@
 //! How a new row of a name is taken down to its descendants, as far as they differ.
-ghost use Rattle.std.specs.Prelude.{◌≡◌, ◌+◌, ◌++◌, ◌∷◌, [], ◌≤◌, ◌⊎◌, List, ℕ, Some, false, true, length, OnOk, OnErr, IfOk, MatchOption, cond};
-ghost use Rattle.std.specs.Str.{bytes_eq};
 ghost use Rattle.std.specs.List.{AllByRecursion};
 ghost use Rattle.std.specs.Map.{keys_of};
+ghost use Rattle.std.specs.Prelude.{◌≡◌, ◌+◌, ◌++◌, ◌∷◌, [], ◌≤◌, ◌⊎◌, List, ℕ, Some, false, true, length, OnOk, MatchOption, cond};
+ghost use Rattle.std.specs.Str.{bytes_eq};
 ghost use Rattle.fsl_order.specs.Names.{bytes_cmp};
-ghost use Rattle.fsl_table.specs.Exact.{pair_cmp};
 ghost use Rattle.fsl_table.specs.Contents.{Contents};
+ghost use Rattle.fsl_table.specs.Pairs.{seconds};
 ghost use Rattle.fsl_table.specs.Undo.{Undoes};
-ghost use Rattle.fsl_tags.specs.declared.Assertion as assertion;
 ghost use Rattle.fsl_tags.specs.Climbed.{row_up};
 ghost use Rattle.fsl_tags.specs.Joined.{joined};
-ghost use Rattle.fsl_table.specs.Pairs.{seconds};
+ghost use Rattle.fsl_tags.specs.Laid.{row_in, Rises, AreFull, AreLaid, AreNoted, parent_in, settled};
 ghost use Rattle.fsl_tags.specs.Quick.{IsIdle, IsQuick};
 ghost use Rattle.fsl_tags.specs.Same.{same_rows};
 ghost use Rattle.fsl_tags.specs.Spread.{wrong, IsSpread, IsSpreading};
-ghost use Rattle.fsl_tags.specs.Laid.{row_in, Rises, AreFull, AreLaid, AreNoted, parent_in, settled};
+ghost use Rattle.fsl_tags.specs.declared.Assertion as assertion;
 
 use super::merge::merged;
 use super::node::Node;
 use super::rows::{place, row_of};
 use super::same::is_same;
 use super::shared::{Shared, again};
-use fsl_table::Pair;
-
 use fsl_name::Name;
+use fsl_table::{Log, Pair, Table, pairs};
 use fsl_text::{List, Memory, Steps};
 use std::alloc::Global;
 use std::collections::BTreeMap;
 use std::sync::ledger::Ledger;
-use fsl_table::Table;
-use fsl_table::Log;
-use fsl_table::pairs;
 
 /// Works out the row of a child from its own and from what is above it, and where it isn't the one that it has, puts it and lets the
 /// child wait.

@@ -1,7 +1,7 @@
 //! The table of tags.
-ghost use Rattle.std.specs.Prelude.{◌≡◌, false, ◌+◌, ◌*◌, ◌≤◌, ◌<◌, [], ◌∷◌, length, map, OnOk, OnErr, IfOk};
 ghost use Rattle.std.specs.List.{AllByRecursion};
 ghost use Rattle.std.specs.Option.{option_copied};
+ghost use Rattle.std.specs.Prelude.{◌≡◌, false, ◌+◌, ◌*◌, ◌≤◌, ◌<◌, [], ◌∷◌, length, map, OnOk, OnErr, IfOk};
 ghost use Rattle.fsl_order.specs.Held.{IsAsBefore};
 ghost use Rattle.fsl_order.specs.Names.{has};
 ghost use Rattle.fsl_order.specs.Rows.{by_name, ListsChanged};
@@ -103,11 +103,7 @@ impl Tags {
         Tags::build_counted::<Brand>(alloc, facts, Blank::new(1))
     }
 
-    fn build_counted<L: Ledger>(
-        alloc: Global,
-        given: &[Fact],
-        blank: Blank,
-    ) -> Result<Tags, Memory>
+    fn build_counted<L: Ledger>(alloc: Global, given: &[Fact], blank: Blank) -> Result<Tags, Memory>
         requires name { blank.name ≡ L.name }
         requires parts { blank.parts ≡ L.parts }
         requires counts { 0 < L.parts }

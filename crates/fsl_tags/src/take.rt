@@ -1,42 +1,35 @@
 //! An assertion more, and a fact with another parent or a fact more.
-ghost use Rattle.std.specs.Prelude.{◌≡◌, ◌⊎◌, ◌&&◌, ◌||◌, not, is_some, List, ℕ, Some, None, OnOk, cond};
 ghost use Rattle.std.specs.List.Sorted.{IsStrictlySortedBy};
+ghost use Rattle.std.specs.List.{AllByRecursion};
 ghost use Rattle.std.specs.Map.{keys_of};
-ghost use Rattle.fsl_table.specs.Exact.{pair_cmp};
-ghost use Rattle.fsl_table.specs.declared.key.Pair as pair;
-ghost use Rattle.fsl_tags.specs.declared.node.Node as given;
+ghost use Rattle.std.specs.Prelude.{◌≡◌, ◌⊎◌, ◌&&◌, List, ℕ, Some, None, OnOk, cond, ◌+◌, ◌*◌, ◌≤◌, length, []};
 ghost use Rattle.std.specs.Str.{bytes_eq};
 ghost use Rattle.fsl_order.specs.Names.{bytes_cmp};
 ghost use Rattle.fsl_order.specs.Rows.{named, greater};
-ghost use Rattle.fsl_table.specs.Contents.{Contents, value_at, with_entry};
-ghost use Rattle.fsl_table.specs.Undo.{Undoes};
-ghost use Rattle.fsl_tags.specs.declared.Assertion as made;
-ghost use Rattle.std.specs.Prelude.{◌+◌, ◌*◌, ◌≤◌, length, []};
-ghost use Rattle.std.specs.List.{AllByRecursion};
+ghost use Rattle.fsl_table.specs.Contents.{Contents, with_entry};
+ghost use Rattle.fsl_table.specs.Exact.{pair_cmp};
 ghost use Rattle.fsl_table.specs.Pairs.{seconds};
-ghost use Rattle.fsl_tags.specs.Tags as table;
+ghost use Rattle.fsl_table.specs.Undo.{Undoes};
+ghost use Rattle.fsl_table.specs.declared.key.Pair as pair;
 ghost use Rattle.fsl_tags.specs.Kept.{newest_on};
-ghost use Rattle.fsl_table.specs.Pairs.{is_name};
 ghost use Rattle.fsl_tags.specs.Laid.{row_in, AreNoted, AreRight, parent_in};
+ghost use Rattle.fsl_tags.specs.Tags as table;
+ghost use Rattle.fsl_tags.specs.declared.Assertion as made;
+ghost use Rattle.fsl_tags.specs.declared.node.Node as given;
 
+use super::Assertion;
 use super::find::{find, with_assertion};
 use super::node::Node;
 use super::order::is_newer;
 use super::renew::renew;
 use super::rows::{row_of, set};
 use super::shared::{Shared, again};
-use super::Assertion;
-use fsl_table::Pair;
-
 use fsl_name::Name;
+use fsl_table::{Log, Pair, Table, log, pairs};
 use fsl_text::{List, Memory, Steps};
 use std::alloc::Global;
 use std::collections::BTreeMap;
 use std::sync::ledger::Ledger;
-use fsl_table::Table;
-use fsl_table::log;
-use fsl_table::Log;
-use fsl_table::pairs;
 
 /// The primary parent of a name.
 pub(crate) fn parent_of<L: Ledger>(

@@ -19,8 +19,7 @@ loop-fact-preserved g c =
             c.in_ok-settle_targets.ensures.stay f.name (c.in_ok-settle.ensures.stay f.name known.0),
             all_stay (λ a. IsKnown old a.target) (λ a. IsKnown then a.target) (λ a there. c.in_ok-settle_targets.ensures.stay a.target (c.in_ok-settle.ensures.stay a.target there)) f.tags known.1,
           ))
-          (take i given) c.loop-fact.invariant.there)
-          (
+          (take i given) c.loop-fact.invariant.there) (
             c.in_ok-settle_targets.ensures.stay c.fact-item.result.name c.in_ok-settle.ensures.there,
             subst (AllByRecursion (λ a. IsKnown then a.target)) c.items.ensures c.in_ok-settle_targets.ensures.there,
           );
