@@ -1,5 +1,6 @@
 //! Tags of check-ins in a circle, which no artifacts make, since each name stands for the parents in it.
 mod fit;
+mod late;
 
 use crate::names::{add, are_distinct, letter};
 use fit::are_fit;

@@ -55,7 +55,7 @@ fn places_rise(tags: &[Assertion]) -> bool
     true
 }
 
-fn is_fit(facts: &[Fact], fact: &Fact) -> bool
+pub fn is_fit(facts: &[Fact], fact: &Fact) -> bool
     ensures { IsTrue result → IsTagFact facts.now fact.now }
 {
     let child = match fact.parent {
