@@ -1,15 +1,13 @@
 -- The tables that are filled from facts keep what tables of tags keep.
 use mathlib.Core.Bool.{true≢false}
 use Rattle.std.proofs.Math.Path.{transport}
-use Rattle.std.specs.Prelude.{◌≡◌, ℕ, ◌+◌, ◌-◌, ◌<◌, zero, suc, List, [], ◌∷◌, ◌++◌, Bool, true, false, ◌&&◌, not, cond, Option, Some, None, IfSome, is_some, option_and_then, unwrap_or, length, map}
+use Rattle.std.specs.Prelude.{◌≡◌, ℕ, ◌-◌, ◌<◌, zero, suc, List, [], ◌∷◌, ◌++◌, Bool, true, false, ◌&&◌, not, cond, Option, Some, None, IfSome, is_some, option_and_then, unwrap_or, map}
 use Rattle.std.proofs.Common.{refl, sym, ap, ◌∙◌, subst, arith}
 use Rattle.std.specs.Str.{bytes_eq}
 use Rattle.std.specs.List.{AllByRecursion, IsDistinct}
 use Rattle.std.specs.List.Sorted.{IsStrictlySortedBy}
-use Rattle.std.specs.Map.{keys_of, lookup}
-use Rattle.std.specs.BTreeMap.{is_at}
+use Rattle.std.specs.Map.{keys_of}
 use Rattle.std.specs.Option.{option_map_or}
-use Rattle.std.specs.Ordering.{is_eq}
 use Rattle.std.specs.Cmp.Lexicographic.{texts_ties, bytes_decides, nat_list_eq_equiv}
 use Rattle.fsl_order.specs.Names.{bytes_cmp}
 use Rattle.fsl_order.specs.Rows.{named, by_name}
@@ -29,7 +27,7 @@ use Rattle.fsl_tags.specs.Tags.{parent, AreTagFacts}
 use Rattle.fsl_tags.specs.Held.{Rows, IsKept, fact_of, facts_of}
 use Rattle.fsl_tags.specs.Laid.{Rises, row_in, parent_in, settled, AreFull, AreLaid}
 use Rattle.fsl_tags.specs.Laying.{IsLaying, AreElsewhere, AreAllElsewhere, AreSettled, IsKnown, AreKnown, line, down}
-use Rattle.fsl_tags.proofs.Settled.{settled-law, settled-rises}
+use Rattle.fsl_tags.proofs.Settled.{settled-law}
 use Rattle.fsl_tags.proofs.Effective.{parent-is}
 
 -- ---- nothing

@@ -1,5 +1,5 @@
 -- Fit facts with one more that is fit are fit, and so are fit facts of which one has another parent.
-use Rattle.std.specs.Prelude.{◌≡◌, false, true, ℕ, List, [], ◌∷◌, Option, Some, None, IfSome, IsTrue, map, Bool, cond}
+use Rattle.std.specs.Prelude.{◌≡◌, false, true, ℕ, List, [], ◌∷◌, Some, None, IfSome, IsTrue, map, Bool, cond}
 use Rattle.std.proofs.Common.{sym, subst, ap, ◌∙◌, refl}
 use mathlib.Core.Bool.{true≢false}
 use Rattle.std.proofs.lemmas.Bool.{or_parts}

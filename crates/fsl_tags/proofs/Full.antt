@@ -1,22 +1,16 @@
 -- Rows in order, none of them empty, with one more or one less.
 use mathlib.Core.Bool.{true≢false}
 use Rattle.std.proofs.Math.Dec.{eqb-suc-zero}
-use Rattle.std.specs.Prelude.{is_some, length, ◌==◌, ◌≡◌, ℕ, List, [], ◌∷◌, true, false, cond, Option, Some, None, unwrap_or, Result, Ok, Err, OnOk, IfOk}
+use Rattle.std.specs.Prelude.{length, ◌==◌, ◌≡◌, ℕ, List, [], ◌∷◌, true, false, cond, Some, None, unwrap_or}
 use Rattle.std.proofs.Common.{refl, sym, ap, ◌∙◌, subst}
 use Rattle.std.specs.Str.{bytes_eq}
-use Rattle.std.specs.List.Sorted.{IsStrictlySortedBy}
-use Rattle.std.specs.Map.{keys_of, lookup, remove_entry}
 use Rattle.std.specs.BTreeMap.{is_at}
-use Rattle.std.specs.Ordering.{is_eq}
-use Rattle.std.specs.Cmp.Lexicographic.{texts_ties, bytes_decides}
-use Rattle.std.specs.declared.cmp.Ordering.{Ordering}
-use Rattle.std.specs.declared.cmp.Ordering.TheVariants.{Less, Equal, Greater}
-use Rattle.std.specs.Cmp.{IsTotalOrder}
+use Rattle.std.specs.Cmp.Lexicographic.{bytes_decides}
 use Rattle.fsl_order.specs.Names.{bytes_cmp}
 use Rattle.fsl_order.proofs.Orders.{bytes_cmp-IsTotalOrder}
 use Rattle.fsl_table.proofs.Finding.{value-with, value-without}
 use Rattle.fsl_table.specs.Contents.{value_at, with_entry, without_key}
-use Rattle.fsl_table.proofs.Entries.{lookup-insert_entry, sorted-insert_entry, sorted-remove_entry, none_above}
+use Rattle.fsl_table.proofs.Entries.{sorted-insert_entry, sorted-remove_entry}
 use Rattle.fsl_tags.specs.declared.Assertion.{Assertion}
 use Rattle.fsl_tags.specs.Laid.{row_in, filled, AreFull, IsNote}
 

@@ -1,23 +1,20 @@
 -- The names whose rows show a tag are its holders.
 use mathlib.Core.Bool.{true≢false}
-use Rattle.std.specs.Prelude.{◌≡◌, ◌+◌, ℕ, List, [], ◌∷◌, ◌++◌, Bool, true, false, ◌&&◌, not, cond, if◌then◌else◌, Option, Some, None, is_some, filter, unwrap_or, length}
+use Rattle.std.specs.Prelude.{◌≡◌, ◌+◌, ℕ, List, [], ◌∷◌, ◌++◌, Bool, true, false, ◌&&◌, not, cond, if◌then◌else◌, Some, None, is_some, filter, unwrap_or, length}
 use Rattle.std.proofs.Common.{refl, sym, ap, ◌∙◌, subst, arith}
 use Rattle.std.specs.Option.{option_map}
 use Rattle.std.specs.Ordering.{is_lt}
 use Rattle.std.specs.List.Sorted.{IsStrictlySortedBy}
 use Rattle.std.specs.Map.{keys_of}
 use Rattle.fsl_order.specs.Names.{bytes_cmp, has}
-use Rattle.fsl_order.specs.Rows.{ascending}
 use Rattle.fsl_order.proofs.RowLemmas.{has-filter}
 use Rattle.fsl_order.proofs.SortedLemmas.{ascending-from, same_names}
 use Rattle.fsl_rows.proofs.Rising.{rising-filter}
 use Rattle.fsl_table.specs.Contents.{value_at, first_of, entries_after}
 use Rattle.fsl_table.specs.Pairs.{rest_after}
 use Rattle.fsl_tags.specs.declared.Fact.{Fact}
-use Rattle.fsl_tags.specs.declared.Assertion.{Assertion}
-use Rattle.fsl_tags.specs.Tags.{cancels, effective, holders, force, only, AreTagFacts}
+use Rattle.fsl_tags.specs.Tags.{cancels, effective, holders, force, only}
 use Rattle.fsl_tags.specs.Gathered.{subjects, is_shown}
-use Rattle.fsl_tags.specs.Laid.{row_in}
 use Rattle.fsl_tags.specs.Laying.{shows}
 use Rattle.fsl_tags.specs.Held.{Rows, IsKept, facts_of}
 use Rattle.fsl_tags.proofs.Chosen.{none_outside}

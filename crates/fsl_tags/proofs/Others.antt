@@ -1,6 +1,6 @@
 -- A fact more whose assertions are all on itself leaves the rows of other names.
 use mathlib.Core.Bool.{true≢false}
-use Rattle.std.specs.Prelude.{◌≡◌, ℕ, ◌+◌, zero, suc, List, [], ◌∷◌, Bool, true, false, ◌&&◌, cond, All, Option, Some, None, IfSome, IsTrue, option_and_then, filter, map}
+use Rattle.std.specs.Prelude.{◌≡◌, ℕ, ◌+◌, zero, suc, List, [], ◌∷◌, true, false, cond, Option, Some, None, IfSome, IsTrue, option_and_then, map}
 use Rattle.std.proofs.Common.{refl, sym, ap, ◌∙◌, subst, arith}
 use Rattle.std.specs.Str.{bytes_eq}
 use Rattle.std.specs.List.{AllByRecursion}
@@ -11,7 +11,7 @@ use Rattle.std.specs.Cmp.Lexicographic.{bytes_decides, nat_list_eq_equiv}
 use Rattle.fsl_order.specs.Names.{bytes_cmp, has}
 use Rattle.fsl_order.specs.Rows.{by_name, named, greater}
 use Rattle.fsl_order.proofs.RowLemmas.{named-All, is_some-named}
-use Rattle.fsl_table.specs.Contents.{value_at, with_entry}
+use Rattle.fsl_table.specs.Contents.{with_entry}
 use Rattle.fsl_table.proofs.Finding.{none_from}
 use Rattle.fsl_tags.specs.declared.Fact.{Fact}
 use Rattle.fsl_tags.specs.declared.Assertion.{Assertion}

@@ -1,4 +1,4 @@
-use Rattle.std.proofs.Common.{◌≡◌, ◌∙◌, sym, subst}
+use Rattle.std.proofs.Common.{◌∙◌, sym, subst}
 use Rattle.fsl_table.proofs.Outcomes.{both_ok, always_ok}
 use Rattle.fsl_tags.specs.Tags.{AreTagFacts}
 use Rattle.fsl_tags.proofs.Filling.{settled_none, settled_all}

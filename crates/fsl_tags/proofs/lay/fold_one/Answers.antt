@@ -1,10 +1,10 @@
-use Rattle.std.proofs.Common.{◌≡◌, ◌∙◌, ℕ, List, cond, true, false, sym, ap}
+use Rattle.std.proofs.Common.{◌≡◌, ◌∙◌, cond, true, sym, ap}
 use Rattle.std.specs.Str.{bytes_eq}
 use Rattle.fsl_tags.specs.Tags.{is_newer}
 use Rattle.fsl_tags.specs.Laid.{row_in, with_tag}
 use Rattle.fsl_tags.proofs.RowsOf.{of_tag}
 use Rattle.fsl_table.proofs.Outcomes.{on_ok_map, both_ok}
-use Rattle.fsl_tags.proofs.Renewal.{taken-rises, taken-finds, passed-finds}
+use Rattle.fsl_tags.proofs.Renewal.{taken-rises, taken-finds}
 use Rattle.fsl_tags.proofs.lay.fold_one.Goals as goal
 
 pub returns-clause-kept : goal.returns-clause-kept

@@ -1,4 +1,4 @@
-use Rattle.std.proofs.Common.{◌≡◌, ◌∙◌, ◌∷◌, All, List, ℕ, sym, ap, subst, option_and_then}
+use Rattle.std.proofs.Common.{◌≡◌, ◌∙◌, ◌∷◌, All, sym, ap, subst, option_and_then}
 use Rattle.std.specs.List.Sorted.{IsStrictlySortedBy}
 use Rattle.std.specs.Map.{keys_of}
 use Rattle.fsl_order.specs.Names.{bytes_cmp}

@@ -1,4 +1,4 @@
-use Rattle.std.proofs.Common.{◌≡◌, ◌∙◌, [], ap}
+use Rattle.std.proofs.Common.{◌∙◌, [], ap}
 use Rattle.fsl_table.proofs.Outcomes.{if_ok_map}
 use Rattle.fsl_tags.specs.Laid.{row_in, parent_in}
 use Rattle.fsl_tags.specs.Laying.{down}

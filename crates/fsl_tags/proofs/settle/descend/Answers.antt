@@ -1,5 +1,4 @@
-use Rattle.std.proofs.Common.{◌≡◌, ◌∙◌, [], sym, ap}
-use Rattle.std.specs.List.Sorted.{IsStrictlySortedBy}
+use Rattle.std.proofs.Common.{◌∙◌, sym, ap}
 use Rattle.fsl_tags.specs.Joined.{joined}
 use Rattle.fsl_tags.specs.Laid.{row_in}
 use Rattle.fsl_tags.specs.Laying.{down}

@@ -1,4 +1,4 @@
-use Rattle.std.proofs.Common.{◌≡◌, ◌≤◌, ◌∙◌, length, take, arith, subst}
+use Rattle.std.proofs.Common.{take, arith, subst}
 use Rattle.std.specs.List.{AllByRecursion}
 use Rattle.fsl_tags.specs.Laying.{IsKnown, AreKnown}
 use Rattle.fsl_tags.proofs.Filling.{all_stay}

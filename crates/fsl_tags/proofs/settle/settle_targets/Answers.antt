@@ -1,4 +1,4 @@
-use Rattle.std.proofs.Common.{◌≡◌, ◌≤◌, length, take, arith}
+use Rattle.std.proofs.Common.{take, arith}
 use Rattle.fsl_tags.specs.Laying.{IsKnown}
 use Rattle.fsl_tags.proofs.Filling.{all_stay}
 use Rattle.fsl_tags.proofs.FitFacts.{all_more, all_taken}

@@ -1,12 +1,10 @@
 use Rattle.std.proofs.lemmas.List.{drop_more}
-use Rattle.std.proofs.Common.{◌≡◌, ◌∙◌, ◌+◌, ◌∷◌, drop, sym, ap, arith, zero, suc, [], List, ℕ, subst}
+use Rattle.std.proofs.Common.{◌≡◌, ◌∙◌, ◌+◌, ◌∷◌, drop, sym, ap, arith, []}
 use Rattle.fsl_order.specs.Rows.{named, greater}
 use Rattle.fsl_tags.specs.Tags.{newer_cmp}
 use Rattle.fsl_tags.specs.Kept.{newest_on}
 use Rattle.fsl_tags.specs.Laid.{row_in}
 use Rattle.fsl_tags.proofs.Scans.{newest_on-step}
-use Rattle.std.specs.List.{AllByRecursion}
-use Rattle.fsl_tags.specs.declared.Assertion.{Assertion}
 use Rattle.fsl_table.specs.Pairs.{seconds}
 use Rattle.fsl_tags.proofs.Dropped.{at_place}
 use Rattle.fsl_tags.proofs.take.take_all.Goals as goal

@@ -1,4 +1,4 @@
-use Rattle.std.proofs.Common.{◌≡◌, ◌∙◌, filter, ap}
+use Rattle.std.proofs.Common.{◌∙◌, filter, ap}
 use Rattle.fsl_table.proofs.Outcomes.{if_ok_map}
 use Rattle.fsl_tags.specs.Gathered.{puts}
 use Rattle.fsl_tags.specs.Tags.{in_force}
