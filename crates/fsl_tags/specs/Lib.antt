@@ -3,3 +3,13 @@ pub mod Conditions
 pub mod Passing
 pub mod Gathered
 pub mod Kept
+pub mod Joined
+pub mod Climbed
+pub mod Same
+pub mod Spread
+pub mod Laid
+pub mod Changed
+pub mod Held
+pub mod Quick
+pub mod Laying
+pub mod Laws

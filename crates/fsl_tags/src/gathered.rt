@@ -1,81 +1,27 @@
-//! The tags that are asserted and the names that can have tags, ascending, and what is in force.
-ghost use Rattle.std.specs.Prelude.{◌≡◌, ◌||◌, ◌++◌, ◌∷◌, [], ℕ, List, OnOk, IfOk, cond, filter, map, true};
-ghost use Rattle.std.specs.BTreeMap.{is_at};
+//! What is in force on a name, and the names on which a tag is.
+ghost use Rattle.std.specs.List.Sorted.{IsStrictlySortedBy};
+ghost use Rattle.std.specs.Map.{keys_of};
 ghost use Rattle.std.specs.Option.{option_copied};
-ghost use Rattle.fsl_order.specs.Names.{has, bytes_cmp};
-ghost use Rattle.fsl_tags.specs.Gathered.{in_set, asserted, subjects, puts, is_shown};
+ghost use Rattle.std.specs.Prelude.{◌≡◌, ◌++◌, ◌∷◌, [], ℕ, List, OnOk, IfOk, cond, filter, option_map};
+ghost use Rattle.fsl_order.specs.Names.{bytes_cmp};
+ghost use Rattle.fsl_table.specs.Contents.{first_of, entries_after};
+ghost use Rattle.fsl_tags.specs.Gathered.{puts, is_shown};
+ghost use Rattle.fsl_tags.specs.Laid.{Rises, row_in};
+ghost use Rattle.fsl_tags.specs.Laying.{shows};
 
+use super::find::find;
 use super::order::cancels;
+use super::rows::row_of;
 use super::shared::Shared;
-use super::{Assertion, Fact, copy};
+use super::{Assertion, copy};
 use fsl_name::Name;
-use fsl_rows::Rows;
-use fsl_text::{List, Memory, Text};
+use fsl_table::Table;
+use fsl_text::{List, Memory, Steps};
 use std::alloc::Global;
-use std::collections::BTreeSet;
-
-fn insert_tag(alloc: Global, set: &mut BTreeSet<Text>, tag: &Text) -> Result<(), Memory>
-    ensures { OnOk result ((q : List ℕ) → in_set set.new q ≡ cond (is_at (bytes_cmp tag.now) q) true (in_set set.old q)) }
-{
-    let key = Text::of(alloc, tag.bytes())?;
-    set.insert(key)?;
-    Ok(())
-}
-
-fn insert_name(set: &mut BTreeSet<Name>, name: Name) -> Result<(), Memory>
-    ensures { OnOk result ((q : List ℕ) → in_set set.new q ≡ cond (is_at (bytes_cmp name) q) true (in_set set.old q)) }
-{
-    set.insert(name)?;
-    Ok(())
-}
-
-fn insert_tags(
-    alloc: Global,
-    set: &mut BTreeSet<Text>,
-    assertions: &[Assertion],
-) -> Result<(), Memory>
-    ensures { OnOk result ((q : List ℕ) → in_set set.new q ≡ (in_set set.old q || has (map (λ a. a.tag) assertions.now) q)) }
-{
-    for assertion in assertions {
-        insert_tag(alloc, set, &assertion.tag)?;
-    }
-    Ok(())
-}
-
-fn insert_targets(set: &mut BTreeSet<Name>, assertions: &[Assertion]) -> Result<(), Memory>
-    ensures { OnOk result ((q : List ℕ) → in_set set.new q ≡ (in_set set.old q || has (map (λ a. a.target) assertions.now) q)) }
-{
-    for assertion in assertions {
-        insert_name(set, assertion.target)?;
-    }
-    Ok(())
-}
-
-/// The tags that are asserted.
-pub fn asserted(alloc: Global, rows: &Rows<Fact>) -> Result<BTreeSet<Text>, Memory>
-    ensures { IfOk result (λ set. (q : List ℕ) → in_set set q ≡ has (asserted rows.now) q) }
-{
-    let mut set = BTreeSet::new(alloc);
-    for fact in rows.iter() {
-        insert_tags(alloc, &mut set, fact.tags.items())?;
-    }
-    Ok(set)
-}
-
-/// The names of the facts, and those that assertions are on.
-pub fn subjects(alloc: Global, rows: &Rows<Fact>) -> Result<BTreeSet<Name>, Memory>
-    ensures { IfOk result (λ set. (q : List ℕ) → in_set set q ≡ has (subjects rows.now) q) }
-{
-    let mut set = BTreeSet::new(alloc);
-    for fact in rows.iter() {
-        insert_name(&mut set, fact.name)?;
-        insert_targets(&mut set, fact.tags.items())?;
-    }
-    Ok(set)
-}
+use std::sync::ledger::Ledger;
 
 /// Whether there is an assertion, and it doesn't take the tag away.
-pub fn is_shown(found: Option<&Assertion>) -> bool
+fn is_shown(found: Option<&Assertion>) -> bool
     ensures { result ≡ is_shown (option_copied found.entry) }
 {
     match found {
@@ -113,7 +59,7 @@ pub fn in_force(alloc: Global, row: &[Shared]) -> Result<List<Assertion>, Memory
 }
 
 /// Puts a name at the end of a list, where it is wanted.
-pub fn append_if(wanted: bool, list: &mut List<Name>, name: Name) -> Result<(), Memory>
+fn append_if(wanted: bool, list: &mut List<Name>, name: Name) -> Result<(), Memory>
     ensures { OnOk result (list.new ≡ list.old ++ cond wanted (name ∷ []) []) }
 {
     if !wanted {
@@ -123,4 +69,45 @@ pub fn append_if(wanted: bool, list: &mut List<Name>, name: Name) -> Result<(), 
         Ok(()) => Ok(()),
         Err(_) => Err(Memory),
     }
+}
+
+/// The first name that has a row.
+fn first_name<L: Ledger>(rows: &Table<Name, List<Shared>>, steps: &mut Steps<L>) -> Option<Name>
+    ensures { result ≡ option_map (λ e. e.0) (first_of rows.now.entries) }
+{
+    let (name, _) = rows.first(steps)?;
+    Some(*name)
+}
+
+/// The name after another that has a row.
+fn name_after<L: Ledger>(
+    rows: &Table<Name, List<Shared>>,
+    name: Name,
+    steps: &mut Steps<L>,
+) -> Option<Name>
+    ensures { result ≡ option_map (λ e. e.0) (first_of (entries_after bytes_cmp name rows.now.entries)) }
+{
+    let (next, _) = rows.next_after(&name, steps)?;
+    Some(*next)
+}
+
+/// The names whose rows show a tag, ascending.
+pub(crate) fn holders<L: Ledger>(
+    alloc: Global,
+    rows: &Table<Name, List<Shared>>,
+    tag: &[u8],
+    steps: &mut Steps<L>,
+) -> Result<List<Name>, Memory>
+    requires ordered { IsStrictlySortedBy bytes_cmp (keys_of rows.now.entries) }
+    requires rise { (x : List ℕ) → Rises (row_in rows.now.entries x) }
+    ensures { IfOk result (λ names. names ≡ filter (shows rows.now.entries tag.now) (keys_of rows.now.entries)) }
+{
+    let mut list = List::new(alloc);
+    let mut next = first_name(rows, steps);
+    while let Some(name) = next {
+        let wanted = is_shown(find(row_of(rows, name, steps), tag));
+        append_if(wanted, &mut list, name)?;
+        next = name_after(rows, name, steps);
+    }
+    Ok(list)
 }

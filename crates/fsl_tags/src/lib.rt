@@ -1,35 +1,44 @@
-//! Tags of artifacts, and what check-ins take over from their primary ancestors. `Tags` is the table of them, and its answers are
-//! those of the definitions over the facts it was built from. In whatever order these stand it
-//! is the same: `fsl_order::by_name_in_any_order`.
+//! Tags of artifacts, and what check-ins take over from their primary ancestors. `Tags` is the table of them. It is built from facts
+//! at once, or takes facts in one after the other; its answers are those of the definitions over its facts, in whatever order they
+//! came: `fsl_order::by_name_in_any_order`.
 //!
-//! The table keeps for each name that can have tags the row of its effective assertions by rising tag; rows share the assertions.
-//! `build` takes time by n log n in the facts and assertions, and by the sizes of the rows: each row is merged from the newest
-//! assertions on its name and from the row of the primary parent, which is made before it. Only for parents in a circle, which no
-//! hashes make, a walk along the ancestors scans all assertions at each step. `effective` is a look-up of a name and a binary search
-//! in its row, `in_force` copies the row of its name, and `holders` searches each row.
+//! The table keeps the facts by name, the pairs of a primary parent and a child, the newest assertions on each name, and for each
+//! name the row of its effective assertions by rising tag, where it has any; rows share the assertions. `build` takes time by n log n
+//! in the facts and assertions, and by the sizes of the rows: each row is merged from the assertions on its name and from the row of
+//! the primary parent, which is made before it. Only for parents in a circle, which no hashes make, it climbs along as many ancestors
+//! as there are facts. `add` and `change` write the row of the name that they change, and those of its descendants as far as they
+//! differ. `effective` is a look-up of a name and a binary search in its row, `in_force` copies the row of its name, and `holders`
+//! searches each row.
 #![tactic(auto)]
 
 ghost use Rattle.std.specs.Prelude.{◌≡◌, IfOk};
+ghost use Rattle.fsl_tags.specs.Laws.{EffectiveByRow, OthersStay};
 ghost use Rattle.fsl_tags.specs.Tags.{EffectiveByParent};
 
-mod by_tag;
-mod direct;
+mod arrive;
+mod build;
+mod changed;
+mod find;
 mod gathered;
-mod index;
+mod lay;
 mod merge;
+mod node;
 mod order;
-mod row;
+mod renew;
+mod rows;
+mod same;
 mod settle;
 mod shared;
+mod spread;
 mod tags;
-mod walk;
+mod take;
 
 use fsl_date::Moment;
 use fsl_name::Name;
 use fsl_rows::Named;
 use fsl_text::{List, Memory, Text};
 use std::alloc::Global;
-pub use tags::Tags;
+pub use tags::{Tags, Undo};
 
 /// How a tag is set.
 #[derive(Clone, Copy, PartialEq, Eq, Debug)]
@@ -122,4 +131,14 @@ fn copy_all(alloc: Global, assertions: &[Assertion]) -> Result<List<Assertion>, 
 /// The effective assertion is the newer of the direct one and the parent's, where that propagates.
 pub fn effective_by_parent()
     ensures { EffectiveByParent }
+{}
+
+/// Facts that give a name the same row give it the same effective assertion of each tag.
+pub fn effective_by_row()
+    ensures { EffectiveByRow }
+{}
+
+/// A fact more whose assertions are all on its own name leaves the row of each other name as it was.
+pub fn others_stay()
+    ensures { OthersStay }
 {}

@@ -1,36 +1,154 @@
-//! The rows of names, each after that of its primary parent: by the law `effective_by_parent` it follows from that one.
-ghost use Rattle.std.specs.Prelude.{◌≡◌, ℕ, List, true, OnOk, IfOk};
-ghost use Rattle.fsl_tags.specs.Kept.{IsIndexed, AreRows, has_row};
-ghost use Rattle.fsl_tags.specs.Tags as table;
+//! The rows of names, each after that of its primary parent. Only in a circle of parents, which no hashes make, the row is worked
+//! out from as many names above as there are facts.
+ghost use Rattle.std.specs.List.{AllByRecursion};
+ghost use Rattle.std.specs.Prelude.{◌≡◌, List, ℕ, [], length, IfOk, OnOk};
+ghost use Rattle.fsl_tags.specs.Climbed.{climbed as climbed_row};
+ghost use Rattle.fsl_tags.specs.Laid.{row_in, Rises, parent_in, settled as settled_row};
+ghost use Rattle.fsl_tags.specs.Laying.{AreSettled, IsKnown, AreKnown, line, down};
 
-use super::direct::parent;
-use super::index::Index;
 use super::merge::merged;
-use super::row::Row;
-use super::shared::Shared;
-use super::{Fact, walk};
+use super::node::Node;
+use super::rows::row_of;
+use super::shared::{Shared, again};
+use super::spread::pop as pop_name;
+use super::take::parent_of;
+use super::{Assertion, Fact};
 use fsl_name::Name;
-use fsl_rows::Rows;
-use fsl_text::{List, Memory};
+use fsl_table::Table;
+use fsl_text::{List, Memory, Steps};
 use std::alloc::Global;
+use std::collections::BTreeMap;
+use std::sync::ledger::Ledger;
 
-/// The primary ancestors of a name up to the first that has a row, nearest first, and not more than `most` of them. `Memory` is the
-/// only error.
-fn waiting(
+/// A name and its primary ancestors, nearest first, and not more than `most` of these.
+fn ancestors<L: Ledger>(
     alloc: Global,
-    facts: &Rows<Fact>,
-    rows: &Rows<Row>,
+    facts: &Table<Name, Node>,
     name: Name,
-    most: usize,
+    most: u64,
+    steps: &mut Steps<L>,
+) -> Result<Vec<Name>, Memory>
+    ensures { IfOk result (λ names. names.items ≡ line (parent_in facts.now.entries) most name) }
+{
+    let mut names = Vec::new(alloc);
+    names.push(name)?;
+    let mut at = name;
+    let mut left = most;
+    while left > 0 {
+        let Some(up) = parent_of(facts, at, steps) else {
+            return Ok(names);
+        };
+        names.push(up)?;
+        at = up;
+        left -= 1;
+    }
+    Ok(names)
+}
+
+/// The row that own rows make along a line of names, from the last to the first.
+fn descend<L: Ledger>(
+    alloc: Global,
+    own: &Table<Name, List<Shared>>,
+    names: Vec<Name>,
+    steps: &mut Steps<L>,
+) -> Result<List<Shared>, Memory>
+    requires { (x : List ℕ) → Rises (row_in own.now.entries x) }
+    ensures { IfOk result (λ row. row ≡ down (row_in own.now.entries) names.items []) }
+{
+    let mut left = names;
+    let mut row = List::new(alloc);
+    while let Some(at) = pop_name(&mut left) {
+        let near = row_of(own, at, steps);
+        row = merged(alloc, near, row.items())?;
+    }
+    Ok(row)
+}
+
+/// The row of a name by so many steps up at most.
+fn climbed<L: Ledger>(
+    alloc: Global,
+    facts: &Table<Name, Node>,
+    own: &Table<Name, List<Shared>>,
+    name: Name,
+    most: u64,
+    steps: &mut Steps<L>,
+) -> Result<List<Shared>, Memory>
+    requires { (x : List ℕ) → Rises (row_in own.now.entries x) }
+    ensures { IfOk result (λ row. row ≡ climbed_row (parent_in facts.now.entries) (row_in own.now.entries) most name) }
+{
+    let names = ancestors(alloc, facts, name, most, steps)?;
+    descend(alloc, own, names, steps)
+}
+
+/// The row of a name: from that of its primary parent, where this is worked out, and else from all names above.
+fn row_for<L: Ledger>(
+    alloc: Global,
+    facts: &Table<Name, Node>,
+    own: &Table<Name, List<Shared>>,
+    settled: &BTreeMap<Name, List<Shared>>,
+    name: Name,
+    most: u64,
+    steps: &mut Steps<L>,
+) -> Result<List<Shared>, Memory>
+    requires rise { (x : List ℕ) → Rises (row_in own.now.entries x) }
+    requires most { most ≡ length facts.now.entries }
+    requires right { AreSettled facts.now.entries own.now.entries settled.now.entries }
+    ensures { IfOk result (λ row. row ≡ settled_row facts.now.entries own.now.entries name) }
+{
+    let near = row_of(own, name, steps);
+    let Some(up) = parent_of(facts, name, steps) else {
+        return again(alloc, near);
+    };
+    match settled.get(&up) {
+        Some(above) => merged(alloc, near, above.items()),
+        None => climbed(alloc, facts, own, name, most, steps),
+    }
+}
+
+/// Works the row of a name out, unless it is.
+fn settle_one<L: Ledger>(
+    alloc: Global,
+    facts: &Table<Name, Node>,
+    own: &Table<Name, List<Shared>>,
+    settled: &mut BTreeMap<Name, List<Shared>>,
+    name: Name,
+    most: u64,
+    steps: &mut Steps<L>,
+) -> Result<(), Memory>
+    requires rise { (x : List ℕ) → Rises (row_in own.now.entries x) }
+    requires most { most ≡ length facts.now.entries }
+    requires right { AreSettled facts.now.entries own.now.entries settled.old.entries }
+    ensures right { OnOk result (AreSettled facts.now.entries own.now.entries settled.new.entries) }
+    ensures there { OnOk result (IsKnown settled.new.entries name) }
+    ensures stay { OnOk result ((q : List ℕ) → IsKnown settled.old.entries q → IsKnown settled.new.entries q) }
+{
+    if settled.contains_key(&name) {
+        return Ok(());
+    }
+    let row = row_for(alloc, facts, own, settled, name, most, steps)?;
+    match settled.insert(name, row) {
+        Ok(_) => Ok(()),
+        Err(_) => Err(Memory),
+    }
+}
+
+/// The primary ancestors of a name up to the first whose row is worked out, nearest first, and not more than `most` of them.
+fn waiting<L: Ledger>(
+    alloc: Global,
+    facts: &Table<Name, Node>,
+    settled: &BTreeMap<Name, List<Shared>>,
+    name: Name,
+    most: u64,
+    steps: &mut Steps<L>,
 ) -> Result<Vec<Name>, Memory> {
     let mut above = Vec::new(alloc);
     let mut at = name;
     let mut left = most;
     while left > 0 {
-        let Some(up) = parent(facts, at) else {
+        let Some(up) = parent_of(facts, at, steps) else {
             break;
         };
-        if is_settled(rows, up) {
+        if settled.contains_key(&up) {
             break;
         }
         above.push(up)?;
@@ -40,79 +158,72 @@ fn waiting(
     Ok(above)
 }
 
-/// Whether a name has a row.
-fn is_settled(rows: &Rows<Row>, name: Name) -> bool
-    ensures { result ≡ has_row rows.now name }
-{
-    match rows.get(name) {
-        Some(_) => true,
-        None => false,
-    }
-}
-
-/// The effective assertions on a name: by the row of its primary parent, or where that has none, by a walk along its ancestors.
-/// `Memory` is the only error.
-fn row_of(
+/// Works the row of a name out, and before it those of its ancestors, the farthest first.
+fn settle<L: Ledger>(
     alloc: Global,
-    facts: &Rows<Fact>,
-    index: &Index,
-    rows: &Rows<Row>,
+    facts: &Table<Name, Node>,
+    own: &Table<Name, List<Shared>>,
+    settled: &mut BTreeMap<Name, List<Shared>>,
     name: Name,
-) -> Result<List<Shared>, Memory>
-    requires indexed { IsIndexed facts.now index.now }
-    requires right { AreRows facts.now rows.now }
-    ensures { IfOk result (λ row. row ≡ table.tags_row facts.now name) }
-{
-    let own = index.row(alloc, name)?;
-    let Some(up) = parent(facts, name) else {
-        return Ok(own);
-    };
-    match rows.get(up) {
-        Some(above) => merged(alloc, own.items(), above.assertions.items()),
-        None => walk::row(alloc, facts, name),
-    }
-}
-
-/// Puts the row of a name among the rows, where it isn't there. `Memory` is the only error.
-fn settle_one(
-    alloc: Global,
-    facts: &Rows<Fact>,
-    index: &Index,
-    rows: &mut Rows<Row>,
-    name: Name,
+    most: u64,
+    steps: &mut Steps<L>,
 ) -> Result<(), Memory>
-    requires indexed { IsIndexed facts.now index.now }
-    requires right { AreRows facts.now rows.old }
-    ensures right { OnOk result (AreRows facts.now rows.new) }
-    ensures settled { OnOk result (has_row rows.new name ≡ true) }
-    ensures stay { OnOk result ((q : List ℕ) → has_row rows.old q ≡ true → has_row rows.new q ≡ true) }
+    requires rise { (x : List ℕ) → Rises (row_in own.now.entries x) }
+    requires most { most ≡ length facts.now.entries }
+    requires right { AreSettled facts.now.entries own.now.entries settled.old.entries }
+    ensures right { OnOk result (AreSettled facts.now.entries own.now.entries settled.new.entries) }
+    ensures there { OnOk result (IsKnown settled.new.entries name) }
+    ensures stay { OnOk result ((q : List ℕ) → IsKnown settled.old.entries q → IsKnown settled.new.entries q) }
 {
-    if is_settled(rows, name) {
-        return Ok(());
-    }
-    let assertions = row_of(alloc, facts, index, rows, name)?;
-    rows.put(Row { name, assertions })
-}
-
-/// Puts the rows of a name and of its ancestors among the rows, the farthest first. `most` is the number of ancestors over which a
-/// name is climbed at most. `Memory` is the only error.
-pub fn settle(
-    alloc: Global,
-    facts: &Rows<Fact>,
-    index: &Index,
-    rows: &mut Rows<Row>,
-    name: Name,
-    most: usize,
-) -> Result<(), Memory>
-    requires indexed { IsIndexed facts.now index.now }
-    requires right { AreRows facts.now rows.old }
-    ensures right { OnOk result (AreRows facts.now rows.new) }
-    ensures settled { OnOk result (has_row rows.new name ≡ true) }
-    ensures stay { OnOk result ((q : List ℕ) → has_row rows.old q ≡ true → has_row rows.new q ≡ true) }
-{
-    let mut above = waiting(alloc, facts, rows, name, most)?;
+    let mut above = waiting(alloc, facts, settled, name, most, steps)?;
     while let Some(at) = above.pop() {
-        settle_one(alloc, facts, index, rows, at)?;
+        settle_one(alloc, facts, own, settled, at, most, steps)?;
     }
-    settle_one(alloc, facts, index, rows, name)
+    settle_one(alloc, facts, own, settled, name, most, steps)
+}
+
+/// Works the rows of the targets of assertions out.
+fn settle_targets<L: Ledger>(
+    alloc: Global,
+    facts: &Table<Name, Node>,
+    own: &Table<Name, List<Shared>>,
+    settled: &mut BTreeMap<Name, List<Shared>>,
+    assertions: &[Assertion],
+    most: u64,
+    steps: &mut Steps<L>,
+) -> Result<(), Memory>
+    requires rise { (x : List ℕ) → Rises (row_in own.now.entries x) }
+    requires most { most ≡ length facts.now.entries }
+    requires right { AreSettled facts.now.entries own.now.entries settled.old.entries }
+    ensures right { OnOk result (AreSettled facts.now.entries own.now.entries settled.new.entries) }
+    ensures there { OnOk result (AllByRecursion (λ a. IsKnown settled.new.entries a.target) assertions.now) }
+    ensures stay { OnOk result ((q : List ℕ) → IsKnown settled.old.entries q → IsKnown settled.new.entries q) }
+{
+    for assertion in assertions {
+        settle(alloc, facts, own, settled, assertion.target, most, steps)?;
+    }
+    Ok(())
+}
+
+/// Works the rows of facts and of what they have assertions on out.
+pub(crate) fn settle_all<L: Ledger>(
+    alloc: Global,
+    given: &[Fact],
+    facts: &Table<Name, Node>,
+    own: &Table<Name, List<Shared>>,
+    settled: &mut BTreeMap<Name, List<Shared>>,
+    most: u64,
+    steps: &mut Steps<L>,
+) -> Result<(), Memory>
+    requires rise { (x : List ℕ) → Rises (row_in own.now.entries x) }
+    requires most { most ≡ length facts.now.entries }
+    requires right { AreSettled facts.now.entries own.now.entries settled.old.entries }
+    ensures right { OnOk result (AreSettled facts.now.entries own.now.entries settled.new.entries) }
+    ensures all { OnOk result (AllByRecursion (AreKnown settled.new.entries) given.now) }
+{
+    for fact in given {
+        settle(alloc, facts, own, settled, fact.name, most, steps)?;
+        settle_targets(alloc, facts, own, settled, fact.tags.items(), most, steps)?;
+    }
+    Ok(())
 }

@@ -1,73 +1,273 @@
 //! The table of tags.
-ghost use Rattle.std.specs.Prelude.{◌≡◌, [], IfOk};
+ghost use Rattle.std.specs.List.{AllByRecursion};
 ghost use Rattle.std.specs.Option.{option_copied};
-ghost use Rattle.fsl_order.specs.Rows.{by_name};
-ghost use Rattle.fsl_tags.specs.Kept.{IsTable};
+ghost use Rattle.std.specs.Prelude.{◌≡◌, false, ◌+◌, ◌*◌, ◌≤◌, ◌<◌, [], ◌∷◌, length, map, OnOk, OnErr, IfOk};
+ghost use Rattle.fsl_order.specs.Held.{IsAsBefore};
+ghost use Rattle.fsl_order.specs.Names.{has};
+ghost use Rattle.fsl_order.specs.Rows.{by_name, ListsChanged};
+ghost use Rattle.fsl_tags.specs.Conditions.{IsParentChange};
 ghost use Rattle.fsl_tags.specs.Tags as table;
 
-use super::direct::checkins;
-use super::index::Index;
-use super::row::Row;
-use super::settle::settle;
+use super::arrive::{give_parent, take_in};
+use super::build::fill;
+use super::find::find;
+use super::node::Node;
+use super::rows::row_of;
+use super::shared::Shared;
 use super::{Assertion, Fact, gathered};
 use fsl_name::Name;
-use fsl_rows::Rows;
-use fsl_text::{List, Memory};
+use fsl_table::{Log, Pair, Table, log};
+use fsl_text::{List, Memory, Steps};
 use std::alloc::Global;
-use std::marker::Model;
+use std::marker::{Brand, Model};
 use std::snapshot::Snapshot;
+use std::sync::ledger::{Blank, Ledger};
 
-/// The tags of artifacts. Contracts see it as the facts by name.
+/// The tags of artifacts. Contracts see it as the facts by name, and what each table inside has to spare.
 #[derive(Drop)]
 pub struct Tags {
-    /// The effective assertions on each name that can have tags.
-    rows: Rows<Row>,
-    /// What the table was built from. It takes no memory.
-    facts: Snapshot<Rows<Fact>>,
+    facts: Table<Name, Node>,
+    children: Table<Pair, ()>,
+    own: Table<Name, List<Shared>>,
+    rows: Table<Name, List<Shared>>,
 }
 
 impl Model for Tags {
-    ghost use Rattle.std.specs.Prelude.{[]};
     ghost use Rattle.fsl_order.specs.Held.{Held};
-    ghost use Rattle.fsl_tags.specs.Kept.{IsTable};
     ghost use Rattle.fsl_tags.specs.declared.Fact.{Fact};
+    ghost use Rattle.fsl_tags.specs.Held.{held_of, IsKept};
 
     ghost Value = { Held Fact };
 
-    ghost view = { λ t. record { facts = t.facts.value; spare = [] } };
+    ghost view = { λ t. held_of (record { facts = t.facts; children = t.children; own = t.own; rows = t.rows }) };
 
-    ghost invariant = { λ t. IsTable t.facts.value t.rows };
+    ghost invariant = { λ t. IsKept (record { facts = t.facts; children = t.children; own = t.own; rows = t.rows }) };
 }
 
-/// The rows of the names that can have tags. `Memory` is the only error.
-fn rows_of(alloc: Global, facts: &Rows<Fact>) -> Result<Rows<Row>, Memory>
-    requires { table.AreTagFacts facts.now }
-    ensures { IfOk result (λ rows. IsTable facts.now rows) }
-{
-    let index = Index::build(alloc, facts)?;
-    let most = checkins(facts);
-    let names = gathered::subjects(alloc, facts)?;
-    let mut rows = Rows::new(alloc);
-    for name in names.iter() {
-        settle(alloc, facts, &index, &mut rows, *name, most)?;
+/// What takes a change back.
+#[derive(Drop)]
+pub struct Undo {
+    facts: Log<Name, Node>,
+    children: Log<Pair, ()>,
+    own: Log<Name, List<Shared>>,
+    rows: Log<Name, List<Shared>>,
+    changed: List<Name>,
+    before: Snapshot<Tags>,
+    after: Snapshot<Tags>,
+}
+
+impl Model for Undo {
+    ghost use Rattle.fsl_order.specs.Held.{Change, IsAsBefore};
+    ghost use Rattle.fsl_tags.specs.declared.Fact.{Fact};
+    ghost use Rattle.fsl_tags.specs.Held.{Rows, IsKept, held_of, TakesBack};
+
+    ghost Value = { Change Fact };
+
+    ghost view = { λ u. record { before = u.before.value; after = u.after.value; changed = u.changed } };
+
+    ghost invariant = { λ u. (now : Rows) → IsKept now → IsAsBefore u.after.value (held_of now) → TakesBack (record { facts = u.facts; children = u.children; own = u.own; rows = u.rows }) u.before.value now };
+}
+
+impl Undo {
+    /// The names whose rows the change changed, ascending.
+    pub fn changed(&self) -> &List<Name>
+        ensures { result.now ≡ self.now.changed }
+    {
+        &self.changed
     }
-    Ok(rows)
 }
 
 impl Tags {
+    /// A table of no facts. Takes no memory.
+    pub fn new(alloc: Global) -> Tags
+        ensures { result.facts ≡ [] }
+    {
+        let facts = Table::new(alloc);
+        let children = Table::new(alloc);
+        let own = Table::new(alloc);
+        let rows = Table::new(alloc);
+        Tags {
+            facts,
+            children,
+            own,
+            rows,
+        }
+    }
+
     /// The table of some facts, of which no two have one name. It is the same in whatever order they stand:
     /// that is the law `fsl_order::by_name_in_any_order`. `Memory` is the only error.
     pub fn build(alloc: Global, facts: &[Fact]) -> Result<Tags, Memory>
         requires { table.AreTagFacts facts.now }
         ensures facts { IfOk result (λ t. t.facts ≡ by_name (λ f. f.name) facts.now) }
-        ensures spare { IfOk result (λ t. t.spare ≡ []) }
     {
-        let facts = Rows::build(alloc, facts)?;
-        let rows = rows_of(alloc, &facts)?;
+        Tags::build_counted::<Brand>(alloc, facts, Blank::new(1))
+    }
+
+    fn build_counted<L: Ledger>(alloc: Global, given: &[Fact], blank: Blank) -> Result<Tags, Memory>
+        requires name { blank.name ≡ L.name }
+        requires parts { blank.parts ≡ L.parts }
+        requires counts { 0 < L.parts }
+        requires fit { table.AreTagFacts given.now }
+        ensures { IfOk result (λ t. t.facts ≡ by_name (λ f. f.name) given.now) }
+    {
+        let mut steps: Steps<L> = Steps::new(blank);
+        let mut facts = Table::new(alloc);
+        let mut children = Table::new(alloc);
+        let mut own = Table::new(alloc);
+        let mut rows = Table::new(alloc);
+        fill(
+            alloc,
+            given,
+            &mut facts,
+            &mut children,
+            &mut own,
+            &mut rows,
+            &mut steps,
+        )?;
         Ok(Tags {
+            facts,
+            children,
+            own,
             rows,
-            facts: Snapshot::of(&facts),
         })
+    }
+
+    /// Adds a fact whose artifact isn't there. Where memory is wanting, the table holds what it held.
+    pub fn add<L: Ledger>(
+        &mut self,
+        alloc: Global,
+        fact: Fact,
+        steps: &mut Steps<L>,
+    ) -> Result<Undo, Memory>
+        requires absent { has (map (λ f. f.name) self.old.facts) fact.name ≡ false }
+        requires fit { table.IsTagFact (fact ∷ self.old.facts) fact }
+        ensures facts { OnOk result (self.new.facts ≡ by_name (λ f. f.name) (fact ∷ self.old.facts)) }
+        ensures before { IfOk result (λ undo. undo.before ≡ self.old) }
+        ensures after { IfOk result (λ undo. undo.after ≡ self.new) }
+        ensures changed { IfOk result (λ undo. ListsChanged (table.tags_row self.old.facts) (table.tags_row self.new.facts) undo.changed) }
+        ensures err { OnErr result (IsAsBefore self.old self.new) }
+        ensures cost { AllByRecursion (λ a. a.target ≡ fact.name) fact.tags → steps.new ≤ steps.old + 20 * (1 + length fact.tags) }
+    {
+        let before = Snapshot::of(&*self);
+        let mut facts = Log::new(alloc);
+        let mut children = Log::new(alloc);
+        let mut own = Log::new(alloc);
+        let mut rows = Log::new(alloc);
+        match take_in(
+            alloc,
+            &mut self.facts,
+            &mut self.children,
+            &mut self.own,
+            &mut self.rows,
+            &mut facts,
+            &mut children,
+            &mut own,
+            &mut rows,
+            fact,
+            steps,
+        ) {
+            Ok(changed) => {
+                let after = Snapshot::of(&*self);
+                Ok(Undo {
+                    facts,
+                    children,
+                    own,
+                    rows,
+                    changed,
+                    before,
+                    after,
+                })
+            }
+            Err(Memory) => {
+                log::undo(&mut self.facts, facts, steps);
+                log::undo(&mut self.children, children, steps);
+                log::undo(&mut self.own, own, steps);
+                log::undo(&mut self.rows, rows, steps);
+                Err(Memory)
+            }
+        }
+    }
+
+    /// Gives a fact that is there another primary parent. Where memory is wanting, the table holds what it held.
+    pub fn change<L: Ledger>(
+        &mut self,
+        alloc: Global,
+        fact: Fact,
+        steps: &mut Steps<L>,
+    ) -> Result<Undo, Memory>
+        requires change { IsParentChange self.old.facts fact }
+        requires fit { table.IsTagFact self.old.facts fact }
+        ensures facts { OnOk result (self.new.facts ≡ by_name (λ f. f.name) (fact ∷ self.old.facts)) }
+        ensures before { IfOk result (λ undo. undo.before ≡ self.old) }
+        ensures after { IfOk result (λ undo. undo.after ≡ self.new) }
+        ensures changed { IfOk result (λ undo. ListsChanged (table.tags_row self.old.facts) (table.tags_row self.new.facts) undo.changed) }
+        ensures err { OnErr result (IsAsBefore self.old self.new) }
+    {
+        let before = Snapshot::of(&*self);
+        let mut facts = Log::new(alloc);
+        let mut children = Log::new(alloc);
+        let own = Log::new(alloc);
+        let mut rows = Log::new(alloc);
+        match give_parent(
+            alloc,
+            &mut self.facts,
+            &mut self.children,
+            &self.own,
+            &mut self.rows,
+            &mut facts,
+            &mut children,
+            &mut rows,
+            fact,
+            steps,
+        ) {
+            Ok(changed) => {
+                let after = Snapshot::of(&*self);
+                Ok(Undo {
+                    facts,
+                    children,
+                    own,
+                    rows,
+                    changed,
+                    before,
+                    after,
+                })
+            }
+            Err(Memory) => {
+                log::undo(&mut self.facts, facts, steps);
+                log::undo(&mut self.children, children, steps);
+                log::undo(&mut self.rows, rows, steps);
+                Err(Memory)
+            }
+        }
+    }
+
+    fn take_back<L: Ledger>(&mut self, undo: Undo, blank: Blank)
+        requires name { blank.name ≡ L.name }
+        requires parts { blank.parts ≡ L.parts }
+        requires counts { 0 < L.parts }
+        requires last { IsAsBefore undo.after self.old }
+        ensures { IsAsBefore undo.before self.new }
+    {
+        let mut steps: Steps<L> = Steps::new(blank);
+        let Undo {
+            facts,
+            children,
+            own,
+            rows,
+            ..
+        } = undo;
+        log::undo(&mut self.facts, facts, &mut steps);
+        log::undo(&mut self.children, children, &mut steps);
+        log::undo(&mut self.own, own, &mut steps);
+        log::undo(&mut self.rows, rows, &mut steps);
+    }
+
+    /// Takes the last change back that wasn't taken back. It takes no memory.
+    pub fn undo(&mut self, undo: Undo)
+        requires { IsAsBefore undo.after self.old }
+        ensures { IsAsBefore undo.before self.new }
+    {
+        self.take_back::<Brand>(undo, Blank::new(1));
     }
 
     /// The assertion of a tag that takes effect on a name: of those on the name and on its primary ancestors, the newest that is newer
@@ -76,8 +276,23 @@ impl Tags {
     pub fn effective(&self, name: Name, tag: &[u8]) -> Option<&Assertion>
         ensures { option_copied result ≡ table.effective self.now.facts name tag.now }
     {
-        match self.rows.get(name) {
-            Some(row) => row.get(tag),
+        self.effective_counted::<Brand>(name, tag, Blank::new(1))
+    }
+
+    fn effective_counted<L: Ledger>(
+        &self,
+        name: Name,
+        tag: &[u8],
+        blank: Blank,
+    ) -> Option<&Assertion>
+        requires name { blank.name ≡ L.name }
+        requires parts { blank.parts ≡ L.parts }
+        requires counts { 0 < L.parts }
+        ensures { option_copied result ≡ table.effective self.now.facts name tag.now }
+    {
+        let mut steps: Steps<L> = Steps::new(blank);
+        match self.rows.get(&name, &mut steps) {
+            Some(row) => find(row.items(), tag),
             None => None,
         }
     }
@@ -87,21 +302,43 @@ impl Tags {
     pub fn in_force(&self, alloc: Global, name: Name) -> Result<List<Assertion>, Memory>
         ensures { IfOk result (λ list. list ≡ table.in_force self.now.facts name) }
     {
-        match self.rows.get(name) {
-            Some(row) => gathered::in_force(alloc, row.assertions.items()),
-            None => Ok(List::new(alloc)),
-        }
+        self.in_force_counted::<Brand>(alloc, name, Blank::new(1))
+    }
+
+    fn in_force_counted<L: Ledger>(
+        &self,
+        alloc: Global,
+        name: Name,
+        blank: Blank,
+    ) -> Result<List<Assertion>, Memory>
+        requires name { blank.name ≡ L.name }
+        requires parts { blank.parts ≡ L.parts }
+        requires counts { 0 < L.parts }
+        ensures { IfOk result (λ list. list ≡ table.in_force self.now.facts name) }
+    {
+        let mut steps: Steps<L> = Steps::new(blank);
+        gathered::in_force(alloc, row_of(&self.rows, name, &mut steps))
     }
 
     /// The names on which a tag is in force, ascending. `Memory` is the only error.
     pub fn holders(&self, alloc: Global, tag: &[u8]) -> Result<List<Name>, Memory>
         ensures { IfOk result (λ names. names ≡ table.holders self.now.facts tag.now) }
     {
-        let mut list = List::new(alloc);
-        for row in self.rows.iter() {
-            let wanted = gathered::is_shown(row.get(tag));
-            gathered::append_if(wanted, &mut list, row.name)?;
-        }
-        Ok(list)
+        self.holders_counted::<Brand>(alloc, tag, Blank::new(1))
+    }
+
+    fn holders_counted<L: Ledger>(
+        &self,
+        alloc: Global,
+        tag: &[u8],
+        blank: Blank,
+    ) -> Result<List<Name>, Memory>
+        requires name { blank.name ≡ L.name }
+        requires parts { blank.parts ≡ L.parts }
+        requires counts { 0 < L.parts }
+        ensures { IfOk result (λ names. names ≡ table.holders self.now.facts tag.now) }
+    {
+        let mut steps: Steps<L> = Steps::new(blank);
+        gathered::holders(alloc, &self.rows, tag, &mut steps)
     }
 }

@@ -1,13 +1,13 @@
-use Rattle.std.proofs.Common.{◌≡◌, ℕ, List, true, vec_len}
-use Rattle.fsl_tags.specs.Kept.{AreRows, has_row}
+use Rattle.std.proofs.Common.{List, ℕ, length}
+use Rattle.fsl_tags.specs.Laying.{AreSettled, IsKnown}
 use Rattle.fsl_tags.proofs.settle.settle.Given as goal
 
--- the rows are right, and none went
+-- the rows are right, and none is lost
 abbrev pub invariant-loop-at : goal.invariant-loop-at
-invariant-loop-at l = record {
-  right : AreRows l.facts l.rows;
-  stay : (q : List ℕ) → has_row l.fn.rows q ≡ true → has_row l.rows q ≡ true;
+invariant-loop-at g l = record {
+  right : AreSettled l.facts.entries l.own.entries l.settled.entries;
+  stay : (q : List ℕ) → IsKnown l.fn.settled.entries q → IsKnown l.settled.entries q;
 }
 
 abbrev pub decreases-loop-at : goal.decreases-loop-at
-decreases-loop-at l = vec_len l.above
+decreases-loop-at g l = length l.above.items

@@ -1,28 +1,21 @@
-use Rattle.std.proofs.Common.{◌≡◌, ◌∷◌, ℕ, List, true, sym, ap, subst, ◌∙◌}
-use Rattle.fsl_order.specs.Rows.{by_name}
-use Rattle.fsl_tags.specs.declared.row.Row.{Row}
-use Rattle.fsl_tags.specs.Kept.{AreRows, has_row}
-use Rattle.fsl_tags.proofs.Inheriting.{right_with, settled_with, stays_with, on_ok}
+use Rattle.std.proofs.Common.{◌≡◌, ◌∙◌, ℕ, List, Some, cond, ap}
+use Rattle.std.specs.Str.{bytes_eq}
+use Rattle.fsl_order.specs.Names.{bytes_cmp}
+use Rattle.fsl_table.specs.Contents.{value_at}
+use Rattle.fsl_table.proofs.Finding.{value-with}
+use Rattle.fsl_tags.proofs.Filling.{settled_more, known_more, known_there}
 use Rattle.fsl_tags.proofs.settle.settle_one.Goals as goal
 
--- the rows, once it is there
-abbrev with_one : goal.After-put → List Row
-with_one c = by_name (λ r. r.name) (record { name = c.args.name; assertions = c.in_ok-assertions.assertions } ∷ c.args.rows.now)
+pub returns-in-Ok-clause-right : goal.returns-in-Ok-clause-right
+returns-in-Ok-clause-right g c =
+    let put : (x : List ℕ) → value_at bytes_cmp x c.insert.new.self.entries ≡ cond (bytes_eq x c.args.name) (Some c.in_ok-row.row) (value_at bytes_cmp x c.args.settled.now.entries) =
+    λ x. ap (value_at bytes_cmp x) c.in-Ok.ensures.entries ∙ value-with c.args.name c.in_ok-row.row c.args.settled.now.entries x in
+    settled_more c.args.facts.now.entries c.args.own.now.entries c.args.settled.now.entries c.insert.new.self.entries c.args.name c.in_ok-row.row put c.in_ok-row.ensures c.requires.right
 
-pub returns-clause-right : goal.returns-clause-right
-returns-clause-right c =
-    on_ok (c.put.new.self ≡ with_one c) (AreRows c.args.facts.now c.put.new.self) c.put.result
-    (λ e. subst (AreRows c.args.facts.now) (sym e) (right_with c.args.facts.now c.args.rows.now (record { name = c.args.name; assertions = c.in_ok-assertions.assertions }) c.requires.right c.in_ok-assertions.ensures))
-    c.put.ensures.ok
+pub returns-in-Ok-clause-there : goal.returns-in-Ok-clause-there
+returns-in-Ok-clause-there g c =
+    known_there c.args.settled.now.entries c.insert.new.self.entries c.args.name c.in_ok-row.row (λ x. ap (value_at bytes_cmp x) c.in-Ok.ensures.entries ∙ value-with c.args.name c.in_ok-row.row c.args.settled.now.entries x)
 
-pub returns-clause-settled : goal.returns-clause-settled
-returns-clause-settled c =
-    on_ok (c.put.new.self ≡ with_one c) (has_row c.put.new.self c.args.name ≡ true) c.put.result
-    (λ e. ap (λ rows. has_row rows c.args.name) e ∙ settled_with c.args.rows.now (record { name = c.args.name; assertions = c.in_ok-assertions.assertions }))
-    c.put.ensures.ok
-
-pub returns-clause-stay : goal.returns-clause-stay
-returns-clause-stay c =
-    on_ok (c.put.new.self ≡ with_one c) ((q : List ℕ) → has_row c.args.rows.now q ≡ true → has_row c.put.new.self q ≡ true) c.put.result
-    (λ e q h. ap (λ rows. has_row rows q) e ∙ stays_with c.args.rows.now (record { name = c.args.name; assertions = c.in_ok-assertions.assertions }) q h)
-    c.put.ensures.ok
+pub returns-in-Ok-clause-stay : goal.returns-in-Ok-clause-stay
+returns-in-Ok-clause-stay g c =
+    known_more c.args.settled.now.entries c.insert.new.self.entries c.args.name c.in_ok-row.row (λ x. ap (value_at bytes_cmp x) c.in-Ok.ensures.entries ∙ value-with c.args.name c.in_ok-row.row c.args.settled.now.entries x)

@@ -1,6 +1,0 @@
-use Rattle.std.proofs.Common.{◌≡◌, take}
-use Rattle.fsl_tags.proofs.row.again.Given as goal
-
--- those that were passed are there again
-abbrev pub invariant-loop-shared : goal.invariant-loop-shared
-invariant-loop-shared l = l.list ≡ take l.shared-index l.assertions

@@ -1,0 +1,70 @@
+-- How the tables are filled from facts.
+use Rattle.std.specs.Prelude.{◌≡◌, ℕ, zero, suc, List, [], ◌∷◌, Bool, true, false, All, IfSome, is_some, Option}
+use Rattle.std.specs.Str.{bytes_eq}
+use Rattle.std.specs.List.{AllByRecursion}
+use Rattle.std.specs.List.Sorted.{IsStrictlySortedBy}
+use Rattle.std.specs.Map.{keys_of}
+use Rattle.std.specs.Option.{option_map_or}
+use Rattle.fsl_order.specs.Names.{bytes_cmp}
+use Rattle.fsl_order.specs.Rows.{named}
+use Rattle.fsl_table.specs.declared.key.Pair.{Pair}
+use Rattle.fsl_table.specs.Contents.{value_at}
+use Rattle.fsl_tags.specs.declared.Fact.{Fact}
+use Rattle.fsl_tags.specs.declared.Assertion.{Assertion}
+use Rattle.fsl_tags.specs.declared.node.Node.{Node}
+use Rattle.fsl_tags.specs.Gathered.{is_shown}
+use Rattle.fsl_tags.specs.Joined.{joined}
+use Rattle.fsl_tags.specs.Tags.{direct}
+use Rattle.fsl_tags.specs.Held.{facts_of}
+use Rattle.fsl_tags.specs.Laid.{Rises, row_in, settled, AreFull, AreLaid}
+
+-- own rows in order, none of them empty, each by rising tag
+pub record AreOwn (own : List (List ℕ × List Assertion)) : Type 0 where
+  pub full : AreFull own
+  pub rise : (x : List ℕ) → Rises (row_in own x)
+
+-- the assertions of each fact come from it
+abbrev pub AreSourced : List Fact → Type 0
+AreSourced facts = AllByRecursion (λ f. All (λ a. a.source ≡ f.name) f.tags) facts
+
+-- the own rows are the newest assertions of the facts, and there is a pair for each child
+pub record IsLaying (facts : List (List ℕ × Node)) (children : List (Pair × Unit {0})) (own : List (List ℕ × List Assertion)) : Type 0 where
+  pub ordered : IsStrictlySortedBy bytes_cmp (keys_of facts)
+  pub sourced : AreSourced (facts_of facts)
+  pub newest : (x tag : List ℕ) → named (λ a. a.tag) (row_in own x) tag ≡ direct (facts_of facts) x tag
+  pub laid : AreLaid facts children own
+  pub full : AreFull own
+
+-- none of the assertions is on the name
+abbrev pub AreElsewhere : List ℕ → List Assertion → Type 0
+AreElsewhere x as_ = AllByRecursion (λ a. bytes_eq x a.target ≡ false) as_
+
+-- no assertion of the facts is on the name
+abbrev pub AreAllElsewhere : List ℕ → List Fact → Type 0
+AreAllElsewhere x facts = AllByRecursion (λ f. AreElsewhere x f.tags) facts
+
+-- each row that is worked out is right
+abbrev pub AreSettled : List (List ℕ × Node) → List (List ℕ × List Assertion) → List (List ℕ × List Assertion) → Type 0
+AreSettled facts own rows = (x : List ℕ) → IfSome (value_at bytes_cmp x rows) (λ row. row ≡ settled facts own x)
+
+-- the row of the name is worked out
+abbrev pub IsKnown : List (List ℕ × List Assertion) → List ℕ → Type 0
+IsKnown rows x = is_some (value_at bytes_cmp x rows) ≡ true
+
+-- and so are those of a fact and of what it has assertions on
+abbrev pub AreKnown : List (List ℕ × List Assertion) → Fact → Type 0
+AreKnown rows f = IsKnown rows f.name × AllByRecursion (λ a. IsKnown rows a.target) f.tags
+
+-- a name and those above it, nearest first, at most so many
+abbrev pub line : (List ℕ → Option (List ℕ)) → ℕ → List ℕ → List (List ℕ)
+line par zero x = x ∷ []
+line par (suc k) x = x ∷ option_map_or (line par k) (par x) []
+
+-- a row taken down by a line of names
+abbrev pub down : (List ℕ → List Assertion) → List (List ℕ) → List Assertion → List Assertion
+down own [] row = row
+down own (x ∷ xs) row = joined (down own xs row) (own x)
+
+-- whether the row of a name shows the tag
+abbrev pub shows : List (List ℕ × List Assertion) → List ℕ → List ℕ → Bool
+shows rows tag x = is_shown (named (λ a. a.tag) (row_in rows x) tag)

@@ -1,0 +1,175 @@
+//! A fact more, or another parent of a fact: all tables follow, and logs know what takes that back.
+ghost use Rattle.std.specs.List.{AllByRecursion};
+ghost use Rattle.std.specs.Prelude.{◌≡◌, ◌+◌, ◌*◌, ◌≤◌, [], ◌∷◌, List, ℕ, length, OnOk, IfOk};
+ghost use Rattle.fsl_order.specs.Names.{bytes_cmp};
+ghost use Rattle.fsl_order.specs.Rows.{by_name, ListsChanged};
+ghost use Rattle.fsl_table.specs.Contents.{Contents};
+ghost use Rattle.fsl_table.specs.Exact.{pair_cmp};
+ghost use Rattle.fsl_table.specs.Pairs.{seconds};
+ghost use Rattle.fsl_table.specs.Undo.{Undoes};
+ghost use Rattle.fsl_table.specs.declared.key.Pair as pair;
+ghost use Rattle.fsl_tags.specs.Conditions.{IsParentChange};
+ghost use Rattle.fsl_tags.specs.Held.{facts_of, IsKept};
+ghost use Rattle.fsl_tags.specs.Tags as table;
+ghost use Rattle.fsl_tags.specs.declared.Assertion as made;
+ghost use Rattle.fsl_tags.specs.declared.node.Node as given;
+
+use super::Fact;
+use super::changed::changed_names;
+use super::node::Node;
+use super::shared::{Shared, share};
+use super::take::{cut, set_node, take_all};
+use fsl_name::Name;
+use fsl_table::{Log, Pair, Table};
+use fsl_text::{List, Memory, Steps};
+use std::alloc::Global;
+use std::collections::BTreeMap;
+use std::sync::ledger::Ledger;
+
+/// The same twice.
+fn twice(parent: Option<Name>) -> (Option<Name>, Option<Name>)
+    ensures { result ≡ (parent, parent) }
+{
+    match parent {
+        Some(up) => (Some(up), Some(up)),
+        None => (None, None),
+    }
+}
+
+/// Takes a fact in, and logs what takes it out again.
+pub(crate) fn take_in<L: Ledger>(
+    alloc: Global,
+    facts: &mut Table<Name, Node>,
+    children: &mut Table<Pair, ()>,
+    own: &mut Table<Name, List<Shared>>,
+    rows: &mut Table<Name, List<Shared>>,
+    facts_log: &mut Log<Name, Node>,
+    children_log: &mut Log<Pair, ()>,
+    own_log: &mut Log<Name, List<Shared>>,
+    rows_log: &mut Log<Name, List<Shared>>,
+    fact: Fact,
+    steps: &mut Steps<L>,
+) -> Result<List<Name>, Memory>
+    requires kept { IsKept (record { facts = facts.old; children = children.old; own = own.old; rows = rows.old }) }
+    requires fit { table.AreTagFacts (fact ∷ facts_of facts.old.entries) }
+    ensures facts { OnOk result (facts_of facts.new.entries ≡ by_name (λ f. f.name) (fact ∷ facts_of facts.old.entries)) }
+    ensures kept { OnOk result (IsKept (record { facts = facts.new; children = children.new; own = own.new; rows = rows.new })) }
+    ensures changed { IfOk result (ListsChanged (table.tags_row (facts_of facts.old.entries)) (table.tags_row (facts_of facts.new.entries))) }
+    ensures undoes_facts { (before : Contents (List ℕ) given.Node) → Undoes bytes_cmp facts_log.old facts.old before → Undoes bytes_cmp facts_log.new facts.new before }
+    ensures undoes_children { (before : Contents pair.Pair Unit) → Undoes pair_cmp children_log.old children.old before → Undoes pair_cmp children_log.new children.new before }
+    ensures undoes_own { (before : Contents (List ℕ) (List made.Assertion)) → Undoes bytes_cmp own_log.old own.old before → Undoes bytes_cmp own_log.new own.new before }
+    ensures undoes_rows { (before : Contents (List ℕ) (List made.Assertion)) → Undoes bytes_cmp rows_log.old rows.old before → Undoes bytes_cmp rows_log.new rows.new before }
+    ensures touches { seconds fact.name children.old.entries ≡ [] → AllByRecursion (λ a. a.target ≡ fact.name) fact.tags → steps.new ≤ steps.old + (15 + 12 * length fact.tags) }
+    ensures logged { seconds fact.name children.old.entries ≡ [] → AllByRecursion (λ a. a.target ≡ fact.name) fact.tags → length facts_log.new + length children_log.new + length own_log.new + length rows_log.new ≤ length facts_log.old + length children_log.old + length own_log.old + length rows_log.old + (3 + 2 * length fact.tags) }
+{
+    let Fact {
+        name,
+        checkin,
+        parent,
+        tags,
+    } = fact;
+    let tags = share(alloc, tags)?;
+    let mut noted = BTreeMap::new(alloc);
+    take_all(
+        alloc,
+        facts,
+        children,
+        own,
+        own_log,
+        rows,
+        rows_log,
+        &mut noted,
+        tags.items(),
+        steps,
+    )?;
+    let (up, parent) = twice(parent);
+    set_node(
+        alloc,
+        facts,
+        facts_log,
+        children,
+        children_log,
+        own,
+        rows,
+        rows_log,
+        &mut noted,
+        name,
+        up,
+        Node {
+            checkin,
+            parent,
+            tags,
+        },
+        steps,
+    )?;
+    changed_names(alloc, noted, rows, steps)
+}
+
+/// Gives a fact another parent, and logs what gives it the old one again.
+pub(crate) fn give_parent<L: Ledger>(
+    alloc: Global,
+    facts: &mut Table<Name, Node>,
+    children: &mut Table<Pair, ()>,
+    own: &Table<Name, List<Shared>>,
+    rows: &mut Table<Name, List<Shared>>,
+    facts_log: &mut Log<Name, Node>,
+    children_log: &mut Log<Pair, ()>,
+    rows_log: &mut Log<Name, List<Shared>>,
+    fact: Fact,
+    steps: &mut Steps<L>,
+) -> Result<List<Name>, Memory>
+    requires kept { IsKept (record { facts = facts.old; children = children.old; own = own.now; rows = rows.old }) }
+    requires change { IsParentChange (facts_of facts.old.entries) fact }
+    requires fit { table.AreTagFacts (by_name (λ f. f.name) (fact ∷ facts_of facts.old.entries)) }
+    ensures facts { OnOk result (facts_of facts.new.entries ≡ by_name (λ f. f.name) (fact ∷ facts_of facts.old.entries)) }
+    ensures kept { OnOk result (IsKept (record { facts = facts.new; children = children.new; own = own.now; rows = rows.new })) }
+    ensures changed { IfOk result (ListsChanged (table.tags_row (facts_of facts.old.entries)) (table.tags_row (facts_of facts.new.entries))) }
+    ensures undoes_facts { (before : Contents (List ℕ) given.Node) → Undoes bytes_cmp facts_log.old facts.old before → Undoes bytes_cmp facts_log.new facts.new before }
+    ensures undoes_children { (before : Contents pair.Pair Unit) → Undoes pair_cmp children_log.old children.old before → Undoes pair_cmp children_log.new children.new before }
+    ensures undoes_rows { (before : Contents (List ℕ) (List made.Assertion)) → Undoes bytes_cmp rows_log.old rows.old before → Undoes bytes_cmp rows_log.new rows.new before }
+{
+    let Fact {
+        name,
+        checkin,
+        parent,
+        tags,
+    } = fact;
+    let tags = share(alloc, tags)?;
+    let mut noted = BTreeMap::new(alloc);
+    cut(
+        alloc,
+        facts,
+        facts_log,
+        children,
+        children_log,
+        own,
+        rows,
+        rows_log,
+        &mut noted,
+        name,
+        checkin,
+        tags.items(),
+        steps,
+    )?;
+    let (up, parent) = twice(parent);
+    set_node(
+        alloc,
+        facts,
+        facts_log,
+        children,
+        children_log,
+        own,
+        rows,
+        rows_log,
+        &mut noted,
+        name,
+        up,
+        Node {
+            checkin,
+            parent,
+            tags,
+        },
+        steps,
+    )?;
+    changed_names(alloc, noted, rows, steps)
+}

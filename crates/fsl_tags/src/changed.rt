@@ -1,0 +1,85 @@
+//! The names whose rows have changed.
+ghost use Rattle.std.specs.Prelude.{◌+◌, ◌≤◌, length, ◌≡◌, ◌++◌, ◌∷◌, [], List, ℕ, OnOk, IfOk, MatchOption, cond};
+ghost use Rattle.fsl_order.specs.Rows.{ListsChanged};
+ghost use Rattle.fsl_tags.specs.Changed.{changed_of};
+ghost use Rattle.fsl_tags.specs.Laid.{row_in, AreNoted};
+ghost use Rattle.fsl_tags.specs.Same.{same_rows};
+ghost use Rattle.fsl_tags.specs.declared.Assertion as made;
+
+use super::rows::row_of;
+use super::same::is_same;
+use super::shared::Shared;
+use fsl_name::Name;
+use fsl_table::Table;
+use fsl_text::{List, Memory, Steps};
+use std::alloc::Global;
+use std::collections::BTreeMap;
+use std::sync::ledger::Ledger;
+
+/// Puts a name at the end, unless its row is the same.
+fn append_unless(same: bool, list: &mut List<Name>, name: Name) -> Result<(), Memory>
+    ensures { OnOk result (list.new ≡ list.old ++ cond same [] (name ∷ [])) }
+{
+    if same {
+        return Ok(());
+    }
+    match list.push(name) {
+        Ok(()) => Ok(()),
+        Err(_) => Err(Memory),
+    }
+}
+
+/// Whether the row of a name is this.
+fn is_row<L: Ledger>(
+    rows: &Table<Name, List<Shared>>,
+    name: Name,
+    row: &[Shared],
+    steps: &mut Steps<L>,
+) -> bool
+    ensures cost { steps.new ≡ steps.old + 1 }
+    ensures same { result ≡ same_rows row.now (row_in rows.now.entries name) }
+{
+    is_same(row, row_of(rows, name, steps))
+}
+
+/// The first of what was noted.
+pub(crate) fn pop(noted: &mut BTreeMap<Name, List<Shared>>) -> Option<(Name, List<Shared>)>
+    ensures { MatchOption result ((noted.old.entries ≡ []) × (noted.new.entries ≡ [])) (λ e. noted.old.entries ≡ e ∷ noted.new.entries) }
+{
+    noted.pop_first()
+}
+
+/// The names whose rows aren't those that were noted.
+fn listed<L: Ledger>(
+    alloc: Global,
+    noted: BTreeMap<Name, List<Shared>>,
+    rows: &Table<Name, List<Shared>>,
+    steps: &mut Steps<L>,
+) -> Result<List<Name>, Memory>
+    ensures cost { steps.new ≤ steps.old + length noted.entries }
+    ensures list { IfOk result (λ list. list ≡ changed_of noted.entries rows.now.entries) }
+{
+    let mut left = noted;
+    let mut list = List::new(alloc);
+    while let Some((name, row)) = pop(&mut left) {
+        let same = is_row(rows, name, row.items(), steps);
+        append_unless(same, &mut list, name)?;
+    }
+    Ok(list)
+}
+
+/// The names whose rows have changed since the first was noted, ascending.
+pub(crate) fn changed_names<L: Ledger>(
+    alloc: Global,
+    noted: BTreeMap<Name, List<Shared>>,
+    rows: &Table<Name, List<Shared>>,
+    steps: &mut Steps<L>,
+) -> Result<List<Name>, Memory>
+    ensures cost { steps.new ≤ steps.old + length noted.entries }
+    ensures list { IfOk result (λ list. (before : List ℕ → List made.Assertion) → AreNoted before noted.entries rows.now.entries → ListsChanged before (row_in rows.now.entries) list) }
+{
+    if noted.len() == 0 {
+        return Ok(List::new(alloc));
+    }
+    listed(alloc, noted, rows, steps)
+}
