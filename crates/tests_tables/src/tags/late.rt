@@ -176,6 +176,8 @@ fn check_ins_come_into_a_circle(rt: HostRuntime) -> Result<(), Fail> {
 }
 
 fn built(alloc: Global) -> Result<Text, Fail> {
+    effective_by_row();
+    others_stay();
     let tags = table(alloc)?;
     Ok(shown(alloc, &tags)?)
 }
