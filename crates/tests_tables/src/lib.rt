@@ -5,3 +5,5 @@
 mod circles;
 #[cfg(test)]
 mod names;
+#[cfg(test)]
+mod tags;
