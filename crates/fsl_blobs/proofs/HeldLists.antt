@@ -13,6 +13,7 @@ use Rattle.std.specs.FinMap as map_of
 use Rattle.std.specs.FinMap.{find, is_sorted, nat_cmp-IsAntisymmetric}
 use Rattle.std.specs.FinMap.Entries.{same_entries, below_all}
 use Rattle.std.proofs.lemmas.Bool.{and_parts}
+use Rattle.std.proofs.lemmas.List.{length-map}
 use Rattle.std.proofs.lemmas.List.Elements.{filter-append, All-weaker}
 use Rattle.std.proofs.lemmas.List.Sorted.{IsPermutation-map, IsNonDecreasingBy-from_default}
 use Rattle.std.proofs.lemmas.Map.Keys.{IsStrictlyIncreasing-from_distinct, sorted_from_strictly_increasing, IsDistinct-IsPermutation}
@@ -87,6 +88,9 @@ module _ (records : List Record) (es : List (List ℕ × HeldArtifact)) (held : 
 
   pub bare-held : (b : Seen) → records ≡ b.records → bare es ≡ map_of.entries (contents b.records).held
   bare-held b view = sym entries-held ∙ ap (λ (rs : List Record). map_of.entries (contents rs).held) view
+
+  pub count-held : (b : Seen) → records ≡ b.records → length es ≡ map_of.len (contents b.records).held
+  count-held b view = sym (length-map es entry_of) ∙ ap length (bare-held b view) ∙ sym (map_of.len-entries (contents b.records).held)
 
   pub matching-held : (b : Seen) (prefix : List ℕ) → records ≡ b.records → found (filter (begins prefix) (keys_in es)) ≡ found (matching (contents b.records).held prefix)
   matching-held b prefix view = ap (λ (ks : List (List ℕ)). found (filter (begins prefix) ks)) keys-held ∙ ap (λ (rs : List Record). found (matching (contents rs).held prefix)) view

@@ -8,7 +8,7 @@ use Rattle.fsl_blobs.proofs.blobs.Blobs.held.Goals as goal
 pub returns : goal.returns
 returns c =
     ap (map pair_of) c.from_vec.ensures
-    ∙ listed _ _ c.self.invariant.held c.placed_from.ensures.ordered c.self.invariant.places c.placed_from.ensures.found c.args.from c.in_ok-names.names.items c.sort_unstable_by_key.new.self.items
+    ∙ listed _ _ c.self.invariant.kept.held c.placed_from.ensures.ordered c.self.invariant.kept.places c.placed_from.ensures.found c.args.from c.in_ok-names.names.items c.sort_unstable_by_key.new.self.items
     c.in_ok-names.ensures.names c.sort_unstable_by_key.ensures.permutation
     (IsNonDecreasingBy-from_sort_by_key (λ p. p.place) _ c.sort_unstable_by_key.ensures.sorted (λ a r q k. search rules))
     c.args.self.now (ap (λ (b : Seen). b.records) c.self.view_is)
