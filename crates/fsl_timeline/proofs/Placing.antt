@@ -31,7 +31,6 @@ place_eq k t name = parts (nat_cmp t k.0) (bytes_cmp k.1 name) ∙ ap (λ b. b &
     parts Greater Equal = refl
     parts Greater Greater = refl
 
-
 or-false : (b : Bool) → (b || false) ≡ b
 or-false true = refl
 or-false false = refl

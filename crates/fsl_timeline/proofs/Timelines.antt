@@ -125,9 +125,9 @@ timeline_is r k =
     let ps = r.places.entries in
     sym (values-attached es ps)
     ∙ ap values_of (same_entries latest_first latest_first-IsTotalOrder latest_first-IsAntisymmetric (attached es ps) (keyed latest_first place (rows_of es))
-      (sorted_is latest_first (attached es ps) (sorted-attached es ps k.places_ordered)) (is_sorted-keyed latest_first-IsTotalOrder place (rows_of es))
-      (λ q. find_is latest_first q (attached es ps) ∙ found es q ps k.places_ordered ∙ ap (λ b. row_if b (row_at es q.1)) (k.places q) ∙ here q (value_at bytes_cmp q.1 es)
-        ∙ sym (find-keyed latest_first-IsTotalOrder place q (rows_of es) ∙ kept_at es q k.ordered)))
+    (sorted_is latest_first (attached es ps) (sorted-attached es ps k.places_ordered)) (is_sorted-keyed latest_first-IsTotalOrder place (rows_of es))
+    (λ q. find_is latest_first q (attached es ps) ∙ found es q ps k.places_ordered ∙ ap (λ b. row_if b (row_at es q.1)) (k.places q) ∙ here q (value_at bytes_cmp q.1 es)
+    ∙ sym (find-keyed latest_first-IsTotalOrder place q (rows_of es) ∙ kept_at es q k.ordered)))
 
 pub take_more : (n : ℕ) (row : Row) (rows : List Row) → 0 < n → take n (row ∷ rows) ≡ row ∷ take (n - 1) rows
 take_more zero row rows h = absurd (omega (arith, h))
