@@ -1,6 +1,6 @@
-use Rattle.std.proofs.Common.{rules, ◌≡◌, ◌+◌, ◌≤◌, ◌++◌, [], ◌∷◌, sym, ap, subst, ◌∙◌, Some, None}
+use Rattle.std.proofs.Common.{rules, ◌≡◌, ◌+◌, ◌≤◌, ◌++◌, [], ◌∷◌, sym, subst, ◌∙◌, Some, None}
 use Rattle.fsl_table.specs.Contents.{value_at}
-use Rattle.fsl_table.specs.Undo.{IsAsGood, Undoes, stepped, IsAllowed}
+use Rattle.fsl_table.specs.Undo.{IsAsGood, Undoes, stepped}
 use Rattle.fsl_table.specs.declared.step.Step.TheVariants.{Put, Remove}
 use Rattle.fsl_table.proofs.Steps.{new_taken, old_put, old_allowed, undoes-push}
 use Rattle.fsl_table.proofs.log.put.Goals as goal

@@ -1,4 +1,4 @@
-use Rattle.std.proofs.Common.{◌≡◌, ◌∙◌, true, Some, ap, sym, subst}
+use Rattle.std.proofs.Common.{◌∙◌, true, ap, sym, subst}
 use Rattle.std.specs.Option.{option_map}
 use Rattle.fsl_order.specs.Names.{bytes_cmp}
 use Rattle.fsl_order.specs.Rows.{ListsChanged}
