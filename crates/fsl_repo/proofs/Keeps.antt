@@ -83,9 +83,11 @@ passed f (x ∷ xs) q e = by_test (f x) refl e (passed f xs q)
     more : (b : Bool) → has xs q ≡ true → (b || has xs q) ≡ true
     more true e = refl
     more false e = e
+
     at : (bytes_eq q x ≡ true) ⊎ (has (filter f xs) q ≡ true) → f x ≡ true → (has (filter f xs) q ≡ true → (f q ≡ true) × (has xs q ≡ true)) → (f q ≡ true) × ((bytes_eq q x || has xs q) ≡ true)
     at (inl e) t again = (ap f ((bytes_decides q x).0 e) ∙ t, ap (λ (b : Bool). b || has xs q) e)
     at (inr e) t again = ((again e).0, more (bytes_eq q x) (again e).1)
+
     by_test : (b : Bool) → f x ≡ b → has (cond b (x ∷ filter f xs) (filter f xs)) q ≡ true → (has (filter f xs) q ≡ true → (f q ≡ true) × (has xs q ≡ true)) → (f q ≡ true) × ((bytes_eq q x || has xs q) ≡ true)
     by_test true t e again = at (either (bytes_eq q x) (has (filter f xs) q) e) t again
     by_test false t e again = ((again e).0, more (bytes_eq q x) (again e).1)
@@ -122,9 +124,11 @@ listed (e ∷ es) (i ∷ items) are q h = by_name (eq_by_cmp bytes_cmp q e.0) re
   where
     ties : bytes_eq q i.name ≡ eq_by_cmp bytes_cmp q e.0
     ties = ap (bytes_eq q) (are.0.name) ∙ texts_ties q e.0
+
     more : (b : Bool) → has (clusters.names (map cluster_fact items)) q ≡ true → (b || has (clusters.names (map cluster_fact items)) q) ≡ true
     more true r = refl
     more false r = r
+
     by_name : (b : Bool) → eq_by_cmp bytes_cmp q e.0 ≡ b → is_some (cond b (Some e.1) (find bytes_cmp q es)) ≡ true → (is_some (find bytes_cmp q es) ≡ true → has (clusters.names (map cluster_fact items)) q ≡ true)
         → (bytes_eq q i.name || has (clusters.names (map cluster_fact items)) q) ≡ true
     by_name true t h again = ap (λ (b : Bool). b || has (clusters.names (map cluster_fact items)) q) (ties ∙ t)
