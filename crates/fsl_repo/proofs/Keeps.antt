@@ -1,6 +1,6 @@
 -- The reply of a state keeps private artifacts to itself, and names no shunned one.
-use Rattle.std.specs.Prelude.{◌≡◌, ℕ, ◌⊎◌, ◌||◌, ◌&&◌, Bool, true, false, not, cond, List, [], ◌∷◌, map, filter, filter_map, flat_map, fold, Option, Some, None, is_some, option_map, IsTrue}
-use Rattle.std.proofs.Common.{refl, sym, ap, subst, ◌∙◌, inl, inr}
+use Rattle.std.specs.Prelude.{◌≡◌, ℕ, ◌⊎◌, ◌||◌, ◌&&◌, Bool, true, false, not, cond, List, [], ◌∷◌, map, filter, filter_map, flat_map, Option, Some, None, is_some, option_map}
+use Rattle.std.proofs.Common.{refl, sym, ap, ◌∙◌, inl, inr}
 use Rattle.std.specs.List.{AllZip, AllByRecursion, cons_option, list_any}
 use Rattle.std.specs.Option.{option_map_or}
 use Rattle.std.specs.Str.{bytes_eq}
@@ -11,8 +11,6 @@ use Rattle.std.specs.FinSet as set
 use Rattle.std.specs.FinSet.{FinSet}
 use Rattle.std.specs.Cmp.Lexicographic.{bytes_decides, texts_ties}
 use Rattle.fsl_order.specs.Names.{bytes_cmp, has}
-use Rattle.fsl_order.specs.Rows.{ascending}
-use Rattle.fsl_order.proofs.Orders.{bytes_cmp-IsTotalOrder}
 use Rattle.fsl_order.proofs.AscendingLemmas.{has-ascending}
 use Rattle.fsl_record.specs.declared.Record.{Record}
 use Rattle.fsl_blobs.specs.Fold.{Held, contents, held_from}
@@ -29,7 +27,7 @@ use Rattle.fsl_blobs.proofs.ShunnedNames.{shunned_are_not_held}
 use Rattle.fsl_repo.specs.Machine.{State, now, IsItemOf, AreItems, AnnouncedAreNew, unclustered_names, wants}
 use Rattle.fsl_repo.specs.Replies.{placed, held_at, reply_state}
 use Rattle.fsl_repo.specs.Keeps.{reply_lists, told_names, sent_names, is_held_private, ReplyKeeps, BuildsKeep}
-use Rattle.fsl_repo.proofs.PublicNames.{found_public, FoundPublic}
+use Rattle.fsl_repo.proofs.PublicNames.{found_public}
 
 -- ---- tests
 
