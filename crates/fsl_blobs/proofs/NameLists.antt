@@ -1,23 +1,17 @@
 -- The lists of names.
-use Rattle.std.proofs.Common.{◌≡◌, ℕ, Bool, true, false, cond, List, [], ◌∷◌, map, refl, sym, ap, ◌∙◌}
+use Rattle.std.proofs.Common.{◌≡◌, ℕ, true, false, cond, List, [], ◌∷◌, map, refl, sym, ap, ◌∙◌}
 use Rattle.std.specs.Prelude.{filter}
 use Rattle.std.specs.List.Sorted.{IsStrictlySortedBy}
-use Rattle.std.specs.FinMap as map_of
 use Rattle.std.specs.FinSet as set
 use Rattle.std.specs.FinSet.{FinSet}
-use Rattle.fsl_order.specs.Names.{bytes_cmp, has}
+use Rattle.fsl_order.specs.Names.{bytes_cmp}
 use Rattle.fsl_order.specs.Rows.{ascending}
-use Rattle.fsl_order.proofs.Orders.{bytes_cmp-IsTotalOrder, bytes_cmp-IsAntisymmetric}
+use Rattle.fsl_order.proofs.Orders.{bytes_cmp-IsTotalOrder}
 use Rattle.fsl_order.proofs.SortedLemmas.{ascending-from_set}
-use Rattle.fsl_record.specs.declared.Config.{Config}
-use Rattle.fsl_record.specs.declared.Record.{Record}
 use Rattle.fsl_blobs.specs.declared.blobs.HeldArtifact.{HeldArtifact}
-use Rattle.fsl_blobs.specs.Fold.{Held, contents, private_names}
-use Rattle.fsl_blobs.specs.Kept.{stands, IsKept}
+use Rattle.fsl_blobs.specs.Fold.{Held}
+use Rattle.fsl_blobs.specs.Kept.{stands}
 use Rattle.fsl_blobs.specs.Listing.{entry_of}
-use Rattle.fsl_blobs.specs.Seen.{Seen}
-use Rattle.fsl_blobs.proofs.HeldLists.{bare-held}
-use Rattle.fsl_blobs.proofs.KeptLemmas.{turned}
 
 -- a rising list of the names of a set is its ascending list
 pub set_items : (names : List (List ℕ)) (all : FinSet bytes_cmp) → IsStrictlySortedBy bytes_cmp names → ((q : List ℕ) → stands names q ≡ set.contains all q) → names ≡ ascending (set.items all)

@@ -1,6 +1,6 @@
 -- Shunned names aren't held.
 use Rattle.std.proofs.Common.{◌≡◌, ℕ, Bool, true, false, cond, not, List, [], ◌∷◌, Option, Some, None, refl, sym, ap, ◌∙◌, subst}
-use Rattle.std.specs.Prelude.{◌&&◌, ◌||◌, is_some, IsTrue, fold}
+use Rattle.std.specs.Prelude.{◌&&◌, ◌||◌, is_some, fold}
 use Rattle.std.specs.Option.{option_map}
 use Rattle.std.specs.FinMap as map_of
 use Rattle.std.specs.FinSet as set

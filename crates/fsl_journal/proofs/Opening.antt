@@ -102,8 +102,11 @@ module _ (s0 s1 s2 s3 : DiskState) (file : List ℕ) (records : List Record) (pl
       (λ c left. inr (records, (file, file_told, run.log.file), loaded_durable modelled c left))
 
   pub spared : ((held : List ℕ) → IsTrue s3.is_model → s3.contents ≡ Some held → s3.images held) → IsSpared s0 s3
-  spared reads_as_image = inr (records, (file, file_told, run.log.file),
-      λ modelled held told. loaded_durable modelled held (reads_as_image held (all_keeps.model ∙ modelled.model) told))
+  spared reads_as_image = inr (
+    records,
+    (file, file_told, run.log.file),
+    λ modelled held told. loaded_durable modelled held (reads_as_image held (all_keeps.model ∙ modelled.model) told),
+  )
 
   pub belongs_loaded : (log : Log) → log ≡ resumed_log records place → Told s2 (λ held. s3.contents ≡ Some (take (place + 1) held)) → Belongs log s3
   belongs_loaded log is cut = subst (λ (l : Log). Belongs l s3) (sym is) (record {

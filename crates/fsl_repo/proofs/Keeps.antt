@@ -1,6 +1,6 @@
 -- The reply of a state keeps private artifacts to itself, and names no shunned one.
-use Rattle.std.specs.Prelude.{◌≡◌, ℕ, ◌⊎◌, ◌||◌, ◌&&◌, Bool, true, false, not, cond, List, [], ◌∷◌, map, filter, filter_map, flat_map, fold, Option, Some, None, is_some, option_map, IsTrue}
-use Rattle.std.proofs.Common.{refl, sym, ap, subst, ◌∙◌, inl, inr}
+use Rattle.std.specs.Prelude.{◌≡◌, ℕ, ◌⊎◌, ◌||◌, ◌&&◌, Bool, true, false, not, cond, List, [], ◌∷◌, map, filter, filter_map, flat_map, Option, Some, None, is_some, option_map}
+use Rattle.std.proofs.Common.{refl, sym, ap, ◌∙◌, inl, inr}
 use Rattle.std.specs.List.{AllZip, AllByRecursion, cons_option, list_any}
 use Rattle.std.specs.Option.{option_map_or}
 use Rattle.std.specs.Str.{bytes_eq}
@@ -11,8 +11,6 @@ use Rattle.std.specs.FinSet as set
 use Rattle.std.specs.FinSet.{FinSet}
 use Rattle.std.specs.Cmp.Lexicographic.{bytes_decides, texts_ties}
 use Rattle.fsl_order.specs.Names.{bytes_cmp, has}
-use Rattle.fsl_order.specs.Rows.{ascending}
-use Rattle.fsl_order.proofs.Orders.{bytes_cmp-IsTotalOrder}
 use Rattle.fsl_order.proofs.AscendingLemmas.{has-ascending}
 use Rattle.fsl_record.specs.declared.Record.{Record}
 use Rattle.fsl_blobs.specs.Fold.{Held, contents, held_from}
@@ -29,7 +27,7 @@ use Rattle.fsl_blobs.proofs.ShunnedNames.{shunned_are_not_held}
 use Rattle.fsl_repo.specs.Machine.{State, now, IsItemOf, AreItems, AnnouncedAreNew, unclustered_names, wants}
 use Rattle.fsl_repo.specs.Replies.{placed, held_at, reply_state}
 use Rattle.fsl_repo.specs.Keeps.{reply_lists, told_names, sent_names, is_held_private, ReplyKeeps, BuildsKeep}
-use Rattle.fsl_repo.proofs.PublicNames.{found_public, FoundPublic}
+use Rattle.fsl_repo.proofs.PublicNames.{found_public}
 
 -- ---- tests
 
@@ -83,9 +81,11 @@ passed f (x ∷ xs) q e = by_test (f x) refl e (passed f xs q)
     more : (b : Bool) → has xs q ≡ true → (b || has xs q) ≡ true
     more true e = refl
     more false e = e
+
     at : (bytes_eq q x ≡ true) ⊎ (has (filter f xs) q ≡ true) → f x ≡ true → (has (filter f xs) q ≡ true → (f q ≡ true) × (has xs q ≡ true)) → (f q ≡ true) × ((bytes_eq q x || has xs q) ≡ true)
     at (inl e) t again = (ap f ((bytes_decides q x).0 e) ∙ t, ap (λ (b : Bool). b || has xs q) e)
     at (inr e) t again = ((again e).0, more (bytes_eq q x) (again e).1)
+
     by_test : (b : Bool) → f x ≡ b → has (cond b (x ∷ filter f xs) (filter f xs)) q ≡ true → (has (filter f xs) q ≡ true → (f q ≡ true) × (has xs q ≡ true)) → (f q ≡ true) × ((bytes_eq q x || has xs q) ≡ true)
     by_test true t e again = at (either (bytes_eq q x) (has (filter f xs) q) e) t again
     by_test false t e again = ((again e).0, more (bytes_eq q x) (again e).1)
@@ -122,9 +122,11 @@ listed (e ∷ es) (i ∷ items) are q h = by_name (eq_by_cmp bytes_cmp q e.0) re
   where
     ties : bytes_eq q i.name ≡ eq_by_cmp bytes_cmp q e.0
     ties = ap (bytes_eq q) (are.0.name) ∙ texts_ties q e.0
+
     more : (b : Bool) → has (clusters.names (map cluster_fact items)) q ≡ true → (b || has (clusters.names (map cluster_fact items)) q) ≡ true
     more true r = refl
     more false r = r
+
     by_name : (b : Bool) → eq_by_cmp bytes_cmp q e.0 ≡ b → is_some (cond b (Some e.1) (find bytes_cmp q es)) ≡ true → (is_some (find bytes_cmp q es) ≡ true → has (clusters.names (map cluster_fact items)) q ≡ true)
         → (bytes_eq q i.name || has (clusters.names (map cluster_fact items)) q) ≡ true
     by_name true t h again = ap (λ (b : Bool). b || has (clusters.names (map cluster_fact items)) q) (ties ∙ t)

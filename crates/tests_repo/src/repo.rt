@@ -20,7 +20,7 @@ fn disk_of(alloc: Global, bytes: &[u8]) -> Result<MemoryDisk, Memory> {
 fn holds_abc(repo: &mut Repo<MemoryDisk>) -> bool {
     let name = Name::of(b"abc");
     let is_content = match repo.content(name) {
-        Ok(text) => text.bytes() == b"abc",
+        Ok(text) => text.bytes() == b"abc".as_slice(),
         Err(_) => false,
     };
     let is_alone = match repo.held(0) {

@@ -1,4 +1,4 @@
-use Rattle.std.proofs.Common.{◌≡◌, ℕ, List, filter, not, ap, ◌∙◌}
+use Rattle.std.proofs.Common.{ℕ, List, filter, not, ap, ◌∙◌}
 use Rattle.std.specs.FinSet as set
 use Rattle.fsl_blobs.specs.Fold.{contents}
 use Rattle.fsl_repo.proofs.Storing.{wants_by}

@@ -1,5 +1,4 @@
-use Rattle.std.proofs.Common.{◌≡◌, ℕ, List, [], ◌∷◌, map, rules, ap, sym, ◌∙◌, arith}
-use Rattle.fsl_record.specs.declared.Record.{Record}
+use Rattle.std.proofs.Common.{◌≡◌, [], ◌∷◌, map, rules, arith}
 use Rattle.fsl_blobs.proofs.KeptLemmas.{kept-first}
 use Rattle.fsl_blobs.proofs.Totals.{total-first}
 use Rattle.fsl_blobs.proofs.blobs.Blobs.configured.Goals as goal
