@@ -1,14 +1,19 @@
 //! Shuns.
-ghost use Rattle.std.specs.Prelude.{◌≡◌, ◌++◌, ◌∷◌, [], None, OnOk, OnErr};
+ghost use Rattle.std.specs.Prelude.{◌≡◌, ◌≤◌, ◌++◌, ◌∷◌, [], None, OnOk, OnErr, false, length};
 ghost use Rattle.std.specs.FinSet as set;
 ghost use Rattle.fsl_record.specs.declared.Record.TheVariants as record_of;
+ghost use Rattle.fsl_record.specs.Records.{AreRecords, IsWritable, is_config};
+ghost use Rattle.fsl_blobs.specs.Fold.{contents};
+ghost use Rattle.fsl_blobs.specs.Held.{still_new};
 ghost use Rattle.fsl_repo.specs.Machine.{ShunStep};
 
 use crate::arriving::keep;
 use crate::below::Below;
 use crate::{Repo, ShunFault, Shunning};
-use fsl_blobs::{BlobState, shunned_are_not_held};
+use fsl_blobs::{BlobState, Blobs, shunned_are_not_held};
+use fsl_cross::Tables;
 use fsl_disk::Disk;
+use fsl_journal::Journal;
 use fsl_name::Name;
 use fsl_record::Record;
 use fsl_text::Memory;
@@ -53,9 +58,40 @@ impl<D: Disk> Repo<D> {
     {
         let next = below.without(self.alloc, &self.tables, name)?;
         let entry = Record::Shun { name };
-        keep(&mut self.journal, &mut self.blobs, entry)?;
+        exchange(
+            &mut self.journal,
+            &mut self.blobs,
+            &mut self.tables,
+            next,
+            entry,
+        )?;
         self.blobs.announced_are_new();
-        self.tables = next;
         Ok(())
     }
+}
+
+/// Adds a record to the journal and to what its records leave, and exchanges the tables for others; or does none of it. It is
+/// a function of its own since it lets tables go.
+fn exchange(
+    journal: &mut Journal,
+    blobs: &mut Blobs,
+    tables: &mut Tables,
+    next: Tables,
+    entry: Record,
+) -> Result<(), Memory>
+    requires runs { journal.old.stopped ≡ None }
+    requires counts { journal.old.stable ≤ length journal.old.records }
+    requires place { is_config entry ≡ false }
+    requires fit { IsWritable entry }
+    ensures journal { OnOk result (journal.new ≡ record journal.old { records = journal.old.records ++ entry ∷ [] }) }
+    ensures blobs { OnOk result (blobs.new ≡ record { records = blobs.old.records ++ entry ∷ []; announced = still_new (contents (blobs.old.records ++ entry ∷ [])) blobs.old.announced }) }
+    ensures fit { OnOk result (AreRecords journal.new.records) }
+    ensures tables { OnOk result (tables.new ≡ next) }
+    ensures journal_err { OnErr result (journal.new ≡ journal.old) }
+    ensures blobs_err { OnErr result (blobs.new ≡ blobs.old) }
+    ensures tables_err { OnErr result (tables.new ≡ tables.old) }
+{
+    keep(journal, blobs, entry)?;
+    *tables = next;
+    Ok(())
 }
