@@ -1,5 +1,5 @@
 -- The reply that is built.
-use Rattle.std.proofs.Common.{◌≡◌, inl, inr, ℕ, Bool, List, map, Result, Ok, Err, refl, sym, ap, ◌∙◌, arith}
+use Rattle.std.proofs.Common.{◌≡◌, inl, inr, ℕ, List, map, Ok, Err, refl, ap, ◌∙◌, arith}
 use Rattle.fsl_disk.specs.Disk.{DiskState}
 use Rattle.fsl_record.specs.declared.Record.{Record}
 use Rattle.fsl_journal.specs.Log.{Log}
@@ -11,7 +11,6 @@ use Rattle.fsl_cross.specs.Facts.{cluster_fact}
 use Rattle.fsl_answer.specs.Contents as reply
 use Rattle.fsl_answer.specs.Replies.{reply_text}
 use Rattle.fsl_repo.specs.declared.Ask.{Ask}
-use Rattle.fsl_repo.specs.declared.BuildFault.{BuildFault}
 use Rattle.fsl_repo.specs.declared.BuildFault.TheVariants as build_fault
 use Rattle.fsl_repo.specs.Keeping.{IsKept, state_of}
 use Rattle.fsl_repo.specs.Replies.{BuildStep, reply_state}

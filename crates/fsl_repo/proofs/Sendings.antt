@@ -200,12 +200,13 @@ take_again (suc n) [] = refl
 take_again (suc n) (x ∷ xs) = ap (λ ys. x ∷ ys) (take_again n xs)
 
 -- only the first 100 notices are sent
-pub notices_cut : (l : Lists) → reply_text (record l { notices = take 100 l.notices }) ≡ reply_text l
-notices_cut l =
-    ap (λ (notices : List (List ℕ)).
+pub notices_cut : (due lists : Lists) → lists ≡ record due { notices = take 100 due.notices } → reply_text lists ≡ reply_text due
+notices_cut due lists is =
+    ap reply_text is
+    ∙ ap (λ (notices : List (List ℕ)).
     flat_map error_line notices
-    ++ flat_map push_line (option_to_list l.codes)
-    ++ flat_map igot_line l.igots
-    ++ flat_map gimme_line l.gimmes
-    ++ flat_map file_lines l.files
-    ++ flat_map seqno_line (option_to_list l.sequel)) (take_again 100 l.notices)
+    ++ flat_map push_line (option_to_list due.codes)
+    ++ flat_map igot_line due.igots
+    ++ flat_map gimme_line due.gimmes
+    ++ flat_map file_lines due.files
+    ++ flat_map seqno_line (option_to_list due.sequel)) (take_again 100 due.notices)

@@ -73,7 +73,14 @@ fn lists_of(alloc: Global, blobs: &Blobs, table: &Clusters, ask: &Ask) -> Result
     Ok(Lists {
         notices: first_notices(alloc, ask.notices.items())?,
         codes: codes_of(blobs.config(), clone),
-        igots: told_names(alloc, &held, table, private, asks_names(clone), has_pull(message))?,
+        igots: told_names(
+            alloc,
+            &held,
+            table,
+            private,
+            asks_names(clone),
+            has_pull(message),
+        )?,
         gimmes: asked_for(alloc, blobs, table, has_push(message))?,
         files,
         sequel,

@@ -57,7 +57,10 @@ fn placed_over<'a>(
 }
 
 /// All held artifacts, by place. No bytes are copied.
-pub(crate) fn placed_in<'a>(alloc: Global, blobs: &'a Blobs) -> Result<Vec<PlacedHolding<'a>>, Memory>
+pub(crate) fn placed_in<'a>(
+    alloc: Global,
+    blobs: &'a Blobs,
+) -> Result<Vec<PlacedHolding<'a>>, Memory>
     ensures all { IfOk result (λ list. map as_held list.items ≡ placed_in blobs.now.records) }
     ensures whole { OnOk result ((name : List ℕ) → map_of.contains_key (contents blobs.now.records).held name ≡ true → list_any (λ p. bytes_eq p.1 name) (held_from blobs.now.records 0) ≡ true) }
 {
@@ -68,7 +71,11 @@ pub(crate) fn placed_in<'a>(alloc: Global, blobs: &'a Blobs) -> Result<Vec<Place
 }
 
 /// The names of those that are private, or of those that aren't, in the order of the places.
-pub(crate) fn names_by(alloc: Global, held: &[PlacedHolding<'_>], private: bool) -> Result<Vec<Name>, Memory>
+pub(crate) fn names_by(
+    alloc: Global,
+    held: &[PlacedHolding<'_>],
+    private: bool,
+) -> Result<Vec<Name>, Memory>
     ensures { IfOk result (λ names. names.items ≡ names_of private (map as_held held.now)) }
 {
     let mut names = Vec::new(alloc);
@@ -81,7 +88,11 @@ pub(crate) fn names_by(alloc: Global, held: &[PlacedHolding<'_>], private: bool)
 }
 
 /// The public ones from a place on.
-pub(crate) fn public_from<'a>(alloc: Global, held: &[PlacedHolding<'a>], place: u64) -> Result<Vec<PlacedHolding<'a>>, Memory>
+pub(crate) fn public_from<'a>(
+    alloc: Global,
+    held: &[PlacedHolding<'a>],
+    place: u64,
+) -> Result<Vec<PlacedHolding<'a>>, Memory>
     ensures { IfOk result (λ list. map as_held list.items ≡ public_on place (map as_held held.now)) }
 {
     let mut list = Vec::new(alloc);

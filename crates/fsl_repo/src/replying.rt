@@ -73,7 +73,13 @@ fn stands(names: &[Name], name: &Name) -> bool
 }
 
 /// The public names that a reply tells: all of them, or those that stand in no cluster, or none.
-fn public_names(alloc: Global, held: &[PlacedHolding<'_>], table: &Clusters, all: bool, pull: bool) -> Result<Vec<Name>, Memory>
+fn public_names(
+    alloc: Global,
+    held: &[PlacedHolding<'_>],
+    table: &Clusters,
+    all: bool,
+    pull: bool,
+) -> Result<Vec<Name>, Memory>
     ensures { IfOk result (λ names. names.items ≡ told_public (map as_held held.now) (clusters.unclustered table.now.facts) all pull) }
 {
     if all {
@@ -87,7 +93,13 @@ fn public_names(alloc: Global, held: &[PlacedHolding<'_>], table: &Clusters, all
 }
 
 /// The private names that it tells.
-fn private_names(alloc: Global, held: &[PlacedHolding<'_>], private: bool, all: bool, pull: bool) -> Result<Vec<Name>, Memory>
+fn private_names(
+    alloc: Global,
+    held: &[PlacedHolding<'_>],
+    private: bool,
+    all: bool,
+    pull: bool,
+) -> Result<Vec<Name>, Memory>
     ensures { IfOk result (λ names. names.items ≡ told_private (map as_held held.now) private (pull || all)) }
 {
     if private && (pull || all) {
@@ -128,7 +140,12 @@ pub(crate) fn told_names(
 }
 
 /// The wanted and the announced names, ascending, where they are asked for.
-pub(crate) fn asked_for(alloc: Global, blobs: &Blobs, table: &Clusters, push: bool) -> Result<List<Name>, Memory>
+pub(crate) fn asked_for(
+    alloc: Global,
+    blobs: &Blobs,
+    table: &Clusters,
+    push: bool,
+) -> Result<List<Name>, Memory>
     ensures { IfOk result (λ names. names ≡ (if push then ascending (clusters.wants table.now.facts (set.items (contents blobs.now.records).shunned) ++ set.items blobs.now.announced) else [])) }
 {
     if !push {

@@ -87,7 +87,12 @@ fn sendable<'a>(blobs: &'a Blobs, name: Name, private: bool) -> Option<Holding<'
 }
 
 /// Those of some names that may be sent, in order.
-fn asked_over<'a>(alloc: Global, blobs: &'a Blobs, names: &[Name], private: bool) -> Result<Vec<Holding<'a>>, Memory>
+fn asked_over<'a>(
+    alloc: Global,
+    blobs: &'a Blobs,
+    names: &[Name],
+    private: bool,
+) -> Result<Vec<Holding<'a>>, Memory>
     ensures { IfOk result (λ list. map as_sent list.items ≡ filter_map (λ name. sent_of private name (map_of.get (contents blobs.now.records).held name)) names.now) }
 {
     let mut list = Vec::new(alloc);
@@ -102,7 +107,12 @@ fn asked_over<'a>(alloc: Global, blobs: &'a Blobs, names: &[Name], private: bool
 }
 
 /// The files that gimme cards ask for.
-pub(crate) fn asked_files(alloc: Global, blobs: &Blobs, message: &[WireCard], private: bool) -> Result<List<SentFile>, Memory>
+pub(crate) fn asked_files(
+    alloc: Global,
+    blobs: &Blobs,
+    message: &[WireCard],
+    private: bool,
+) -> Result<List<SentFile>, Memory>
     ensures { IfOk result (λ files. files ≡ sent_files (sent_asked blobs.now.records private message.now)) }
 {
     let names = asked_names(alloc, message)?;
@@ -141,7 +151,11 @@ fn place_behind(held: &[PlacedHolding<'_>], count: usize) -> u64
 }
 
 /// The public files from a place on that the budget takes, and the place of the first that it doesn't, or 0.
-pub(crate) fn files_from(alloc: Global, held: &[PlacedHolding<'_>], place: u64) -> Result<(List<SentFile>, u64), Memory>
+pub(crate) fn files_from(
+    alloc: Global,
+    held: &[PlacedHolding<'_>],
+    place: u64,
+) -> Result<(List<SentFile>, u64), Memory>
     ensures files { IfOk result (λ f. f.0 ≡ sent_files (map sent_file (public_on place (map as_held held.now)))) }
     ensures next { IfOk result (λ f. f.1 ≡ sequel (public_on place (map as_held held.now))) }
 {
@@ -152,7 +166,10 @@ pub(crate) fn files_from(alloc: Global, held: &[PlacedHolding<'_>], place: u64) 
 }
 
 /// The files that the budget takes of some, and the place of the first that it doesn't, or 0.
-fn files_and_next(alloc: Global, held: &[PlacedHolding<'_>]) -> Result<(List<SentFile>, u64), Memory>
+fn files_and_next(
+    alloc: Global,
+    held: &[PlacedHolding<'_>],
+) -> Result<(List<SentFile>, u64), Memory>
     ensures files { IfOk result (λ f. f.0 ≡ sent_files (map sent_file (map as_held held.now))) }
     ensures next { IfOk result (λ f. f.1 ≡ sequel (map as_held held.now)) }
 {

@@ -1,8 +1,7 @@
-use Rattle.std.proofs.Common.{◌≡◌, ap, sym, refl, ◌∙◌, ◌++◌, map, take, []}
+use Rattle.std.proofs.Common.{◌≡◌, ap, refl, ◌∙◌, ◌++◌, map, take, []}
 use Rattle.std.specs.Prelude.{◌||◌, if◌then◌else◌}
 use Rattle.std.specs.List.{list_any}
 use Rattle.std.specs.Option.{option_map}
-use Rattle.std.specs.FinSet as set
 use Rattle.fsl_order.specs.Rows.{ascending}
 use Rattle.fsl_blobs.specs.Fold.{contents}
 use Rattle.fsl_cluster.specs.Clusters as clusters
