@@ -12,3 +12,6 @@ pub mod Shuns
 pub mod Clusterings
 pub mod PublicNames
 pub mod Keeps
+pub mod Loops
+pub mod Sendings
+pub mod Builds

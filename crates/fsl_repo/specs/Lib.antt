@@ -5,4 +5,5 @@ pub mod Opening
 pub mod Below
 pub mod Arriving
 pub mod Replies
+pub mod Sending
 pub mod Keeps

@@ -1,5 +1,5 @@
 -- The reply of a state.
-use Rattle.std.specs.Prelude.{ℕ, List, [], filter_map, option_map}
+use Rattle.std.specs.Prelude.{◌≡◌, ℕ, List, [], Result, Ok, Err, filter_map, option_map, ⊤}
 use Rattle.std.specs.Option.{option_map_or}
 use Rattle.std.specs.FinMap as map_of
 use Rattle.std.specs.FinSet as set
@@ -9,7 +9,9 @@ use Rattle.fsl_cross.specs.declared.Item.{Item}
 use Rattle.fsl_answer.specs.Contents as reply
 use Rattle.fsl_answer.specs.Replies.{reply_text}
 use Rattle.fsl_repo.specs.declared.Ask.{Ask}
-use Rattle.fsl_repo.specs.Machine.{State, now, wants, unclustered_names}
+use Rattle.fsl_repo.specs.declared.BuildFault.{BuildFault}
+use Rattle.fsl_repo.specs.declared.BuildFault.TheVariants as build_fault
+use Rattle.fsl_repo.specs.Machine.{State, AreItems, IsDueOrMemory, now, wants, unclustered_names}
 
 -- a held artifact at its place
 abbrev pub held_at : ℕ × List ℕ → Held → reply.Held
@@ -37,3 +39,10 @@ reply_state s items =
 -- the bytes of the reply
 abbrev pub reply_of : State → List Item → Ask → List ℕ
 reply_of s items ask = reply_text (reply.lists_of (reply_state s items) ask.message ask.caps ask.notices)
+
+-- the answer of a build: the reply, by the items that the held artifacts are
+abbrev pub IsBuilt : State → Ask → Result (List ℕ) BuildFault → Type 0
+IsBuilt s ask result = (items : List Item) × AreItems (now s).held items × (result ≡ Ok (reply_of s items ask))
+
+abbrev pub BuildStep : State → Ask → Result (List ℕ) BuildFault → State → Type 0
+BuildStep old ask result new = IsDueOrMemory old (λ r due. IsBuilt old ask r × (due ≡ old)) (Err build_fault.Memory) ⊤ result new

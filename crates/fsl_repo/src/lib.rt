@@ -2,16 +2,23 @@
 //! call is one step of it.
 #![tactic(auto)]
 
+ghost use Rattle.std.specs.Prelude.{◌≡◌};
+
 mod arriving;
+mod asking;
 mod below;
+mod building;
 mod clusters;
 mod commits;
 mod laws;
 mod listing;
 mod opening;
 mod parsing;
+mod placed;
 mod reads;
+mod replying;
 mod repo;
+mod sending;
 mod wanting;
 
 pub use below::Below;
@@ -20,6 +27,7 @@ use fsl_text::{List, Text};
 use fsl_wire::{Caps, Message};
 pub use laws::builds_keep;
 pub use repo::Repo;
+use std::marker::Model;
 
 /// What became of an artifact that arrived.
 #[derive(Clone, Copy, PartialEq, Eq, Debug)]
@@ -78,10 +86,40 @@ pub enum Clustering {
     Arrived { name: Name, arrival: Arrival },
 }
 
+/// Why a reply wasn't built. Nothing changed.
+#[derive(Clone, Copy, PartialEq, Eq, Debug)]
+pub enum BuildFault {
+    /// There was no memory.
+    Memory,
+}
+
 /// What a reply answers: a message, what its sender may do, and notices for it.
 #[derive(Drop)]
 pub struct Ask {
     pub caps: Caps,
     pub message: Message,
     pub notices: List<Text>,
+}
+
+/// The reply to a message, which `Repo::build` alone makes. Contracts see its bytes.
+#[derive(Drop)]
+pub struct Reply {
+    held: Text,
+}
+
+impl Model for Reply {
+    ghost use Rattle.std.specs.Prelude.{List as Items, ℕ};
+
+    ghost Value = { Items ℕ };
+
+    ghost view = { λ r. r.held };
+}
+
+impl Reply {
+    /// The bytes of the reply.
+    pub fn bytes(&self) -> &[u8]
+        ensures { result.now ≡ self.now }
+    {
+        self.held.bytes()
+    }
 }

@@ -3,14 +3,19 @@ use fsl_blobs::{BlobState, Found, Known};
 use fsl_disk::MemoryDisk;
 use fsl_journal::LoadFault;
 use fsl_name::Name;
-use fsl_repo::Repo;
-use fsl_text::Memory;
+use fsl_repo::{Ask, Repo};
+use fsl_text::{List, Memory};
+use fsl_wire::{Caps, read};
 use std::alloc::Global;
 use std::test::Fail;
 
 // A file with a Config without fields and a blob `abc`, 110 bytes.
 const ONE_BLOB: &[u8] =
     b"fossil-blobs-1\nO\0\0\0\0\0\0\0\x2BCabcdefghijklmnopqrstABCDEFGHIJKLMNOPQRST\0\0O\0\0\0\0\0\0\0\x21B\0\xA9\x99>6G\x06\x81j\xBA>%qxP\xC2l\x9C\xD0\xD8\x9D\0\0\0\0\0\0\0\x03abcC";
+
+// What a clone of it gets.
+const CLONE_OF_ABC: &[u8] =
+    b"push 4142434445464748494a4b4c4d4e4f5051525354 6162636465666768696a6b6c6d6e6f7071727374\nfile a9993e364706816aba3e25717850c26c9cd0d89d 3\nabc\nclone_seqno 0\n";
 
 fn disk_of(alloc: Global, bytes: &[u8]) -> Result<MemoryDisk, Memory> {
     Ok(MemoryDisk::new(alloc, bytes.to_vec(alloc)?, Vec::new(alloc)))
@@ -43,11 +48,25 @@ fn announces(repo: &mut Repo<MemoryDisk>) -> bool {
     held && first && again
 }
 
+/// Whether a clone of all files gets the codes, the file `abc`, and no place at which to go on.
+fn clones_abc(alloc: Global, repo: &mut Repo<MemoryDisk>) -> bool {
+    let caps = Caps { pull: false, push: false, clone: true, private: false };
+    let ask = match read(alloc, b"clone 3 1\n") {
+        Ok(message) => Ask { caps, message, notices: List::new(alloc) },
+        Err(_) => return false,
+    };
+    match repo.build(&ask) {
+        Ok(reply) => reply.bytes() == CLONE_OF_ABC,
+        Err(_) => false,
+    }
+}
+
 /// Loads a repository, looks at it, and closes it.
 fn look(alloc: Global, disk: MemoryDisk) -> Option<MemoryDisk> {
     match Repo::load(alloc, disk) {
         Ok(mut repo) => {
             let good = holds_abc(&mut repo)
+                && clones_abc(alloc, &mut repo)
                 && announces(&mut repo)
                 && matches!(repo.commit(), Ok(2))
                 && holds_abc(&mut repo);
