@@ -1,3 +1,4 @@
+pub mod Belonging
 pub mod Entries
 pub mod Finding
 pub mod Keeping

@@ -5,3 +5,5 @@ pub mod Pairs
 pub mod Undo
 pub mod Weave
 pub mod Trail
+pub mod Within
+pub mod ExactWithin

@@ -14,7 +14,9 @@ pub mod pairs;
 pub mod step;
 pub mod table;
 mod waiting;
+pub mod within;
 
 pub use key::{Key, Pair};
 pub use log::Log;
 pub use table::Table;
+pub use within::Within;

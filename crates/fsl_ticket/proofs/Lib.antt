@@ -1,3 +1,6 @@
 mod WorkedRows
+pub mod Canonical
+pub mod Changing
 pub mod Looking
-pub mod Grouping
+pub mod Placing
+pub mod Walking

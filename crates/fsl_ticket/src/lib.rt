@@ -1,12 +1,14 @@
 //! Tickets: from the changes of each ticket the values of its fields. `Tickets` is the table of them, and its answers are those of the
-//! definitions over the changes it was built from. In whatever order these stand it
-//! is the same: `fsl_order::by_name_in_any_order`.
+//! definitions over the changes that it holds. In whatever order these came it is the same: `fsl_order::by_name_in_any_order`. A
+//! change more, and another in the place of one, are calls of their own, which tell the ids whose rows differ and can be taken back.
 #![tactic(auto)]
 
 ghost use Rattle.std.specs.Prelude.{◌≡◌, IfOk};
 
 mod cards;
-mod groups;
+mod entry;
+mod place;
+mod rows;
 mod tickets;
 mod values;
 
@@ -14,7 +16,7 @@ use fsl_date::Moment;
 use fsl_name::Name;
 use fsl_text::{List, Memory, Text};
 use std::alloc::Global;
-pub use tickets::Tickets;
+pub use tickets::{Tickets, Undo};
 
 /// A J card: a field gets a value, or more at its end.
 #[derive(Drop)]

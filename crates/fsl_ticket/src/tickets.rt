@@ -1,61 +1,266 @@
 //! The table of ticket changes.
-ghost use Rattle.std.specs.Prelude.{◌≡◌, [], IfOk, map};
-ghost use Rattle.fsl_order.specs.Rows.{by_name, AreDistinct};
+ghost use Rattle.std.specs.Prelude.{◌≡◌, ◌<◌, [], ◌∷◌, false, true, IfOk, OnOk, OnErr, map};
+ghost use Rattle.fsl_order.specs.Names.{has};
+ghost use Rattle.fsl_order.specs.Rows.{by_name, AreDistinct, ListsChanged};
+ghost use Rattle.fsl_ticket.specs.Seen.{IsAsBefore};
+ghost use Rattle.fsl_ticket.specs.Tickets.{tickets_row};
 ghost use Rattle.fsl_ticket.specs.Tickets as table;
 
-use super::{Fact, cards, groups, values};
+use super::entry::Entry;
+use super::place::Place;
+use super::rows::{fields_of, put_either, put_fact};
+use super::{Fact, cards};
 use fsl_name::Name;
-use fsl_text::{List, Memory, Text};
+use fsl_table::{Log, Table, Within, log};
+use fsl_text::{List, Memory, Steps, Text};
 use std::alloc::Global;
-use std::collections::BTreeMap;
-use std::marker::Model;
+use std::marker::{Brand, Model};
+use std::snapshot::Snapshot;
+use std::sync::ledger::{Blank, Ledger};
 
-/// The changes of tickets, and the configured fields. Contracts see it as the fields and the changes by name.
+/// The changes of tickets, and the configured fields. Contracts see it as the fields, the changes by name, and the room that its
+/// maps have to spare.
 #[derive(Drop)]
 pub struct Tickets {
     configured: List<Text>,
-    /// By each id the changes of the ticket, by date and name.
-    by_id: BTreeMap<Name, List<Fact>>,
+    facts: Table<Name, Entry>,
+    /// The ticket, the date and the name of each change.
+    spots: Table<Within<Name, Place>, ()>,
 }
 
 impl Model for Tickets {
-    ghost use Rattle.std.specs.Prelude.{[]};
-    ghost use Rattle.fsl_order.specs.Rows.{by_name};
-    ghost use Rattle.fsl_ticket.specs.Seen.{Seen, IsKept, all_in};
+    ghost use Rattle.fsl_ticket.specs.Seen.{Seen};
+    ghost use Rattle.fsl_ticket.specs.Kept.{IsKept, seen_of};
 
     ghost Value = { Seen };
 
-    ghost view = { λ t. record { fields = t.configured; facts = by_name (λ f. f.name) (all_in t.by_id.entries); spare = [] } };
+    ghost view = { λ t. seen_of t.configured (record { facts = t.facts; spots = t.spots }) };
 
-    ghost invariant = { λ t. IsKept t.by_id.entries };
+    ghost invariant = { λ t. IsKept (record { facts = t.facts; spots = t.spots }) };
+}
+
+/// What takes a change back, and the ids whose rows it changed. Contracts see it as both, with the table before and after.
+#[derive(Drop)]
+pub struct Undo {
+    facts: Log<Name, Entry>,
+    spots: Log<Within<Name, Place>, ()>,
+    changed: List<Name>,
+    before: Snapshot<Tickets>,
+    after: Snapshot<Tickets>,
+}
+
+impl Model for Undo {
+    ghost use Rattle.std.specs.Prelude.{ℕ, List};
+    ghost use Rattle.fsl_ticket.specs.Seen.{Change, IsAsBefore};
+    ghost use Rattle.fsl_ticket.specs.Kept.{Rows, IsKept, seen_of, TakesBack};
+
+    ghost Value = { Change };
+
+    ghost view = { λ u. record { before = u.before.value; after = u.after.value; changed = u.changed } };
+
+    ghost invariant = { λ u. (fields : List (List ℕ)) (now : Rows) → IsKept now → IsAsBefore u.after.value (seen_of fields now) → TakesBack u.facts u.spots u.before.value fields now };
+}
+
+impl Undo {
+    /// The ids of the tickets whose rows the change changed, ascending. A row is the values of the configured fields.
+    pub fn changed(&self) -> &List<Name>
+        ensures { result.now ≡ self.now.changed }
+    {
+        &self.changed
+    }
 }
 
 impl Tickets {
+    /// The table without fields and changes. Takes no memory.
+    pub fn new(alloc: Global) -> Tickets
+        ensures fields { result.fields ≡ [] }
+        ensures facts { result.facts ≡ [] }
+    {
+        Tickets {
+            configured: List::new(alloc),
+            facts: Table::new(alloc),
+            spots: Table::new(alloc),
+        }
+    }
+
     /// The table of the configured fields and of some changes, of which no two have one name. It is the same in whatever order the
     /// changes stand. It takes time by n log n of the changes. `Memory` is the only error.
     pub fn build(alloc: Global, fields: &List<Text>, facts: &[Fact]) -> Result<Tickets, Memory>
         requires { AreDistinct (map (λ f. f.name) facts.now) }
         ensures fields { IfOk result (λ t. t.fields ≡ fields.now) }
         ensures facts { IfOk result (λ t. t.facts ≡ by_name (λ f. f.name) facts.now) }
-        ensures spare { IfOk result (λ t. t.spare ≡ []) }
+    {
+        Tickets::build_counted::<Brand>(alloc, fields, facts, Blank::new(1))
+    }
+
+    fn build_counted<L: Ledger>(
+        alloc: Global,
+        fields: &List<Text>,
+        facts: &[Fact],
+        blank: Blank,
+    ) -> Result<Tickets, Memory>
+        requires name { blank.name ≡ L.name }
+        requires parts { blank.parts ≡ L.parts }
+        requires counts { 0 < L.parts }
+        requires distinct { AreDistinct (map (λ f. f.name) facts.now) }
+        ensures fields { IfOk result (λ t. t.fields ≡ fields.now) }
+        ensures facts { IfOk result (λ t. t.facts ≡ by_name (λ f. f.name) facts.now) }
     {
         let configured = cards::texts(alloc, fields.items())?;
-        let changes = groups::placed(alloc, facts)?;
-        let by_id = groups::grouped(alloc, changes)?;
-        Ok(Tickets { configured, by_id })
+        let mut steps: Steps<L> = Steps::new(blank);
+        let mut entries = Table::new(alloc);
+        let mut spots = Table::new(alloc);
+        let mut left = facts.len();
+        while left > 0 {
+            left -= 1;
+            let fact = facts[left].copied(alloc)?;
+            put_fact(
+                &mut entries,
+                &mut spots,
+                &mut Log::new(alloc),
+                &mut Log::new(alloc),
+                fact,
+                &mut steps,
+            )?;
+        }
+        Ok(Tickets {
+            configured,
+            facts: entries,
+            spots,
+        })
+    }
+
+    /// Adds a change whose name isn't there, which is moved. `Memory` is the only error, and the table then holds what it held.
+    pub fn add<L: Ledger>(
+        &mut self,
+        alloc: Global,
+        fact: Fact,
+        steps: &mut Steps<L>,
+    ) -> Result<Undo, Memory>
+        requires absent { has (map (λ f. f.name) self.old.facts) fact.name ≡ false }
+        ensures fields { OnOk result (self.new.fields ≡ self.old.fields) }
+        ensures facts { OnOk result (self.new.facts ≡ by_name (λ f. f.name) (fact ∷ self.old.facts)) }
+        ensures before { IfOk result (λ undo. undo.before ≡ self.old) }
+        ensures after { IfOk result (λ undo. undo.after ≡ self.new) }
+        ensures changed { IfOk result (λ undo. ListsChanged (tickets_row self.old.fields self.old.facts) (tickets_row self.new.fields self.new.facts) undo.changed) }
+        ensures err { OnErr result (IsAsBefore self.old self.new) }
+    {
+        self.put(alloc, fact, steps)
+    }
+
+    /// Puts a change in the place of that of its name, which is there. It is moved. `Memory` is the only error, and the table then
+    /// holds what it held.
+    pub fn change<L: Ledger>(
+        &mut self,
+        alloc: Global,
+        fact: Fact,
+        steps: &mut Steps<L>,
+    ) -> Result<Undo, Memory>
+        requires there { has (map (λ f. f.name) self.old.facts) fact.name ≡ true }
+        ensures fields { OnOk result (self.new.fields ≡ self.old.fields) }
+        ensures facts { OnOk result (self.new.facts ≡ by_name (λ f. f.name) (fact ∷ self.old.facts)) }
+        ensures before { IfOk result (λ undo. undo.before ≡ self.old) }
+        ensures after { IfOk result (λ undo. undo.after ≡ self.new) }
+        ensures changed { IfOk result (λ undo. ListsChanged (tickets_row self.old.fields self.old.facts) (tickets_row self.new.fields self.new.facts) undo.changed) }
+        ensures err { OnErr result (IsAsBefore self.old self.new) }
+    {
+        self.put(alloc, fact, steps)
+    }
+
+    /// Puts a change, in the place of that of its name where there is one.
+    fn put<L: Ledger>(
+        &mut self,
+        alloc: Global,
+        fact: Fact,
+        steps: &mut Steps<L>,
+    ) -> Result<Undo, Memory>
+        ensures fields { OnOk result (self.new.fields ≡ self.old.fields) }
+        ensures facts { OnOk result (self.new.facts ≡ by_name (λ f. f.name) (fact ∷ self.old.facts)) }
+        ensures before { IfOk result (λ undo. undo.before ≡ self.old) }
+        ensures after { IfOk result (λ undo. undo.after ≡ self.new) }
+        ensures changed { IfOk result (λ undo. ListsChanged (tickets_row self.old.fields self.old.facts) (tickets_row self.new.fields self.new.facts) undo.changed) }
+        ensures err { OnErr result (IsAsBefore self.old self.new) }
+    {
+        let before = Snapshot::of(&*self);
+        let mut facts = Log::new(alloc);
+        let mut spots = Log::new(alloc);
+        match put_either(
+            alloc,
+            self.configured.items(),
+            &mut self.facts,
+            &mut self.spots,
+            &mut facts,
+            &mut spots,
+            fact,
+            steps,
+        ) {
+            Ok(changed) => {
+                let after = Snapshot::of(&*self);
+                Ok(Undo {
+                    facts,
+                    spots,
+                    changed,
+                    before,
+                    after,
+                })
+            }
+            Err(Memory) => {
+                log::undo(&mut self.facts, facts, steps);
+                log::undo(&mut self.spots, spots, steps);
+                Err(Memory)
+            }
+        }
+    }
+
+    /// Takes the last change back that wasn't taken back. It takes no memory.
+    pub fn undo(&mut self, undo: Undo)
+        requires { IsAsBefore undo.after self.old }
+        ensures { IsAsBefore undo.before self.new }
+    {
+        self.take_back::<Brand>(undo, Blank::new(1));
+    }
+
+    fn take_back<L: Ledger>(&mut self, undo: Undo, blank: Blank)
+        requires name { blank.name ≡ L.name }
+        requires parts { blank.parts ≡ L.parts }
+        requires counts { 0 < L.parts }
+        requires last { IsAsBefore undo.after self.old }
+        ensures { IsAsBefore undo.before self.new }
+    {
+        let mut steps: Steps<L> = Steps::new(blank);
+        let Undo { facts, spots, .. } = undo;
+        log::undo(&mut self.facts, facts, &mut steps);
+        log::undo(&mut self.spots, spots, &mut steps);
     }
 
     /// The values of the configured fields of a ticket, in their order: each begins empty, and takes the J cards of its field in the
     /// order of the changes, by date and name. None where no change has the id. It takes one pass over the changes of the ticket, and
-    /// time by the logarithm of their fields for each card. `Memory` is the only error.
+    /// time by the logarithm of all changes for each, and of the fields for each card. `Memory` is the only error.
     pub fn fields(&self, alloc: Global, id: Name) -> Result<Option<List<Text>>, Memory>
         ensures { IfOk result (λ values. values ≡ table.fields self.now.fields self.now.facts id) }
     {
-        let Some(changes) = self.by_id.get(&id) else {
-            return Ok(None);
-        };
-        let values = values::of_changes(alloc, changes.items())?;
-        let found = values::of_fields(alloc, &values, self.configured.items())?;
-        Ok(Some(found))
+        self.fields_counted::<Brand>(alloc, id, Blank::new(1))
+    }
+
+    fn fields_counted<L: Ledger>(
+        &self,
+        alloc: Global,
+        id: Name,
+        blank: Blank,
+    ) -> Result<Option<List<Text>>, Memory>
+        requires name { blank.name ≡ L.name }
+        requires parts { blank.parts ≡ L.parts }
+        requires counts { 0 < L.parts }
+        ensures { IfOk result (λ values. values ≡ table.fields self.now.fields self.now.facts id) }
+    {
+        let mut steps: Steps<L> = Steps::new(blank);
+        fields_of(
+            alloc,
+            self.configured.items(),
+            &self.facts,
+            &self.spots,
+            id,
+            &mut steps,
+        )
     }
 }

@@ -5,9 +5,9 @@ ghost use Rattle.std.specs.Map.{lookup};
 ghost use Rattle.std.specs.BTreeMap.{is_at};
 ghost use Rattle.fsl_order.specs.Names.{bytes_cmp};
 ghost use Rattle.fsl_ticket.specs.Tickets.{after};
-ghost use Rattle.fsl_ticket.specs.Seen.{value_in, value_from};
+ghost use Rattle.fsl_ticket.specs.Seen.{value_in};
 
-use super::{Fact, FieldChange};
+use super::FieldChange;
 use fsl_text::{List, Memory, Text};
 use std::alloc::Global;
 use std::collections::BTreeMap;
@@ -57,7 +57,7 @@ fn take_card(
 }
 
 /// Takes cards into the values, in their order.
-fn take_all(
+pub fn take_all(
     alloc: Global,
     values: &mut BTreeMap<Text, Text>,
     cards: &[FieldChange],
@@ -68,17 +68,6 @@ fn take_all(
         take_card(alloc, values, card)?;
     }
     Ok(())
-}
-
-/// The values that changes give the fields, in their order.
-pub fn of_changes(alloc: Global, changes: &[Fact]) -> Result<BTreeMap<Text, Text>, Memory>
-    ensures { IfOk result (λ values. (q : List ℕ) → value_in values.entries q ≡ value_from changes.now q) }
-{
-    let mut values = BTreeMap::new(alloc);
-    for change in changes {
-        take_all(alloc, &mut values, change.changes.items())?;
-    }
-    Ok(values)
 }
 
 /// The value of a field, empty where there is none.

@@ -9,3 +9,5 @@ mod circles;
 mod names;
 #[cfg(test)]
 mod tags;
+#[cfg(test)]
+mod tickets;

@@ -1,0 +1,313 @@
+//! The rows of tickets: a change put into the two tables and taken out, and the values of a ticket's fields.
+ghost use Rattle.std.specs.Prelude.{◌≡◌, ◌&&◌, ◌||◌, not, ℕ, List, Option, Some, None, ◌∷◌, ◌++◌, IfOk, OnOk, is_some, map};
+ghost use Rattle.std.specs.List.{filter_map};
+ghost use Rattle.std.specs.Option.{option_to_list};
+ghost use Rattle.std.specs.List.Sorted.{IsStrictlySortedBy};
+ghost use Rattle.std.specs.Map.{keys_of};
+ghost use Rattle.std.specs.Str.{bytes_eq};
+ghost use Rattle.fsl_order.specs.Names.{bytes_cmp, dated_cmp, has};
+ghost use Rattle.fsl_order.specs.Rows.{ListsChanged};
+ghost use Rattle.fsl_table.specs.Contents.{Contents, value_at, with_entry, without_key};
+ghost use Rattle.fsl_table.specs.Undo.{Undoes};
+ghost use Rattle.fsl_table.specs.Within.{within};
+ghost use Rattle.fsl_table.proofs.Walk.{from};
+ghost use Rattle.fsl_ticket.specs.Kept.{IsKept, Spot, spot_cmp, change_at, changes_at, facts_of, if_other, is_id, is_of, is_same, put_before, row_of, spot_left};
+ghost use Rattle.fsl_ticket.specs.Seen.{value_in, value_after, value_from};
+ghost use Rattle.fsl_ticket.specs.Tickets.{tickets_row};
+ghost use Rattle.fsl_ticket.specs.Tickets as table;
+ghost use Rattle.fsl_ticket.specs.declared.Fact as fact_type;
+ghost use Rattle.fsl_ticket.specs.declared.entry.Entry as entry_type;
+
+use crate::entry::Entry;
+use crate::place::Place;
+use crate::{Fact, values};
+use fsl_name::Name;
+use fsl_table::within::next_within;
+use fsl_table::{Log, Table, Within, log, names};
+use fsl_text::{List, Memory, Steps, Text};
+use std::alloc::Global;
+use std::collections::{BTreeMap, BTreeSet};
+use std::sync::ledger::Ledger;
+
+/// The row of an id as it was before a change.
+#[derive(Drop)]
+pub(crate) struct Row {
+    pub(crate) id: Name,
+    pub(crate) values: Option<List<Text>>,
+}
+
+/// The key of a change of a ticket.
+fn key(id: Name, place: Option<Place>) -> Within<Name, Place>
+    ensures { result ≡ record { first = id; second = place } }
+{
+    Within {
+        first: id,
+        second: place,
+    }
+}
+
+/// Puts a new change, and logs what takes it out again. Nothing is copied. After `Memory` a part may be done; the logs have it.
+pub(crate) fn put_fact<L: Ledger>(
+    facts: &mut Table<Name, Entry>,
+    spots: &mut Table<Within<Name, Place>, ()>,
+    facts_log: &mut Log<Name, Entry>,
+    spots_log: &mut Log<Within<Name, Place>, ()>,
+    fact: Fact,
+    steps: &mut Steps<L>,
+) -> Result<(), Memory>
+    requires kept { IsKept (record { facts = facts.old; spots = spots.old }) }
+    requires absent { value_at bytes_cmp fact.name facts.old.entries ≡ None }
+    ensures entries { OnOk result (facts.new.entries ≡ with_entry bytes_cmp fact.name (record { date = fact.date; id = fact.id; changes = fact.changes }) facts.old.entries) }
+    ensures kept { OnOk result (IsKept (record { facts = facts.new; spots = spots.new })) }
+    ensures undoes_facts { (before : Contents (List ℕ) entry_type.Entry) → Undoes bytes_cmp facts_log.old facts.old before → Undoes bytes_cmp facts_log.new facts.new before }
+    ensures undoes_spots { (before : Contents Spot Unit) → Undoes spot_cmp spots_log.old spots.old before → Undoes spot_cmp spots_log.new spots.new before }
+{
+    let Fact {
+        name,
+        date,
+        id,
+        changes,
+    } = fact;
+    let spot = key(id, Some(Place::new(date, name)));
+    let again = key(id, Some(Place::new(date, name)));
+    log::put(spots, spots_log, spot, again, (), steps)?;
+    let entry = Entry { date, id, changes };
+    log::put(facts, facts_log, name, name, entry, steps)
+}
+
+/// Takes the key of a change out, where the change is there.
+fn unplace<L: Ledger>(
+    facts: &Table<Name, Entry>,
+    spots: &mut Table<Within<Name, Place>, ()>,
+    log: &mut Log<Within<Name, Place>, ()>,
+    name: Name,
+    steps: &mut Steps<L>,
+) -> Result<(), Memory>
+    requires kept { IsKept (record { facts = facts.now; spots = spots.old }) }
+    ensures ordered { OnOk result (IsStrictlySortedBy spot_cmp (keys_of spots.new.entries)) }
+    ensures spots { OnOk result ((k : Spot) → is_some (value_at spot_cmp k spots.new.entries) ≡ spot_left facts.now.entries name k.first k.second) }
+    ensures undoes { (before : Contents Spot Unit) → Undoes spot_cmp log.old spots.old before → Undoes spot_cmp log.new spots.new before }
+{
+    match facts.get(&name, steps) {
+        None => Ok(()),
+        Some(entry) => {
+            let spot = key(entry.id, Some(Place::new(entry.date, name)));
+            log::remove(spots, log, spot, steps)
+        }
+    }
+}
+
+/// Takes a change out, and logs what puts it back. After `Memory` a part may be done; the logs have it.
+fn take_out<L: Ledger>(
+    facts: &mut Table<Name, Entry>,
+    spots: &mut Table<Within<Name, Place>, ()>,
+    facts_log: &mut Log<Name, Entry>,
+    spots_log: &mut Log<Within<Name, Place>, ()>,
+    name: Name,
+    steps: &mut Steps<L>,
+) -> Result<(), Memory>
+    requires kept { IsKept (record { facts = facts.old; spots = spots.old }) }
+    ensures entries { OnOk result (facts.new.entries ≡ without_key bytes_cmp name facts.old.entries) }
+    ensures kept { OnOk result (IsKept (record { facts = facts.new; spots = spots.new })) }
+    ensures undoes_facts { (before : Contents (List ℕ) entry_type.Entry) → Undoes bytes_cmp facts_log.old facts.old before → Undoes bytes_cmp facts_log.new facts.new before }
+    ensures undoes_spots { (before : Contents Spot Unit) → Undoes spot_cmp spots_log.old spots.old before → Undoes spot_cmp spots_log.new spots.new before }
+{
+    unplace(facts, spots, spots_log, name, steps)?;
+    log::remove(facts, facts_log, name, steps)
+}
+
+/// Takes the cards of a change into the values, where the change is there.
+fn take_change<L: Ledger>(
+    alloc: Global,
+    values: &mut BTreeMap<Text, Text>,
+    facts: &Table<Name, Entry>,
+    name: Name,
+    steps: &mut Steps<L>,
+) -> Result<(), Memory>
+    ensures taken { OnOk result ((q : List ℕ) (rest : List fact_type.Fact) → value_after (value_in values.new.entries q) rest q ≡ value_after (value_in values.old.entries q) (put_before (change_at facts.now.entries name) rest) q) }
+{
+    match facts.get(&name, steps) {
+        None => Ok(()),
+        Some(entry) => values::take_all(alloc, values, entry.changes.items()),
+    }
+}
+
+/// The values that the changes of a ticket give its fields, from one of them on.
+fn values_from<L: Ledger>(
+    alloc: Global,
+    facts: &Table<Name, Entry>,
+    spots: &Table<Within<Name, Place>, ()>,
+    id: Name,
+    first: Place,
+    steps: &mut Steps<L>,
+) -> Result<BTreeMap<Text, Text>, Memory>
+    requires { IsStrictlySortedBy spot_cmp (keys_of spots.now.entries) }
+    ensures { IfOk result (λ values. (q : List ℕ) → value_in values.entries q ≡ value_from (changes_at facts.now.entries (from dated_cmp (Some (first, tt)) (within bytes_cmp id spots.now.entries))) q) }
+{
+    let mut values = BTreeMap::new(alloc);
+    let mut next = Some(first);
+    while let Some(place) = next {
+        take_change(alloc, &mut values, facts, place.name(), steps)?;
+        next = next_within(spots, &key(id, Some(place)), steps);
+    }
+    Ok(values)
+}
+
+/// The values of the configured fields of a ticket, in their order. None where it has no change.
+pub(crate) fn fields_of<L: Ledger>(
+    alloc: Global,
+    configured: &[Text],
+    facts: &Table<Name, Entry>,
+    spots: &Table<Within<Name, Place>, ()>,
+    id: Name,
+    steps: &mut Steps<L>,
+) -> Result<Option<List<Text>>, Memory>
+    requires { IsKept (record { facts = facts.now; spots = spots.now }) }
+    ensures { IfOk result (λ values. values ≡ table.fields configured.now (facts_of facts.now.entries) id) }
+{
+    let Some(first) = next_within(spots, &key(id, None), steps) else {
+        return Ok(None);
+    };
+    let values = values_from(alloc, facts, spots, id, first, steps)?;
+    let found = values::of_fields(alloc, &values, configured)?;
+    Ok(Some(found))
+}
+
+/// Puts the id of the change of a name in, where it is there.
+fn note_id<L: Ledger>(
+    ids: &mut BTreeSet<Name>,
+    facts: &Table<Name, Entry>,
+    name: Name,
+    steps: &mut Steps<L>,
+) -> Result<(), Memory>
+    ensures noted { OnOk result ((q : List ℕ) → has ids.new.keys q ≡ (is_id (value_at bytes_cmp name facts.now.entries) q || has ids.old.keys q)) }
+{
+    match facts.get(&name, steps) {
+        None => Ok(()),
+        Some(entry) => names::note(ids, entry.id),
+    }
+}
+
+/// The ids of the tickets that another change of this name and id may touch, ascending.
+fn ids_of<L: Ledger>(
+    alloc: Global,
+    facts: &Table<Name, Entry>,
+    name: Name,
+    id: Name,
+    steps: &mut Steps<L>,
+) -> Result<List<Name>, Memory>
+    ensures ids { IfOk result (λ list. (q : List ℕ) → has list q ≡ (is_id (value_at bytes_cmp name facts.now.entries) q || bytes_eq q id)) }
+    ensures rising { IfOk result (λ list. IsStrictlySortedBy bytes_cmp list) }
+{
+    let mut ids = BTreeSet::new(alloc);
+    names::note(&mut ids, id)?;
+    note_id(&mut ids, facts, name, steps)?;
+    names::listed(alloc, &ids)
+}
+
+/// The rows of some ids.
+fn rows_of<L: Ledger>(
+    alloc: Global,
+    configured: &[Text],
+    facts: &Table<Name, Entry>,
+    spots: &Table<Within<Name, Place>, ()>,
+    ids: &[Name],
+    steps: &mut Steps<L>,
+) -> Result<List<Row>, Memory>
+    requires { IsKept (record { facts = facts.now; spots = spots.now }) }
+    ensures { IfOk result (λ rows. rows ≡ map (row_of configured.now facts.now.entries) ids.now) }
+{
+    let mut rows = List::new(alloc);
+    for id in ids {
+        let values = fields_of(alloc, configured, facts, spots, *id, steps)?;
+        rows.append(Row { id: *id, values })?;
+    }
+    Ok(rows)
+}
+
+/// Whether two rows are the same.
+fn is_same(a: &Option<List<Text>>, b: &Option<List<Text>>) -> bool
+    ensures { result ≡ is_same a.now b.now }
+{
+    match (a, b) {
+        (None, None) => true,
+        (Some(a), Some(b)) => a.items() == b.items(),
+        _ => false,
+    }
+}
+
+/// The id of a row that isn't the same any more.
+fn other_of<L: Ledger>(
+    alloc: Global,
+    configured: &[Text],
+    facts: &Table<Name, Entry>,
+    spots: &Table<Within<Name, Place>, ()>,
+    row: &Row,
+    steps: &mut Steps<L>,
+) -> Result<Option<Name>, Memory>
+    requires { IsKept (record { facts = facts.now; spots = spots.now }) }
+    ensures { IfOk result (λ id. id ≡ if_other configured.now facts.now.entries row.now) }
+{
+    let values = fields_of(alloc, configured, facts, spots, row.id, steps)?;
+    if is_same(&row.values, &values) {
+        Ok(None)
+    } else {
+        Ok(Some(row.id))
+    }
+}
+
+/// Puts an id at the end, where there is one.
+fn append_some(list: &mut List<Name>, id: Option<Name>) -> Result<(), Memory>
+    ensures { OnOk result (list.new ≡ list.old ++ option_to_list id) }
+{
+    match id {
+        None => Ok(()),
+        Some(id) => list.append(id),
+    }
+}
+
+/// The ids of those rows that aren't the same any more.
+fn others<L: Ledger>(
+    alloc: Global,
+    configured: &[Text],
+    facts: &Table<Name, Entry>,
+    spots: &Table<Within<Name, Place>, ()>,
+    rows: &[Row],
+    steps: &mut Steps<L>,
+) -> Result<List<Name>, Memory>
+    requires { IsKept (record { facts = facts.now; spots = spots.now }) }
+    ensures { IfOk result (λ list. list ≡ filter_map (if_other configured.now facts.now.entries) rows.now) }
+{
+    let mut list = List::new(alloc);
+    for row in rows {
+        let other = other_of(alloc, configured, facts, spots, row, steps)?;
+        append_some(&mut list, other)?;
+    }
+    Ok(list)
+}
+
+/// Puts a change, in the place of that of its name where there is one, and tells the ids whose rows differ. After `Memory` a part
+/// may be done; the logs have it.
+pub(crate) fn put_either<L: Ledger>(
+    alloc: Global,
+    configured: &[Text],
+    facts: &mut Table<Name, Entry>,
+    spots: &mut Table<Within<Name, Place>, ()>,
+    facts_log: &mut Log<Name, Entry>,
+    spots_log: &mut Log<Within<Name, Place>, ()>,
+    fact: Fact,
+    steps: &mut Steps<L>,
+) -> Result<List<Name>, Memory>
+    requires kept { IsKept (record { facts = facts.old; spots = spots.old }) }
+    ensures entries { OnOk result (facts.new.entries ≡ with_entry bytes_cmp fact.name (record { date = fact.date; id = fact.id; changes = fact.changes }) facts.old.entries) }
+    ensures kept { OnOk result (IsKept (record { facts = facts.new; spots = spots.new })) }
+    ensures changed { IfOk result (ListsChanged (tickets_row configured.now (facts_of facts.old.entries)) (tickets_row configured.now (facts_of (with_entry bytes_cmp fact.name (record { date = fact.date; id = fact.id; changes = fact.changes }) facts.old.entries)))) }
+    ensures undoes_facts { (before : Contents (List ℕ) entry_type.Entry) → Undoes bytes_cmp facts_log.old facts.old before → Undoes bytes_cmp facts_log.new facts.new before }
+    ensures undoes_spots { (before : Contents Spot Unit) → Undoes spot_cmp spots_log.old spots.old before → Undoes spot_cmp spots_log.new spots.new before }
+{
+    let ids = ids_of(alloc, facts, fact.name, fact.id, steps)?;
+    let before = rows_of(alloc, configured, facts, spots, ids.items(), steps)?;
+    take_out(facts, spots, facts_log, spots_log, fact.name, steps)?;
+    put_fact(facts, spots, facts_log, spots_log, fact, steps)?;
+    others(alloc, configured, facts, spots, before.items(), steps)
+}
