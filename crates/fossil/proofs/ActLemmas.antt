@@ -24,6 +24,9 @@ use Rattle.fossil.proofs.SomeOutcome.{some_said_outcome}
 pub put_loads : Loads (Some command_of.Put)
 put_loads = record { opened = refl; begun = λ begun. cc; old = λ old bytes are. are; refused = λ bytes refused. refused; fails = λ read bytes at fails. inl (at, fails, refl) }
 
+pub shun_loads : (name : List ℕ) → Loads (Some (command_of.Shun name))
+shun_loads name = record { opened = refl; begun = λ begun. cc; old = λ old bytes are. are; refused = λ bytes refused. refused; fails = λ read bytes at fails. inl (at, fails, refl) }
+
 pub ask_loads : (question : Question) → Loads (Some (command_of.Ask question))
 ask_loads question = record { opened = refl; begun = λ begun. cc; old = λ old bytes are. are; refused = λ bytes refused. refused; fails = λ read bytes at fails. inl (at, fails, refl) }
 

@@ -25,7 +25,7 @@ use Rattle.fossil.proofs.TakingLemmas.{none_appended}
 
 -- ---- held names aren't shunned
 
-abbrev IsApart : Contents → Type 0
+abbrev pub IsApart : Contents → Type 0
 IsApart c = (q : List ℕ) → set.contains c.shunned q ≡ true → map_of.get c.held q ≡ None
 
 blob-shunned : (c : Contents) (name : List ℕ) (private : Bool) (bytes : List ℕ) → (after c (record_of.Blob private name bytes)).shunned ≡ c.shunned
@@ -66,7 +66,7 @@ apart-fold : (records : List Record) (c : Contents) → IsApart c → IsApart (f
 apart-fold [] c h = h
 apart-fold (r ∷ records) c h = apart-fold records (after c r) (apart-after c r h)
 
-apart : (records : List Record) → IsApart (contents records)
+pub apart : (records : List Record) → IsApart (contents records)
 apart records = apart-fold records nothing (λ q shunned. map_of.get-empty bytes_cmp q)
 
 -- ---- one file

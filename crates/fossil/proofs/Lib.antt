@@ -13,7 +13,10 @@ pub mod LoadLemmas
 pub mod ActLemmas
 pub mod HeldLemmas
 pub mod TakingLemmas
+pub mod CommitLemmas
+pub mod AppendLemmas
 pub mod PutLemmas
+pub mod ShunLemmas
 pub mod InitLemmas
 pub mod CommandLemmas
 pub mod WordsLemmas

@@ -43,3 +43,4 @@ one_result c (question_of.Files prefix) a b h k = one_by c (λ items. report c i
 one_result c (question_of.Wiki title) a b h k = one_by c (λ items. report c items (question_of.Wiki title)) a b h k
 one_result c (question_of.Ticket id) a b h k = one_by c (λ items. report c items (question_of.Ticket id)) a b h k
 one_result c (question_of.Thread name) a b h k = one_by c (λ items. report c items (question_of.Thread name)) a b h k
+one_result c question_of.Phantoms a b h k = one_by c (λ items. report c items question_of.Phantoms) a b h k

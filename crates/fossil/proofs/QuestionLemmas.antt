@@ -25,7 +25,7 @@ use Rattle.fossil.proofs.InputLemmas.{some_bytes}
 use Rattle.fossil.proofs.FileLemmas.{both, agrees, readable, loaded_left, loaded_touches, loaded_durable}
 use Rattle.fossil.proofs.SomeOutcome.{some_said_outcome}
 use Rattle.fossil.proofs.ActLemmas.{ask_loads, memory_by}
-use Rattle.fossil.proofs.PutLemmas.{idle_durable}
+use Rattle.fossil.proofs.CommitLemmas.{idle_durable}
 use Rattle.fossil.proofs.PrintedLemmas.{written}
 
 answered_small : (r : Result (List ℕ) Refused) → (report_outcome r).status ≤ 3

@@ -24,7 +24,7 @@ use Rattle.fossil.specs.Printed.{Printed}
 use Rattle.fossil.specs.Printed as printing
 use Rattle.fossil.specs.Ingest as ingest
 use Rattle.fossil.specs.Put.{IsPutRead, put_files}
-use Rattle.fossil.specs.Outcome.{Outcome, without_commit, with_commit, init_outcome, report_outcome, not_repository, usage, IsAnswered, IsPutOfFiles, IsLoaded, IsCommandOutcome, said, IsSaidOutcome, HasSomeOutcome}
+use Rattle.fossil.specs.Outcome.{Outcome, without_commit, with_commit, init_outcome, report_outcome, not_repository, usage, IsAnswered, IsPutOfFiles, shun_outcome, IsShunOf, IsLoaded, IsCommandOutcome, said, IsSaidOutcome, HasSomeOutcome}
 use Rattle.fossil.proofs.MessageLemmas.{IsSomeMessage, some_message}
 
 -- ---- ingest and put
@@ -71,6 +71,7 @@ some_report c (question_of.Files prefix) = let i = some_items (map_of.entries c.
 some_report c (question_of.Wiki title) = let i = some_items (map_of.entries c.held) in (report c i.0 (question_of.Wiki title), (i.0, i.1, refl))
 some_report c (question_of.Ticket id) = let i = some_items (map_of.entries c.held) in (report c i.0 (question_of.Ticket id), (i.0, i.1, refl))
 some_report c (question_of.Thread name) = let i = some_items (map_of.entries c.held) in (report c i.0 (question_of.Thread name), (i.0, i.1, refl))
+some_report c question_of.Phantoms = let i = some_items (map_of.entries c.held) in (report c i.0 question_of.Phantoms, (i.0, i.1, refl))
 
 -- ---- a run
 
@@ -84,6 +85,7 @@ some_command (command_of.Init project server fields) input bytes = (init_outcome
 some_command command_of.Ingest input bytes = let o = some_ingested input (nat_lt (2 ^ 27) (length input)) in (without_commit o.0, (o.0, o.1, refl))
 some_command command_of.Put input bytes =
     some_loaded bytes (IsPutOfFiles input) (λ old. let o = some_put old input (nat_lt (2 ^ 27) (length input)) in (with_commit o.0 o.1, (o.0, o.1, o.2, refl))) (some_file bytes)
+some_command (command_of.Shun name) input bytes = some_loaded bytes (IsShunOf name) (λ old. (shun_outcome name old, refl)) (some_file bytes)
 some_command (command_of.Ask question) input bytes =
     some_loaded bytes (IsAnswered question) (λ records. let r = some_report (contents records) question in (report_outcome r.0, (r.0, r.1, refl))) (some_file bytes)
 

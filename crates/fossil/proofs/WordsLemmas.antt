@@ -68,24 +68,24 @@ init_obeyed [] = tt
 init_obeyed (project ∷ []) = tt
 init_obeyed (project ∷ server ∷ fields) = project_by server fields (name_in project)
 
-bare_by : (ingest put leaves : Bool) (a b c : Command) → IsObeyable a → IsObeyable b → IsObeyable c → Obeyed (cond ingest (Some a) (cond put (Some b) (cond leaves (Some c) None)))
-bare_by true put leaves a b c h k l = h
-bare_by false true leaves a b c h k l = k
-bare_by false false true a b c h k l = l
-bare_by false false false a b c h k l = tt
+command_by : (first : Bool) (a b : Option Command) → Obeyed a → Obeyed b → Obeyed (cond first a b)
+command_by true a b h k = h
+command_by false a b h k = k
 
 asked : (o : Option Question) → Obeyed (option_map command_of.Ask o)
 asked None = tt
 asked (Some question) = tt
 
-plain_obeyed : (command : List ℕ) (words : List (List ℕ)) → Obeyed (plain_command command words)
-plain_obeyed command [] = bare_by (bytes_eq command (codes "ingest")) (bytes_eq command (codes "put")) (bytes_eq command (codes "leaves")) _ _ _ tt tt tt
-plain_obeyed command (word ∷ []) = asked (question_in command word)
-plain_obeyed command (word ∷ other ∷ words) = tt
+shunned : (o : Option (List ℕ)) → Obeyed (option_map command_of.Shun o)
+shunned None = tt
+shunned (Some name) = tt
 
-command_by : (init : Bool) (a b : Option Command) → Obeyed a → Obeyed b → Obeyed (cond init a b)
-command_by true a b h k = h
-command_by false a b h k = k
+plain_obeyed : (command : List ℕ) (words : List (List ℕ)) → Obeyed (plain_command command words)
+plain_obeyed command [] =
+    command_by (bytes_eq command (codes "ingest")) _ _ tt
+    (command_by (bytes_eq command (codes "put")) _ _ tt (command_by (bytes_eq command (codes "leaves")) _ _ tt (command_by (bytes_eq command (codes "phantoms")) _ _ tt tt)))
+plain_obeyed command (word ∷ []) = command_by (bytes_eq command (codes "shun")) _ _ (shunned (name_in word)) (asked (question_in command word))
+plain_obeyed command (word ∷ other ∷ words) = tt
 
 named_by : (repository : List ℕ) (o : Option Command) → Obeyed o → IfSome {T = Words} (option_map (λ c. record { repository = repository; command = c }) o) (λ w. IsObeyable w.command)
 named_by repository None h = tt

@@ -13,7 +13,7 @@ use Rattle.fsl_journal.specs.declared.LoadFault.{LoadFault}
 use Rattle.fsl_journal.specs.declared.LoadFault.TheVariants as load_fault
 use Rattle.fsl_words.specs.declared.Question.{Question}
 use Rattle.fsl_words.specs.declared.Command.{Command}
-use Rattle.fsl_words.specs.declared.Command.TheVariants.{Init, Ingest, Put, Ask}
+use Rattle.fsl_words.specs.declared.Command.TheVariants.{Init, Ingest, Put, Shun, Ask}
 use Rattle.fossil.specs.declared.fault.Fault.{Fault}
 use Rattle.fossil.specs.declared.fault.Fault.TheVariants as fault_is
 use Rattle.fossil.specs.declared.load.Loaded.{Loaded}
@@ -176,6 +176,7 @@ abbrev pub IsObeyable : Command → Type 0
 IsObeyable (Init project server fields) = AreFields fields
 IsObeyable Ingest = ⊤
 IsObeyable Put = ⊤
+IsObeyable (Shun name) = ⊤
 IsObeyable (Ask question) = ⊤
 
 -- ---- messages

@@ -3,6 +3,7 @@ pub mod Printed
 pub mod Messages
 pub mod Ingest
 pub mod Put
+pub mod Shun
 pub mod Outcome
 pub mod Run
 pub mod Acts

@@ -7,7 +7,7 @@ use Rattle.fsl_journal.specs.File.{IsFileOf, FailsAt}
 use Rattle.fsl_blobs.specs.Fold.{contents}
 use Rattle.fsl_words.specs.declared.Question.{Question}
 use Rattle.fsl_words.specs.declared.Command.{Command}
-use Rattle.fsl_words.specs.declared.Command.TheVariants.{Init, Ingest, Put, Ask}
+use Rattle.fsl_words.specs.declared.Command.TheVariants.{Init, Ingest, Put, Shun, Ask}
 use Rattle.fsl_words.specs.Grammar.{words_in}
 use Rattle.fsl_query.specs.declared.Refused.{Refused}
 use Rattle.fsl_query.specs.Refusals.{refusal_text}
@@ -16,6 +16,7 @@ use Rattle.fossil.specs.Printed.{Printed}
 use Rattle.fossil.specs.Printed as printing
 use Rattle.fossil.specs.Ingest as ingest
 use Rattle.fossil.specs.Put.{IsPut}
+use Rattle.fossil.specs.Shun.{shunning}
 
 -- the status, the text that is written, and the records that are appended, a list for each commit
 pub record Outcome : Type 0 where
@@ -64,6 +65,13 @@ IsIngestOfFiles input o = (printed : Printed) × ingest.IsIngested IsKind input 
 abbrev pub IsPutOfFiles : List ℕ → List Record → Outcome → Type 0
 IsPutOfFiles input old o = (printed : Printed) × (appended : List Record) × IsPut input old printed appended × (o ≡ with_commit printed appended)
 
+-- what `shun` prints and appends
+abbrev pub shun_outcome : List ℕ → List Record → Outcome
+shun_outcome name old = let t = shunning (contents old) name in with_commit (record { status = 0; text = t.text }) t.records
+
+abbrev pub IsShunOf : List ℕ → List Record → Outcome → Type 0
+IsShunOf name old o = o ≡ shun_outcome name old
+
 -- the text of a report, or the refusal of its question
 abbrev pub report_outcome : Result (List ℕ) Refused → Outcome
 report_outcome (Ok text) = without_commit (record { status = 0; text = text })
@@ -85,6 +93,7 @@ abbrev pub IsCommandOutcome : Command → List ℕ → List ℕ → Outcome → 
 IsCommandOutcome (Init project server fields) input bytes o = o ≡ init_outcome project server fields (length bytes)
 IsCommandOutcome Ingest input bytes o = IsIngestOfFiles input o
 IsCommandOutcome Put input bytes o = IsLoaded (IsPutOfFiles input) bytes o
+IsCommandOutcome (Shun name) input bytes o = IsLoaded (IsShunOf name) bytes o
 IsCommandOutcome (Ask question) input bytes o = IsLoaded (IsAnswered question) bytes o
 
 -- the command that words say, where they are in the grammar

@@ -8,7 +8,7 @@ use Rattle.fsl_record.specs.declared.Record.{Record}
 use Rattle.fsl_disk.specs.Disk.{DiskState, IsModelled, Keeps, Quiet, LeavesOnly}
 use Rattle.fsl_journal.specs.File.{IsFileOf, FailsAt}
 use Rattle.fsl_words.specs.declared.Command.{Command}
-use Rattle.fsl_words.specs.declared.Command.TheVariants.{Init, Ingest, Put, Ask}
+use Rattle.fsl_words.specs.declared.Command.TheVariants.{Init, Ingest, Put, Shun, Ask}
 use Rattle.fossil.specs.Outcome.{Outcome, said, IsSaidOutcome}
 
 -- ---- what a run is handed and leaves
@@ -39,18 +39,21 @@ abbrev pub command_reads : Command → Bool
 command_reads (Init project server fields) = false
 command_reads Ingest = true
 command_reads Put = true
+command_reads (Shun name) = false
 command_reads (Ask question) = false
 
 abbrev pub command_opens : Command → Bool
 command_opens (Init project server fields) = true
 command_opens Ingest = false
 command_opens Put = true
+command_opens (Shun name) = true
 command_opens (Ask question) = true
 
 abbrev pub command_begins : Command → Bool
 command_begins (Init project server fields) = true
 command_begins Ingest = false
 command_begins Put = false
+command_begins (Shun name) = false
 command_begins (Ask question) = false
 
 -- whether a command reads the input
@@ -181,6 +184,7 @@ IsRefused None bytes = ⊥
 IsRefused (Some (Init project server fields)) bytes = bytes ≢ []
 IsRefused (Some Ingest) bytes = ⊥
 IsRefused (Some Put) bytes = IsNoRepository bytes
+IsRefused (Some (Shun name)) bytes = IsNoRepository bytes
 IsRefused (Some (Ask question)) bytes = IsNoRepository bytes
 
 -- a file that is refused stays as it is, at each moment and whatever the status

@@ -1,10 +1,10 @@
 //! A repository of artifacts. `fossil REPOSITORY init PROJECT SERVER [FIELD ...]` makes its file, `put` takes a message
-//! of files into it, and `cat PREFIX` writes the content of an artifact. `timeline COUNT` prints so many of the latest
-//! events, `leaves` the check-ins without a child in their branch, `tags PREFIX` the tags in force on an artifact, `tip
-//! SYMBOL` the latest check-in of a symbolic name, `files PREFIX` the files of a check-in and what it changed, `wiki TITLE`
-//! the versions of a page, `ticket ID` the fields of a ticket, and `thread NAME` the posts of a thread. `ingest` reads a
-//! message of files into a set of its own, and prints which of its names stand in no cluster and which are named and not
-//! there.
+//! of files into it, `cat PREFIX` writes the content of an artifact, and `shun NAME` takes a name out for good. `timeline
+//! COUNT` prints so many of the latest events, `leaves` the check-ins without a child in their branch, `tags PREFIX` the
+//! tags in force on an artifact, `tip SYMBOL` the latest check-in of a symbolic name, `files PREFIX` the files of a check-in
+//! and what it changed, `wiki TITLE` the versions of a page, `ticket ID` the fields of a ticket, `thread NAME` the posts of
+//! a thread, and `phantoms` the names that are referred to and neither held nor shunned. `ingest` reads a message of files
+//! into a set of its own, and prints which of its names stand in no cluster and which are named and not there.
 #![tactic(auto)]
 
 mod answer;
@@ -12,6 +12,7 @@ mod artifact;
 mod ask;
 mod cat;
 mod checking;
+mod committing;
 mod fault;
 mod ingest;
 mod init;
@@ -25,6 +26,7 @@ mod report;
 mod reporting;
 mod say;
 mod sent;
+mod shun;
 mod status;
 mod taking;
 mod top;

@@ -11,6 +11,7 @@ use super::ingest::ingest;
 use super::init::init;
 use super::put::put;
 use super::say::{print, say_usage};
+use super::shun::shun;
 use fsl_disk::Disk;
 use fsl_outside::{Sink, Source};
 use fsl_record::Config;
@@ -52,6 +53,7 @@ fn obey<S: Source, K: Sink, D: Disk>(
         }
         Command::Ingest => print(out, ingest(alloc, input)),
         Command::Put => print(out, put(alloc, input, disk)),
+        Command::Shun { name } => print(out, shun(alloc, name, disk)),
         Command::Ask(question) => ask(alloc, &question, out, disk),
     }
 }

@@ -16,7 +16,7 @@ pub fn open(rt: &HostRuntime, words: &[String], command: &Command) -> FileDisk {
         Command::Init { .. } => {
             options.create(true);
         }
-        Command::Put | Command::Ask(_) => {}
+        Command::Put | Command::Shun { .. } | Command::Ask(_) => {}
     }
     match options.open(rt, path.as_str()) {
         Ok(file) => FileDisk::over(file),

@@ -1,20 +1,22 @@
 -- The held names in their order, and by their places.
 use Rattle.std.proofs.Common.{◌≡◌, ℕ, ◌-◌, ◌<◌, ◌≤◌, zero, suc, get_or, eqb, Bool, true, false, cond, List, [], ◌∷◌, ◌++◌, length, take, map, filter, Option, Some, None, Result, Ok, Err, IfOk, Vec, Global, refl, sym, ap, ◌∙◌, subst, arith}
-use Rattle.std.specs.Prelude.{◌&&◌, is_some, nat_le, filter_map, IfSome, T, slice_get, All}
+use Rattle.std.specs.Prelude.{◌&&◌, ◌||◌, is_some, nat_le, filter_map, IfSome, T, slice_get, All}
 use Rattle.std.specs.Option.{option_map, option_map_or, option_to_list}
-use Rattle.std.specs.List.{AllByRecursion, IsDistinct, range_with_len, cons_option}
+use Rattle.std.specs.List.{AllByRecursion, IsDistinct, range_with_len, cons_option, list_any}
+use Rattle.std.specs.Str.{bytes_eq}
 use Rattle.std.specs.List.Sorted.{IsStrictlySortedBy, IsNonDecreasing, IsNonDecreasingBy, IsPermutation}
 use Rattle.std.specs.Cmp.{nat_cmp_total, unsigned_tied, tied_itself, nat_eq_equiv}
-use Rattle.std.specs.Cmp.Lexicographic.{bytes_decides}
+use Rattle.std.specs.Cmp.Lexicographic.{bytes_decides, texts_ties}
 use Rattle.std.specs.declared.cmp.Ordering.{Ordering}
 use Rattle.std.specs.declared.cmp.Ordering.TheVariants.{Less}
 use Rattle.std.specs.Ordering.{is_eq, is_lt, nat_cmp, eq_by_cmp}
 use Rattle.std.specs.FinMap as map_of
 use Rattle.std.specs.FinMap.{find, is_sorted, nat_cmp-IsAntisymmetric}
 use Rattle.std.specs.FinMap.Entries.{same_entries, below_all}
-use Rattle.std.proofs.lemmas.Bool.{and_parts}
+use Rattle.std.proofs.lemmas.Bool.{and_parts, le-leb}
+use Rattle.std.proofs.lemmas.List.{length-map}
 use Rattle.std.proofs.lemmas.List.Elements.{filter-append, All-weaker}
-use Rattle.std.proofs.lemmas.List.Sorted.{IsPermutation-map, IsNonDecreasingBy-from_default}
+use Rattle.std.proofs.lemmas.List.Sorted.{IsPermutation-map, list_any-IsPermutation, IsNonDecreasingBy-from_default}
 use Rattle.std.proofs.lemmas.Map.Keys.{IsStrictlyIncreasing-from_distinct, sorted_from_strictly_increasing, IsDistinct-IsPermutation}
 use Rattle.std.proofs.lemmas.Map.Made.{IsDistinct-keys_filter}
 use Rattle.std.proofs.lemmas.Bool.{eqb-true}
@@ -32,6 +34,7 @@ use Rattle.fsl_record.specs.declared.Record.TheVariants as record_of
 use Rattle.fsl_blobs.specs.Fold.{Held, contents, is_new, is_blob_of, adds, place, held_from}
 use Rattle.fsl_blobs.specs.Held.{matching, found}
 use Rattle.fsl_blobs.specs.Seen.{Seen, held_as}
+use Rattle.fsl_blobs.proofs.KeptLemmas.{turned}
 use Rattle.fsl_blobs.specs.Kept.{is_same, held_at, artifact_of}
 use Rattle.fsl_blobs.specs.Listing.{begins, pair_of, place_of, entry_of}
 
@@ -87,6 +90,9 @@ module _ (records : List Record) (es : List (List ℕ × HeldArtifact)) (held : 
 
   pub bare-held : (b : Seen) → records ≡ b.records → bare es ≡ map_of.entries (contents b.records).held
   bare-held b view = sym entries-held ∙ ap (λ (rs : List Record). map_of.entries (contents rs).held) view
+
+  pub count-held : (b : Seen) → records ≡ b.records → length es ≡ map_of.len (contents b.records).held
+  count-held b view = sym (length-map es entry_of) ∙ ap length (bare-held b view) ∙ sym (map_of.len-entries (contents b.records).held)
 
   pub matching-held : (b : Seen) (prefix : List ℕ) → records ≡ b.records → found (filter (begins prefix) (keys_in es)) ≡ found (matching (contents b.records).held prefix)
   matching-held b prefix view = ap (λ (ks : List (List ℕ)). found (filter (begins prefix) ks)) keys-held ∙ ap (λ (rs : List Record). found (matching (contents rs).held prefix)) view
@@ -181,6 +187,23 @@ are_placed records es places all =
     by_recursion (λ e. place records e.0 ≡ Some e.1.place) es
     (All-weaker (λ e. held_at es e.0 ≡ Some e.1) (λ e. place records e.0 ≡ Some e.1.place) (λ e at. subst (λ (o : Option HeldArtifact). IfSome o (λ a. place records e.0 ≡ Some a.place)) at (places e.0)) es all)
 
+-- a held name is among the places
+any_placed : (q : List ℕ) (es : List (List ℕ × HeldArtifact)) → list_any (λ p. bytes_eq p.1 q) (map place_of es) ≡ is_some (held_at es q)
+any_placed q [] = refl
+any_placed q (e ∷ es) =
+    ap (λ (b : Bool). b || list_any (λ p. bytes_eq p.1 q) (map place_of es)) (texts_ties e.0 q ∙ turned e.0 q)
+    ∙ elim (is_same q e.0) as (λ b. (b || list_any (λ p. bytes_eq p.1 q) (map place_of es)) ≡ is_some (cond b (Some e.1) (held_at es q))) [ true ↦ refl | false ↦ any_placed q es ]
+
+all_from_zero : (ps : List (ℕ × List ℕ)) → filter (λ p. nat_le 0 p.0) ps ≡ ps
+all_from_zero [] = refl
+all_from_zero (p ∷ ps) =
+    ap (λ (b : Bool). cond b (p ∷ filter (λ p. nat_le 0 p.0) ps) (filter (λ p. nat_le 0 p.0) ps)) (le-leb 0 p.0 (omega arith))
+    ∙ ap (λ (rest : List (ℕ × List ℕ)). p ∷ rest) (all_from_zero ps)
+
+some_map : (o : Option HeldArtifact) → is_some o ≡ is_some (option_map artifact_of o)
+some_map None = refl
+some_map (Some a) = refl
+
 -- ---- the sorted list
 
 abbrev places_in : List Placed → List ℕ
@@ -234,3 +257,10 @@ module _ (records : List Record) (es : List (List ℕ × HeldArtifact)) (held : 
       ∙ ap (λ (ps : List (ℕ × List ℕ)). in_order nat_cmp (λ p. p.0) (filter (λ p. nat_le from p.0) ps)) (places_are records es placed)
       ∙ ap (λ (ks : List (List ℕ)). in_order nat_cmp (λ p. p.0) (filter (λ p. nat_le from p.0) (filter_map (λ name. option_map (λ n. (n, name)) (place records name)) ks))) (keys-held records es held rise)
       ∙ ap (λ (rs : List Record). held_from rs from) view
+
+  pub all_listed : (b : Seen) → records ≡ b.records → from ≡ 0 → (q : List ℕ) → map_of.contains_key (contents b.records).held q ≡ true → list_any (λ p. bytes_eq p.1 q) (held_from b.records 0) ≡ true
+  all_listed b view start q there =
+      let p : ℕ × List ℕ → Bool = λ p. bytes_eq p.1 q in
+      ap (λ (n : ℕ). list_any p (held_from b.records n)) (sym start) ∙ sym (ap (list_any p) (listed b view)) ∙ sym (list_any-IsPermutation p chosen (map pair_of sorted) pairs_moved)
+      ∙ ap (λ (n : ℕ). list_any p (filter (λ x. nat_le n x.0) (map place_of es))) start ∙ ap (list_any p) (all_from_zero (map place_of es)) ∙ any_placed q es
+      ∙ some_map (held_at es q) ∙ ap is_some (held q) ∙ ap (λ (rs : List Record). map_of.contains_key (contents rs).held q) view ∙ there

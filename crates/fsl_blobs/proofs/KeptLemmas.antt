@@ -104,7 +104,7 @@ module _ (c : Contents) (name : List ℕ) where
         | false ↦ if_never (is_same name q) (Some a) (map_of.get c.held q)
       ]
 
-  blob-shunned : (private : Bool) (bytes : List ℕ) → (blobbed private bytes).shunned ≡ c.shunned
+  pub blob-shunned : (private : Bool) (bytes : List ℕ) → (blobbed private bytes).shunned ≡ c.shunned
   blob-shunned private bytes = elim (is_new c name) as (λ b. (blobbing private bytes b).shunned ≡ c.shunned) [ true ↦ refl | false ↦ refl ]
 
   blob-config : (private : Bool) (bytes : List ℕ) → (blobbed private bytes).config ≡ c.config
@@ -129,7 +129,7 @@ module _ (c : Contents) (name : List ℕ) where
             ] refl
       ] refl
 
-  publish-shunned : (after c (record_of.Publish name)).shunned ≡ c.shunned
+  pub publish-shunned : (after c (record_of.Publish name)).shunned ≡ c.shunned
   publish-shunned = elim (map_of.get c.held name) as (λ o. (publishing o).shunned ≡ c.shunned) [ None ↦ refl | Some a ↦ refl ]
 
   publish-config : (after c (record_of.Publish name)).config ≡ c.config
@@ -138,7 +138,7 @@ module _ (c : Contents) (name : List ℕ) where
   pub shun-get : (q : List ℕ) → map_of.get (after c (record_of.Shun name)).held q ≡ cond (is_same name q) None (map_of.get c.held q)
   shun-get q = map_of.get-remove bytes_cmp-IsTotalOrder c.held name q ∙ ap (λ (b : Bool). cond b None (map_of.get c.held q)) (turned q name)
 
-  shun-shunned : (q : List ℕ) → set.contains (after c (record_of.Shun name)).shunned q ≡ (is_same name q || set.contains c.shunned q)
+  pub shun-shunned : (q : List ℕ) → set.contains (after c (record_of.Shun name)).shunned q ≡ (is_same name q || set.contains c.shunned q)
   shun-shunned q = set.contains-insert bytes_cmp-IsTotalOrder c.shunned name q ∙ ap (λ (b : Bool). b || set.contains c.shunned q) (turned q name)
 
 -- ---- which names are new

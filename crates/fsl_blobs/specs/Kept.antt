@@ -1,5 +1,5 @@
 -- What the code keeps of the records.
-use Rattle.std.specs.Prelude.{◌≡◌, ℕ, List, Bool, true, false, ◌||◌, if◌then◌else◌, Option, Some, IfSome, is_some}
+use Rattle.std.specs.Prelude.{◌≡◌, ℕ, ◌≤◌, ◌*◌, ◌^◌, length, List, Bool, true, false, ◌||◌, if◌then◌else◌, Option, Some, IfSome, is_some}
 use Rattle.std.specs.List.{list_any}
 use Rattle.std.specs.Map.{lookup}
 use Rattle.std.specs.Option.{option_map}
@@ -10,7 +10,7 @@ use Rattle.fsl_order.specs.Names.{bytes_cmp}
 use Rattle.fsl_record.specs.declared.Config.{Config}
 use Rattle.fsl_record.specs.declared.Record.{Record}
 use Rattle.fsl_blobs.specs.declared.blobs.HeldArtifact.{HeldArtifact}
-use Rattle.fsl_blobs.specs.Fold.{Held, contents, is_new, place}
+use Rattle.fsl_blobs.specs.Fold.{Held, contents, is_new, place, held_bytes}
 
 -- whether two names are the same
 abbrev pub is_same : List ℕ → List ℕ → Bool
@@ -43,3 +43,9 @@ pub record IsKept (records : List Record) (found : Config) (entries : List (List
   pub places : (name : List ℕ) → IfSome (held_at entries name) (λ a. place records name ≡ Some a.place)
   pub shunned : (name : List ℕ) → stands shuns name ≡ set.contains (contents records).shunned name
   pub new : (name : List ℕ) → stands announced name ≡ true → is_new (contents records) name ≡ true
+
+-- and the sum of the held sizes is kept; each is below 2^63, and there are no more of them than records
+pub record IsCounted (records : List Record) (found : Config) (entries : List (List ℕ × HeldArtifact)) (shuns announced : List (List ℕ)) (total : ℕ) : Type 0 where
+  pub kept : IsKept records found entries shuns announced
+  pub sum : total ≡ held_bytes (contents records).held
+  pub small : total ≤ length records * 2 ^ 63

@@ -1,5 +1,7 @@
 //! What the held artifacts answer.
-ghost use Rattle.std.specs.Prelude.{◌≡◌, ◌↔◌, Some, None, IfOk, map};
+ghost use Rattle.std.specs.Prelude.{◌≡◌, ◌↔◌, ℕ, List as Names, Some, None, IfOk, OnOk, map, true};
+ghost use Rattle.std.specs.List.{list_any};
+ghost use Rattle.std.specs.Str.{bytes_eq};
 ghost use Rattle.std.specs.Option.{option_map};
 ghost use Rattle.std.specs.FinMap as map_of;
 ghost use Rattle.fsl_blobs.specs.Fold.{contents, held_from};
@@ -83,11 +85,27 @@ impl Blobs {
     /// The held names whose place is at least this, by place. A place is that of the record that added the artifact,
     /// counted from 1. `Memory` is the only error.
     pub fn held(&self, alloc: Global, from: u64) -> Result<List<Placed>, Memory>
-        ensures { IfOk result (λ names. map (λ p. (p.place, p.name)) names ≡ held_from self.now.records from) }
+        ensures names { IfOk result (λ names. map (λ p. (p.place, p.name)) names ≡ held_from self.now.records from) }
+        // From 0 on each held name is among them.
+        ensures all { OnOk result (from ≡ 0 → (name : Names ℕ) → map_of.contains_key (contents self.now.records).held name ≡ true → list_any (λ p. bytes_eq p.1 name) (held_from self.now.records 0) ≡ true) }
     {
         let mut names = placed_from(alloc, &self.held, from)?;
         names.sort_unstable_by_key(|placed| placed.place);
         Ok(List::from_vec(names))
+    }
+
+    /// A held artifact, public or private, with its bytes lent; none where the name isn't held. Takes no memory.
+    pub fn holding(&self, name: Name) -> Option<Holding<'_>>
+        ensures { option_map held_as result ≡ option_map (λ a. (name, a)) (map_of.get (contents self.now.records).held name) }
+    {
+        match self.held.get(&name) {
+            Some(artifact) => Some(Holding {
+                name,
+                private: artifact.private,
+                bytes: artifact.bytes.bytes(),
+            }),
+            None => None,
+        }
     }
 
     /// The held artifacts, public and private, by rising name. No bytes are copied. `Memory` is the only error.

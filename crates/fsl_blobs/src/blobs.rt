@@ -7,6 +7,7 @@ ghost use Rattle.fsl_blobs.specs.Fold.{contents};
 ghost use Rattle.fsl_blobs.specs.Held.{still_new};
 
 use crate::changes::change;
+use crate::sizes::total_with;
 use fsl_name::Name;
 use fsl_record::{Config, Record};
 use fsl_text::{List, Memory, Text};
@@ -34,6 +35,8 @@ pub struct Blobs {
     pub(crate) held: BTreeMap<Name, HeldArtifact>,
     pub(crate) shunned: BTreeSet<Name>,
     pub(crate) announced: BTreeSet<Name>,
+    /// The sum of the held sizes.
+    pub(crate) total: u128,
     // no bytes: clauses alone see them
     pub(crate) records: Vec<Snapshot<Record>>,
 }
@@ -49,11 +52,11 @@ impl Model for Blobs {
 
     ghost coded = { Prim.hlevel (codes, set.code {R = bytes_cmp} (coded_list coded_ℕ)) };
 
-    ghost use Rattle.fsl_blobs.specs.Kept.{IsKept};
+    ghost use Rattle.fsl_blobs.specs.Kept.{IsCounted};
 
     ghost view = { λ b. record { records = map (λ s. s.value) b.records.items; announced = set.from_list b.announced.keys } };
 
-    ghost invariant = { λ b. IsKept (map (λ s. s.value) b.records.items) b.config b.held.entries b.shunned.keys b.announced.keys };
+    ghost invariant = { λ b. IsCounted (map (λ s. s.value) b.records.items) b.config b.held.entries b.shunned.keys b.announced.keys b.total };
 }
 
 /// A record as contracts see it.
@@ -104,6 +107,7 @@ impl Blobs {
             held: BTreeMap::new(alloc),
             shunned: BTreeSet::new(alloc),
             announced: BTreeSet::new(alloc),
+            total: 0,
             records,
         })
     }
@@ -118,6 +122,7 @@ impl Blobs {
         self.records.reserve(1)?;
         let place = self.records.len() as u64 + 1;
         let seen = seen(&entry);
+        let total = total_with(&self.held, &self.shunned, self.total, &entry);
         change(
             &mut self.held,
             &mut self.shunned,
@@ -126,6 +131,7 @@ impl Blobs {
             entry,
         )?;
         self.records.push(seen).unwrap();
+        self.total = total;
         Ok(())
     }
 }

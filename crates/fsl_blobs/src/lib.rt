@@ -10,6 +10,8 @@ mod blobs;
 mod changes;
 mod laws;
 mod listing;
+mod names;
+mod sizes;
 
 ghost use Rattle.std.specs.Prelude.{◌≡◌};
 ghost use Rattle.fsl_blobs.specs.declared.BlobFault.TheVariants.{Memory as MemoryFault};
@@ -17,7 +19,7 @@ ghost use Rattle.fsl_blobs.specs.declared.BlobFault.TheVariants.{Memory as Memor
 pub use blobs::Blobs;
 use fsl_name::Name;
 use fsl_text::Memory;
-pub use laws::held_are_named;
+pub use laws::{held_are_named, shunned_are_not_held};
 
 /// What an announcement met.
 #[derive(Clone, Copy, PartialEq, Eq, Debug)]

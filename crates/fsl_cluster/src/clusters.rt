@@ -14,8 +14,8 @@ use std::snapshot::Snapshot;
 /// The unclustered and the missing names of held artifacts. Contracts see it as the facts by name.
 #[derive(Drop)]
 pub struct Clusters {
-    unclustered: NameSet,
-    missing: NameSet,
+    pub(crate) unclustered: NameSet,
+    pub(crate) missing: NameSet,
     /// What contracts see. It takes no bytes.
     facts: Vec<Snapshot<Fact>>,
 }

@@ -4,12 +4,15 @@
 #![tactic(auto)]
 
 mod clusters;
+mod counts;
 mod gather;
 mod name_set;
+mod writing;
 
 pub use clusters::Clusters;
 use fsl_name::Name;
 use fsl_text::List;
+pub use writing::make_cluster;
 
 /// What the table sees of a held artifact.
 #[derive(Drop)]

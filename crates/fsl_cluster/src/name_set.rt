@@ -1,5 +1,5 @@
 //! Names, ascending, each once.
-ghost use Rattle.std.specs.Prelude.{◌≡◌, IfOk};
+ghost use Rattle.std.specs.Prelude.{◌≡◌, IfOk, length};
 ghost use Rattle.std.specs.List.Sorted.{IsStrictlySortedBy};
 ghost use Rattle.fsl_order.specs.Names.{bytes_cmp, has};
 ghost use Rattle.fsl_order.specs.Rows.{ascending};
@@ -52,6 +52,13 @@ impl NameSet {
         ensures { result ≡ has self.now name.now }
     {
         self.names.binary_search(name).is_ok()
+    }
+
+    /// How many names there are.
+    pub fn count(&self) -> u64
+        ensures { result ≡ length self.now }
+    {
+        self.names.len() as u64
     }
 
     /// A copy of the names.

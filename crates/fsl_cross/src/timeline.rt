@@ -10,9 +10,9 @@ ghost use Rattle.fsl_cross.specs.Checkins.{tags_facts};
 ghost use Rattle.fsl_cross.specs.Tables.{sign, tag_text, pages_facts, forum_facts, timeline_rows};
 ghost use Rattle.fsl_cross.specs.Inside.{checkin_row, note_row, attachment_row, post_row, control_row, item_row_over};
 
-use crate::held::Held;
 use crate::checkin::{date, text};
 use crate::facts::{append, given};
+use crate::held::Held;
 use crate::items::Items;
 use crate::targets::Targets;
 use fsl_artifact::Artifact;

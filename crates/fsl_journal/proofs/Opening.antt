@@ -1,5 +1,5 @@
 -- What a disk may leave while a journal is opened.
-use Rattle.std.proofs.Common.{◌≡◌, inr, ℕ, ◌+◌, List, [], ◌∷◌, ◌++◌, length, take, drop, sym, ◌∙◌, ap, subst, arith, append_assoc, length-append, take-append-drop, IsTrue, Some, None}
+use Rattle.std.proofs.Common.{◌≡◌, inl, inr, ℕ, ◌+◌, List, [], ◌∷◌, ◌++◌, length, take, drop, sym, ◌∙◌, ap, subst, arith, append_assoc, length-append, take-append-drop, IsTrue, Some, None}
 use Rattle.std.proofs.lemmas.List.{take_all, take_at}
 use Rattle.fsl_disk.specs.Disk.{DiskState, IsModelled, Told, Begins, Keeps, Calls, CutShort, Same, Quiet, Only, LeavesOnly}
 use Rattle.fsl_disk.proofs.Moments.{goes_on, keeps_on, quiet_call, quiet_on, quiet_moments, told_before, told_contents, modelled_before}
@@ -8,9 +8,9 @@ use Rattle.fsl_record.specs.declared.Record.{Record}
 use Rattle.fsl_journal.specs.declared.LoadFault.{LoadFault}
 use Rattle.fsl_journal.specs.declared.LoadFault.TheVariants as load_fault
 use Rattle.fsl_journal.specs.File.{header, IsFileOf, FailsAt}
-use Rattle.fsl_journal.specs.Journal.{Belongs, LoadFailed}
+use Rattle.fsl_journal.specs.Journal.{Belongs, LoadFailed, HeldOrSame, IsSpared}
 use Rattle.fsl_journal.specs.Reading.{FileFailed}
-use Rattle.fsl_journal.specs.Log.{Log, IsLog, IsBetween, StandsBetween}
+use Rattle.fsl_journal.specs.Log.{Log, IsLog, IsLoaded, IsBetween, StandsBetween}
 use Rattle.fsl_journal.proofs.Failing.{no_file}
 use Rattle.fsl_journal.proofs.Files.{laid, is_log, groups_bytes}
 use Rattle.fsl_journal.proofs.Gate.{some_same}
@@ -96,6 +96,18 @@ module _ (s0 s1 s2 s3 : DiskState) (file : List ℕ) (records : List Record) (pl
       goes_on s0 s2 s3 (StandsBetween low high) (CutShort (place + 1)) (quiet_moments s0 s2 (StandsBetween low high) so_far modelled.model no_other between) (run.cut.crash (so_far.keeps.model ∙ modelled.model))
       (λ c left. (records, loaded_durable modelled c left, records_between modelled reads_as_image low high between))
 
+  pub harmless_moments : IsModelled s0 → ((c : List ℕ) → s0.since s0.moment c → s0.images c) → LeavesOnly s0 s3 (HeldOrSame s0)
+  harmless_moments modelled no_other =
+      goes_on s0 s2 s3 (HeldOrSame s0) (CutShort (place + 1)) (quiet_moments s0 s2 (HeldOrSame s0) so_far modelled.model no_other (λ c left. inl left)) (run.cut.crash (so_far.keeps.model ∙ modelled.model))
+      (λ c left. inr (records, (file, file_told, run.log.file), loaded_durable modelled c left))
+
+  pub spared : ((held : List ℕ) → IsTrue s3.is_model → s3.contents ≡ Some held → s3.images held) → IsSpared s0 s3
+  spared reads_as_image = inr (
+    records,
+    (file, file_told, run.log.file),
+    λ modelled held told. loaded_durable modelled held (reads_as_image held (all_keeps.model ∙ modelled.model) told),
+  )
+
   pub belongs_loaded : (log : Log) → log ≡ resumed_log records place → Told s2 (λ held. s3.contents ≡ Some (take (place + 1) held)) → Belongs log s3
   belongs_loaded log is cut = subst (λ (l : Log). Belongs l s3) (sym is) (record {
     counts = omega arith;
@@ -119,6 +131,15 @@ module _ (s0 s1 s2 s3 : DiskState) (file : List ℕ) (records : List Record) (pl
     where
       now_held : (now : List ℕ) → s3.contents ≡ Some now → (held : List ℕ) → s0.contents ≡ Some held → now ≡ take (place + 1) held
       now_held now told held before = some_same (sym told ∙ cut held (so_far.contents ∙ before))
+
+-- where only reads and syncs were made
+pub harmless_quiet : (s0 s2 : DiskState) → Quiet s0 s2 → IsModelled s0 → ((c : List ℕ) → s0.since s0.moment c → s0.images c) → LeavesOnly s0 s2 (HeldOrSame s0)
+harmless_quiet s0 s2 quiet modelled no_other = quiet_moments s0 s2 (HeldOrSame s0) quiet modelled.model no_other (λ c left. inl left)
+
+-- after an opening that is done the file stands for the records
+pub reads_back : (log : Log) (loaded : List Record) (disk : DiskState) → IsLoaded log loaded → Belongs log disk → Told disk (λ held. IsFileOf held loaded)
+reads_back log loaded disk is belongs held told =
+    subst (IsFileOf held) (take_all log.stable log.records (omega (arith, is.stable, ap length is.records)) ∙ is.records) (belongs.reads is.runs held told).0.file
 
 -- a file that doesn't read, or no memory for what it holds
 pub load_failed : (fault : LoadFault) (s0 s2 : DiskState) (file : List ℕ) → Quiet s0 s2 → s2.faults ≡ s0.faults → Told s0 (λ held. file ≡ held) → FileFailed file fault → LoadFailed fault s0 s2

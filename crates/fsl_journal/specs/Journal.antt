@@ -3,6 +3,7 @@ use Rattle.std.specs.Prelude.{◌≡◌, ◌⊎◌, ℕ, ◌+◌, ◌≤◌, ◌
 use Rattle.fsl_disk.specs.Disk.{DiskState, IsModelled, Told, Begins, Quiet}
 use Rattle.fsl_order.specs.Causes.{Rose}
 use Rattle.fsl_record.specs.declared.Config.{Config}
+use Rattle.fsl_record.specs.declared.Record.{Record}
 use Rattle.fsl_record.specs.declared.Record.TheVariants as record_of
 use Rattle.fsl_journal.specs.File.{IsFileOf, FailsAt}
 use Rattle.fsl_journal.specs.Log.{Log, committed, BeforeOrAll, IsLog, IsNoFile}
@@ -45,6 +46,16 @@ OfBytes disk P = (bytes : List ℕ) × Told disk (λ held. bytes ≡ held) × P 
 pub record IsLeft (before after : DiskState) : Type 0 where
   pub contents : after.contents ≡ before.contents
   pub faults : after.faults ≡ before.faults
+
+-- what an opening may leave to a crash: what a crash before it might have left, or a file of the records that the file stood for
+abbrev pub HeldOrSame : DiskState → List ℕ → Type 0
+HeldOrSame before c = before.images c ⊎ ((records : List Record) × OfBytes before (λ bytes. IsFileOf bytes records) × IsFileOf c records)
+
+-- what an opening leaves of the contents: these, or a file of the records that they stood for; of a disk that failed this is known by the disk model alone
+abbrev pub IsSpared : DiskState → DiskState → Type 0
+IsSpared before after =
+    (after.contents ≡ before.contents)
+    ⊎ ((records : List Record) × OfBytes before (λ bytes. IsFileOf bytes records) × (IsModelled before → Told after (λ held. IsFileOf held records)))
 
 -- an opening that answers a fault
 abbrev pub LoadFailed : LoadFault → DiskState → DiskState → Type 0

@@ -1,5 +1,5 @@
 //! A journal: the records of a repository, and how many of them are committed.
-ghost use Rattle.std.specs.Prelude.{◌≡◌, ◌⊎◌, IsSome, ◌++◌, ◌∷◌, [], ◌<◌, ◌≤◌, ◌-◌, ◌^◌, List, ℕ, None, Some, length, take, IfOk, IfErr, OnOk, OnErr, false};
+ghost use Rattle.std.specs.Prelude.{◌≡◌, ◌⊎◌, IsSome, ◌++◌, ◌∷◌, [], ◌<◌, ◌≤◌, ◌-◌, ◌^◌, List, ℕ, None, Some, Ok, length, take, IfOk, IfErr, OnOk, OnErr, false};
 ghost use Rattle.fsl_disk.specs.Disk.{IsModelled, Keeps, LeavesOnly};
 ghost use Rattle.fsl_record.specs.Records.{AreRecords, IsWritable, is_config};
 ghost use Rattle.fsl_journal.specs.File.{IsFileOf};
@@ -58,6 +58,13 @@ impl Journal {
         ensures { result ≡ self.now.stable }
     {
         self.stable
+    }
+
+    /// The disk's count of faults when a commit failed, or nothing.
+    pub fn stopped(&self) -> Option<u64>
+        ensures { result ≡ self.now.stopped }
+    {
+        self.stopped
     }
 
     /// A journal whose records are all committed, with the closed gate at this place.
@@ -129,8 +136,11 @@ impl Journal {
         ensures ok { IfOk result (λ count. Committed count self.old self.new (D.state disk.old) (D.state disk.new)) }
         ensures fault { IfErr result (λ fault. CommitFailed fault self.old self.new (D.state disk.old) (D.state disk.new)) }
         ensures keeps { Keeps (D.state disk.old) (D.state disk.new) }
+        ensures later { (D.state disk.old).faults ≤ (D.state disk.new).faults }
         // With nothing to write it calls no device, and a stopped journal never does.
         ensures idle { IsSome self.old.stopped ⊎ (self.old.stable ≡ length self.old.records) → disk.new ≡ disk.old }
+
+        ensures nothing { self.old.stopped ≡ None → self.old.stable ≡ length self.old.records → result ≡ Ok (length self.old.records) }
 
         // At each moment since its start each image stands for the committed records or for all.
         ensures any_moment { IsModelled (D.state disk.old) → LeavesOnly (D.state disk.old) (D.state disk.new) (BeforeOrAll self.old) }

@@ -1,5 +1,5 @@
 -- The facts determine the rows, so what a log leads back from one state, it leads back from each that is as good.
-use Rattle.std.proofs.Common.{◌≡◌, ◌≤◌, ℕ, List, [], ◌∷◌, Bool, true, false, Option, Some, None, is_some, option_and_then, map, refl, sym, ap, subst, ◌∙◌, arith}
+use Rattle.std.proofs.Common.{◌≡◌, ℕ, List, [], ◌∷◌, false, Option, Some, None, is_some, option_and_then, refl, sym, ap, subst, ◌∙◌, arith}
 use Rattle.std.specs.List.Sorted.{IsStrictlySortedBy}
 use Rattle.std.specs.Map.{keys_of}
 use Rattle.std.proofs.lemmas.Map.Lookups.{exact_bytes}
@@ -8,7 +8,7 @@ use Rattle.fsl_order.specs.Held.{Held, IsAsBefore, AreAtMost}
 use Rattle.fsl_order.proofs.Orders.{bytes_cmp-IsTotalOrder}
 use Rattle.fsl_table.specs.Exact.{pair_cmp, exact_pair}
 use Rattle.fsl_table.specs.declared.key.Pair.{Pair}
-use Rattle.fsl_table.specs.Contents.{Contents, value_at}
+use Rattle.fsl_table.specs.Contents.{value_at}
 use Rattle.fsl_table.specs.declared.step.Step.{Step}
 use Rattle.fsl_table.specs.Undo.{IsAsGood, Undoes, undone}
 use Rattle.fsl_table.proofs.PairOrder.{pair_cmp-IsTotalOrder}

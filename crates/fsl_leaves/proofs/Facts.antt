@@ -1,6 +1,6 @@
 -- The pairs of one fact more, and of one less.
 use Rattle.std.specs.Result.{IfOk}
-use Rattle.std.proofs.Common.{Result, Ok, Err, subst, ◌≡◌, ℕ, List, [], ◌∷◌, Bool, true, false, cond, not, ◌||◌, ◌&&◌, if◌then◌else◌, Option, Some, None, is_some, option_and_then, refl, sym, ap, ◌∙◌}
+use Rattle.std.proofs.Common.{Result, Ok, Err, subst, ◌≡◌, ℕ, List, Bool, true, false, cond, not, ◌||◌, ◌&&◌, if◌then◌else◌, Option, Some, None, is_some, option_and_then, refl, sym, ap, ◌∙◌}
 use Rattle.std.specs.Str.{bytes_eq}
 use Rattle.std.specs.Cmp.Lexicographic.{bytes_decides}
 use Rattle.std.specs.List.Sorted.{IsStrictlySortedBy}
@@ -12,7 +12,7 @@ use Rattle.fsl_table.specs.Pairs.{is_name}
 use Rattle.fsl_table.specs.Contents.{value_at, with_entry, without_key}
 use Rattle.fsl_table.proofs.Finding.{value-with, value-without}
 use Rattle.fsl_leaves.specs.declared.line.Line.{Line}
-use Rattle.fsl_leaves.specs.Kept.{Lines, lists, differs, ArePairs, AreFlipped}
+use Rattle.fsl_leaves.specs.Kept.{Lines, lists, differs, ArePairs}
 
 or-false : (b : Bool) → (b || false) ≡ b
 or-false true = refl

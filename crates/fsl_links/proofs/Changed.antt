@@ -1,5 +1,5 @@
 -- Which rows one fact more changes.
-use Rattle.std.proofs.Common.{◌≡◌, ◌≢◌, ℕ, List, [], ◌∷◌, Bool, true, false, cond, ◌||◌, ◌&&◌, Option, Some, None, is_some, option_and_then, option_map, slice_get, refl, sym, ap, subst, ◌∙◌}
+use Rattle.std.proofs.Common.{◌≡◌, ◌≢◌, ℕ, List, Bool, true, false, cond, ◌||◌, ◌&&◌, Option, Some, None, is_some, option_and_then, option_map, slice_get, refl, sym, ap, subst, ◌∙◌}
 use mathlib.Core.Bool.{true≢false}
 use Rattle.std.specs.Bool.{MatchBool}
 use Rattle.std.specs.Str.{bytes_eq}

@@ -1,5 +1,5 @@
 -- Which rows other parents of a check-in change.
-use Rattle.std.proofs.Common.{◌≡◌, ◌≢◌, ℕ, List, [], ◌∷◌, Bool, true, false, cond, not, ◌||◌, ◌&&◌, Option, Some, None, is_some, option_map, slice_get, refl, sym, ap, subst, ◌∙◌}
+use Rattle.std.proofs.Common.{◌≡◌, ◌≢◌, ℕ, List, Bool, true, false, cond, not, ◌||◌, ◌&&◌, Option, Some, None, option_map, slice_get, refl, sym, ap, subst, ◌∙◌}
 use mathlib.Core.Bool.{true≢false}
 use Rattle.std.specs.Bool.{MatchBool}
 use Rattle.std.specs.Str.{bytes_eq}
@@ -13,7 +13,7 @@ use Rattle.fsl_table.specs.Contents.{value_at, with_entry}
 use Rattle.fsl_table.proofs.Entries.{sorted-insert_entry}
 use Rattle.fsl_table.proofs.Finding.{value-with}
 use Rattle.fsl_links.specs.Links.{primary, children, links_row}
-use Rattle.fsl_links.specs.Kept.{facts_of, lists, leader, same_name, in_one, moves}
+use Rattle.fsl_links.specs.Kept.{facts_of, lists, leader, same_name, moves}
 use Rattle.fsl_links.proofs.Reading.{Es, first_of_parents, primary-is, has-children, children-same}
 
 same_true : (a b : Option (List ℕ)) → same_name a b ≡ true → a ≡ b

@@ -106,3 +106,9 @@ post_kind_text Reply = codes "reply"
 -- DATE NAME KIND USER
 abbrev pub post_line : Post → List ℕ
 post_line p = spaced (moment_text p.date ∷ name_text p.name ∷ post_kind_text p.how ∷ shown p.user ∷ [])
+
+-- ---- phantoms
+
+-- wanted NAME
+abbrev pub wanted_line : List ℕ → List ℕ
+wanted_line name = spaced (codes "wanted" ∷ name_text name ∷ [])

@@ -9,7 +9,7 @@ ghost use Rattle.fsl_query.specs.Reports.{configured, of_prefix, files_report, r
 ghost use Rattle.fsl_query.specs.Answers.{IsAnswer, IsReported};
 
 use crate::finding::{content, found};
-use crate::{QueryFault, files, leaves, tags, thread, ticket, timeline, tip, wiki};
+use crate::{QueryFault, files, leaves, phantoms, tags, thread, ticket, timeline, tip, wiki};
 use fsl_blobs::Blobs;
 use fsl_cross::Tables;
 use fsl_text::Text;
@@ -64,5 +64,6 @@ pub fn answer(
             ticket::report(alloc, tables, blobs.config().fields.items(), *id)
         }
         Question::Thread { name } => thread::report(alloc, tables, *name),
+        Question::Phantoms => Ok(phantoms::report(alloc, blobs, tables)?),
     }
 }

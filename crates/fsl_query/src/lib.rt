@@ -11,6 +11,7 @@ mod files;
 mod finding;
 mod leaves;
 mod lines;
+mod phantoms;
 mod refusals;
 mod tags;
 mod thread;

@@ -3,7 +3,7 @@ ghost use Rattle.std.specs.Prelude.{◌≡◌, ◌∷◌, ◌++◌, [], OnOk};
 ghost use Rattle.fsl_date.specs.Moment.{moment_text};
 ghost use Rattle.fsl_name.specs.Name.{name_text};
 ghost use Rattle.fsl_query.specs.Lines as line;
-ghost use Rattle.fsl_query.specs.Lines.{shown, valued_line, leaf_line, tag_line, tip_line, timeline_line, file_line, change_line, page_line, attachment_line, post_line};
+ghost use Rattle.fsl_query.specs.Lines.{shown, valued_line, leaf_line, tag_line, tip_line, timeline_line, file_line, change_line, page_line, attachment_line, post_line, wanted_line};
 
 use fsl_date::Moment;
 use fsl_files::{Change, FileRow, How, Perm};
@@ -205,4 +205,13 @@ pub(crate) fn append_post(into: &mut Text, post: &Post) -> Result<(), Memory>
     append_dated(into, post.date, post.name)?;
     append_word(into, post_kind_text(post.how))?;
     append_last(into, post.user.bytes())
+}
+
+/// Puts the line of a name that is wanted at the end of a text.
+pub(crate) fn append_wanted(into: &mut Text, name: Name) -> Result<(), Memory>
+    ensures { OnOk result (into.new ≡ into.old ++ wanted_line name) }
+{
+    into.append(b"wanted ")?;
+    into.append(&name.text())?;
+    into.append(b"\n")
 }

@@ -43,7 +43,6 @@ module _ {X : Type 0} where
             ] refl
       ] refl
 
-
 -- ---- a key less, in any order
 
 module _ {K : Type 0} {R : K → K → Ordering} (o : IsTotalOrder R) (exact : (x y : K) → R x y ≡ Equal → x ≡ y) where

@@ -3,13 +3,13 @@ ghost use Rattle.std.specs.Prelude.{◌≡◌, ◌+◌, ◌≤◌, length, [], �
 ghost use Rattle.fsl_table.specs.Contents.{Contents, with_entry, without_key};
 ghost use Rattle.fsl_table.specs.Undo.{stepped, undone, IsAllowed, IsAsGood, CanUndo, Undoes};
 
-use crate::step::Step;
 use crate::key::Key;
+use crate::step::Step;
+use crate::table::Table;
 use fsl_text::{Memory, Steps};
 use std::alloc::Global;
 use std::marker::Model;
 use std::sync::ledger::Ledger;
-use crate::table::Table;
 
 /// The steps that take a table back.
 #[derive(Drop)]

@@ -27,3 +27,4 @@ pub mod Dropped
 pub mod Filling
 pub mod Holding
 pub mod Others
+pub mod Folding

@@ -61,3 +61,22 @@ pub(crate) fn with_assertion(
     push(&mut list, &shared)?;
     Ok(list)
 }
+
+/// A row with an assertion in the place of the one of its tag. The row is changed where it stands.
+pub(crate) fn put_in(row: List<Shared>, assertion: Shared) -> Result<List<Shared>, Memory>
+    requires { IsStrictlySortedBy bytes_cmp (map (λ a. a.tag) row) }
+    ensures { IfOk result (λ list. list ≡ with_tag assertion row) }
+{
+    let mut items = row.into_vec();
+    let tag = assertion.get().tag.bytes();
+    match items.binary_search_by(|other| order(other, tag)) {
+        Ok(place) => {
+            items[place] = assertion;
+            Ok(List::from_vec(items))
+        }
+        Err(place) => {
+            items.insert(place, assertion)?;
+            Ok(List::from_vec(items))
+        }
+    }
+}

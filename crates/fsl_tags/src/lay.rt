@@ -1,19 +1,19 @@
 //! The tables of facts, of children and of own rows, filled from facts.
-ghost use Rattle.std.specs.Prelude.{◌≡◌, ◌&&◌, ◌∷◌, [], List, ℕ, Some, None, All, OnOk, cond, false};
+ghost use Rattle.std.specs.Prelude.{◌≡◌, ◌&&◌, ◌∷◌, [], List, ℕ, Some, None, All, OnOk, IfOk, cond, false};
 ghost use Rattle.std.specs.Str.{bytes_eq};
 ghost use Rattle.fsl_order.specs.Names.{bytes_cmp};
 ghost use Rattle.fsl_order.specs.Rows.{by_name, named, greater};
 ghost use Rattle.fsl_table.specs.Contents.{value_at};
 ghost use Rattle.fsl_tags.specs.Held.{facts_of};
 ghost use Rattle.fsl_tags.specs.Kept.{newest_on};
-ghost use Rattle.fsl_tags.specs.Laid.{row_in, AreFull};
+ghost use Rattle.fsl_tags.specs.Laid.{row_in, with_tag, AreFull, Rises};
 ghost use Rattle.fsl_tags.specs.Laying.{AreOwn, IsLaying, AreElsewhere, AreAllElsewhere};
 ghost use Rattle.fsl_tags.specs.Tags as table;
 
-use super::find::{find, with_assertion};
+use super::find::{find, put_in};
 use super::node::Node;
 use super::order::is_newer;
-use super::rows::{row_of, set};
+use super::rows::set;
 use super::shared::{Shared, share_copies};
 use super::{Assertion, Fact};
 use fsl_name::Name;
@@ -38,6 +38,40 @@ pub(crate) fn put_row<L: Ledger>(
     set(rows, &mut log, name, row, steps)
 }
 
+/// Takes the row of a name out.
+fn take_row<L: Ledger>(
+    alloc: Global,
+    rows: &mut Table<Name, List<Shared>>,
+    name: Name,
+    steps: &mut Steps<L>,
+) -> List<Shared>
+    requires { AreFull rows.old.entries }
+    ensures full { AreFull rows.new.entries }
+    ensures row { result ≡ row_in rows.old.entries name }
+    ensures others { (x : List ℕ) → row_in rows.new.entries x ≡ cond (bytes_eq x name) [] (row_in rows.old.entries x) }
+{
+    match rows.remove(&name, steps) {
+        Some(row) => row,
+        None => List::new(alloc),
+    }
+}
+
+/// A row with an assertion in the place of the one of its tag, where it is newer than that.
+fn newest_in(
+    row: List<Shared>,
+    assertion: &Assertion,
+    shared: &Shared,
+) -> Result<List<Shared>, Memory>
+    requires shared { shared.now ≡ assertion.now }
+    requires rises { Rises row }
+    ensures { IfOk result (λ list. list ≡ cond (table.is_newer assertion.now (named (λ a. a.tag) row assertion.now.tag)) (with_tag assertion.now row) row) }
+{
+    if !is_newer(assertion, find(row.items(), assertion.tag.bytes())) {
+        return Ok(row);
+    }
+    put_in(row, shared.again()?)
+}
+
 /// Takes an assertion into the own row of its target, where it is newer than the one of its tag there.
 fn fold_one<L: Ledger>(
     alloc: Global,
@@ -52,11 +86,8 @@ fn fold_one<L: Ledger>(
     ensures own { OnOk result ((x tag : List ℕ) → named (λ a. a.tag) (row_in own.new.entries x) tag ≡ cond (bytes_eq assertion.now.target x && bytes_eq assertion.now.tag tag) (greater table.newer_cmp (named (λ a. a.tag) (row_in own.old.entries x) tag) (Some assertion.now)) (named (λ a. a.tag) (row_in own.old.entries x) tag)) }
     ensures away { OnOk result ((x : List ℕ) → bytes_eq x assertion.now.target ≡ false → row_in own.new.entries x ≡ row_in own.old.entries x) }
 {
-    let near = row_of(own, assertion.target, steps);
-    if !is_newer(assertion, find(near, assertion.tag.bytes())) {
-        return Ok(());
-    }
-    let row = with_assertion(alloc, near, shared)?;
+    let row = take_row(alloc, own, assertion.target, steps);
+    let row = newest_in(row, assertion, shared)?;
     put_row(alloc, own, assertion.target, row, steps)
 }
 

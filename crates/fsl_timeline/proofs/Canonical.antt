@@ -1,11 +1,11 @@
 -- The facts determine the rows, so what a log leads back from one state, it leads back from each that is as good.
-use Rattle.std.proofs.Common.{◌≡◌, ◌≤◌, ℕ, List, [], ◌∷◌, Bool, true, false, Option, Some, None, is_some, map, refl, sym, ap, subst, ◌∙◌, arith}
+use Rattle.std.proofs.Common.{◌≡◌, ℕ, List, [], ◌∷◌, is_some, refl, sym, ap, subst, ◌∙◌, arith}
 use Rattle.std.specs.List.Sorted.{IsStrictlySortedBy}
 use Rattle.std.specs.Map.{keys_of}
 use Rattle.fsl_order.specs.Names.{bytes_cmp, latest_first}
 use Rattle.fsl_order.specs.Held.{Held, IsAsBefore, AreAtMost}
 use Rattle.fsl_order.proofs.Orders.{latest_first-IsTotalOrder, latest_first-IsAntisymmetric}
-use Rattle.fsl_table.specs.Contents.{Contents, value_at}
+use Rattle.fsl_table.specs.Contents.{value_at}
 use Rattle.fsl_table.specs.declared.step.Step.{Step}
 use Rattle.fsl_table.specs.Undo.{IsAsGood, Undoes, undone}
 use Rattle.fsl_table.proofs.Facts.{same_facts}

@@ -1,20 +1,18 @@
 -- The rows at the places, in their order, are the timeline.
-use Rattle.std.proofs.Common.{zero, suc, take, arith, ◌-◌, ◌<◌, ◌≡◌, ℕ, List, [], ◌∷◌, Bool, true, false, cond, ◌&&◌, T, Option, Some, None, is_some, map, refl, sym, ap, subst, ◌∙◌}
-use mathlib.Core.Bool.{true≢false}
+use Rattle.std.proofs.Common.{zero, suc, take, arith, ◌-◌, ◌<◌, ◌≡◌, ℕ, List, [], ◌∷◌, Bool, true, false, cond, ◌&&◌, Option, Some, None, is_some, refl, sym, ap, ◌∙◌}
 use Rattle.std.specs.Option.{option_map}
 use Rattle.std.specs.Str.{bytes_eq}
 use Rattle.std.specs.Ordering.{is_eq, nat_cmp, eq_by_cmp}
 use Rattle.std.specs.List.{AllByRecursion}
 use Rattle.std.specs.List.Sorted.{IsStrictlySortedBy}
 use Rattle.std.specs.Map.{keys_of, values_of, lookup}
-use Rattle.std.specs.FinMap.{find}
 use Rattle.std.specs.FinMap.Entries.{same_entries}
 use Rattle.std.specs.Cmp.Lexicographic.{texts_ties, bytes_decides}
 use Rattle.std.specs.Cmp.{Equal-is}
 use Rattle.std.specs.declared.cmp.Ordering.TheVariants.{Less}
 use Rattle.fsl_order.specs.Names.{bytes_cmp, latest_first}
 use Rattle.fsl_order.specs.Rows.{keyed}
-use Rattle.fsl_order.proofs.Orders.{bytes_cmp-IsTotalOrder, latest_first-IsTotalOrder, latest_first-IsAntisymmetric, less_from}
+use Rattle.fsl_order.proofs.Orders.{bytes_cmp-IsTotalOrder, latest_first-IsTotalOrder, latest_first-IsAntisymmetric}
 use Rattle.fsl_order.proofs.RowLemmas.{pairs, is_sorted-keyed, find-keyed}
 use Rattle.fsl_table.specs.Contents.{value_at}
 use Rattle.fsl_table.proofs.Entries.{none_above}
@@ -125,9 +123,9 @@ timeline_is r k =
     let ps = r.places.entries in
     sym (values-attached es ps)
     ∙ ap values_of (same_entries latest_first latest_first-IsTotalOrder latest_first-IsAntisymmetric (attached es ps) (keyed latest_first place (rows_of es))
-      (sorted_is latest_first (attached es ps) (sorted-attached es ps k.places_ordered)) (is_sorted-keyed latest_first-IsTotalOrder place (rows_of es))
-      (λ q. find_is latest_first q (attached es ps) ∙ found es q ps k.places_ordered ∙ ap (λ b. row_if b (row_at es q.1)) (k.places q) ∙ here q (value_at bytes_cmp q.1 es)
-        ∙ sym (find-keyed latest_first-IsTotalOrder place q (rows_of es) ∙ kept_at es q k.ordered)))
+    (sorted_is latest_first (attached es ps) (sorted-attached es ps k.places_ordered)) (is_sorted-keyed latest_first-IsTotalOrder place (rows_of es))
+    (λ q. find_is latest_first q (attached es ps) ∙ found es q ps k.places_ordered ∙ ap (λ b. row_if b (row_at es q.1)) (k.places q) ∙ here q (value_at bytes_cmp q.1 es)
+    ∙ sym (find-keyed latest_first-IsTotalOrder place q (rows_of es) ∙ kept_at es q k.ordered)))
 
 pub take_more : (n : ℕ) (row : Row) (rows : List Row) → 0 < n → take n (row ∷ rows) ≡ row ∷ take (n - 1) rows
 take_more zero row rows h = absurd (omega (arith, h))

@@ -1,8 +1,8 @@
 -- Worked rows: words inside and outside the grammar.
 use Rattle.std.specs.Prelude.{◌≡◌, ℕ, List, [], ◌∷◌, Option, Some, None, replicate, refl, codes}
-use Rattle.fsl_words.specs.declared.Question.TheVariants.{Cat, Timeline, Leaves, Tip, Ticket}
+use Rattle.fsl_words.specs.declared.Question.TheVariants.{Cat, Timeline, Leaves, Tip, Ticket, Phantoms}
 use Rattle.fsl_words.specs.declared.Command.{Command}
-use Rattle.fsl_words.specs.declared.Command.TheVariants.{Init, Put, Ask}
+use Rattle.fsl_words.specs.declared.Command.TheVariants.{Init, Put, Shun, Ask}
 use Rattle.fsl_words.specs.declared.Words.{Words}
 use Rattle.fsl_words.specs.Grammar.{words_in}
 
@@ -66,8 +66,20 @@ dash_alone = refl
 put : words_in (r ∷ codes "put" ∷ []) ≡ read Put
 put = refl
 
-shun : words_in (r ∷ codes "shun" ∷ ones ∷ []) ≡ None
+shun : words_in (r ∷ codes "shun" ∷ ones ∷ []) ≡ read (Shun (replicate 20 17))
 shun = refl
+
+shun_prefix : words_in (r ∷ codes "shun" ∷ codes "abcd" ∷ []) ≡ None
+shun_prefix = refl
+
+shun_nothing : words_in (r ∷ codes "shun" ∷ []) ≡ None
+shun_nothing = refl
+
+phantoms : words_in (r ∷ codes "phantoms" ∷ []) ≡ read (Ask Phantoms)
+phantoms = refl
+
+phantoms_word : words_in (r ∷ codes "phantoms" ∷ codes "x" ∷ []) ≡ None
+phantoms_word = refl
 
 leaves : words_in (r ∷ codes "leaves" ∷ []) ≡ read (Ask Leaves)
 leaves = refl

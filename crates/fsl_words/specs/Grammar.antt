@@ -8,9 +8,9 @@ use Rattle.fsl_text.specs.Decimals.{is_decimal_text, decimal_value}
 use Rattle.fsl_name.specs.Name.{name_in, is_name_digit}
 use Rattle.fsl_record.specs.Records.{is_field}
 use Rattle.fsl_words.specs.declared.Question.{Question}
-use Rattle.fsl_words.specs.declared.Question.TheVariants.{Cat, Timeline, Leaves, Tags, Tip, Files, Wiki, Ticket, Thread}
+use Rattle.fsl_words.specs.declared.Question.TheVariants.{Cat, Timeline, Leaves, Tags, Tip, Files, Wiki, Ticket, Thread, Phantoms}
 use Rattle.fsl_words.specs.declared.Command.{Command}
-use Rattle.fsl_words.specs.declared.Command.TheVariants.{Init, Ingest, Put, Ask}
+use Rattle.fsl_words.specs.declared.Command.TheVariants.{Init, Ingest, Put, Shun, Ask}
 use Rattle.fsl_words.specs.declared.Words.{Words}
 
 -- a word has a byte, and doesn't begin with `-` unless it is `-` alone
@@ -57,6 +57,7 @@ bare_command command =
     if bytes_eq command (codes "ingest") then Some Ingest
     else if bytes_eq command (codes "put") then Some Put
     else if bytes_eq command (codes "leaves") then Some (Ask Leaves)
+    else if bytes_eq command (codes "phantoms") then Some (Ask Phantoms)
     else None
 
 -- a report command with one word
@@ -72,10 +73,14 @@ question_in command word =
     else if bytes_eq command (codes "thread") then option_map Thread (name_in word)
     else None
 
+-- `shun`, or a report command with one word
+abbrev pub worded_command : List ℕ → List ℕ → Option Command
+worded_command command word = if bytes_eq command (codes "shun") then option_map Shun (name_in word) else option_map Ask (question_in command word)
+
 -- a command by its first word and the words behind it
 abbrev pub plain_command : List ℕ → List (List ℕ) → Option Command
 plain_command command [] = bare_command command
-plain_command command (word ∷ []) = option_map Ask (question_in command word)
+plain_command command (word ∷ []) = worded_command command word
 plain_command command words = None
 
 -- `init`, or another command

@@ -1,6 +1,6 @@
 //! Commands with their words.
 ghost use Rattle.std.specs.Prelude.{◌≡◌, map, string_bytes};
-ghost use Rattle.fsl_words.specs.Grammar.{init_command, bare_command, question_in, command_in};
+ghost use Rattle.fsl_words.specs.Grammar.{init_command, bare_command, question_in, worded_command, command_in};
 ghost use Rattle.fsl_words.specs.Answers.{IsAnswer};
 
 use crate::fields::fields;
@@ -31,6 +31,7 @@ fn bare_command(command: &str) -> Result<Command, WordsFault>
         "ingest" => Ok(Command::Ingest),
         "put" => Ok(Command::Put),
         "leaves" => Ok(Command::Ask(Question::Leaves)),
+        "phantoms" => Ok(Command::Ask(Question::Phantoms)),
         _ => Err(WordsFault::Usage),
     }
 }
@@ -64,6 +65,16 @@ fn question(alloc: Global, command: &str, word: &[u8]) -> Result<Question, Words
     })
 }
 
+/// A command with one word.
+fn worded_command(alloc: Global, command: &str, word: &[u8]) -> Result<Command, WordsFault>
+    ensures { IsAnswer (worded_command command.now word.now) result }
+{
+    if command == "shun" {
+        return Ok(Command::Shun { name: name(word)? });
+    }
+    Ok(Command::Ask(question(alloc, command, word)?))
+}
+
 /// A command by its first word and the words behind it.
 pub fn command(alloc: Global, command: &str, words: &[String]) -> Result<Command, WordsFault>
     ensures { IsAnswer (command_in command.now (map string_bytes words.now)) result }
@@ -73,7 +84,7 @@ pub fn command(alloc: Global, command: &str, words: &[String]) -> Result<Command
     }
     match words {
         [] => bare_command(command),
-        [word] => Ok(Command::Ask(question(alloc, command, word.as_bytes())?)),
+        [word] => worded_command(alloc, command, word.as_bytes()),
         _ => Err(WordsFault::Usage),
     }
 }

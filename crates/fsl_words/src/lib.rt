@@ -34,6 +34,8 @@ pub enum Question {
     Ticket { id: Name },
     /// `thread NAME`: the posts of a thread.
     Thread { name: Name },
+    /// `phantoms`: the names that held artifacts refer to and that are neither held nor shunned.
+    Phantoms,
 }
 
 /// A command with its words.
@@ -50,6 +52,10 @@ pub enum Command {
     Ingest,
     /// `put`: the files of a message, into the repository.
     Put,
+    /// `shun NAME`: takes a name out of the repository for good.
+    Shun {
+        name: Name,
+    },
     /// A report.
     Ask(Question),
 }

@@ -35,52 +35,64 @@ fn post(alloc: Global, rest: &[u8]) -> Result<Vec<u8>, AllocError> {
     Ok(bytes)
 }
 
+const REQUESTS: [(&[u8], u16); 9] = [
+    (b"", 0),
+    (b"\x01", 400),
+    (b"POST / HTTP/2.0\r\n\r\n", 400),
+    (b"GET / HTTP/1.1\r\n\r\n", 405),
+    (b"GET /x HTTP/1.1\r\n\r\n", 405),
+    (b"POST /x HTTP/1.1\r\n\r\n", 404),
+    (b"POST /xfer HTTP/1.1\r\n\r\n", 415),
+    (
+        b"POST / HTTP/1.0\r\ncontent-type:\tApplication/X-Fossil-uncompressed ;x\r\n\r\n",
+        411,
+    ),
+    (
+        b"POST / HTTP/1.1\r\nContent-Type: text/plain\r\nContent-Length: x\r\n\r\n",
+        415,
+    ),
+];
+
+/// They stand behind a call without a contract, which keeps them out of the proofs of the tests.
+fn requests() -> &'static [(&'static [u8], u16)] {
+    &REQUESTS
+}
+
 // Where two tests fail, the status is that of the first.
 #[test]
 fn requests_by_their_first_fault(rt: HostRuntime) -> Result<(), Fail> {
-    let table: [(&[u8], u16); 9] = [
-        (b"", 0),
-        (b"\x01", 400),
-        (b"POST / HTTP/2.0\r\n\r\n", 400),
-        (b"GET / HTTP/1.1\r\n\r\n", 405),
-        (b"GET /x HTTP/1.1\r\n\r\n", 405),
-        (b"POST /x HTTP/1.1\r\n\r\n", 404),
-        (b"POST /xfer HTTP/1.1\r\n\r\n", 415),
-        (
-            b"POST / HTTP/1.0\r\ncontent-type:\tApplication/X-Fossil-uncompressed ;x\r\n\r\n",
-            411,
-        ),
-        (
-            b"POST / HTTP/1.1\r\nContent-Type: text/plain\r\nContent-Length: x\r\n\r\n",
-            415,
-        ),
-    ];
-    for (bytes, status) in table {
-        assert_eq!(rt; status_of(rt.alloc(), bytes, &[])?, status);
+    for (bytes, status) in requests() {
+        assert_eq!(rt; status_of(rt.alloc(), *bytes, &[])?, *status);
     }
     Ok(())
+}
+
+const RESTS: [(&[u8], u16); 9] = [
+    (b"Content-Length: 003\r\n\r\nabcd", 200),
+    (b"Content-Length: 3\r\n\r\nab", 400),
+    (b"Content-Length: 3\r\n\r\n", 400),
+    (b"Content-Length: x\r\n\r\nabc", 400),
+    (b"Content-Length: 3\r\ncontent-length: 3\r\n\r\nabc", 400),
+    (b"Content-Length: 134217728\r\n\r\nabc", 400),
+    (b"Content-Length: 134217729\r\n\r\nabc", 413),
+    (
+        b"Content-Length: 134217729\r\nTransfer-Encoding: chunked\r\n\r\nabc",
+        400,
+    ),
+    (b"Content-Length: 18446744073709551616\r\n\r\nabc", 400),
+];
+
+/// They stand behind a call without a contract, which keeps them out of the proofs of the tests.
+fn rests() -> &'static [(&'static [u8], u16)] {
+    &RESTS
 }
 
 // Each is the rest of a head that is good so far, and what stands behind it.
 #[test]
 fn requests_by_their_length(rt: HostRuntime) -> Result<(), Fail> {
-    let table: [(&[u8], u16); 9] = [
-        (b"Content-Length: 003\r\n\r\nabcd", 200),
-        (b"Content-Length: 3\r\n\r\nab", 400),
-        (b"Content-Length: 3\r\n\r\n", 400),
-        (b"Content-Length: x\r\n\r\nabc", 400),
-        (b"Content-Length: 3\r\ncontent-length: 3\r\n\r\nabc", 400),
-        (b"Content-Length: 134217728\r\n\r\nabc", 400),
-        (b"Content-Length: 134217729\r\n\r\nabc", 413),
-        (
-            b"Content-Length: 134217729\r\nTransfer-Encoding: chunked\r\n\r\nabc",
-            400,
-        ),
-        (b"Content-Length: 18446744073709551616\r\n\r\nabc", 400),
-    ];
-    for (rest, status) in table {
-        let bytes = post(rt.alloc(), rest)?;
-        assert_eq!(rt; status_of(rt.alloc(), &bytes, &[])?, status);
+    for (rest, status) in rests() {
+        let bytes = post(rt.alloc(), *rest)?;
+        assert_eq!(rt; status_of(rt.alloc(), &bytes, &[])?, *status);
     }
     Ok(())
 }
@@ -171,11 +183,17 @@ fn replies_byte_by_byte(rt: HostRuntime) -> Result<(), Fail> {
     Ok(())
 }
 
+// A dial with one reply.
+fn dial(alloc: Global, bytes: &[u8], fails: &[u64]) -> Result<MemoryDial, AllocError> {
+    let reply = bytes.to_vec(alloc)?;
+    let mut replies = Vec::new(alloc);
+    replies.push(reply)?;
+    Ok(MemoryDial::new(alloc, replies, fails.to_vec(alloc)?))
+}
+
 // What an exchange with these bytes as the reply gives: a number for its kind, and what was found.
 fn exchanged(alloc: Global, bytes: &[u8], fails: &[u64]) -> Result<(u64, u64), AllocError> {
-    let mut replies = Vec::new(alloc);
-    replies.push(bytes.to_vec(alloc)?)?;
-    let mut dial = MemoryDial::new(alloc, replies, fails.to_vec(alloc)?);
+    let mut dial = dial(alloc, bytes, fails)?;
     Ok(match exchange(alloc, &mut dial, b"clone 3 1\n") {
         Ok(text) => (0, text.bytes().len() as u64),
         Err(ExchangeFault::Link) => (1, dial.faults()),
@@ -187,39 +205,52 @@ fn exchanged(alloc: Global, bytes: &[u8], fails: &[u64]) -> Result<(u64, u64), A
     })
 }
 
+/// A reply of three bytes.
+const GOOD: &[u8] = b"HTTP/1.0 200\r\ncontent-length: 003\r\n\r\nabcd";
+
+/// Replies, the kind of answer to each, and its number.
+const REPLIES: [(&[u8], u64, u64); 8] = [
+    (GOOD, 0, 3),
+    (b"", 2, 0),
+    (b"HTTP/1.1 404 Not Found\r\n\r\n", 2, 0),
+    (
+        b"HTTP/1.1 200 OK\r\nContent-Length: 3\r\nContent-Length: 3\r\n\r\nabc",
+        2,
+        0,
+    ),
+    (
+        b"HTTP/1.1 404 Not Found\r\nContent-Length: 134217729\r\n\r\n",
+        3,
+        404,
+    ),
+    (
+        b"HTTP/1.1 200 OK\r\nContent-Length: 134217729\r\n\r\n",
+        4,
+        134_217_729,
+    ),
+    (
+        b"HTTP/1.1 200 OK\r\nContent-Length: 134217728\r\n\r\nabc",
+        5,
+        3,
+    ),
+    (b"HTTP/1.1 200 OK\r\nContent-Length: 3\r\n\r\nab", 5, 2),
+];
+
+/// They stand behind a call without a contract, which keeps them out of the proofs of the tests.
+fn replies() -> &'static [(&'static [u8], u64, u64)] {
+    &REPLIES
+}
+
 #[test]
 fn exchanges_by_their_reply(rt: HostRuntime) -> Result<(), Fail> {
-    let good: &[u8] = b"HTTP/1.0 200\r\ncontent-length: 003\r\n\r\nabcd";
-    let table: [(&[u8], (u64, u64)); 8] = [
-        (good, (0, 3)),
-        (b"", (2, 0)),
-        (b"HTTP/1.1 404 Not Found\r\n\r\n", (2, 0)),
-        (
-            b"HTTP/1.1 200 OK\r\nContent-Length: 3\r\nContent-Length: 3\r\n\r\nabc",
-            (2, 0),
-        ),
-        (
-            b"HTTP/1.1 404 Not Found\r\nContent-Length: 134217729\r\n\r\n",
-            (3, 404),
-        ),
-        (
-            b"HTTP/1.1 200 OK\r\nContent-Length: 134217729\r\n\r\n",
-            (4, 134_217_729),
-        ),
-        (
-            b"HTTP/1.1 200 OK\r\nContent-Length: 134217728\r\n\r\nabc",
-            (5, 3),
-        ),
-        (b"HTTP/1.1 200 OK\r\nContent-Length: 3\r\n\r\nab", (5, 2)),
-    ];
-    for (bytes, given) in table {
-        assert_eq!(rt; exchanged(rt.alloc(), bytes, &[])?, given);
+    for (bytes, kind, found) in replies() {
+        assert_eq!(rt; exchanged(rt.alloc(), *bytes, &[])?, (*kind, *found));
     }
     // One call begins the connection, four write the request, and one reads the reply.
     for call in [1u64, 2, 6] {
-        assert_eq!(rt; exchanged(rt.alloc(), good, &[call])?, (1, 1));
+        assert_eq!(rt; exchanged(rt.alloc(), GOOD, &[call])?, (1, 1));
     }
-    assert_eq!(rt; exchanged(rt.alloc(), good, &[7])?, (0, 3));
+    assert_eq!(rt; exchanged(rt.alloc(), GOOD, &[7])?, (0, 3));
     Ok(())
 }
 
@@ -227,9 +258,7 @@ fn exchanges_by_their_reply(rt: HostRuntime) -> Result<(), Fail> {
 #[test]
 fn dials_give_their_replies_in_turn(rt: HostRuntime) -> Result<(), Fail> {
     let alloc = rt.alloc();
-    let mut replies = Vec::new(alloc);
-    replies.push(b"HTTP/1.1 200 OK\r\nContent-Length: 1\r\n\r\nx".to_vec(alloc)?)?;
-    let mut dial = MemoryDial::new(alloc, replies, Vec::new(alloc));
+    let mut dial = dial(alloc, b"HTTP/1.1 200 OK\r\nContent-Length: 1\r\n\r\nx", &[])?;
     assert!(rt; exchange(alloc, &mut dial, b"a").is_ok());
     assert!(rt; exchange(alloc, &mut dial, b"bc").is_ok());
     assert!(rt;
@@ -242,13 +271,17 @@ fn dials_give_their_replies_in_turn(rt: HostRuntime) -> Result<(), Fail> {
     Ok(())
 }
 
+// A door of one connection, whose first accept fails.
+fn door(alloc: Global) -> Result<MemoryDoor, AllocError> {
+    let mut connections = Vec::new(alloc);
+    connections.push(b"abc".to_vec(alloc)?)?;
+    Ok(MemoryDoor::new(alloc, connections, Vec::new(alloc), [1u64].to_vec(alloc)?))
+}
+
 // The first accept fails, the second takes the one connection, and the third finds the door closed.
 #[test]
 fn doors_close_behind_the_last_connection(rt: HostRuntime) -> Result<(), Fail> {
-    let alloc = rt.alloc();
-    let mut connections = Vec::new(alloc);
-    connections.push(b"abc".to_vec(alloc)?)?;
-    let mut door = MemoryDoor::new(alloc, connections, Vec::new(alloc), [1u64].to_vec(alloc)?);
+    let mut door = door(rt.alloc())?;
     let mut into = [0u8; 8];
     assert!(rt; door.accept().is_err());
     assert!(rt; door.read(&mut into).is_err());

@@ -94,14 +94,24 @@ fn commits_a_blob(rt: HostRuntime) -> Result<(), Fail> {
     Ok(())
 }
 
+/// Appends two blobs and a shun; the disk still belongs to the journal.
+fn add_three<D: Disk>(alloc: Global, journal: &mut Journal, disk: &D) -> Result<(), Memory>
+    requires belongs { Belongs journal.old (D.state disk.now) }
+    requires runs { journal.old.stopped ≡ None }
+    ensures belongs { Belongs journal.new (D.state disk.now) }
+    ensures runs { journal.new.stopped ≡ None }
+{
+    let entry = blob(alloc)?;
+    add(journal, disk, &entry)?;
+    add(journal, disk, &entry)?;
+    let name = Name::of(b"abc");
+    add(journal, disk, &Record::Shun { name })
+}
+
 /// Whether a commit of two blobs and a shun is done.
 fn commits_three<D: Disk>(alloc: Global, disk: &mut D) -> Result<bool, Fail> {
     let (mut journal, _) = Journal::load(alloc, disk)?;
-    let entry = blob(alloc)?;
-    add(&mut journal, disk, &entry)?;
-    add(&mut journal, disk, &entry)?;
-    let name = Name::of(b"abc");
-    add(&mut journal, disk, &Record::Shun { name })?;
+    add_three(alloc, &mut journal, disk)?;
     Ok(journal.commit(disk).is_ok())
 }
 

@@ -1,6 +1,5 @@
 //! Facts in a circle, which no artifacts make, since each name stands for what is named in it.
 use crate::names::{are_distinct, letter, names_of};
-use fsl_cross::same_in_any_order;
 use fsl_date::Moment;
 use fsl_forum::{PostKind, end_by_next};
 use fsl_leaves::Leaves;
@@ -35,7 +34,6 @@ fn around(alloc: Global) -> Result<(List<Name>, Option<Name>), Memory> {
 
 #[test]
 fn parents_in_a_circle_are_children(rt: HostRuntime) -> Result<(), Memory> {
-    same_in_any_order();
     effective_by_parent();
     end_by_next();
     let (children, primary) = around(rt.alloc())?;

@@ -4,7 +4,7 @@ ghost use Rattle.fsl_order.specs.Names.{has};
 ghost use Rattle.fsl_order.specs.Rows.{AreDistinct};
 
 use fsl_name::Name;
-use fsl_text::{List, Memory};
+use fsl_text::{List, Memory, Text};
 use std::alloc::Global;
 
 pub fn letter(byte: u8) -> Name {
@@ -34,4 +34,18 @@ pub fn are_distinct(names: &[Name]) -> bool
     }
     let rest = &names[1..];
     is_none_of(rest, &names[0]) && are_distinct(rest)
+}
+
+/// Adds a word behind a space.
+pub fn add(into: &mut Text, word: &[u8]) -> Result<(), Memory> {
+    into.append(b" ")?;
+    into.append(word)
+}
+
+/// Adds the first digits of each name.
+pub fn add_names(into: &mut Text, names: &[Name]) -> Result<(), Memory> {
+    for name in names {
+        add(into, &name.text()[..4])?;
+    }
+    Ok(())
 }

@@ -5,8 +5,8 @@ ghost use Rattle.fsl_order.specs.Names.{bytes_cmp};
 ghost use Rattle.fsl_cross.specs.Facts.{cluster_fact};
 ghost use Rattle.fsl_cross.specs.Tables.{cluster_facts};
 
-use crate::held::Held;
 use crate::checkin::copied;
+use crate::held::Held;
 use crate::items::Items;
 use fsl_artifact::{members, refs};
 use fsl_cluster::{Clusters, Fact};

@@ -6,8 +6,8 @@ ghost use Rattle.fsl_cross.specs.Facts.{file_row, files_fact, row_perm_of};
 ghost use Rattle.fsl_cross.specs.Tables.{IsItem, files_facts};
 
 use super::append;
-use crate::held::Held;
 use crate::checkin::manifest;
+use crate::held::Held;
 use crate::items::Items;
 use fsl_files::{Fact, FileRow, Files, Perm};
 use fsl_manifest as manifests;

@@ -7,8 +7,8 @@ ghost use Rattle.fsl_cross.specs.Tables.{leaves_facts};
 ghost use Rattle.fsl_cross.specs.Inside.{leaves_fact_over};
 
 use super::append;
-use crate::held::Held;
 use crate::checkin::{branch, copied, manifest};
+use crate::held::Held;
 use crate::items::Items;
 use fsl_leaves::{Fact, Leaves};
 use fsl_tags::Tags;

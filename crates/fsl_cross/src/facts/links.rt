@@ -6,8 +6,8 @@ ghost use Rattle.fsl_cross.specs.Facts.{links_fact};
 ghost use Rattle.fsl_cross.specs.Checkins.{links_facts};
 
 use super::append;
-use crate::held::Held;
 use crate::checkin::{copied, manifest};
+use crate::held::Held;
 use crate::items::Items;
 use fsl_links::{Fact, Links};
 use fsl_text::Memory;

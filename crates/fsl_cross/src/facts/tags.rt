@@ -8,8 +8,8 @@ ghost use Rattle.fsl_cross.specs.Facts.{assertion, tag_cards, tag_prefix_of};
 ghost use Rattle.fsl_cross.specs.Inside.{tags_fact_over};
 
 use super::append;
-use crate::held::Held;
 use crate::checkin::manifest;
+use crate::held::Held;
 use crate::items::Items;
 use fsl_artifact::Artifact;
 use fsl_date::Moment;

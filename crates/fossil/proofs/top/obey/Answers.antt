@@ -37,6 +37,14 @@ returns-in-Put-clause-runs g c =
     subst (λ (x : Command). RunsCommand x input out file c.print-in-Put.result) (sym c.in-Put.is)
     (written (Some command_of.Put) (input_of input) (file_of file) c.put.result (output_of out) c.print-in-Put.result c.put.ensures c.print-in-Put.ensures)
 
+pub returns-in-Shun-clause-runs : goal.returns-in-Shun-clause-runs
+returns-in-Shun-clause-runs g c =
+    let input : SourceState × SourceState = (g.S.Source.state c.args.input.now, g.S.Source.state c.args.input.now) in
+    let out : SinkState × SinkState = (g.K.Sink.state c.args.out.now, g.K.Sink.state c.print-in-Shun.new.out) in
+    let file : DiskState × DiskState = (g.D.Disk.state c.args.disk.now, g.D.Disk.state c.shun.new.disk) in
+    subst (λ (x : Command). RunsCommand x input out file c.print-in-Shun.result) (sym c.in-Shun.is)
+    (written (Some (command_of.Shun c.in-Shun.name)) (input_of input) (file_of file) c.shun.result (output_of out) c.print-in-Shun.result (c.shun.ensures (g.S.Source.state c.args.input.now)) c.print-in-Shun.ensures)
+
 pub returns-in-Ask-clause-runs : goal.returns-in-Ask-clause-runs
 returns-in-Ask-clause-runs g c =
     let input : SourceState × SourceState = (g.S.Source.state c.args.input.now, g.S.Source.state c.args.input.now) in

@@ -1,4 +1,4 @@
-use Rattle.std.proofs.Common.{◌≡◌, ◌∙◌, is_some, true, false, sym, ap}
+use Rattle.std.proofs.Common.{◌∙◌, is_some, sym, ap}
 use Rattle.std.specs.Str.{bytes_eq}
 use Rattle.std.specs.Cmp.Lexicographic.{bytes_decides}
 use Rattle.fsl_order.specs.Names.{bytes_cmp}

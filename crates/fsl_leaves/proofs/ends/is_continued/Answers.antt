@@ -1,10 +1,10 @@
-use Rattle.std.proofs.Common.{◌≡◌, ◌+◌, ◌*◌, ◌≤◌, ◌<◌, ◌||◌, ◌∙◌, ◌∷◌, Some, None, true, false, List, ℕ, Bool, length, refl, sym, ap, arith}
+use Rattle.std.proofs.Common.{◌≡◌, ◌+◌, ◌<◌, ◌||◌, ◌∙◌, ◌∷◌, Some, None, false, List, ℕ, Bool, length, sym, ap, arith}
 use Rattle.std.specs.List.{list_any}
 use Rattle.fsl_order.specs.Names.{bytes_cmp}
 use Rattle.fsl_table.specs.Contents.{value_at}
 use Rattle.fsl_table.specs.Pairs.{seconds, left_from, rest_after}
 use Rattle.fsl_table.proofs.Seconds.{next_second, seconds_sorted, left_rest, rest_none}
-use Rattle.fsl_leaves.specs.Kept.{is_in, walked}
+use Rattle.fsl_leaves.specs.Kept.{is_in}
 use Rattle.fsl_leaves.proofs.ends.is_continued.Goals as goal
 
 pub loop-next-init : goal.loop-next-init

@@ -1,8 +1,7 @@
-use Rattle.std.proofs.Common.{◌≡◌, ◌∙◌, is_some, true, false, sym}
+use Rattle.std.proofs.Common.{◌∙◌, is_some, sym}
 use Rattle.fsl_order.specs.Names.{bytes_cmp, has}
 use Rattle.fsl_table.specs.Contents.{value_at}
 use Rattle.fsl_table.proofs.Outcomes.{on_ok_map}
-use Rattle.fsl_leaves.specs.Kept.{differs}
 use Rattle.fsl_leaves.proofs.Facts.{set_already, set_flips}
 use Rattle.fsl_leaves.proofs.ends.set_leaf.Goals as goal
 

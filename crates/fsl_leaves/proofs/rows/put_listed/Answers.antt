@@ -1,8 +1,8 @@
-use Rattle.std.proofs.Common.{◌≡◌, ◌∙◌, is_some, ap, sym}
+use Rattle.std.proofs.Common.{◌∙◌, is_some, ap}
 use Rattle.fsl_order.specs.Names.{bytes_cmp, has}
 use Rattle.fsl_table.specs.Contents.{value_at}
-use Rattle.fsl_table.proofs.Outcomes.{always_ok, if_ok_map}
-use Rattle.fsl_leaves.specs.Kept.{Rows, AreFlipped, IsKept}
+use Rattle.fsl_table.proofs.Outcomes.{always_ok}
+use Rattle.fsl_leaves.specs.Kept.{Rows, AreFlipped}
 use Rattle.fsl_leaves.proofs.Facts.{same_differs, if_ok}
 use Rattle.fsl_leaves.proofs.Reading.{lists_flipped}
 use Rattle.fsl_leaves.proofs.rows.put_listed.Goals as goal

@@ -1,4 +1,4 @@
-use Rattle.std.proofs.Common.{◌≡◌, ◌∙◌, false, if◌then◌else◌, ap, sym, subst, option_and_then}
+use Rattle.std.proofs.Common.{◌∙◌, false, if◌then◌else◌, ap, sym, subst, option_and_then}
 use Rattle.std.specs.Str.{bytes_eq}
 use Rattle.std.specs.BTreeMap.{is_at}
 use Rattle.std.specs.List.Sorted.{IsStrictlySortedBy}

@@ -1,6 +1,6 @@
 use Rattle.std.proofs.Common.{◌∙◌, false, if◌then◌else◌, ap}
 use Rattle.std.specs.Str.{bytes_eq}
-use Rattle.fsl_table.proofs.Outcomes.{on_ok_map, always_ok}
+use Rattle.fsl_table.proofs.Outcomes.{on_ok_map}
 use Rattle.fsl_leaves.proofs.rows.unlink_line.Goals as goal
 
 pub returns-clause-undoes_leaves : goal.returns-clause-undoes_leaves

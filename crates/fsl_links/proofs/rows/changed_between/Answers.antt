@@ -1,4 +1,4 @@
-use Rattle.std.proofs.Common.{◌≡◌, ◌||◌, ◌&&◌, not, ◌∙◌, true, false, List, ℕ, slice_get, sym, ap}
+use Rattle.std.proofs.Common.{◌≡◌, ◌||◌, not, ◌∙◌, List, ℕ, slice_get, sym, ap}
 use Rattle.std.specs.Str.{bytes_eq}
 use Rattle.fsl_order.specs.Names.{has}
 use Rattle.fsl_links.specs.Kept.{leader, same_name, in_one, moves}

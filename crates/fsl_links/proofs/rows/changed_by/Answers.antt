@@ -1,7 +1,6 @@
-use Rattle.std.proofs.Common.{◌≡◌, ◌||◌, ◌&&◌, ◌∙◌, ◌∷◌, [], Bool, true, false, List, ℕ, map, sym, ap, subst, refl}
+use Rattle.std.proofs.Common.{◌≡◌, ◌||◌, ◌&&◌, ◌∙◌, List, ℕ, sym, ap}
 use Rattle.std.specs.Str.{bytes_eq}
-use Rattle.std.specs.Result.{IfOk}
-use Rattle.fsl_order.specs.Names.{bytes_cmp, has}
+use Rattle.fsl_order.specs.Names.{has}
 use Rattle.fsl_links.specs.Kept.{changes, waits, leads}
 use Rattle.fsl_links.proofs.Changed.{lists_changed}
 use Rattle.fsl_links.proofs.Waiting.{if_ok, led, not_led, or-none}

@@ -1,4 +1,4 @@
-use Rattle.std.proofs.Common.{◌≡◌, ◌||◌, ◌∙◌, true, false, Some, is_some, slice_get, ap, sym, Bool}
+use Rattle.std.proofs.Common.{◌≡◌, ◌||◌, ◌∙◌, true, false, Some, is_some, slice_get, ap, sym}
 use Rattle.std.specs.Str.{bytes_eq}
 use Rattle.fsl_order.specs.Names.{bytes_cmp}
 use Rattle.fsl_table.specs.Contents.{value_at}

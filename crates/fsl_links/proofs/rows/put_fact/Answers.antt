@@ -1,10 +1,10 @@
-use Rattle.std.proofs.Common.{◌≡◌, ◌||◌, ◌&&◌, ◌∙◌, ap, sym, subst, is_some, option_and_then}
+use Rattle.std.proofs.Common.{◌||◌, ◌&&◌, ◌∙◌, ap, sym, subst, is_some, option_and_then}
 use Rattle.std.specs.List.Sorted.{IsStrictlySortedBy}
 use Rattle.std.specs.Map.{keys_of}
 use Rattle.fsl_order.specs.Names.{bytes_cmp, has}
 use Rattle.fsl_order.proofs.Orders.{bytes_cmp-IsTotalOrder}
 use Rattle.fsl_table.specs.Exact.{pair_cmp}
-use Rattle.fsl_table.specs.Contents.{value_at, with_entry}
+use Rattle.fsl_table.specs.Contents.{value_at}
 use Rattle.fsl_table.specs.Pairs.{is_name}
 use Rattle.fsl_table.proofs.Entries.{sorted-insert_entry}
 use Rattle.fsl_table.proofs.Outcomes.{on_ok_map}

@@ -1,9 +1,7 @@
-use Rattle.std.proofs.Common.{◌≡◌, ◌∙◌, None, cond, ap}
-use Rattle.std.specs.Cmp.Lexicographic.{nat_list_eq_equiv}
+use Rattle.std.proofs.Common.{◌∙◌, ap}
 use Rattle.fsl_order.specs.Names.{bytes_cmp}
 use Rattle.fsl_table.specs.Contents.{value_at, with_entry}
 use Rattle.fsl_table.proofs.Facts.{with-without, none-without}
-use Rattle.fsl_table.proofs.Outcomes.{on_ok_map}
 use Rattle.fsl_links.proofs.rows.put_other.Goals as goal
 
 pub put_fact-requires-clause-absent : goal.put_fact-requires-clause-absent

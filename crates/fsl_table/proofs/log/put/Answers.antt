@@ -1,6 +1,6 @@
-use Rattle.std.proofs.Common.{rules, ◌≡◌, ◌+◌, ◌≤◌, ◌++◌, [], ◌∷◌, sym, ap, subst, ◌∙◌, Some, None}
+use Rattle.std.proofs.Common.{rules, ◌≡◌, ◌+◌, ◌≤◌, ◌++◌, [], ◌∷◌, sym, subst, ◌∙◌, Some, None}
 use Rattle.fsl_table.specs.Contents.{value_at}
-use Rattle.fsl_table.specs.Undo.{IsAsGood, Undoes, stepped, IsAllowed}
+use Rattle.fsl_table.specs.Undo.{IsAsGood, Undoes, stepped}
 use Rattle.fsl_table.specs.declared.step.Step.TheVariants.{Put, Remove}
 use Rattle.fsl_table.proofs.Steps.{new_taken, old_put, old_allowed, undoes-push}
 use Rattle.fsl_table.proofs.log.put.Goals as goal
@@ -22,5 +22,5 @@ returns-in-Ok-Some-clause-undoes g c = λ before u.
     let pushed : c.push-in-Ok-Some.new.self.items ≡ c.args.log.now ++ Put c.args.again c.in-Ok-Some.before ∷ [] = search rules in
     subst (λ l. Undoes g.K.Ord.cmp l c.put.new.self before) (sym pushed)
     (undoes-push g.K.Ord.cmp c.args.log.now (Put c.args.again c.in-Ok-Some.before) c.args.table.now c.put.new.self before
-      (rw c.requires (old_allowed g.met.K.Ord.total g.met.K.Key.exact c.args.key c.args.value c.in-Ok-Some.before c.args.table.now c.put.new.self c.in-Ok-Some.ensures.ok))
-      (subst (λ k. IsAsGood c.args.table.now (stepped g.K.Ord.cmp (Put k c.in-Ok-Some.before) c.put.new.self)) (sym c.requires) good) u)
+    (rw c.requires (old_allowed g.met.K.Ord.total g.met.K.Key.exact c.args.key c.args.value c.in-Ok-Some.before c.args.table.now c.put.new.self c.in-Ok-Some.ensures.ok))
+    (subst (λ k. IsAsGood c.args.table.now (stepped g.K.Ord.cmp (Put k c.in-Ok-Some.before) c.put.new.self)) (sym c.requires) good) u)

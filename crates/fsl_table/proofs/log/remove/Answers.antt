@@ -12,4 +12,4 @@ returns-in-Some-clause-undoes g c = λ before u.
     let pushed : c.push.new.self.items ≡ c.args.log.now ++ Put c.args.key c.in-Some.before ∷ [] = search rules in
     subst (λ l. Undoes g.K.Ord.cmp l c.remove.new.self before) (sym pushed)
     (undoes-push g.K.Ord.cmp c.args.log.now (Put c.args.key c.in-Some.before) c.args.table.now c.remove.new.self before
-      (taken_allowed {R = g.K.Ord.cmp} g.met.K.Ord.total g.met.K.Key.exact c.args.key c.in-Some.before c.args.table.now c.remove.new.self c.in-Some.ensures.spare) good u)
+    (taken_allowed {R = g.K.Ord.cmp} g.met.K.Ord.total g.met.K.Key.exact c.args.key c.in-Some.before c.args.table.now c.remove.new.self c.in-Some.ensures.spare) good u)

@@ -1,5 +1,5 @@
 use Rattle.std.proofs.lemmas.List.{drop_more}
-use Rattle.std.proofs.Common.{◌≡◌, ◌||◌, ◌&&◌, not, ◌∙◌, ◌∷◌, ◌+◌, ◌≤◌, Some, drop, ap, sym, subst, List, ℕ, is_some, length, arith}
+use Rattle.std.proofs.Common.{◌≡◌, ◌&&◌, not, ◌∙◌, ◌∷◌, ◌+◌, Some, drop, ap, sym, subst, is_some, arith}
 use Rattle.std.specs.Str.{bytes_eq}
 use Rattle.std.specs.BTreeMap.{is_at}
 use Rattle.std.specs.List.Sorted.{IsStrictlySortedBy}

@@ -1,4 +1,4 @@
-use Rattle.std.proofs.Common.{◌≡◌, ◌∙◌, true, Some, ap, sym, subst}
+use Rattle.std.proofs.Common.{◌∙◌, true, ap, sym, subst}
 use Rattle.std.specs.Option.{option_map}
 use Rattle.fsl_order.specs.Names.{bytes_cmp}
 use Rattle.fsl_order.specs.Rows.{ListsChanged}
@@ -15,4 +15,4 @@ returns-clause-changed g c =
     let fs = with_entry bytes_cmp row.name (entry row) es in
     subst (ListsChanged (timeline_row (rows_of es)) (timeline_row (rows_of fs))) (sym c.in_ok-changed.ensures)
     (lists_one es fs row.name (other_with es row.name (entry row)) true
-      (λ e. none_some (row_at es row.name) row (ap (option_map (λ e. row_of (row.name, e))) c.requires.absent) (e ∙ own_with es row.name (entry row))))
+    (λ e. none_some (row_at es row.name) row (ap (option_map (λ e. row_of (row.name, e))) c.requires.absent) (e ∙ own_with es row.name (entry row))))

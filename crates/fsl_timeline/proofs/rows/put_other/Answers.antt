@@ -1,4 +1,4 @@
-use Rattle.std.proofs.Common.{◌≡◌, ◌∙◌, not, ap, sym, subst}
+use Rattle.std.proofs.Common.{◌∙◌, not, ap, sym, subst}
 use Rattle.fsl_order.specs.Names.{bytes_cmp}
 use Rattle.fsl_order.specs.Rows.{ListsChanged}
 use Rattle.fsl_table.specs.Contents.{value_at, with_entry}

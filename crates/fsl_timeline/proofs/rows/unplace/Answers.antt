@@ -1,9 +1,9 @@
-use Rattle.std.proofs.Common.{◌≡◌, ◌∙◌, ◌&&◌, not, ap, sym, subst, is_some}
+use Rattle.std.proofs.Common.{◌∙◌, ◌&&◌, not, ap, sym, subst, is_some}
 use Rattle.std.specs.Str.{bytes_eq}
 use Rattle.std.specs.BTreeMap.{is_at}
 use Rattle.std.specs.List.Sorted.{IsStrictlySortedBy}
 use Rattle.std.specs.Map.{keys_of}
-use Rattle.fsl_order.specs.Names.{bytes_cmp, latest_first}
+use Rattle.fsl_order.specs.Names.{latest_first}
 use Rattle.fsl_order.proofs.Orders.{latest_first-IsTotalOrder}
 use Rattle.fsl_table.specs.Contents.{value_at, without_key}
 use Rattle.fsl_table.proofs.Entries.{sorted-remove_entry}

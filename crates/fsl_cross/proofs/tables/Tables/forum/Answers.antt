@@ -11,7 +11,7 @@ returns c =
     let rise = c.self.invariant.rising in
     record {
       facts =
-        c.self.invariant.contents.threads
-        ∙ sym (ap (λ set. by_name (λ f. f.name) (forum_facts set)) (set-rising items rise) ∙ forum-by_name items rise)
-        ∙ ap (λ (s : Seen). by_name (λ f. f.name) (forum_facts (item_set s.items))) c.self.view_is;
+          c.self.invariant.contents.threads
+          ∙ sym (ap (λ set. by_name (λ f. f.name) (forum_facts set)) (set-rising items rise) ∙ forum-by_name items rise)
+          ∙ ap (λ (s : Seen). by_name (λ f. f.name) (forum_facts (item_set s.items))) c.self.view_is;
     }

@@ -11,7 +11,7 @@ returns c =
     let rise = c.self.invariant.rising in
     record {
       facts =
-        c.self.invariant.timeline
-        ∙ sym (ap (λ set. by_name (λ r. r.name) (timeline_rows set)) (set-rising items rise) ∙ rows-by_name items rise)
-        ∙ ap (λ (s : Seen). by_name (λ r. r.name) (timeline_rows (item_set s.items))) c.self.view_is;
+          c.self.invariant.timeline
+          ∙ sym (ap (λ set. by_name (λ r. r.name) (timeline_rows set)) (set-rising items rise) ∙ rows-by_name items rise)
+          ∙ ap (λ (s : Seen). by_name (λ r. r.name) (timeline_rows (item_set s.items))) c.self.view_is;
     }

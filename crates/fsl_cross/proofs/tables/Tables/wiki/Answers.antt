@@ -12,7 +12,7 @@ returns c =
     let rise = c.self.invariant.rising in
     record {
       facts =
-        c.self.invariant.contents.pages
-        ∙ sym (ap (λ set. by_name name_of (pages_facts set)) (set-rising items rise) ∙ pages-by_name items rise)
-        ∙ ap (λ (s : Seen). by_name name_of (pages_facts (item_set s.items))) c.self.view_is;
+          c.self.invariant.contents.pages
+          ∙ sym (ap (λ set. by_name name_of (pages_facts set)) (set-rising items rise) ∙ pages-by_name items rise)
+          ∙ ap (λ (s : Seen). by_name name_of (pages_facts (item_set s.items))) c.self.view_is;
     }

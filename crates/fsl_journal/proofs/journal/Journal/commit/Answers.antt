@@ -29,6 +29,8 @@ returns-in-Ok g c =
       ok = search rules;
       fault = tt;
       keeps = search rules;
+      later = search rules;
+      nothing = search rules;
       idle = search rules;
       any_moment =
           subst (λ (log : Log). IsModelled s0 → LeavesOnly s0 s1 (BeforeOrAll log)) c.self.view_is
@@ -53,6 +55,8 @@ returns-in-Err g c =
       ok = tt;
       fault = search rules;
       keeps = search rules;
+      later = search rules;
+      nothing = search rules;
       idle = search rules;
       any_moment =
           subst (λ (log : Log). IsModelled s0 → LeavesOnly s0 s1 (BeforeOrAll log)) c.self.view_is

@@ -5,7 +5,7 @@ use Rattle.fsl_journal.specs.File.{IsFileOf, FailsAt}
 use Rattle.fsl_journal.specs.Log.{IsLog, IsBetween}
 use Rattle.fsl_journal.specs.Reading.{FileFailed}
 use Rattle.fsl_journal.proofs.Failing.{no_file}
-use Rattle.fsl_journal.proofs.Opening.{LoadRun, resumed_log, records_between, load_moments, belongs_loaded, loaded_durable, load_failed, not_refused}
+use Rattle.fsl_journal.proofs.Opening.{LoadRun, resumed_log, records_between, load_moments, belongs_loaded, loaded_durable, load_failed, not_refused, harmless_moments, harmless_quiet, spared}
 use Rattle.fsl_journal.proofs.journal.Journal.load.Goals as goal
 
 pub returns-in-Err-clause-fault : goal.returns-in-Err-clause-fault
@@ -35,6 +35,44 @@ returns-in-Err-clause-stays g c = λ at is modelled low high between.
     let first = between told.0 (g.met.D.Disk.reads_as_image c.args.disk.now told.0 modelled.model told.1) in
     let file_is = c.deref.ensures.value ∙ c.in_ok-file.ensures.file.1 told.0 (c.sync.ensures.contents ∙ told.1) in
     no_file told.0 at first.0 (subst (λ (f : List ℕ). FailsAt f at) file_is (subst (FileFailed c.deref.result.now) is c.in-Err.ensures.fault)) first.1
+
+pub returns-in_err-sync-clause-harmless : goal.returns-in_err-sync-clause-harmless
+returns-in_err-sync-clause-harmless g c = λ modelled. harmless_quiet (g.D.Disk.state c.args.disk.now) (g.D.Disk.state c.sync.new.self) (quiet_call (g.D.Disk.state c.args.disk.now) (g.D.Disk.state c.sync.new.self) c.sync.ensures.call c.sync.ensures.contents) modelled (λ f left. g.met.D.Disk.only_now c.args.disk.now f modelled.model left)
+
+pub returns-in_err-file-clause-harmless : goal.returns-in_err-file-clause-harmless
+returns-in_err-file-clause-harmless g c = λ modelled. harmless_quiet (g.D.Disk.state c.args.disk.now) (g.D.Disk.state c.read_all.new.disk) (quiet_on (g.D.Disk.state c.args.disk.now) (g.D.Disk.state c.sync.new.self) (g.D.Disk.state c.read_all.new.disk) (quiet_call (g.D.Disk.state c.args.disk.now) (g.D.Disk.state c.sync.new.self) c.sync.ensures.call c.sync.ensures.contents) c.read_all.ensures.quiet) modelled (λ f left. g.met.D.Disk.only_now c.args.disk.now f modelled.model left)
+
+pub returns-in-Err-clause-harmless : goal.returns-in-Err-clause-harmless
+returns-in-Err-clause-harmless g c = λ modelled. harmless_quiet (g.D.Disk.state c.args.disk.now) (g.D.Disk.state c.read_all.new.disk) (quiet_on (g.D.Disk.state c.args.disk.now) (g.D.Disk.state c.sync.new.self) (g.D.Disk.state c.read_all.new.disk) (quiet_call (g.D.Disk.state c.args.disk.now) (g.D.Disk.state c.sync.new.self) c.sync.ensures.call c.sync.ensures.contents) c.read_all.ensures.quiet) modelled (λ f left. g.met.D.Disk.only_now c.args.disk.now f modelled.model left)
+
+pub returns-in_err-journal-in-Ok-clause-harmless : goal.returns-in_err-journal-in-Ok-clause-harmless
+returns-in_err-journal-in-Ok-clause-harmless g c = λ modelled. harmless_quiet (g.D.Disk.state c.args.disk.now) (g.D.Disk.state c.read_all.new.disk) (quiet_on (g.D.Disk.state c.args.disk.now) (g.D.Disk.state c.sync.new.self) (g.D.Disk.state c.read_all.new.disk) (quiet_call (g.D.Disk.state c.args.disk.now) (g.D.Disk.state c.sync.new.self) c.sync.ensures.call c.sync.ensures.contents) c.read_all.ensures.quiet) modelled (λ f left. g.met.D.Disk.only_now c.args.disk.now f modelled.model left)
+
+pub returns-in_err-cut_behind-in-Ok-clause-harmless : goal.returns-in_err-cut_behind-in-Ok-clause-harmless
+returns-in_err-cut_behind-in-Ok-clause-harmless g c =
+    let run : LoadRun (g.D.Disk.state c.args.disk.now) (g.D.Disk.state c.sync.new.self) (g.D.Disk.state c.read_all.new.disk) (g.D.Disk.state c.cut_behind.new.disk) c.in_ok-file.file.items c.in-Ok.records.items c.in-Ok.place = record {
+      sync = c.sync.ensures.call;
+      same = c.sync.ensures.contents;
+      durable = c.in_ok-sync.ensures.durable;
+      quiet = c.read_all.ensures.quiet;
+      read = c.in_ok-file.ensures.file.1;
+      log = subst (IsLog c.in-Ok.records.items c.in-Ok.place) c.deref.ensures.value c.in-Ok.ensures.ok;
+      cut = c.cut_behind.ensures.call;
+    } in
+    λ modelled. harmless_moments _ _ _ _ c.in_ok-file.file.items c.in-Ok.records.items c.in-Ok.place run modelled (λ f left. g.met.D.Disk.only_now c.args.disk.now f modelled.model left)
+
+pub returns-in_err-cut_behind-in-Ok-clause-spared : goal.returns-in_err-cut_behind-in-Ok-clause-spared
+returns-in_err-cut_behind-in-Ok-clause-spared g c =
+    let run : LoadRun (g.D.Disk.state c.args.disk.now) (g.D.Disk.state c.sync.new.self) (g.D.Disk.state c.read_all.new.disk) (g.D.Disk.state c.cut_behind.new.disk) c.in_ok-file.file.items c.in-Ok.records.items c.in-Ok.place = record {
+      sync = c.sync.ensures.call;
+      same = c.sync.ensures.contents;
+      durable = c.in_ok-sync.ensures.durable;
+      quiet = c.read_all.ensures.quiet;
+      read = c.in_ok-file.ensures.file.1;
+      log = subst (IsLog c.in-Ok.records.items c.in-Ok.place) c.deref.ensures.value c.in-Ok.ensures.ok;
+      cut = c.cut_behind.ensures.call;
+    } in
+    spared _ _ _ _ c.in_ok-file.file.items c.in-Ok.records.items c.in-Ok.place run (λ held model told. g.met.D.Disk.reads_as_image c.cut_behind.new.disk held model told)
 
 pub returns-in_err-cut_behind-in-Ok-clause-any_moment : goal.returns-in_err-cut_behind-in-Ok-clause-any_moment
 returns-in_err-cut_behind-in-Ok-clause-any_moment g c =
@@ -75,6 +113,8 @@ returns g c =
       any_moment = λ modelled.
           load_moments _ _ _ _ c.in_ok-file.file.items c.in-Ok.records.items c.in-Ok.place run modelled
           (λ held told. g.met.D.Disk.reads_as_image c.args.disk.now held modelled.model told) (λ f left. g.met.D.Disk.only_now c.args.disk.now f modelled.model left);
+      harmless = λ modelled. harmless_moments _ _ _ _ c.in_ok-file.file.items c.in-Ok.records.items c.in-Ok.place run modelled (λ f left. g.met.D.Disk.only_now c.args.disk.now f modelled.model left);
+      spared = spared _ _ _ _ c.in_ok-file.file.items c.in-Ok.records.items c.in-Ok.place run (λ held model told. g.met.D.Disk.reads_as_image c.cut_behind.new.disk held model told);
       between = λ modelled low high between.
           subst (λ (rs : List Record). IsBetween low high rs) (sym c.from_vec.ensures)
           (records_between _ _ _ _ c.in_ok-file.file.items c.in-Ok.records.items c.in-Ok.place run modelled (λ held told. g.met.D.Disk.reads_as_image c.args.disk.now held modelled.model told) low high between);

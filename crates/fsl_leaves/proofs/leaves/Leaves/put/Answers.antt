@@ -1,4 +1,4 @@
-use Rattle.std.proofs.Common.{◌≡◌, ◌∙◌, ◌∷◌, List, ℕ, None, true, false, length, arith, map, refl, sym, ap, subst}
+use Rattle.std.proofs.Common.{◌≡◌, ◌∙◌, ◌∷◌, List, ℕ, None, false, length, arith, map, refl, sym, ap, subst}
 use Rattle.std.specs.List.{list_any}
 use Rattle.fsl_order.specs.Names.{bytes_cmp, has}
 use Rattle.fsl_order.specs.Rows.{by_name}

@@ -1,4 +1,4 @@
-use Rattle.std.proofs.Common.{◌≡◌, sym, ap, subst}
+use Rattle.std.proofs.Common.{sym, ap, subst}
 use Rattle.fsl_order.specs.Held.{IsAsBefore}
 use Rattle.fsl_leaves.specs.Kept.{Rows, TakesBack, held_of, undone_rows}
 use Rattle.fsl_leaves.proofs.Canonical.{kept_as, chain}

@@ -1,11 +1,10 @@
 use Rattle.std.proofs.lemmas.List.{drop_more}
 use Rattle.std.proofs.Math.Seq.{drop-length}
-use Rattle.std.proofs.Common.{◌≡◌, ◌+◌, ◌-◌, ◌<◌, ◌∙◌, ◌∷◌, [], List, map, drop, length, refl, sym, ap, subst, arith}
+use Rattle.std.proofs.Common.{◌≡◌, ◌+◌, ◌-◌, ◌<◌, ◌∙◌, ◌∷◌, map, drop, length, refl, sym, ap, subst, arith}
 use Rattle.fsl_order.specs.Names.{has}
 use Rattle.fsl_order.specs.Rows.{by_name, AreDistinct}
 use Rattle.fsl_rows.proofs.Built.{distinct-drop, by_name-again}
 use Rattle.fsl_table.proofs.Facts.{absent-entry, absent_before, facts_with}
-use Rattle.fsl_links.specs.declared.Fact.{Fact}
 use Rattle.fsl_links.specs.Kept.{fact_of, facts_of}
 use Rattle.fsl_links.proofs.Canonical.{kept_none}
 use Rattle.fsl_links.proofs.links.Links.build_counted.Goals as goal

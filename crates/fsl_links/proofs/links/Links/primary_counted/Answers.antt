@@ -1,4 +1,4 @@
-use Rattle.std.proofs.Common.{◌≡◌, ◌∙◌, ap, sym, Option, Some, None, List, ℕ, true, false}
+use Rattle.std.proofs.Common.{◌∙◌, ap, sym, true, false}
 use Rattle.fsl_links.specs.Links.{primary}
 use Rattle.fsl_links.specs.Kept.{leader}
 use Rattle.fsl_links.proofs.Reading.{leader-there, primary-is}

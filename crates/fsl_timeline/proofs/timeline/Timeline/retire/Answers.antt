@@ -1,12 +1,10 @@
-use Rattle.std.proofs.Common.{◌≡◌, ◌∙◌, ◌∷◌, List, ℕ, None, true, false, is_some, length, arith, map, refl, sym, ap, subst}
+use Rattle.std.proofs.Common.{◌∙◌, map, refl, sym, ap, subst}
 use Rattle.fsl_order.specs.Names.{bytes_cmp, latest_first, has}
-use Rattle.fsl_order.specs.Rows.{by_name}
-use Rattle.fsl_order.specs.Held.{Held, IsAsBefore}
-use Rattle.fsl_table.specs.Contents.{value_at}
+use Rattle.fsl_order.specs.Held.{IsAsBefore}
 use Rattle.fsl_table.specs.Undo.{Undoes, IsAsGood, undone}
 use Rattle.fsl_table.proofs.Steps.{undoes-none, good_chain}
-use Rattle.fsl_table.proofs.Facts.{absent-entry, has-facts, facts_with, facts_without}
-use Rattle.fsl_timeline.specs.Kept.{Rows, TakesBack, IsKept, held_of, row_of, rows_of}
+use Rattle.fsl_table.proofs.Facts.{has-facts, facts_without}
+use Rattle.fsl_timeline.specs.Kept.{Rows, TakesBack, held_of, row_of, rows_of}
 use Rattle.fsl_timeline.specs.Timeline.{retired}
 use Rattle.fsl_timeline.proofs.Canonical.{kept_as, takes_back, as_good}
 use Rattle.fsl_timeline.proofs.timeline.Timeline.retire.Goals as goal

@@ -1,7 +1,7 @@
 use Rattle.std.proofs.Common.{sym, ◌∙◌}
 use Rattle.fsl_journal.proofs.Belonging.{same_moments}
-use Rattle.fossil.proofs.PutLemmas.{committed_contents, idle_contents, idle_durable}
-use Rattle.fossil.proofs.put.commit.Goals as goal
+use Rattle.fossil.proofs.CommitLemmas.{committed_contents, idle_contents, idle_durable}
+use Rattle.fossil.proofs.committing.commit.Goals as goal
 
 pub returns-then-stable-count-clause-contents : goal.returns-then-stable-count-clause-contents
 returns-then-stable-count-clause-contents g c =

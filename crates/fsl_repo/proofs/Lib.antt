@@ -1,0 +1,17 @@
+pub mod OneList
+pub mod Zipped
+pub mod ItemLemmas
+pub mod Wholes
+pub mod Openings
+pub mod Steps
+pub mod HeldMore
+pub mod Storing
+pub mod Arrivals
+pub mod Publishing
+pub mod Shuns
+pub mod Clusterings
+pub mod PublicNames
+pub mod Keeps
+pub mod Loops
+pub mod Sendings
+pub mod Builds

@@ -1,0 +1,49 @@
+-- A repository that was opened goes together.
+use Rattle.std.proofs.Common.{◌≡◌, inl, ℕ, List, length, drop, sym, ap, subst, ◌∙◌, arith}
+use Rattle.std.specs.Prelude.{IsTrue}
+use Rattle.std.specs.FinSet as set
+use Rattle.std.proofs.lemmas.List.{drop_all, take_all}
+use Rattle.std.proofs.lemmas.Bool.{false≢true}
+use Rattle.fsl_order.specs.Names.{bytes_cmp}
+use Rattle.fsl_disk.specs.Disk.{DiskState, Told}
+use Rattle.fsl_journal.specs.File.{IsFileOf}
+use Rattle.fsl_record.specs.declared.Record.{Record}
+use Rattle.fsl_record.specs.Records.{AreRecords}
+use Rattle.fsl_journal.specs.Journal.{Belongs, LoadFailed}
+use Rattle.fsl_journal.specs.declared.LoadFault.{LoadFault}
+use Rattle.fsl_journal.specs.declared.LoadFault.TheVariants as load_fault
+use Rattle.fsl_journal.specs.Log.{Log, IsLoaded}
+use Rattle.fsl_blobs.specs.Seen as blobs
+use Rattle.fsl_blobs.specs.Fold.{contents}
+use Rattle.fsl_cross.specs.Tables as tables
+use Rattle.fsl_repo.specs.Machine.{AreItems, AnnouncedAreNew, configured}
+use Rattle.fsl_repo.specs.Keeping.{IsKept, state_of}
+use Rattle.fsl_repo.specs.Opening.{AreDerived, OpenFailed}
+use Rattle.fsl_repo.specs.Whole as whole
+
+none_announced : (log : Log) (faults : ℕ) (records : List Record) → AnnouncedAreNew (state_of log (record { records = records; announced = set.empty }) faults)
+none_announced log faults records name h = absurd (false≢true (subst IsTrue (set.contains-empty bytes_cmp name) h))
+
+pub kept_of : (log : Log) (loaded : List Record) (held : blobs.Seen) (all : tables.Seen) (count : ℕ) (disk : DiskState) → IsLoaded log loaded → Belongs log disk → AreDerived loaded held all → count ≡ length log.records
+    → IsKept log held all count 0 disk
+kept_of log loaded held all count disk is_loaded belongs derived counted = record {
+  belongs = belongs;
+  records = subst AreRecords (sym is_loaded.records) is_loaded.fit;
+  same = ap (λ (h : blobs.Seen). h.records) derived.held ∙ sym is_loaded.records;
+  items = subst (λ (rs : List Record). AreItems (contents rs).held all.items) (sym is_loaded.records) derived.items;
+  fields = derived.fields ∙ ap (λ (rs : List Record). configured (contents rs)) (sym is_loaded.records);
+  announced = subst (λ (h : blobs.Seen). AnnouncedAreNew (state_of log h disk.faults)) (sym derived.held) (none_announced log disk.faults loaded);
+  loaded = omega (arith, counted, is_loaded.stable, ap length is_loaded.records);
+  stored = sym (ap whole.blobs (ap (λ (n : ℕ). drop n log.records) counted ∙ drop_all (length log.records) log.records (omega arith)));
+}
+
+-- a journal that wasn't opened
+pub open_failed : (fault : LoadFault) (before after : DiskState) → LoadFailed fault before after → OpenFailed fault before after
+open_failed load_fault.Disk before after failed = failed
+open_failed (load_fault.NotRepository at) before after failed = failed
+open_failed load_fault.Memory before after failed = record { faults = failed.0.faults; contents = inl failed.0.contents }
+
+-- after an opening that is done the file stands for the records
+pub reads_back : (log : Log) (loaded : List Record) (disk : DiskState) → IsLoaded log loaded → Belongs log disk → Told disk (λ held. IsFileOf held loaded)
+reads_back log loaded disk is belongs held told =
+    subst (IsFileOf held) (take_all log.stable log.records (omega (arith, is.stable, ap length is.records)) ∙ is.records) (belongs.reads is.runs held told).0.file

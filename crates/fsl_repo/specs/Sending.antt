@@ -1,0 +1,79 @@
+-- How artifacts that are lent are sent.
+use Rattle.std.specs.Prelude.{ℕ, List, [], ◌++◌, length, take, map, filter, filter_map, Bool, true, false, not, ◌||◌, ◌&&◌, nat_le, Option, Some, None, is_some, if◌then◌else◌}
+use Rattle.std.specs.List.{list_any}
+use Rattle.std.specs.Option.{option_map_or}
+use Rattle.std.specs.FinMap as map_of
+use Rattle.std.specs.FinSet as set
+use Rattle.fsl_order.specs.Names.{has}
+use Rattle.fsl_order.specs.Rows.{ascending}
+use Rattle.fsl_record.specs.declared.Record.{Record}
+use Rattle.fsl_blobs.specs.declared.Holding.{Holding}
+use Rattle.fsl_blobs.specs.Fold.{Held, contents}
+use Rattle.fsl_blobs.specs.Seen as blobs
+use Rattle.fsl_cluster.specs.declared.Fact.{Fact}
+use Rattle.fsl_cluster.specs.Clusters as clusters
+use Rattle.fsl_wire.specs.declared.WireCard.{WireCard}
+use Rattle.fsl_answer.specs.Contents as reply
+use Rattle.fsl_answer.specs.Contents.{each_once, gimme_of, is_pull, sent_file, sequel}
+use Rattle.fsl_answer.specs.Replies.{taken}
+use Rattle.fsl_repo.specs.Replies.{placed_in}
+use Rattle.fsl_answer.specs.declared.SentFile.{SentFile}
+use Rattle.fsl_repo.specs.declared.placed.PlacedHolding.{PlacedHolding}
+
+-- a held artifact at its place
+abbrev pub as_held : PlacedHolding → reply.Held
+as_held p = record { name = p.name; bytes = p.bytes.now; private = p.private; place = p.place }
+
+-- as a file
+abbrev pub as_sent : Holding → SentFile
+as_sent h = record { name = h.name; private = h.private; bytes = h.bytes.now }
+
+-- the file of a held artifact that may be sent: it is public, or private ones are sent
+abbrev pub sent_of : Bool → List ℕ → Option Held → Option SentFile
+sent_of private name None = None
+sent_of private name (Some a) = if private || not a.private then Some (record { name = name; private = a.private; bytes = a.bytes }) else None
+
+-- as many files as the budget takes
+abbrev pub sent_files : List SentFile → List SentFile
+sent_files files = take (taken (map (λ f. length f.bytes) files)) files
+
+-- the files that gimme cards ask for, in order, each once
+abbrev pub sent_asked : List Record → Bool → List WireCard → List SentFile
+sent_asked records private message = filter_map (λ name. sent_of private name (map_of.get (contents records).held name)) (each_once [] (filter_map gimme_of message))
+
+-- the names of those that are private, or of those that aren't
+abbrev pub names_of : Bool → List reply.Held → List (List ℕ)
+names_of private held = map (λ h. h.name) (filter (λ h. if private then h.private else not h.private) held)
+
+-- the public names that are told
+abbrev pub told_public : List reply.Held → List (List ℕ) → Bool → Bool → List (List ℕ)
+told_public held free all pull = if all then names_of false held else (if pull then free else [])
+
+-- the private ones
+abbrev pub told_private : List reply.Held → Bool → Bool → List (List ℕ)
+told_private held private names = if private && names then names_of true held else []
+
+-- all of them, ascending, the private ones with their flag
+abbrev pub told : List (List ℕ) → List (List ℕ) → List (List ℕ × Bool)
+told public private = map (λ name. (name, has private name)) (ascending (public ++ private))
+
+-- the public artifacts from a place on
+abbrev pub public_on : ℕ → List reply.Held → List reply.Held
+public_on place held = filter (λ h. not h.private && nat_le place h.place) held
+
+-- the files of a reply, and where a clone goes on
+abbrev pub files_by : List Record → List reply.Held → List WireCard → Bool → Option (ℕ × ℕ) → List SentFile × Option ℕ
+files_by records held message private clone =
+    option_map_or (λ place. (sent_files (map sent_file (public_on place held)), Some (sequel (public_on place held)))) (reply.asks_from clone)
+    (if list_any is_pull message || is_some clone then (sent_files (sent_asked records private message), None) else ([], None))
+
+-- what a reply depends on
+abbrev pub seen_by : blobs.Seen → List Fact → reply.State
+seen_by b facts = record {
+  server = option_map_or (λ c. c.server) (contents b.records).config [];
+  project = option_map_or (λ c. c.project) (contents b.records).config [];
+  held = placed_in b.records;
+  unclustered = clusters.unclustered facts;
+  wants = clusters.wants facts (set.items (contents b.records).shunned);
+  announced = set.items b.announced;
+}

@@ -1,0 +1,204 @@
+//! Arrivals.
+ghost use Rattle.std.specs.Prelude.{◌≡◌, ◌⊎◌, ◌++◌, ◌∷◌, [], ◌≤◌, ◌+◌, ◌^◌, length, None, Err, ⊤, OnOk, OnErr, false, true};
+ghost use Rattle.std.specs.FinMap as map_of;
+ghost use Rattle.std.specs.FinSet as set;
+ghost use Rattle.fsl_name.specs.Name.{name_of};
+ghost use Rattle.fsl_record.specs.Records.{AreRecords, IsWritable, is_config};
+ghost use Rattle.fsl_blobs.specs.Fold.{contents, held_bytes};
+ghost use Rattle.fsl_blobs.specs.Held.{state_of, still_new};
+ghost use Rattle.fsl_blobs.specs.declared.BlobState.TheVariants.{Absent as AbsentName};
+ghost use Rattle.fsl_cluster.specs.Clusters as clusters;
+ghost use Rattle.fsl_cross.specs.Tables.{tables};
+ghost use Rattle.fsl_repo.specs.Machine.{ArriveStep, IsDueOrMemory, IsStoring, room_of, now};
+ghost use Rattle.fsl_repo.specs.Arriving.{as_stored, is_private, IsPublishing};
+ghost use Rattle.fsl_repo.specs.declared.ArriveFault.TheVariants as arrive_fault;
+
+use crate::below::Below;
+use crate::wanting::wanted;
+use crate::{Arrival, ArriveFault, Repo};
+use fsl_artifact::parse;
+use fsl_blobs::{BlobState, Blobs, shunned_are_not_held};
+use fsl_cross::{Item, Tables};
+use fsl_disk::Disk;
+use fsl_journal::Journal;
+use fsl_name::Name;
+use fsl_record::Record;
+use fsl_text::{Memory, Steps, Text};
+use std::alloc::Global;
+use std::sync::ledger::Ledger;
+
+/// So many bytes may be held.
+const MOST_BYTES: u128 = 1_073_741_824;
+
+/// So many artifacts may be held, and so many names wanted.
+const MOST_NAMES: u64 = 1_048_576;
+
+/// An artifact has at most so many bytes.
+const MOST_SIZE: u64 = 16_777_216;
+
+/// Adds a record to the journal and to what its records leave, or to neither.
+pub(crate) fn keep(journal: &mut Journal, blobs: &mut Blobs, entry: Record) -> Result<(), Memory>
+    requires runs { journal.old.stopped ≡ None }
+    requires counts { journal.old.stable ≤ length journal.old.records }
+    requires place { is_config entry ≡ false }
+    requires fit { IsWritable entry }
+    ensures journal { OnOk result (journal.new ≡ record journal.old { records = journal.old.records ++ entry ∷ [] }) }
+    ensures blobs { OnOk result (blobs.new ≡ record { records = blobs.old.records ++ entry ∷ []; announced = still_new (contents (blobs.old.records ++ entry ∷ [])) blobs.old.announced }) }
+    ensures fit { OnOk result (AreRecords journal.new.records) }
+    ensures journal_err { OnErr result (journal.new ≡ journal.old) }
+    ensures blobs_err { OnErr result (blobs.new ≡ blobs.old) }
+{
+    journal.append(&entry)?;
+    match blobs.apply(entry) {
+        Ok(()) => Ok(()),
+        Err(_) => {
+            journal.take_back();
+            Err(Memory)
+        }
+    }
+}
+
+/// Whether there is room for one artifact more, of this size, which the tables have already.
+fn room(alloc: Global, blobs: &Blobs, all: &Tables, size: u64) -> Result<(), ArriveFault>
+    ensures { (as_stored result ≡ Err arrive_fault.Memory) ⊎ (as_stored result ≡ room_of (held_bytes (contents blobs.now.records).held + size) (map_of.len (contents blobs.now.records).held + 1)
+        (length (clusters.wants (tables all.now.fields all.now.items).clusters (set.items (contents blobs.now.records).shunned)))) }
+{
+    let bytes = blobs.bytes() + u128::from(size);
+    let count = blobs.count() + 1;
+    let table = all.cluster();
+    let missing = table.missing_count();
+    if bytes <= MOST_BYTES && count <= MOST_NAMES && missing <= MOST_NAMES {
+        return Ok(());
+    }
+    let Ok(wanted) = wanted(alloc, table, blobs) else {
+        return Err(ArriveFault::Memory);
+    };
+    let wants = wanted.items().len() as u64;
+    if bytes > MOST_BYTES || count > MOST_NAMES || wants > MOST_NAMES {
+        return Err(ArriveFault::Full {
+            bytes,
+            count,
+            wants,
+        });
+    }
+    Ok(())
+}
+
+impl<D: Disk> Repo<D> {
+    /// An artifact arrives under a name, as a public or a private one. An artifact that is held as private becomes public
+    /// where it arrives as a public one. A fault changes nothing.
+    ///
+    /// Errors, the first of these: `Stopped` where a commit has failed; `TooLarge` above 16,777,216 bytes; `NameWrong` where
+    /// the bytes have another name; `Full` where with it a limit is passed. `Memory` comes in place of `Published`, `Full`
+    /// or `Stored` alone.
+    pub fn arrive<L: Ledger, B: Below>(
+        &mut self,
+        below: &B,
+        name: Name,
+        bytes: &[u8],
+        private: bool,
+        steps: &mut Steps<L>,
+    ) -> Result<Arrival, ArriveFault>
+        ensures step { ArriveStep self.old.seen.state name bytes.now private result self.new.seen.state }
+        ensures loaded { self.new.seen.loaded ≡ self.old.seen.loaded }
+        ensures disk { self.new.disk ≡ self.old.disk }
+    {
+        if let Some(faults) = self.journal.stopped() {
+            return Err(ArriveFault::Stopped { faults });
+        }
+        let size = bytes.len() as u64;
+        if size > MOST_SIZE {
+            return Err(ArriveFault::TooLarge { size });
+        }
+        let found = Name::of(bytes);
+        if found != name {
+            return Err(ArriveFault::NameWrong { found });
+        }
+        shunned_are_not_held();
+        match self.blobs.state(name) {
+            BlobState::Shunned => Ok(Arrival::Shunned),
+            BlobState::Public { .. } => Ok(Arrival::Present),
+            BlobState::Private { .. } if private => Ok(Arrival::Present),
+            BlobState::Private { .. } => self.publish(below, name, steps),
+            BlobState::Absent => self.store(below, name, bytes, private, steps),
+        }
+    }
+
+    /// Publishes an artifact that is held as private.
+    fn publish<L: Ledger, B: Below>(
+        &mut self,
+        below: &B,
+        name: Name,
+        steps: &mut Steps<L>,
+    ) -> Result<Arrival, ArriveFault>
+        requires runs { self.old.seen.state.stopped ≡ None }
+        requires private { is_private (state_of (now self.old.seen.state) name) ≡ true }
+        ensures step { IsDueOrMemory self.old.seen.state (IsPublishing self.old.seen.state name) (Err arrive_fault.Memory) ⊤ result self.new.seen.state }
+        ensures loaded { self.new.seen.loaded ≡ self.old.seen.loaded }
+        ensures disk { self.new.disk ≡ self.old.disk }
+    {
+        let back = match below.publish(self.alloc, &mut self.tables, name, steps) {
+            Ok(back) => back,
+            Err(_) => return Err(ArriveFault::Memory),
+        };
+        let entry = Record::Publish { name };
+        if let Err(_) = keep(&mut self.journal, &mut self.blobs, entry) {
+            below.undo(&mut self.tables, back);
+            return Err(ArriveFault::Memory);
+        }
+        self.blobs.announced_are_new();
+        Ok(Arrival::Published)
+    }
+
+    /// Stores an artifact whose name is neither held nor shunned, where there is room.
+    fn store<L: Ledger, B: Below>(
+        &mut self,
+        below: &B,
+        name: Name,
+        bytes: &[u8],
+        private: bool,
+        steps: &mut Steps<L>,
+    ) -> Result<Arrival, ArriveFault>
+        requires runs { self.old.seen.state.stopped ≡ None }
+        requires absent { state_of (now self.old.seen.state) name ≡ AbsentName }
+        requires named { name ≡ name_of bytes.now }
+        requires small { length bytes.now ≤ 2 ^ 24 }
+        ensures step { IsDueOrMemory self.old.seen.state (IsStoring self.old.seen.state name bytes.now private) (Err arrive_fault.Memory) ⊤ result self.new.seen.state }
+        ensures loaded { self.new.seen.loaded ≡ self.old.seen.loaded }
+        ensures disk { self.new.disk ≡ self.old.disk }
+    {
+        let size = bytes.len() as u64;
+        let Ok(text) = Text::of(self.alloc, bytes) else {
+            return Err(ArriveFault::Memory);
+        };
+        let Ok(artifact) = parse(self.alloc, bytes, steps) else {
+            return Err(ArriveFault::Memory);
+        };
+        let item = Item {
+            name,
+            private,
+            artifact,
+        };
+        let entry = Record::Blob {
+            private,
+            name,
+            bytes: text,
+        };
+        let back = match below.add(self.alloc, &mut self.tables, item, steps) {
+            Ok(back) => back,
+            Err(_) => return Err(ArriveFault::Memory),
+        };
+        if let Err(fault) = room(self.alloc, &self.blobs, &self.tables, size) {
+            below.undo(&mut self.tables, back);
+            return Err(fault);
+        }
+        if let Err(_) = keep(&mut self.journal, &mut self.blobs, entry) {
+            below.undo(&mut self.tables, back);
+            return Err(ArriveFault::Memory);
+        }
+        self.blobs.announced_are_new();
+        let _ = self.journal.count();
+        self.stored += 1;
+        Ok(Arrival::Stored)
+    }
+}

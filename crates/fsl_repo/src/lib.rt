@@ -1,0 +1,125 @@
+//! The repository machine: a repository owns its disk, keeps its records, its held artifacts and its tables, and each
+//! call is one step of it.
+#![tactic(auto)]
+
+ghost use Rattle.std.specs.Prelude.{◌≡◌};
+
+mod arriving;
+mod asking;
+mod below;
+mod building;
+mod clusters;
+mod commits;
+mod laws;
+mod listing;
+mod opening;
+mod parsing;
+mod placed;
+mod reads;
+mod replying;
+mod repo;
+mod sending;
+mod wanting;
+
+pub use below::Below;
+use fsl_name::Name;
+use fsl_text::{List, Text};
+use fsl_wire::{Caps, Message};
+pub use laws::builds_keep;
+pub use repo::Repo;
+use std::marker::Model;
+
+/// What became of an artifact that arrived.
+#[derive(Clone, Copy, PartialEq, Eq, Debug)]
+pub enum Arrival {
+    /// Its name is shunned. Nothing changed.
+    Shunned,
+    /// It is held already. Nothing changed.
+    Present,
+    /// It was held as private, and is public from now on.
+    Published,
+    /// It is held from now on.
+    Stored,
+}
+
+/// Why an artifact didn't arrive. Nothing changed.
+#[derive(Clone, Copy, PartialEq, Eq, Debug)]
+pub enum ArriveFault {
+    /// A commit has failed, with the disk's count of faults at this.
+    Stopped { faults: u64 },
+    /// It has so many bytes, more than 16,777,216.
+    TooLarge { size: u64 },
+    /// The bytes have this name.
+    NameWrong { found: Name },
+    /// With it so many bytes, artifacts and wanted names would be there, and one of these is too many.
+    Full { bytes: u128, count: u64, wants: u64 },
+    /// There was no memory.
+    Memory,
+}
+
+/// What became of a name that was shunned.
+#[derive(Clone, Copy, PartialEq, Eq, Debug)]
+pub enum Shunning {
+    /// It was shunned before. Nothing changed.
+    Already,
+    /// It was held, and isn't any more.
+    Removed,
+    /// It wasn't held.
+    Listed,
+}
+
+/// Why a name wasn't shunned. Nothing changed.
+#[derive(Clone, Copy, PartialEq, Eq, Debug)]
+pub enum ShunFault {
+    /// A commit has failed, with the disk's count of faults at this.
+    Stopped { faults: u64 },
+    /// There was no memory.
+    Memory,
+}
+
+/// What became of a cluster that was asked for.
+#[derive(Clone, Copy, PartialEq, Eq, Debug)]
+pub enum Clustering {
+    /// Only so many public names stand in no cluster, at most 100.
+    Few { count: u64 },
+    /// A cluster of the first 4,096 was made, and arrived under this name.
+    Arrived { name: Name, arrival: Arrival },
+}
+
+/// Why a reply wasn't built. Nothing changed.
+#[derive(Clone, Copy, PartialEq, Eq, Debug)]
+pub enum BuildFault {
+    /// There was no memory.
+    Memory,
+}
+
+/// What a reply answers: a message, what its sender may do, and notices for it.
+#[derive(Drop)]
+pub struct Ask {
+    pub caps: Caps,
+    pub message: Message,
+    pub notices: List<Text>,
+}
+
+/// The reply to a message, which `Repo::build` alone makes. Contracts see its bytes.
+#[derive(Drop)]
+pub struct Reply {
+    held: Text,
+}
+
+impl Model for Reply {
+    ghost use Rattle.std.specs.Prelude.{List as Items, ℕ};
+
+    ghost Value = { Items ℕ };
+
+    ghost view = { λ r. r.held };
+}
+
+impl Reply {
+    /// The bytes of the reply.
+    pub fn bytes(&self) -> &[u8]
+        ensures { result.now ≡ self.now }
+    {
+        self.held.bytes()
+    }
+}

@@ -1,0 +1,97 @@
+//! Shuns.
+ghost use Rattle.std.specs.Prelude.{◌≡◌, ◌≤◌, ◌++◌, ◌∷◌, [], None, OnOk, OnErr, false, length};
+ghost use Rattle.std.specs.FinSet as set;
+ghost use Rattle.fsl_record.specs.declared.Record.TheVariants as record_of;
+ghost use Rattle.fsl_record.specs.Records.{AreRecords, IsWritable, is_config};
+ghost use Rattle.fsl_blobs.specs.Fold.{contents};
+ghost use Rattle.fsl_blobs.specs.Held.{still_new};
+ghost use Rattle.fsl_repo.specs.Machine.{ShunStep};
+
+use crate::arriving::keep;
+use crate::below::Below;
+use crate::{Repo, ShunFault, Shunning};
+use fsl_blobs::{BlobState, Blobs, shunned_are_not_held};
+use fsl_cross::Tables;
+use fsl_disk::Disk;
+use fsl_journal::Journal;
+use fsl_name::Name;
+use fsl_record::Record;
+use fsl_text::Memory;
+
+impl<D: Disk> Repo<D> {
+    /// Shuns a name: its artifact isn't held any more, nor ever again.
+    ///
+    /// Errors: `Stopped` where a commit has failed; `Memory` in place of `Removed` or `Listed` alone. Then nothing changes.
+    pub fn shun<B: Below>(&mut self, below: &B, name: Name) -> Result<Shunning, ShunFault>
+        ensures step { ShunStep self.old.seen.state name result self.new.seen.state }
+        ensures loaded { self.new.seen.loaded ≡ self.old.seen.loaded }
+        ensures disk { self.new.disk ≡ self.old.disk }
+    {
+        if let Some(faults) = self.journal.stopped() {
+            return Err(ShunFault::Stopped { faults });
+        }
+        shunned_are_not_held();
+        match self.blobs.state(name) {
+            BlobState::Shunned => Ok(Shunning::Already),
+            BlobState::Absent => match self.list_name(below, name) {
+                Ok(()) => Ok(Shunning::Listed),
+                Err(_) => Err(ShunFault::Memory),
+            },
+            BlobState::Public { .. } => match self.list_name(below, name) {
+                Ok(()) => Ok(Shunning::Removed),
+                Err(_) => Err(ShunFault::Memory),
+            },
+            BlobState::Private { .. } => match self.list_name(below, name) {
+                Ok(()) => Ok(Shunning::Removed),
+                Err(_) => Err(ShunFault::Memory),
+            },
+        }
+    }
+
+    /// Takes a name out of the held ones, and lists it as shunned.
+    fn list_name<B: Below>(&mut self, below: &B, name: Name) -> Result<(), Memory>
+        requires runs { self.old.seen.state.stopped ≡ None }
+        ensures ok { OnOk result (self.new.seen.state ≡ record self.old.seen.state { records = self.old.seen.state.records ++ record_of.Shun name ∷ []; announced = set.remove self.old.seen.state.announced name }) }
+        ensures err { OnErr result (self.new.seen.state ≡ self.old.seen.state) }
+        ensures loaded { self.new.seen.loaded ≡ self.old.seen.loaded }
+        ensures disk { self.new.disk ≡ self.old.disk }
+    {
+        let next = below.without(self.alloc, &self.tables, name)?;
+        let entry = Record::Shun { name };
+        exchange(
+            &mut self.journal,
+            &mut self.blobs,
+            &mut self.tables,
+            next,
+            entry,
+        )?;
+        self.blobs.announced_are_new();
+        Ok(())
+    }
+}
+
+/// Adds a record to the journal and to what its records leave, and exchanges the tables for others; or does none of it. It is
+/// a function of its own since it lets tables go.
+fn exchange(
+    journal: &mut Journal,
+    blobs: &mut Blobs,
+    tables: &mut Tables,
+    next: Tables,
+    entry: Record,
+) -> Result<(), Memory>
+    requires runs { journal.old.stopped ≡ None }
+    requires counts { journal.old.stable ≤ length journal.old.records }
+    requires place { is_config entry ≡ false }
+    requires fit { IsWritable entry }
+    ensures journal { OnOk result (journal.new ≡ record journal.old { records = journal.old.records ++ entry ∷ [] }) }
+    ensures blobs { OnOk result (blobs.new ≡ record { records = blobs.old.records ++ entry ∷ []; announced = still_new (contents (blobs.old.records ++ entry ∷ [])) blobs.old.announced }) }
+    ensures fit { OnOk result (AreRecords journal.new.records) }
+    ensures tables { OnOk result (tables.new ≡ next) }
+    ensures journal_err { OnErr result (journal.new ≡ journal.old) }
+    ensures blobs_err { OnErr result (blobs.new ≡ blobs.old) }
+    ensures tables_err { OnErr result (tables.new ≡ tables.old) }
+{
+    keep(journal, blobs, entry)?;
+    *tables = next;
+    Ok(())
+}

@@ -1,0 +1,76 @@
+//! Opens a repository.
+ghost use Rattle.std.specs.Prelude.{◌≡◌, List, ℕ, length, IfOk, IfErr};
+ghost use Rattle.fsl_disk.specs.Disk.{DiskState, IsModelled, Told, Keeps, Quiet, LeavesOnly};
+ghost use Rattle.fsl_record.specs.declared.Record as record_of;
+ghost use Rattle.fsl_record.specs.Records.{AreRecords};
+ghost use Rattle.fsl_journal.specs.File.{IsFileOf, FailsAt};
+ghost use Rattle.fsl_journal.specs.Journal.{HeldOrSame, IsSpared};
+ghost use Rattle.fsl_journal.specs.Log.{IsBetween, StandsBetween};
+ghost use Rattle.fsl_journal.specs.declared.LoadFault.TheVariants as load_fault;
+ghost use Rattle.fsl_repo.specs.Opening.{IsOpened, OpenFailed, AreDerived, disk_of};
+
+use crate::Repo;
+use crate::parsing::tables_of;
+use fsl_blobs::Blobs;
+use fsl_cross::Tables;
+use fsl_disk::Disk;
+use fsl_journal::{Journal, LoadFault};
+use fsl_record::Record;
+use fsl_text::{List, Memory};
+use std::alloc::Global;
+
+/// The artifacts that records leave, and their tables.
+fn derived(alloc: Global, records: List<Record>) -> Result<(Blobs, Tables), Memory>
+    requires { AreRecords records }
+    ensures { IfOk result (λ d. AreDerived records d.0 d.1) }
+{
+    let blobs = Blobs::fold(alloc, records)?;
+    let tables = tables_of(alloc, &blobs)?;
+    Ok((blobs, tables))
+}
+
+impl<D: Disk> Repo<D> {
+    /// Opens the repository of a disk: makes what it holds stable, reads the file, cuts what stands behind the closed
+    /// gate, and derives all tables. It may be stopped at any moment. On a fault the disk comes back.
+    ///
+    /// Errors: `Disk` where a call of the disk failed; `NotRepository` with the place at which the file fails to stand for
+    /// records; `Memory`.
+    pub fn load(alloc: Global, mut disk: D) -> Result<Repo<D>, (D, LoadFault)>
+        ensures opened { IfOk result (λ repo. IsOpened (D.state disk) (D.state repo.disk) repo) }
+        ensures fault { IfErr result (λ failed. OpenFailed failed.1 (D.state disk) (D.state failed.0)) }
+        ensures keeps { Keeps (D.state disk) (D.state (disk_of result)) }
+        // A file that fails to stand for records stays, at each moment, whatever the answer.
+        ensures refused { Told (D.state disk) (λ held. (at : ℕ) → FailsAt held at → Quiet (D.state disk) (D.state (disk_of result))) }
+        // Whatever the file holds, a crash at each moment leaves what one before the call might have left, or a file of the
+        // records that it stood for; and so does the call.
+        ensures harmless { IsModelled (D.state disk) → LeavesOnly (D.state disk) (D.state (disk_of result)) (HeldOrSame (D.state disk)) }
+        ensures spared { IsSpared (D.state disk) (D.state (disk_of result)) }
+
+        // Where each image stands for records between two lists, each does so at each moment, and so do the records.
+        ensures any_moment { IsModelled (D.state disk) → (low high : List record_of.Record) → ((c : List ℕ) → (D.state disk).images c → StandsBetween low high c)
+            → LeavesOnly (D.state disk) (D.state (disk_of result)) (StandsBetween low high) }
+        ensures between { IfOk result (λ repo. IsModelled (D.state disk) → (low high : List record_of.Record) → ((c : List ℕ) → (D.state disk).images c → StandsBetween low high c) → IsBetween low high repo.seen.state.records) }
+        // And each image then stands for exactly these records.
+        ensures durable { IfOk result (λ repo. IsModelled (D.state disk) → (c : List ℕ) → (D.state repo.disk).images c → IsFileOf c repo.seen.state.records) }
+        // It isn't `NotRepository` then.
+        ensures stays { IfErr result (λ failed. (at : ℕ) → failed.1 ≡ load_fault.NotRepository at → IsModelled (D.state disk) → (low high : List record_of.Record) → ((c : List ℕ) → (D.state disk).images c → StandsBetween low high c) → ⊥) }
+    {
+        let (journal, records) = match Journal::load(alloc, &mut disk) {
+            Ok(loaded) => loaded,
+            Err(fault) => return Err((disk, fault)),
+        };
+        let loaded = journal.count();
+        match derived(alloc, records) {
+            Ok((blobs, tables)) => Ok(Repo {
+                alloc,
+                disk,
+                journal,
+                blobs,
+                tables,
+                loaded,
+                stored: 0,
+            }),
+            Err(_) => Err((disk, LoadFault::Memory)),
+        }
+    }
+}

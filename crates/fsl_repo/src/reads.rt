@@ -1,0 +1,96 @@
+//! What a repository answers without a change.
+ghost use Rattle.std.specs.Prelude.{◌≡◌, ◌↔◌, Some, None, Err, IfOk, map};
+ghost use Rattle.std.specs.Option.{option_map};
+ghost use Rattle.std.specs.FinMap as map_of;
+ghost use Rattle.std.specs.FinSet as set;
+ghost use Rattle.fsl_order.specs.Rows.{ascending};
+ghost use Rattle.fsl_blobs.specs.Fold.{held_from};
+ghost use Rattle.fsl_blobs.specs.Held.{state_of, matching, found};
+ghost use Rattle.fsl_blobs.specs.declared.BlobFault.TheVariants.{Absent as AbsentFault};
+ghost use Rattle.fsl_repo.specs.Machine.{now, configured, wants};
+ghost use Rattle.fsl_repo.specs.Whole.{stored};
+
+use crate::Repo;
+use crate::wanting::wanted;
+use fsl_blobs::{BlobFault, BlobState, Found, Placed};
+use fsl_cross::Tables;
+use fsl_disk::Disk;
+use fsl_name::Name;
+use fsl_record::Config;
+use fsl_text::{List, Memory, Text};
+
+impl<D: Disk> Repo<D> {
+    /// All tables.
+    pub fn tables(&self) -> &Tables
+        ensures { result.now ≡ record { fields = configured (now self.now.seen.state); items = self.now.seen.items } }
+    {
+        &self.tables
+    }
+
+    /// How many artifacts were stored since the repository was loaded.
+    pub fn stored(&self) -> u64
+        ensures { result ≡ stored self.now.seen }
+    {
+        self.stored
+    }
+
+    /// The codes of the repository, and its configured ticket fields.
+    pub fn config(&self) -> &Config
+        ensures { (now self.now.seen.state).config ≡ Some result.now }
+    {
+        self.blobs.config()
+    }
+
+    /// What a name is. Takes no memory.
+    pub fn state(&self, name: Name) -> BlobState
+        ensures { result ≡ state_of (now self.now.seen.state) name }
+    {
+        self.blobs.state(name)
+    }
+
+    /// Which held name begins with these digits. Takes no memory.
+    pub fn find(&self, prefix: &[u8]) -> Found
+        ensures { result ≡ found (matching (now self.now.seen.state).held prefix.now) }
+    {
+        self.blobs.find(prefix)
+    }
+
+    /// The held names whose place is at least this, by place. `Memory` is the only error.
+    pub fn held(&self, from: u64) -> Result<List<Placed>, Memory>
+        ensures { IfOk result (λ names. map (λ p. (p.place, p.name)) names ≡ held_from self.now.seen.state.records from) }
+    {
+        self.blobs.held(self.alloc, from)
+    }
+
+    /// The names that are referred to and neither held nor shunned, ascending. `Memory` is the only error.
+    pub fn wants(&self) -> Result<List<Name>, Memory>
+        ensures { IfOk result (λ names. names ≡ wants (now self.now.seen.state) self.now.seen.items) }
+    {
+        wanted(self.alloc, self.tables.cluster(), &self.blobs)
+    }
+
+    /// The shunned names, ascending. `Memory` is the only error.
+    pub fn shuns(&self) -> Result<List<Name>, Memory>
+        ensures { IfOk result (λ names. names ≡ ascending (set.items (now self.now.seen.state).shunned)) }
+    {
+        self.blobs.shuns(self.alloc)
+    }
+
+    /// The disk's count of faults when a commit failed, or nothing where it goes on. Takes no memory.
+    pub fn stopped(&self) -> Option<u64>
+        ensures { result ≡ self.now.seen.state.stopped }
+    {
+        self.journal.stopped()
+    }
+
+    /// A copy of the bytes of a held artifact.
+    ///
+    /// Errors: `Absent` where the name isn't held; `Memory`.
+    pub fn content(&mut self, name: Name) -> Result<Text, BlobFault>
+        ensures bytes { IfOk result (λ text. option_map (λ a. a.bytes) (map_of.get (now self.old.seen.state).held name) ≡ Some text) }
+        ensures absent { (result ≡ Err AbsentFault) ↔ (map_of.get (now self.old.seen.state).held name ≡ None) }
+        ensures same { self.new ≡ self.old }
+    {
+        self.blobs.content(self.alloc, &mut self.disk, name)
+    }
+}

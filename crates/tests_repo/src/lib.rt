@@ -1,0 +1,5 @@
+//! Tests of a repository as one machine, by its public calls alone. They stand apart, so that the crate isn't proved once more for its tests.
+#![tactic(auto)]
+
+#[cfg(test)]
+mod repo;
