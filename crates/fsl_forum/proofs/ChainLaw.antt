@@ -136,7 +136,7 @@ module _ (facts : List Fact) where
   unfolded x = ap (first (end_at facts x) 0) (add-one (length facts)) ∙ first-suc (end_at facts x) 0 (length facts)
 
   -- steps from a name whose next is y are those from y, one later
-  later : (x y : List ℕ) → next_of facts x ≡ Some y → (k : ℕ) → end_at facts x (k + 1) ≡ end_at facts y k
+  pub later : (x y : List ℕ) → next_of facts x ≡ Some y → (k : ℕ) → end_at facts x (k + 1) ≡ end_at facts y k
   later x y e k =
       ap (end_at facts x) (add-one k) ∙ ap (option_and_then (last facts)) (steps_on-first (next_of facts) x k ∙ ap (option_and_then (λ y. steps_on (next_of facts) y k)) e)
 
@@ -168,37 +168,49 @@ module _ {X : Type 0} where
         | Some w ↦ λ fa r. (a, fa ∙ r)
       ] refl (sym (first-suc f a n) ∙ e)
 
-module _ (facts : List Fact) (more : Fact) (is_new : IsFalse (has (map (λ f. f.name) facts) more.name)) where
-  -- a post that was there is the same
-  post-same : (x : List ℕ) (f : Fact) → post facts x ≡ Some f → post (more ∷ facts) x ≡ Some f
-  post-same x f p =
-      elim (bytes_eq more.name x) as (λ b. bytes_eq more.name x ≡ b → cond b (Some more) (post facts x) ≡ Some f) [
-        | false ↦ λ _. p
-        | true ↦ λ e. absurd (taken (ap (has (map (λ f. f.name) facts)) ((bytes_decides more.name x).0 e)))
-      ] refl
-    where
-      taken : has (map (λ f. f.name) facts) more.name ≡ has (map (λ f. f.name) facts) x → ⊥
-      taken e = no (sym is_new ∙ e ∙ sym (is_some-named (λ f. f.name) facts x) ∙ ap is_some p)
-        where
-          no : false ≡ true → ⊥
-          no e = cc
-
-  -- a chain that ends n steps on ends there still
-  stays-at : (n : ℕ) (x e : List ℕ) → end_at facts x n ≡ Some e → end (more ∷ facts) x ≡ Some e
+-- a chain that ends n steps on ends there among all posts that have these
+module _ (facts others : List Fact) (kept : (x : List ℕ) (f : Fact) → post facts x ≡ Some f → post others x ≡ Some f) where
+  pub stays-at : (n : ℕ) (x e : List ℕ) → end_at facts x n ≡ Some e → end others x ≡ Some e
   stays-at zero x e at =
-      elim (post facts x) as (λ o. post facts x ≡ o → option_and_then (λ f. if is_none (next f) then Some f.name else None) o ≡ Some e → end (more ∷ facts) x ≡ Some e) [
+      elim (post facts x) as (λ o. post facts x ≡ o → option_and_then (λ f. if is_none (next f) then Some f.name else None) o ≡ Some e → end others x ≡ Some e) [
         | None ↦ λ _ r. cc
-        | Some f ↦ λ p r. end_by_next (more ∷ facts) x ∙ ap (option_and_then (λ f. option_map_or (end (more ∷ facts)) (next f) (Some f.name))) (post-same x f p)
-            ∙ elim (next f) as (λ q. (if is_none q then Some f.name else None) ≡ Some e → option_map_or (end (more ∷ facts)) q (Some f.name) ≡ Some e) [ None ↦ λ r. r | Some y ↦ λ r. cc ] r
+        | Some f ↦ λ p r. end_by_next others x ∙ ap (option_and_then (λ f. option_map_or (end others) (next f) (Some f.name))) (kept x f p)
+            ∙ elim (next f) as (λ q. (if is_none q then Some f.name else None) ≡ Some e → option_map_or (end others) q (Some f.name) ≡ Some e) [ None ↦ λ r. r | Some y ↦ λ r. cc ] r
       ] refl at
   stays-at (suc n) x e at =
-      elim (post facts x) as (λ o. post facts x ≡ o → option_and_then (last facts) (option_and_then (λ y. steps_on (next_of facts) y n) (option_and_then next o)) ≡ Some e → end (more ∷ facts) x ≡ Some e) [
+      elim (post facts x) as (λ o. post facts x ≡ o → option_and_then (last facts) (option_and_then (λ y. steps_on (next_of facts) y n) (option_and_then next o)) ≡ Some e → end others x ≡ Some e) [
         | None ↦ λ _ r. cc
-        | Some f ↦ λ p r. end_by_next (more ∷ facts) x ∙ ap (option_and_then (λ f. option_map_or (end (more ∷ facts)) (next f) (Some f.name))) (post-same x f p)
-            ∙ elim (next f) as (λ q. option_and_then (last facts) (option_and_then (λ y. steps_on (next_of facts) y n) q) ≡ Some e → option_map_or (end (more ∷ facts)) q (Some f.name) ≡ Some e) [ None ↦ λ r. cc | Some y ↦ λ r. stays-at n y e r ] r
+        | Some f ↦ λ p r. end_by_next others x ∙ ap (option_and_then (λ f. option_map_or (end others) (next f) (Some f.name))) (kept x f p)
+            ∙ elim (next f) as (λ q. option_and_then (last facts) (option_and_then (λ y. steps_on (next_of facts) y n) q) ≡ Some e → option_map_or (end others) q (Some f.name) ≡ Some e) [ None ↦ λ r. cc | Some y ↦ λ r. stays-at n y e r ] r
       ] refl (sym (ap (option_and_then (last facts)) (steps_on-first (next_of facts) x n)) ∙ at)
 
+  pub stays : (x e : List ℕ) → end facts x ≡ Some e → end others x ≡ Some e
+  stays x e whole = let at = first-at (end_at facts x) 0 (length facts + 1) e whole in stays-at at.0 x e at.1
+
+-- the ends are by the posts alone
+pub end-alike : (facts others : List Fact) → ((x : List ℕ) → post facts x ≡ post others x) → (x : List ℕ) → end facts x ≡ end others x
+end-alike facts others same x =
+    elim (end facts x) as (λ o. end facts x ≡ o → o ≡ end others x) [
+      | Some e ↦ λ h. sym (stays facts others (λ x f p. sym (same x) ∙ p) x e h)
+      | None ↦ λ h. elim (end others x) as (λ o. end others x ≡ o → None ≡ o) [
+        | None ↦ λ _. refl
+        | Some e ↦ λ g. sym h ∙ stays others facts (λ x f p. same x ∙ p) x e g
+      ] refl
+    ] refl
+
+-- a post that was there is the same beside one more
+pub post-same : (facts : List Fact) (more : Fact) → IsFalse (has (map (λ f. f.name) facts) more.name) → (x : List ℕ) (f : Fact) → post facts x ≡ Some f → post (more ∷ facts) x ≡ Some f
+post-same facts more is_new x f p =
+    elim (bytes_eq more.name x) as (λ b. bytes_eq more.name x ≡ b → cond b (Some more) (post facts x) ≡ Some f) [
+      | false ↦ λ _. p
+      | true ↦ λ e. absurd (taken (ap (has (map (λ f. f.name) facts)) ((bytes_decides more.name x).0 e)))
+    ] refl
+  where
+    taken : has (map (λ f. f.name) facts) more.name ≡ has (map (λ f. f.name) facts) x → ⊥
+    taken e = no (sym is_new ∙ e ∙ sym (is_some-named (λ f. f.name) facts x) ∙ ap is_some p)
+      where
+        no : false ≡ true → ⊥
+        no e = cc
+
 pub whole_stays : WholeStays
-whole_stays facts more x e is_new whole =
-    let at = first-at (end_at facts x) 0 (length facts + 1) e whole in
-    stays-at facts more is_new at.0 x e at.1
+whole_stays facts more x e is_new whole = stays facts (more ∷ facts) (post-same facts more is_new) x e whole

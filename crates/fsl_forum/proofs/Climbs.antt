@@ -154,7 +154,7 @@ module _ (facts : List Fact) where
   -- ---- one step
 
   -- the post of a name has that name
-  named_so : (posts : List Fact) (x : List ℕ) (f : Fact) → named (λ f. f.name) posts x ≡ Some f → f.name ≡ x
+  pub named_so : (posts : List Fact) (x : List ℕ) (f : Fact) → named (λ f. f.name) posts x ≡ Some f → f.name ≡ x
   named_so [] x f e = cc
   named_so (g ∷ posts) x f e =
       elim (bytes_eq g.name x) as (λ b. bytes_eq g.name x ≡ b → cond b (Some g) (named (λ f. f.name) posts x) ≡ Some f → f.name ≡ x) [
@@ -165,7 +165,7 @@ module _ (facts : List Fact) where
       inside : (g : Fact) → Some g ≡ Some f → g ≡ f
       inside g r = cc
 
-  none_ends : (x : List ℕ) → option_map next (post facts x) ≡ None → end facts x ≡ None
+  pub none_ends : (x : List ℕ) → option_map next (post facts x) ≡ None → end facts x ≡ None
   none_ends x e =
       end_by_next facts x
       ∙ elim (post facts x) as (λ o. option_map next o ≡ None → option_and_then (λ f. option_map_or (end facts) (next f) (Some f.name)) o ≡ None) [ None ↦ λ _. refl | Some f ↦ λ r. cc ] e
@@ -182,7 +182,7 @@ module _ (facts : List Fact) where
   next_is x y e = elim (post facts x) as (λ o. option_map next o ≡ Some (Some y) → option_and_then next o ≡ Some y) [ None ↦ λ r. cc | Some f ↦ λ r. cc ] e
 
   -- a chain has the end of its next post's
-  next_ends : (x y : List ℕ) → next_of facts x ≡ Some y → end facts x ≡ end facts y
+  pub next_ends : (x y : List ℕ) → next_of facts x ≡ Some y → end facts x ≡ end facts y
   next_ends x y e =
       end_by_next facts x
       ∙ elim (post facts x) as (λ o. option_and_then next o ≡ Some y → option_and_then (λ f. option_map_or (end facts) (next f) (Some f.name)) o ≡ end facts y) [
@@ -192,7 +192,7 @@ module _ (facts : List Fact) where
 
   -- ---- several steps
 
-  steps_end : (n : ℕ) (x z : List ℕ) → steps_on (next_of facts) x n ≡ Some z → end facts x ≡ end facts z
+  pub steps_end : (n : ℕ) (x z : List ℕ) → steps_on (next_of facts) x n ≡ Some z → end facts x ≡ end facts z
   steps_end zero x z e = let same : x ≡ z = cc in ap (end facts) same
   steps_end (suc n) x z e =
       let before = some_before (next_of facts) x n z e in
@@ -221,7 +221,7 @@ module _ (facts : List Fact) where
       ap (option_and_then (last facts)) (steps_on-add (next_of facts) x (suc k) more ∙ ap (option_and_then (λ y. steps_on (next_of facts) y more)) (stops x e k at))
 
   -- a chain that comes back to its name has no end
-  circle_ends : (x : List ℕ) → Leads facts x x → end facts x ≡ None
+  pub circle_ends : (x : List ℕ) → Leads facts x x → end facts x ≡ None
   circle_ends x round =
       elim (end facts x) as (λ o. end facts x ≡ o → o ≡ None) [
         | None ↦ λ _. refl

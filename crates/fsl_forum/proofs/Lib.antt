@@ -1,5 +1,12 @@
 mod WorkedRows
 pub mod ChainLaw
 pub mod Climbs
-pub mod Indexed
-pub mod Moved
+pub mod Changing
+pub mod Invalid
+pub mod Linked
+pub mod Noting
+pub mod Stepping
+pub mod Filling
+pub mod Reaching
+pub mod Canonical
+pub mod Gathering

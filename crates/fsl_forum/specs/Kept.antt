@@ -1,19 +1,12 @@
--- What the maps of the table keep.
-use Rattle.std.specs.Prelude.{◌≡◌, ◌⊎◌, ℕ, suc, List, true, cond, ◌&&◌, if◌then◌else◌, Option, Some, None, is_some, unwrap_or, map, filter, option_map}
+-- The maps by which the ends of all chains are found, and where a post stands by its end.
+use Rattle.std.specs.Prelude.{◌≡◌, ◌⊎◌, ℕ, suc, List, true, if◌then◌else◌, Option, Some, None, is_some, unwrap_or, map, option_map}
 use Rattle.std.specs.Option.{option_or, option_map_or}
-use Rattle.std.specs.BTreeMap.{BTreeMap, insert_entry}
 use Rattle.std.specs.Str.{bytes_eq}
-use Rattle.fsl_order.specs.Names.{dated_cmp, has}
-use Rattle.fsl_order.specs.Rows.{keyed, steps_on}
-use Rattle.fsl_order.specs.Maps.{value_at, group_at}
+use Rattle.fsl_order.specs.Names.{has}
+use Rattle.fsl_order.specs.Rows.{steps_on}
+use Rattle.fsl_order.specs.Maps.{value_at}
 use Rattle.fsl_forum.specs.declared.Fact.{Fact}
-use Rattle.fsl_forum.specs.declared.Post.{Post}
-use Rattle.fsl_forum.specs.Threads.{post, next, next_of, end, is_valid, thread_of, shown}
-
--- the entries of a thread with a post that stands in the thread of a root, if it stands in one
-abbrev pub group_with : Option (List ℕ) → Fact → List ((ℕ × List ℕ) × Post) → List ℕ → List ((ℕ × List ℕ) × Post)
-group_with None f entries root = entries
-group_with (Some own) f entries root = cond (bytes_eq own root) (insert_entry dated_cmp entries (f.date, f.name) (shown f)) entries
+use Rattle.fsl_forum.specs.Threads.{post, next, next_of, end}
 
 -- names that have a next post, or none
 abbrev pub Nexts : Type 0
@@ -59,13 +52,3 @@ pub record IsClimbed (facts : List Fact) (ends : Nexts) (path : List (List ℕ))
 abbrev pub place_by : Option (List ℕ) → Fact → Option (List ℕ)
 place_by end f =
     if option_map_or (λ e. option_map_or (bytes_eq e) f.root true) end true then Some (unwrap_or (option_or end f.root) f.name) else None
-
--- the posts of a thread among some, beside their dates and names, in the order of these
-abbrev pub placed : List Fact → List Fact → List ℕ → List ((ℕ × List ℕ) × Post)
-placed all facts root =
-    map (λ e. (e.0, shown e.1)) (keyed dated_cmp (λ f. (f.date, f.name)) (filter (λ f. is_valid all f && bytes_eq (thread_of all f) root) facts))
-
--- the maps have, of some posts, where each stands among all, and of each thread those that stand in it
-pub record IsIndexOf (all facts : List Fact) (places : Nexts) (threads : List (List ℕ × BTreeMap (ℕ × List ℕ) Post)) : Type 0 where
-  pub places_are : (name : List ℕ) → value_at places name ≡ option_map (λ f. place_by (end all f.name) f) (post facts name)
-  pub threads_are : (root : List ℕ) → group_at threads root ≡ placed all facts root

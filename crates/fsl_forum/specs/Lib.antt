@@ -1,2 +1,5 @@
 pub mod Threads
 pub mod Kept
+pub mod Held
+pub mod Rows
+pub mod Reached

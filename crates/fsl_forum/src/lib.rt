@@ -1,20 +1,29 @@
-//! Forum posts and their threads. `Threads` is the table of them, and its answers are those of the definitions over the facts it was
-//! built from. In whatever order these stand it
-//! is the same: `fsl_order::by_name_in_any_order`.
+//! Forum posts and their threads. `Threads` is the table of them, and its answers are those of the definitions over the facts that it
+//! holds. In whatever order these came it is the same: `fsl_order::by_name_in_any_order`. A post more, or one in the place of
+//! another, is a call of its own, which tells the names whose rows differ and can be taken back.
+//!
+//! The table keeps the posts by name, the pairs of a next post and one that has it, the end of each whole chain, and the pairs of a
+//! thread and a valid post in it. Where a post comes or changes, all whose chains lead to it have one end before and one after; only
+//! where it has or gets an end are they visited, along the pairs.
 #![tactic(auto)]
 
 ghost use Rattle.std.specs.Prelude.{◌≡◌, IfOk};
-ghost use Rattle.fsl_forum.specs.Threads.{next, kind, EndByNext, WholeStays};
+ghost use Rattle.fsl_forum.specs.Threads.{next, kind, EndByNext, WholeStays, InvalidStays};
 
+mod build;
 mod chains;
-mod index;
+mod gathered;
+mod node;
+mod put;
+mod reached;
+mod rows;
 mod threads;
 
 use fsl_date::Moment;
 use fsl_name::Name;
 use fsl_text::{Memory, Text};
 use std::alloc::Global;
-pub use threads::Threads;
+pub use threads::{Threads, Undo};
 
 /// A forum post with the names of its G, I and P cards.
 #[derive(Drop)]
@@ -99,4 +108,9 @@ impl Post {
 pub fn end_by_next()
     ensures by_next { EndByNext }
     ensures stays { WholeStays }
+{}
+
+/// A law and no code: a post that isn't valid stays so when another comes.
+pub fn invalid_stays()
+    ensures { InvalidStays }
 {}

@@ -1,0 +1,57 @@
+-- The row of a name by the tables, and those that differ from what was noted.
+use Rattle.std.specs.Prelude.{ℕ, List, [], ◌∷◌, Bool, true, false, ◌&&◌, cond, Option, Some, None, option_map, option_and_then}
+use Rattle.std.specs.BTreeMap.{insert_entry}
+use Rattle.std.specs.Str.{bytes_eq}
+use Rattle.fsl_order.specs.Names.{bytes_cmp, dated_cmp}
+use Rattle.fsl_table.specs.Contents.{value_at}
+use Rattle.fsl_forum.specs.declared.Fact.{Fact}
+use Rattle.fsl_forum.specs.declared.Post.{Post}
+use Rattle.fsl_forum.specs.declared.PostKind.{PostKind}
+use Rattle.fsl_forum.specs.declared.PostKind.TheVariants.{Start, Edit, Reply}
+use Rattle.fsl_forum.specs.declared.rows.Noted.{Noted}
+use Rattle.fsl_forum.specs.Held.{Nodes, fact_of}
+use Rattle.fsl_forum.specs.Kept.{place_by}
+use Rattle.fsl_forum.specs.Threads.{kind, shown}
+
+abbrev pub Row : Type 0
+Row = Option (List ℕ × PostKind)
+
+-- the row of a post by the end of its chain
+abbrev pub row_by : Option (List ℕ) → Fact → Row
+row_by end f = option_map (λ root. (root, kind f)) (place_by end f)
+
+-- the row of a name by the posts and the ends
+abbrev pub row_in : Nodes → List (List ℕ × List ℕ) → List ℕ → Row
+row_in posts ends x = option_and_then (λ n. row_by (value_at bytes_cmp x ends) (fact_of (x, n))) (value_at bytes_cmp x posts)
+
+-- the thread of a row
+abbrev pub place_of : Row → Option (List ℕ)
+place_of row = option_map (λ r. r.0) row
+
+abbrev pub same_kind : PostKind → PostKind → Bool
+same_kind Start Start = true
+same_kind Edit Edit = true
+same_kind Reply Reply = true
+same_kind Start Edit = false
+same_kind Start Reply = false
+same_kind Edit Start = false
+same_kind Edit Reply = false
+same_kind Reply Start = false
+same_kind Reply Edit = false
+
+-- whether two rows are one
+abbrev pub same_row : Row → Row → Bool
+same_row None None = true
+same_row None (Some s) = false
+same_row (Some r) None = false
+same_row (Some r) (Some s) = bytes_eq r.0 s.0 && same_kind r.1 s.1
+
+-- the names whose rows aren't those that were noted
+abbrev pub differing : (List ℕ → Row) → List Noted → List (List ℕ)
+differing rows [] = []
+differing rows (n ∷ ns) = cond (same_row n.row (rows n.name)) (differing rows ns) (n.name ∷ differing rows ns)
+
+-- posts by date and name, with one more where it is there
+abbrev pub with_post : Option Fact → List ((ℕ × List ℕ) × Post) → List ((ℕ × List ℕ) × Post)
+with_post None es = es
+with_post (Some f) es = insert_entry dated_cmp es (f.date, f.name) (shown f)
