@@ -50,9 +50,18 @@ fn announces(repo: &mut Repo<MemoryDisk>) -> bool {
 
 /// Whether a clone of all files gets the codes, the file `abc`, and no place at which to go on.
 fn clones_abc(alloc: Global, repo: &mut Repo<MemoryDisk>) -> bool {
-    let caps = Caps { pull: false, push: false, clone: true, private: false };
+    let caps = Caps {
+        pull: false,
+        push: false,
+        clone: true,
+        private: false,
+    };
     let ask = match read(alloc, b"clone 3 1\n") {
-        Ok(message) => Ask { caps, message, notices: List::new(alloc) },
+        Ok(message) => Ask {
+            caps,
+            message,
+            notices: List::new(alloc),
+        },
         Err(_) => return false,
     };
     match repo.build(&ask) {
