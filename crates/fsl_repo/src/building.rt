@@ -96,7 +96,11 @@ fn reply_to(alloc: Global, blobs: &Blobs, table: &Clusters, ask: &Ask) -> Result
 }
 
 impl<D: Disk> Repo<D> {
-    /// The reply to a message, by what is held, wanted and announced now. Nothing changes. `Memory` is the only error.
+    /// The reply to a message, by what is held, wanted and announced now: the notices, for a clone the codes, names that
+    /// are held, for a push names that are wanted or announced, and the files that are asked for, as many as the budget
+    /// takes. Private ones go to one who may see them and asks for them. Nothing changes.
+    ///
+    /// Errors: `Memory`.
     pub fn build(&mut self, ask: &Ask) -> Result<Reply, BuildFault>
         ensures step { BuildStep self.old.seen.state ask.now result self.new.seen.state }
         ensures items { self.new.seen.items ≡ self.old.seen.items }
