@@ -8,4 +8,6 @@ mod circles;
 #[cfg(test)]
 mod names;
 #[cfg(test)]
+mod posts;
+#[cfg(test)]
 mod tags;
