@@ -1,6 +1,8 @@
 pub mod Belonging
 pub mod Entries
 pub mod Finding
+pub mod Gathered
+pub mod Greatest
 pub mod Keeping
 pub mod Facts
 pub mod Leading
@@ -8,6 +10,7 @@ pub mod Linking
 pub mod Noting
 pub mod Outcomes
 pub mod PairOrder
+pub mod Placed
 pub mod Places
 pub mod Seconds
 pub mod Steps

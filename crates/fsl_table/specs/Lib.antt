@@ -7,3 +7,4 @@ pub mod Weave
 pub mod Trail
 pub mod Within
 pub mod ExactWithin
+pub mod Placed

@@ -1,21 +1,23 @@
 -- The keys of one change more, and of one less.
-use Rattle.std.proofs.Common.{◌≡◌, ℕ, List, Bool, true, false, cond, not, ◌||◌, ◌&&◌, Option, Some, None, is_some, refl, sym, ap, ◌∙◌}
+use Rattle.std.proofs.Common.{◌≡◌, ℕ, List, true, false, cond, ◌&&◌, Option, Some, None, is_some, refl, sym, ap, ◌∙◌}
+use Rattle.std.specs.Option.{option_and_then}
 use Rattle.std.specs.Str.{bytes_eq}
 use Rattle.std.specs.Ordering.{is_eq, nat_cmp, ordering_then}
-use Rattle.std.specs.Cmp.Lexicographic.{texts_ties, bytes_decides}
+use Rattle.std.specs.Cmp.Lexicographic.{texts_ties, bytes_decides, nat_list_eq_equiv}
 use Rattle.std.specs.List.Sorted.{IsStrictlySortedBy}
 use Rattle.std.specs.Map.{keys_of}
 use Rattle.std.specs.declared.cmp.Ordering.{Ordering}
 use Rattle.std.specs.declared.cmp.Ordering.TheVariants.{Less, Equal, Greater}
+use Rattle.std.proofs.lemmas.Map.Lookups.{exact_bytes}
 use Rattle.fsl_order.specs.Names.{bytes_cmp, dated_cmp}
+use Rattle.fsl_order.proofs.Orders.{bytes_cmp-IsTotalOrder, dated_cmp-IsTotalOrder, dated_cmp-IsAntisymmetric}
 use Rattle.fsl_table.specs.Contents.{value_at, with_entry, without_key}
-use Rattle.fsl_table.specs.Within.{is_second}
-use Rattle.fsl_table.proofs.Belonging.{key_eq}
-use Rattle.fsl_table.proofs.Entries.{lookup-insert_entry}
-use Rattle.fsl_table.proofs.Finding.{lookup-without, value-with, value-without}
+use Rattle.fsl_table.specs.Placed.{ArePlaced, is_key, is_placed, key_of}
+use Rattle.fsl_table.proofs.Finding.{value-without}
+use Rattle.fsl_table.proofs.Placed.{placed_with, placed_without}
+use Rattle.fsl_ticket.specs.declared.Fact.{Fact}
 use Rattle.fsl_ticket.specs.declared.entry.Entry.{Entry}
-use Rattle.fsl_ticket.specs.Kept.{Lines, Spot, Spots, spot, spot_cmp, is_of, is_spot, spot_left}
-use Rattle.fsl_ticket.proofs.Canonical.{spot_cmp-IsTotalOrder, spot_cmp-exact}
+use Rattle.fsl_ticket.specs.Kept.{Lines, Spot, Spots, spot, spot_cmp, fact_of, is_of, is_spot}
 
 -- dates and names tie where both parts do
 pub place_eq : (p : ℕ × List ℕ) (t : ℕ) (name : List ℕ) → is_eq (dated_cmp p (t, name)) ≡ (bytes_eq p.1 name && is_eq (nat_cmp p.0 t))
@@ -32,81 +34,55 @@ place_eq p t name = parts (nat_cmp p.0 t) (bytes_cmp p.1 name) ∙ ap (λ b. b &
     parts Greater Equal = refl
     parts Greater Greater = refl
 
-or-false : (b : Bool) → (b || false) ≡ b
-or-false true = refl
-or-false false = refl
+abbrev pub place : Fact → ℕ × List ℕ
+place f = (f.date, f.name)
 
-and-false : (b : Bool) → (b && false) ≡ false
-and-false true = refl
-and-false false = refl
+-- the change of an entry
+abbrev pub item : List ℕ × Entry → Option Fact
+item e = Some (fact_of e)
 
--- whether a key is that of a change
-spot_eq : (k : Spot) (name : List ℕ) (e : Entry) → is_eq (spot_cmp k (spot e.id e.date name)) ≡ (bytes_eq k.first e.id && is_second dated_cmp k.second (e.date, name))
-spot_eq k name e = key_eq bytes_cmp dated_cmp k e.id (e.date, name) ∙ ap (λ b. b && is_second dated_cmp k.second (e.date, name)) (sym (texts_ties k.first e.id))
+abbrev key : List ℕ × Entry → Option (List ℕ × (ℕ × List ℕ))
+key = key_of item (λ f. f.id) place
 
--- a key more among those that belong to a ticket
-with_one : (es : Lines) (name : List ℕ) (e : Entry) → value_at bytes_cmp name es ≡ None → (id : List ℕ) (s : Option (ℕ × List ℕ))
-    → ((bytes_eq id e.id && is_second dated_cmp s (e.date, name)) || is_spot es id s) ≡ is_spot (with_entry bytes_cmp name e es) id s
-with_one es name e none id None = ap (λ b. b || false) (and-false (bytes_eq id e.id))
-with_one es name e none id (Some p) =
-    ap (λ b. (bytes_eq id e.id && b) || is_of (value_at bytes_cmp p.1 es) id p.0) (place_eq p e.date name)
-    ∙ elim (bytes_eq p.1 name) as (λ b. bytes_eq p.1 name ≡ b → ((bytes_eq id e.id && (b && is_eq (nat_cmp p.0 e.date))) || is_of (value_at bytes_cmp p.1 es) id p.0) ≡ is_of (cond b (Some e) (value_at bytes_cmp p.1 es)) id p.0) [
-      | true ↦ λ h. ap (λ o. (bytes_eq id e.id && is_eq (nat_cmp p.0 e.date)) || is_of o id p.0) (ap (λ n. value_at bytes_cmp n es) ((bytes_decides p.1 name).0 h) ∙ none) ∙ or-false (bytes_eq id e.id && is_eq (nat_cmp p.0 e.date))
-      | false ↦ λ h. ap (λ b. b || is_of (value_at bytes_cmp p.1 es) id p.0) (and-false (bytes_eq id e.id))
-    ] refl
-    ∙ ap (λ o. is_of o id p.0) (sym (value-with name e es p.1))
+pub own : (e : List ℕ × Entry) (f : Fact) → Some (fact_of e) ≡ Some f → f.name ≡ e.0
+own e f h = let same : fact_of e ≡ f = cc in ap (λ f. f.name) (sym same)
 
-some_or : (b : Bool) (r : Option (Unit {0})) → is_some (cond b (Some tt) r) ≡ (b || is_some r)
-some_or true r = refl
-some_or false r = refl
+own_key : (e : List ℕ × Entry) (k : List ℕ × (ℕ × List ℕ)) → key e ≡ Some k → k.1.1 ≡ e.0
+own_key e k h = let same : (e.1.id, (e.1.date, e.0)) ≡ k = cc in ap (λ k. k.1.1) (sym same)
 
-pub spots_with : (es : Lines) (ss : Spots) (name : List ℕ) (e : Entry) → ((k : Spot) → is_some (value_at spot_cmp k ss) ≡ is_spot es k.first k.second) → value_at bytes_cmp name es ≡ None
-    → (k : Spot) → is_some (value_at spot_cmp k (with_entry spot_cmp (spot e.id e.date name) tt ss)) ≡ is_spot (with_entry bytes_cmp name e es) k.first k.second
-spots_with es ss name e spots none k =
-    ap is_some (lookup-insert_entry spot_cmp-IsTotalOrder k (spot e.id e.date name) tt ss) ∙ some_or (is_eq (spot_cmp k (spot e.id e.date name))) (value_at spot_cmp k ss)
-    ∙ (λ i. spot_eq k name e i || spots k i)
-    ∙ with_one es name e none k.first k.second
-
--- a key less among those that belong to a ticket
-without_one : (es : Lines) (name : List ℕ) (e : Entry) → value_at bytes_cmp name es ≡ Some e → (id : List ℕ) (s : Option (ℕ × List ℕ))
-    → (not (bytes_eq id e.id && is_second dated_cmp s (e.date, name)) && is_spot es id s) ≡ spot_left es name id s
-without_one es name e here id None = and-false (not (bytes_eq id e.id && false))
-without_one es name e here id (Some p) =
-    ap (λ b. not (bytes_eq id e.id && b) && is_of (value_at bytes_cmp p.1 es) id p.0) (place_eq p e.date name)
-    ∙ elim (bytes_eq p.1 name) as (λ b. bytes_eq p.1 name ≡ b → (not (bytes_eq id e.id && (b && is_eq (nat_cmp p.0 e.date))) && is_of (value_at bytes_cmp p.1 es) id p.0) ≡ (not b && is_of (value_at bytes_cmp p.1 es) id p.0)) [
-      | true ↦ λ h. ap (λ o. not (bytes_eq id e.id && is_eq (nat_cmp p.0 e.date)) && is_of o id p.0) (ap (λ n. value_at bytes_cmp n es) ((bytes_decides p.1 name).0 h) ∙ here) ∙ not-and (bytes_eq id e.id && is_eq (nat_cmp p.0 e.date))
-      | false ↦ λ h. ap (λ b. not b && is_of (value_at bytes_cmp p.1 es) id p.0) (and-false (bytes_eq id e.id))
-    ] refl
+pub same_spot : (es : Lines) (id : List ℕ) (s : Option (ℕ × List ℕ)) → is_spot es id s ≡ is_placed bytes_cmp dated_cmp (λ p. p.1) key es id s
+same_spot es id None = refl
+same_spot es id (Some p) = by (value_at bytes_cmp p.1 es)
   where
-    not-and : (b : Bool) → (not b && b) ≡ false
-    not-and true = refl
-    not-and false = refl
+    date_eq : (date : ℕ) → is_eq (nat_cmp p.0 date) ≡ is_eq (dated_cmp p (date, p.1))
+    date_eq date = sym (place_eq p date p.1 ∙ ap (λ b. b && is_eq (nat_cmp p.0 date)) (nat_list_eq_equiv.refl p.1))
 
-none_or : (b : Bool) (r : Option (Unit {0})) → is_some (cond b None r) ≡ (not b && is_some r)
-none_or true r = refl
-none_or false r = refl
+    by : (o : Option Entry) → is_of o id p.0 ≡ is_key bytes_cmp dated_cmp (λ p. p.1) key (option_and_then (λ e. key (p.1, e)) o) id p
+    by None = refl
+    by (Some e) = λ i. texts_ties id e.id i && date_eq e.date i
 
-pub spots_out : (es : Lines) (ss : Spots) (name : List ℕ) (e : Entry) → IsStrictlySortedBy spot_cmp (keys_of ss) → ((k : Spot) → is_some (value_at spot_cmp k ss) ≡ is_spot es k.first k.second) → value_at bytes_cmp name es ≡ Some e
-    → (k : Spot) → is_some (value_at spot_cmp k (without_key spot_cmp (spot e.id e.date name) ss)) ≡ spot_left es name k.first k.second
-spots_out es ss name e sorted spots here k =
-    ap is_some (lookup-without spot_cmp-IsTotalOrder spot_cmp-exact (spot e.id e.date name) ss sorted k) ∙ none_or (is_eq (spot_cmp k (spot e.id e.date name))) (value_at spot_cmp k ss)
-    ∙ (λ i. not (spot_eq k name e i) && spots k i)
-    ∙ without_one es name e here k.first k.second
+module _ (es : Lines) (ss : Spots) (spots : (k : Spot) → is_some (value_at spot_cmp k ss) ≡ is_spot es k.first k.second) where
+  pub placed : ArePlaced bytes_cmp dated_cmp (λ p. p.1) key es ss
+  placed q = spots q ∙ same_spot es q.first q.second
 
--- where the change isn't there, none of its keys is
-pub spots_stay : (es : Lines) (name : List ℕ) → value_at bytes_cmp name es ≡ None → (id : List ℕ) (s : Option (ℕ × List ℕ)) → is_spot es id s ≡ spot_left es name id s
-spots_stay es name none id None = refl
-spots_stay es name none id (Some p) =
-    elim (bytes_eq p.1 name) as (λ b. bytes_eq p.1 name ≡ b → is_of (value_at bytes_cmp p.1 es) id p.0 ≡ (not b && is_of (value_at bytes_cmp p.1 es) id p.0)) [
+  pub spots_with : (name : List ℕ) (e : Entry) → value_at bytes_cmp name es ≡ None
+      → (k : Spot) → is_some (value_at spot_cmp k (with_entry spot_cmp (spot e.id e.date name) tt ss)) ≡ is_spot (with_entry bytes_cmp name e es) k.first k.second
+  spots_with name e none k =
+      placed_with bytes_cmp dated_cmp bytes_cmp-IsTotalOrder dated_cmp-IsTotalOrder exact_bytes dated_cmp-IsAntisymmetric (λ p. p.1) key own_key es ss name e placed none (Some (e.id, (e.date, name))) refl k
+      ∙ sym (same_spot (with_entry bytes_cmp name e es) k.first k.second)
+
+  pub spots_without : (name : List ℕ) (e : Entry) → IsStrictlySortedBy bytes_cmp (keys_of es) → IsStrictlySortedBy spot_cmp (keys_of ss) → value_at bytes_cmp name es ≡ Some e
+      → (k : Spot) → is_some (value_at spot_cmp k (without_key spot_cmp (spot e.id e.date name) ss)) ≡ is_spot (without_key bytes_cmp name es) k.first k.second
+  spots_without name e sorted rising here k =
+      placed_without bytes_cmp dated_cmp bytes_cmp-IsTotalOrder dated_cmp-IsTotalOrder exact_bytes dated_cmp-IsAntisymmetric (λ p. p.1) key own_key es ss name e sorted rising placed here (Some (e.id, (e.date, name))) refl k
+      ∙ sym (same_spot (without_key bytes_cmp name es) k.first k.second)
+
+-- where the change isn't there, its keys stay
+pub spots_stay : (es : Lines) (name : List ℕ) → IsStrictlySortedBy bytes_cmp (keys_of es) → value_at bytes_cmp name es ≡ None → (id : List ℕ) (s : Option (ℕ × List ℕ)) → is_spot es id s ≡ is_spot (without_key bytes_cmp name es) id s
+spots_stay es name sorted none id None = refl
+spots_stay es name sorted none id (Some p) =
+    elim (bytes_eq p.1 name) as (λ b. bytes_eq p.1 name ≡ b → is_of (value_at bytes_cmp p.1 es) id p.0 ≡ is_of (cond b None (value_at bytes_cmp p.1 es)) id p.0) [
       | true ↦ λ h. ap (λ o. is_of o id p.0) (ap (λ n. value_at bytes_cmp n es) ((bytes_decides p.1 name).0 h) ∙ none)
       | false ↦ λ h. refl
     ] refl
-
-pub left_without : (es : Lines) (name : List ℕ) → IsStrictlySortedBy bytes_cmp (keys_of es) → (id : List ℕ) (s : Option (ℕ × List ℕ)) → spot_left es name id s ≡ is_spot (without_key bytes_cmp name es) id s
-left_without es name sorted id None = refl
-left_without es name sorted id (Some p) =
-    over (bytes_eq p.1 name) (value_at bytes_cmp p.1 es) ∙ ap (λ o. is_of o id p.0) (sym (value-without name es sorted p.1))
-  where
-    over : (b : Bool) (o : Option Entry) → (not b && is_of o id p.0) ≡ is_of (cond b None o) id p.0
-    over true o = refl
-    over false o = refl
+    ∙ ap (λ o. is_of o id p.0) (sym (value-without name es sorted p.1))

@@ -1,5 +1,5 @@
 -- How the tables hold the changes: each by its name, and a key of its ticket, date and name for each.
-use Rattle.std.specs.Prelude.{◌≡◌, ℕ, List, [], ◌∷◌, Bool, true, false, not, ◌&&◌, if◌then◌else◌, Option, Some, None, map, is_some}
+use Rattle.std.specs.Prelude.{◌≡◌, ℕ, List, [], ◌∷◌, Bool, true, false, ◌&&◌, if◌then◌else◌, Option, Some, None, map, is_some}
 use Rattle.std.specs.Cmp.Lexicographic.{pointwise}
 use Rattle.std.specs.Option.{option_map}
 use Rattle.std.specs.Str.{bytes_eq}
@@ -62,11 +62,6 @@ is_id (Some e) id = bytes_eq id e.id
 abbrev pub is_spot : Lines → List ℕ → Option (ℕ × List ℕ) → Bool
 is_spot es id None = false
 is_spot es id (Some p) = is_of (value_at bytes_cmp p.1 es) id p.0
-
--- whether it is that, and of another change than that of a name
-abbrev pub spot_left : Lines → List ℕ → List ℕ → Option (ℕ × List ℕ) → Bool
-spot_left es name id None = false
-spot_left es name id (Some p) = not (bytes_eq p.1 name) && is_of (value_at bytes_cmp p.1 es) id p.0
 
 -- the change of a name
 abbrev pub change_at : Lines → List ℕ → Option Fact

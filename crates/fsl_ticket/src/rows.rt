@@ -11,7 +11,7 @@ ghost use Rattle.fsl_table.specs.Contents.{Contents, value_at, with_entry, witho
 ghost use Rattle.fsl_table.specs.Undo.{Undoes};
 ghost use Rattle.fsl_table.specs.Within.{within};
 ghost use Rattle.fsl_table.proofs.Walk.{from};
-ghost use Rattle.fsl_ticket.specs.Kept.{IsKept, Spot, spot_cmp, change_at, changes_at, facts_of, if_other, is_id, is_of, is_same, put_before, row_of, spot_left};
+ghost use Rattle.fsl_ticket.specs.Kept.{IsKept, Spot, spot_cmp, change_at, changes_at, facts_of, if_other, is_id, is_of, is_same, put_before, row_of, is_spot};
 ghost use Rattle.fsl_ticket.specs.Seen.{value_in, value_after, value_from};
 ghost use Rattle.fsl_ticket.specs.Tickets.{tickets_row};
 ghost use Rattle.fsl_ticket.specs.Tickets as table;
@@ -85,7 +85,7 @@ fn unplace<L: Ledger>(
 ) -> Result<(), Memory>
     requires kept { IsKept (record { facts = facts.now; spots = spots.old }) }
     ensures ordered { OnOk result (IsStrictlySortedBy spot_cmp (keys_of spots.new.entries)) }
-    ensures spots { OnOk result ((k : Spot) → is_some (value_at spot_cmp k spots.new.entries) ≡ spot_left facts.now.entries name k.first k.second) }
+    ensures spots { OnOk result ((k : Spot) → is_some (value_at spot_cmp k spots.new.entries) ≡ is_spot (without_key bytes_cmp name facts.now.entries) k.first k.second) }
     ensures undoes { (before : Contents Spot Unit) → Undoes spot_cmp log.old spots.old before → Undoes spot_cmp log.new spots.new before }
 {
     match facts.get(&name, steps) {

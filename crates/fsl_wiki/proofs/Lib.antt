@@ -2,3 +2,4 @@ mod WorkedRows
 pub mod Indexed
 pub mod Moved
 pub mod Listed
+pub mod Current

@@ -112,7 +112,7 @@ page_name (fact.Page q) p e = let same : q ≡ p = cc in ap (λ p. p.name) (sym 
 page_name (fact.Note n) p e = cc
 page_name (fact.Attached a) p e = cc
 
-note_name : (f : Fact) (n : Note) → as_note f ≡ Some n → n.name ≡ name_of f
+pub note_name : (f : Fact) (n : Note) → as_note f ≡ Some n → n.name ≡ name_of f
 note_name (fact.Page p) n e = cc
 note_name (fact.Note m) n e = let same : m ≡ n = cc in ap (λ n. n.name) (sym same)
 note_name (fact.Attached a) n e = cc
@@ -126,7 +126,7 @@ module _ (facts : List Fact) (d : AreDistinct (map name_of facts)) where
   placed-by_name : (title : List ℕ) → placed facts title ≡ placed (by_name name_of facts) title
   placed-by_name title = keyed-items as_page (λ p. bytes_eq p.title title) (λ p. p.date) (λ p. p.name) page_name facts d
 
-  note-by_name : (id : List ℕ) → current_note facts id ≡ current_note (by_name name_of facts) id
+  pub note-by_name : (id : List ℕ) → current_note facts id ≡ current_note (by_name name_of facts) id
   note-by_name id = greatest-items as_note (λ n. bytes_eq n.id id) (λ n. n.date) (λ n. n.name) note_name facts d
 
   current-by_name : (target file : List ℕ) → current facts target file ≡ current (by_name name_of facts) target file

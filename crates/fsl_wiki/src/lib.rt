@@ -5,6 +5,7 @@
 
 ghost use Rattle.std.specs.Prelude.{◌≡◌, IfOk};
 ghost use Rattle.fsl_wiki.specs.Pages.{name_of};
+ghost use Rattle.fsl_wiki.specs.Laws.{NoOtherCurrent};
 
 mod attachments;
 mod index;
@@ -111,3 +112,8 @@ impl Fact {
         }
     }
 }
+
+/// One technote more makes no other one current.
+pub fn no_other_current()
+    ensures { NoOtherCurrent }
+{}

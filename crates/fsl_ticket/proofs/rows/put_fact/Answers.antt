@@ -25,6 +25,6 @@ returns-clause-kept g c =
     (λ put. record {
       ordered = subst (λ es. IsStrictlySortedBy bytes_cmp (keys_of es)) (sym put) (sorted-insert_entry bytes_cmp-IsTotalOrder name entry es k.ordered);
       spots_ordered = subst (λ es. IsStrictlySortedBy spot_cmp (keys_of es)) (sym spotted) (sorted-insert_entry spot_cmp-IsTotalOrder (spot entry.id entry.date name) tt ss k.spots_ordered);
-      spots = λ q. ap (λ l. is_some (value_at spot_cmp q l)) spotted ∙ spots_with es ss name entry k.spots c.requires.absent q ∙ ap (λ es. is_spot es q.first q.second) (sym put);
+      spots = λ q. ap (λ l. is_some (value_at spot_cmp q l)) spotted ∙ spots_with es ss k.spots name entry c.requires.absent q ∙ ap (λ es. is_spot es q.first q.second) (sym put);
     })
     c.put-2.ensures.ok

@@ -7,7 +7,6 @@ use Rattle.fsl_order.proofs.Orders.{bytes_cmp-IsTotalOrder}
 use Rattle.fsl_table.proofs.Entries.{sorted-remove_entry}
 use Rattle.fsl_table.proofs.Outcomes.{on_ok_map}
 use Rattle.fsl_ticket.specs.Kept.{is_spot}
-use Rattle.fsl_ticket.proofs.Placing.{left_without}
 use Rattle.fsl_ticket.proofs.rows.take_out.Goals as goal
 
 pub returns-clause-kept : goal.returns-clause-kept
@@ -18,6 +17,6 @@ returns-clause-kept g c =
     (λ out. record {
       ordered = subst (λ es. IsStrictlySortedBy bytes_cmp (keys_of es)) (sym out) (sorted-remove_entry bytes_cmp-IsTotalOrder (is_at (bytes_cmp c.args.name)) es k.ordered);
       spots_ordered = c.in_ok-unplace.ensures.ordered;
-      spots = λ key. c.in_ok-unplace.ensures.spots key ∙ left_without es c.args.name k.ordered key.first key.second ∙ ap (λ es. is_spot es key.first key.second) (sym out);
+      spots = λ key. c.in_ok-unplace.ensures.spots key ∙ ap (λ es. is_spot es key.first key.second) (sym out);
     })
     c.remove.ensures.ok

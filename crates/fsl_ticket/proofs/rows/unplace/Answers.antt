@@ -7,7 +7,7 @@ use Rattle.fsl_table.proofs.Entries.{sorted-remove_entry}
 use Rattle.fsl_table.proofs.Outcomes.{on_ok_map}
 use Rattle.fsl_ticket.specs.Kept.{spot, spot_cmp}
 use Rattle.fsl_ticket.proofs.Canonical.{spot_cmp-IsTotalOrder}
-use Rattle.fsl_ticket.proofs.Placing.{spots_out, spots_stay}
+use Rattle.fsl_ticket.proofs.Placing.{spots_without, spots_stay}
 use Rattle.fsl_ticket.proofs.rows.unplace.Goals as goal
 
 pub returns-in-Some-clause-ordered : goal.returns-in-Some-clause-ordered
@@ -24,8 +24,8 @@ returns-in-Some-clause-spots g c =
     let key : c.key-spot.result ≡ spot e.id e.date c.args.name = c.key-spot.ensures ∙ ap (λ p. record { first = e.id; second = Some p }) c.new.ensures in
     on_ok_map c.remove.result
     (λ out q. ap (λ l. is_some (value_at spot_cmp q l)) (out ∙ ap (λ s. without_key spot_cmp s ss) key)
-    ∙ spots_out c.args.facts.now.entries ss c.args.name e k.spots_ordered k.spots (sym c.in-Some.ensures.value) q)
+    ∙ spots_without c.args.facts.now.entries ss k.spots c.args.name e k.ordered k.spots_ordered (sym c.in-Some.ensures.value) q)
     c.remove.ensures.ok
 
 pub returns-in-None-clause-spots : goal.returns-in-None-clause-spots
-returns-in-None-clause-spots g c = λ q. c.requires.kept.spots q ∙ spots_stay c.args.facts.now.entries c.args.name (sym c.in-None.ensures.value) q.first q.second
+returns-in-None-clause-spots g c = λ q. c.requires.kept.spots q ∙ spots_stay c.args.facts.now.entries c.args.name c.requires.kept.ordered (sym c.in-None.ensures.value) q.first q.second
