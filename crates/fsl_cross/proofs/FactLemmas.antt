@@ -31,17 +31,17 @@ Rise items = IsStrictlySortedBy bytes_cmp (map item_name items)
 
 -- ---- each fact has the name of its item
 
-links_own : (item : Item) → IfSome (links_fact item) (λ f. f.name ≡ item.name)
+pub links_own : (item : Item) → IfSome (links_fact item) (λ f. f.name ≡ item.name)
 links_own item = elim (as_manifest item.artifact) as (λ o. IfSome (option_map (λ m. let f : links.Fact = record { name = item.name; parents = m.parents } in f) o) (λ f. f.name ≡ item.name)) [ None ↦ tt | Some m ↦ refl ]
 
-tags_own : (items : List Item) (item : Item) → IfSome (tags_fact items item) (λ f. f.name ≡ item.name)
+pub tags_own : (items : List Item) (item : Item) → IfSome (tags_fact items item) (λ f. f.name ≡ item.name)
 tags_own items item =
     elim (tag_cards item.artifact) as (λ o. IfSome (option_map (λ cards. let f : tags.Fact = record { name = item.name; checkin = is_some (as_manifest item.artifact); parent = primary (links_facts items) item.name; tags = assertions item cards } in f) o) (λ f. f.name ≡ item.name)) [
       | None ↦ tt
       | Some cards ↦ refl
     ]
 
-leaves_own : (items : List Item) (item : Item) → IfSome (leaves_fact items item) (λ f. f.name ≡ item.name)
+pub leaves_own : (items : List Item) (item : Item) → IfSome (leaves_fact items item) (λ f. f.name ≡ item.name)
 leaves_own items item =
     elim (as_manifest item.artifact) as (λ o. IfSome (option_map (λ m. let f : leaves.Fact = record { name = item.name; parents = m.parents; branch = branch items item.name } in f) o) (λ f. f.name ≡ item.name)) [ None ↦ tt | Some m ↦ refl ]
 
@@ -146,7 +146,7 @@ range-rises n k lt =
     let second = get_or-range_with_len 0 n (k + 1) 0 (omega (arith, lt, long)) in
     omega (arith, first, second)
 
-fact-fit : (items : List Item) → Rise items → (item : Item) → named item_name items item.name ≡ Some item → IfSome (tags_fact items item) (IsTagFact (tags_facts items))
+pub fact-fit : (items : List Item) → Rise items → (item : Item) → named item_name items item.name ≡ Some item → IfSome (tags_fact items item) (IsTagFact (tags_facts items))
 fact-fit items h item own =
     elim (tag_cards item.artifact) as (λ o. IfSome (option_map (λ cards. let g : tags.Fact = record { name = item.name; checkin = is_some (as_manifest item.artifact); parent = primary (links_facts items) item.name; tags = assertions item cards } in g) o) (IsTagFact (tags_facts items))) [
       | None ↦ tt

@@ -31,7 +31,7 @@ use Rattle.fsl_cross.proofs.FactLemmas.{Rise}
 
 -- ---- each fact has the name of its item
 
-files-own : (item : Item) → IfSome (files_fact item) (λ f. f.name ≡ item.name)
+pub files-own : (item : Item) → IfSome (files_fact item) (λ f. f.name ≡ item.name)
 files-own item =
     elim (as_manifest item.artifact) as (λ o. IfSome (option_map (λ m. let f : files.Fact = record { name = item.name; baseline = m.baseline; parent = slice_get m.parents 0; files = map file_row m.files } in f) o) (λ f. f.name ≡ item.name)) [
       | None ↦ tt
@@ -49,7 +49,7 @@ pages-own_of name (Attachment a) = refl
 pages-own_of name (Technote t) = refl
 pages-own_of name (Forum f) = tt
 
-pages-own : (item : Item) → IfSome (pages_fact item) (λ f. name_of f ≡ item.name)
+pub pages-own : (item : Item) → IfSome (pages_fact item) (λ f. name_of f ≡ item.name)
 pages-own item = pages-own_of item.name item.artifact
 
 ticket-own_of : (name : List ℕ) (a : Artifact) → IfSome (ticket_fact_of name a) (λ f. f.name ≡ name)
@@ -63,7 +63,7 @@ ticket-own_of name (Attachment a) = tt
 ticket-own_of name (Technote t) = tt
 ticket-own_of name (Forum f) = tt
 
-ticket-own : (item : Item) → IfSome (ticket_fact item) (λ f. f.name ≡ item.name)
+pub ticket-own : (item : Item) → IfSome (ticket_fact item) (λ f. f.name ≡ item.name)
 ticket-own item = ticket-own_of item.name item.artifact
 
 forum-own_of : (name : List ℕ) (a : Artifact) → IfSome (forum_fact_of name a) (λ f. f.name ≡ name)
@@ -77,7 +77,7 @@ forum-own_of name (Attachment a) = tt
 forum-own_of name (Technote t) = tt
 forum-own_of name (Forum f) = refl
 
-forum-own : (item : Item) → IfSome (forum_fact item) (λ f. f.name ≡ item.name)
+pub forum-own : (item : Item) → IfSome (forum_fact item) (λ f. f.name ≡ item.name)
 forum-own item = forum-own_of item.name item.artifact
 
 -- a row that is there where a test holds has the name that it is given
@@ -96,10 +96,10 @@ row-own_of items name (Attachment a) = refl
 row-own_of items name (Technote t) = some-own name _ (option_eq bytes_eq (pages.note (pages_facts items) t.id) (Some name)) refl
 row-own_of items name (Forum f) = some-own name _ (is_some (threads.place (forum_facts items) name)) refl
 
-abbrev row_of : List Item → Item → Option Row
+abbrev pub row_of : List Item → Item → Option Row
 row_of items item = timeline_row_of items item.name item.artifact
 
-row-own : (items : List Item) (item : Item) → IfSome (row_of items item) (λ r. r.name ≡ item.name)
+pub row-own : (items : List Item) (item : Item) → IfSome (row_of items item) (λ r. r.name ≡ item.name)
 row-own items item = row-own_of items item.name item.artifact
 
 -- ---- the facts stand by name, and their names differ
@@ -142,7 +142,7 @@ rows-distinct items h = distinct-given item_name (λ r. r.name) (row_of items) (
 
 -- ---- rows by the facts of the other tables
 
-row-by_facts : (items : List Item) (name : List ℕ) (a : Artifact) → row_over (tags_facts items) (pages_facts items) (forum_facts items) (is_ticket items) (is_note items) name a ≡ timeline_row_of items name a
+pub row-by_facts : (items : List Item) (name : List ℕ) (a : Artifact) → row_over (tags_facts items) (pages_facts items) (forum_facts items) (is_ticket items) (is_note items) name a ≡ timeline_row_of items name a
 row-by_facts items name Plain = refl
 row-by_facts items name (Checkin m) = refl
 row-by_facts items name (Cluster c) = refl

@@ -1,11 +1,13 @@
 -- What the tables of a set hold.
-use Rattle.std.specs.Prelude.{◌≡◌, ℕ, List, All, map}
+use Rattle.std.specs.Prelude.{◌≡◌, ℕ, List, [], ◌∷◌, All, map, filter_map}
 use Rattle.std.specs.List.Sorted.{IsStrictlySortedBy}
 use Rattle.fsl_order.specs.Names.{bytes_cmp}
 use Rattle.fsl_cross.specs.declared.Item.{Item}
+use Rattle.fsl_cross.specs.declared.attached.Attached.{Attached}
 use Rattle.fsl_cross.specs.declared.history.History.{History}
 use Rattle.fsl_cross.specs.declared.contents.Contents.{Contents}
 use Rattle.fsl_cross.specs.declared.derived.Derived.{Derived}
+use Rattle.fsl_cross.specs.Attached.{ArePairs, target_pair, change_pair}
 use Rattle.fsl_cross.specs.Checkins.{links_facts, tags_facts}
 use Rattle.fsl_cross.specs.Tables.{IsItem, leaves_facts, files_facts, pages_facts, ticket_facts, forum_facts, cluster_facts, timeline_rows}
 
@@ -24,6 +26,11 @@ pub record AreContentsOf (fields : List (List ℕ)) (items : List Item) (c : Con
   pub threads : c.threads.facts ≡ forum_facts items
   pub clusters : c.clusters.facts ≡ cluster_facts items
 
+-- the pairs of attachments and of ticket changes are those of the items
+pub record IsAttachedOf (items : List Item) (a : Attached) : Type 0 where
+  pub targets : ArePairs (filter_map target_pair items) a.targets.entries
+  pub changes : ArePairs (filter_map change_pair items) a.changes.entries
+
 -- the items rise by name, each is what some bytes are, and each table has the facts that they give
 pub record AreTablesOf (fields : List (List ℕ)) (items : List Item) (d : Derived) : Type 0 where
   pub rising : IsStrictlySortedBy bytes_cmp (map (λ item. item.name) items)
@@ -31,3 +38,10 @@ pub record AreTablesOf (fields : List (List ℕ)) (items : List Item) (d : Deriv
   pub history : IsHistoryOf items d.history
   pub contents : AreContentsOf fields items d.contents
   pub timeline : d.timeline.facts ≡ timeline_rows items
+  pub attached : IsAttachedOf items d.attached
+
+-- the room that each table has to spare
+abbrev pub spare_of : Derived → List (List ℕ)
+spare_of d =
+    d.history.links.spare ∷ d.history.tags.spare ∷ d.history.leaves.spare ∷ d.contents.files.spare ∷ d.timeline.spare ∷ d.contents.pages.spare ∷ d.contents.tickets.spare
+    ∷ d.contents.threads.spare ∷ d.contents.clusters.spare ∷ (d.attached.targets.spare ∷ d.attached.changes.spare ∷ []) ∷ []

@@ -2,4 +2,11 @@ pub mod Facts
 pub mod Checkins
 pub mod Tables
 pub mod Inside
+pub mod Trails
+pub mod Chained
+pub mod Mixed
+pub mod Attached
+pub mod Marks
 pub mod Built
+pub mod Back
+pub mod Fresh

@@ -24,6 +24,7 @@ use Rattle.fsl_ticket.specs.declared.Fact as ticket
 use Rattle.fsl_forum.specs.declared.Fact as forum
 use Rattle.fsl_forum.specs.Threads as threads
 use Rattle.fsl_cluster.specs.declared.Fact as cluster
+use Rattle.fsl_table.specs.Trail.{AreAllAtMost}
 use Rattle.fsl_cross.specs.declared.Item.{Item}
 use Rattle.fsl_cross.specs.Facts.{as_manifest, files_fact, pages_fact, ticket_fact, forum_fact, cluster_fact}
 use Rattle.fsl_cross.specs.Checkins.{links_facts, tags_facts, branch, values_of}
@@ -131,10 +132,22 @@ tables_of_set fields set =
 abbrev pub tables : List (List ℕ) → List Item → TableFacts
 tables fields items = tables_of_set fields (item_set items)
 
--- what contracts see of all tables: the configured fields, and the items by name
+-- what contracts see of all tables: the configured fields, the items by name, and the room that the maps inside have to spare, one list a table
 pub record Seen : Type 0 where
   pub fields : List (List ℕ)
   pub items : List Item
+  pub spare : List (List ℕ)
+
+-- all tables are as before: they have the same fields and the same items, and no less room
+pub record IsAsBefore (before now : Seen) : Type 0 where
+  pub fields : now.fields ≡ before.fields
+  pub items : now.items ≡ before.items
+  pub spare : AreAllAtMost before.spare now.spare
+
+-- a change of all tables: what they were, and what they became
+pub record Change : Type 0 where
+  pub before : Seen
+  pub after : Seen
 
 -- Law. Items whose names differ have the same tables in whatever order they stand
 abbrev pub SameInAnyOrder : Type 0
@@ -145,6 +158,16 @@ SameInAnyOrder =
 -- the set with one item more, or with a new item in place of the one of its name
 abbrev pub with_item : Item → List Item → List Item
 with_item item items = item_set (item ∷ items)
+
+-- the set with some items more, one after another
+abbrev pub added : List Item → List Item → List Item
+added set [] = set
+added set (item ∷ items) = added (with_item item set) items
+
+-- Law. Items whose names differ, added one after another in whatever order to an empty set, are the set of the items
+pub record AddedInAnyOrder : Type 0 where
+  pub built : (xs : List Item) → AreDistinct (map (λ item. item.name) xs) → added [] xs ≡ item_set xs
+  pub same : (xs ys : List Item) → AreDistinct (map (λ item. item.name) xs) → IsPermutation xs ys → added [] xs ≡ added [] ys
 
 -- the item, public where it has this name
 abbrev pub public_at : List ℕ → Item → Item

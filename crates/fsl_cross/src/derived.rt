@@ -1,10 +1,12 @@
-//! The nine tables, beside the artifacts that they are made from.
-ghost use Rattle.std.specs.Prelude.{All, IfOk, map};
+//! The nine tables and what attachments are found by, beside the artifacts that they are made from.
+ghost use Rattle.std.specs.Prelude.{◌≡◌, All, IfOk, map};
 ghost use Rattle.std.specs.List.Sorted.{IsStrictlySortedBy};
 ghost use Rattle.fsl_order.specs.Names.{bytes_cmp};
-ghost use Rattle.fsl_cross.specs.Tables.{IsItem};
-ghost use Rattle.fsl_cross.specs.Built.{IsHistoryOf, AreContentsOf, AreTablesOf};
+ghost use Rattle.fsl_cross.specs.Checkins.{tags_facts};
+ghost use Rattle.fsl_cross.specs.Tables.{IsItem, pages_facts, forum_facts, timeline_rows};
+ghost use Rattle.fsl_cross.specs.Built.{IsHistoryOf, AreContentsOf, IsAttachedOf, AreTablesOf};
 
+use super::attached::Attached;
 use super::contents::Contents;
 use super::history::History;
 use super::items::Items;
@@ -19,6 +21,32 @@ pub(crate) struct Derived {
     pub(crate) history: History,
     pub(crate) contents: Contents,
     pub(crate) timeline: Timeline,
+    pub(crate) attached: Attached,
+}
+
+/// The timeline, and what attachments are found by. `Memory` is the only error.
+fn told(
+    alloc: Global,
+    history: &History,
+    contents: &Contents,
+    items: &Items,
+) -> Result<(Timeline, Attached), Memory>
+    requires rising { IsStrictlySortedBy bytes_cmp (map (λ i. i.name) items.now) }
+    requires tags { history.now.tags.facts ≡ tags_facts items.now }
+    requires pages { contents.now.pages.facts ≡ pages_facts items.now }
+    requires threads { contents.now.threads.facts ≡ forum_facts items.now }
+    ensures timeline { IfOk result (λ both. both.0.facts ≡ timeline_rows items.now) }
+    ensures attached { IfOk result (λ both. IsAttachedOf items.now both.1) }
+{
+    let timeline = timeline::table(
+        alloc,
+        &history.tags,
+        &contents.pages,
+        &contents.threads,
+        items,
+    )?;
+    let attached = Attached::build(alloc, items)?;
+    Ok((timeline, attached))
 }
 
 impl Derived {
@@ -66,17 +94,12 @@ impl Derived {
         requires contents { AreContentsOf fields.now items.now contents }
         ensures { IfOk result (λ d. AreTablesOf fields.now items.now d) }
     {
-        let timeline = timeline::table(
-            alloc,
-            &history.tags,
-            &contents.pages,
-            &contents.threads,
-            items,
-        )?;
+        let (timeline, attached) = told(alloc, &history, &contents, items)?;
         Ok(Derived {
             history,
             contents,
             timeline,
+            attached,
         })
     }
 }

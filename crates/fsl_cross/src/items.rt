@@ -1,11 +1,12 @@
 //! The artifacts of a set, by name.
-ghost use Rattle.std.specs.Prelude.{◌≡◌, ◌∷◌, ◌++◌, [], cond, map, OnOk, IfOk};
+ghost use Rattle.std.specs.Prelude.{◌≡◌, ◌∷◌, ◌++◌, [], cond, map, OnOk, OnErr, IfOk};
 ghost use Rattle.std.specs.Option.{option_copied};
 ghost use Rattle.std.specs.Map.Iter.{ShowsInOrder, deref};
 ghost use Rattle.std.specs.List.Sorted.{IsStrictlySortedBy};
 ghost use Rattle.fsl_order.specs.Names.{bytes_cmp};
 ghost use Rattle.fsl_order.specs.Rows.{by_name, named, AreDistinct};
 ghost use Rattle.fsl_cross.specs.Tables.{without};
+ghost use Rattle.fsl_cross.specs.Marks.{private_at, entry_at};
 
 use super::Item;
 use super::held::Held;
@@ -62,7 +63,7 @@ fn discard<T: Drop>(_value: T) {}
 
 impl Items {
     /// No artifacts. Takes no memory.
-    fn new(alloc: Global) -> Items
+    pub(crate) fn new(alloc: Global) -> Items
         ensures { result ≡ [] }
     {
         Items {
@@ -70,10 +71,12 @@ impl Items {
         }
     }
 
-    /// Puts an artifact in; it takes the place of the one of its name, where there is one. `Memory` is the only error.
-    fn put(&mut self, item: Held) -> Result<(), Memory>
+    /// Puts an artifact in; it takes the place of the one of its name, where there is one. `Memory` is the only error, and the set then
+    /// has what it had.
+    pub(crate) fn put(&mut self, item: Held) -> Result<(), Memory>
         ensures items { OnOk result (self.new ≡ by_name (λ i. i.name) (item ∷ self.old)) }
         ensures rising { OnOk result (IsStrictlySortedBy bytes_cmp (map (λ i. i.name) self.new)) }
+        ensures err { OnErr result (self.new ≡ self.old) }
     {
         let old = self.tree.insert(item.name(), item)?;
         discard(old);
@@ -129,5 +132,29 @@ impl Items {
         ensures { option_copied result ≡ named (λ i. i.name) self.now name }
     {
         self.tree.get(&name)
+    }
+
+    /// Takes the artifact of a name out, where there is one. Takes no memory.
+    pub(crate) fn take(&mut self, name: Name)
+        ensures { self.new ≡ without name self.old }
+    {
+        let old = self.tree.remove(&name);
+        discard(old);
+    }
+
+    /// Makes the artifact of a name private, or public, where there is one. Takes no memory.
+    pub(crate) fn set_private(&mut self, name: Name, private: bool)
+        ensures { self.new ≡ map (private_at name private) self.old }
+    {
+        mark(&mut self.tree, name, private);
+    }
+}
+
+/// Makes the artifact of a name private, or public, where there is one.
+fn mark(tree: &mut BTreeMap<Name, Held>, name: Name, private: bool)
+    ensures { tree.new.entries ≡ map (entry_at name private) tree.old.entries }
+{
+    if let Some(item) = tree.get_mut(&name) {
+        item.set_private(private);
     }
 }

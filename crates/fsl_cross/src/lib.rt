@@ -2,9 +2,12 @@
 //! its answers are those of the definitions over the set.
 #![tactic(auto)]
 
-ghost use Rattle.fsl_cross.specs.Tables.{SameInAnyOrder};
+ghost use Rattle.fsl_cross.specs.Tables.{SameInAnyOrder, AddedInAnyOrder};
 
+mod attached;
+mod back;
 mod beside;
+mod change;
 mod checkin;
 mod contents;
 mod derived;
@@ -12,11 +15,14 @@ mod facts;
 mod held;
 mod history;
 mod items;
+mod reversible;
 mod tables;
 mod targets;
 mod timeline;
 mod tip;
+mod undos;
 
+pub use back::Back;
 use fsl_artifact::Artifact;
 use fsl_date::Moment;
 use fsl_name::Name;
@@ -51,6 +57,13 @@ pub struct Values {
 /// The tables are the same in whatever order the artifacts come.
 pub fn same_in_any_order()
     ensures { SameInAnyOrder }
+{
+    by_name_in_any_order::<Item>();
+}
+
+/// Artifacts that are added one after another make the set that is built of them, in whatever order they come.
+pub fn added_in_any_order()
+    ensures { AddedInAnyOrder }
 {
     by_name_in_any_order::<Item>();
 }

@@ -2,10 +2,11 @@
 ghost use Rattle.std.specs.Prelude.{◌≡◌, [], All, IfOk, map};
 ghost use Rattle.fsl_order.specs.Rows.{AreDistinct};
 ghost use Rattle.fsl_cross.specs.Checkins as checkins;
-ghost use Rattle.fsl_cross.specs.Tables.{IsItem, item_set, tables, without};
+ghost use Rattle.fsl_cross.specs.Tables.{IsItem, IsAsBefore, item_set, tables, without};
 ghost use Rattle.std.specs.List.Sorted.{IsStrictlySortedBy};
 ghost use Rattle.fsl_order.specs.Names.{bytes_cmp};
 
+use super::back::{Back, take_back, unmake};
 use super::checkin::manifest;
 use super::derived::Derived;
 use super::items::Items;
@@ -34,11 +35,11 @@ pub struct Tables {
 
 impl Model for Tables {
     ghost use Rattle.fsl_cross.specs.Tables.{Seen};
-    ghost use Rattle.fsl_cross.specs.Built.{AreTablesOf};
+    ghost use Rattle.fsl_cross.specs.Built.{AreTablesOf, spare_of};
 
     ghost Value = { Seen };
 
-    ghost view = { λ t. record { fields = t.fields; items = t.items } };
+    ghost view = { λ t. record { fields = t.fields; items = t.items; spare = spare_of t.derived } };
 
     ghost invariant = { λ t. AreTablesOf t.fields t.items t.derived };
 }
@@ -66,6 +67,30 @@ impl Tables {
         let fields = copied(alloc, self.fields.items())?;
         let items = self.items.without(alloc, name)?;
         Tables::of_set(alloc, fields, items)
+    }
+
+    /// The tables of no artifacts, and of the configured fields of tickets. `Memory` is the only error.
+    pub fn new(alloc: Global, fields: &List<Text>) -> Result<Tables, Memory>
+        ensures fields { IfOk result (λ t. t.fields ≡ fields.now) }
+        ensures items { IfOk result (λ t. t.items ≡ []) }
+    {
+        let fields = copied(alloc, fields.items())?;
+        Tables::of_set(alloc, fields, Items::new(alloc))
+    }
+
+    /// Takes the last change back that wasn't taken back. Takes no memory.
+    pub fn undo(&mut self, back: Back)
+        requires { IsAsBefore back.after self.old }
+        ensures { IsAsBefore back.before self.new }
+    {
+        let Back {
+            what,
+            name,
+            undos,
+            ..
+        } = back;
+        take_back(&mut self.derived, undos);
+        unmake(&mut self.items, what, name);
     }
 
     /// The tables of a set.

@@ -49,7 +49,12 @@ fn row(
 }
 
 /// The row of a check-in: its date, user and comment are those of its tags where these are in force.
-fn checkin(alloc: Global, tags: &Tags, name: Name, manifest: &Manifest) -> Result<Row, Memory>
+pub(crate) fn checkin(
+    alloc: Global,
+    tags: &Tags,
+    name: Name,
+    manifest: &Manifest,
+) -> Result<Row, Memory>
     ensures { IfOk result (λ r. r ≡ checkin_row tags.now.facts name manifest.now) }
 {
     let time = date(tags, name, manifest);

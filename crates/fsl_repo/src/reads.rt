@@ -22,7 +22,8 @@ use fsl_text::{List, Memory, Text};
 impl<D: Disk> Repo<D> {
     /// All tables.
     pub fn tables(&self) -> &Tables
-        ensures { result.now ≡ record { fields = configured (now self.now.seen.state); items = self.now.seen.items } }
+        ensures fields { result.now.fields ≡ configured (now self.now.seen.state) }
+        ensures items { result.now.items ≡ self.now.seen.items }
     {
         &self.tables
     }

@@ -14,7 +14,7 @@ use fsl_text::Memory;
 use std::alloc::Global;
 
 /// The fact that an artifact gives.
-fn fact_of(alloc: Global, item: &Held) -> Result<Fact, Memory>
+pub(crate) fn fact_of(alloc: Global, item: &Held) -> Result<Fact, Memory>
     ensures { IfOk result (λ fact. fact ≡ cluster_fact item.now) }
 {
     Ok(Fact {

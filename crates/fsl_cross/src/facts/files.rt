@@ -61,7 +61,7 @@ fn first(names: &[Name]) -> Option<Name>
 }
 
 /// The fact that an artifact gives, where it is a check-in.
-fn fact_of(alloc: Global, item: &Held) -> Result<Option<Fact>, Memory>
+pub(crate) fn fact_of(alloc: Global, item: &Held) -> Result<Option<Fact>, Memory>
     ensures { IfOk result (λ fact. fact ≡ files_fact item.now) }
 {
     let Some(manifest) = manifest(item.artifact()) else {

@@ -14,7 +14,7 @@ use fsl_text::{Memory, Text};
 use std::alloc::Global;
 
 /// The fact that an artifact gives, where it is a forum post.
-fn fact_of(alloc: Global, item: &Held) -> Result<Option<Fact>, Memory>
+pub(crate) fn fact_of(alloc: Global, item: &Held) -> Result<Option<Fact>, Memory>
     ensures { IfOk result (λ fact. fact ≡ forum_fact item.now) }
 {
     match item.artifact() {

@@ -16,7 +16,7 @@ use fsl_text::{List, Memory, Text};
 use std::alloc::Global;
 
 /// The fact that an artifact gives, where it is a check-in.
-fn fact_of(alloc: Global, tags: &Tags, item: &Held) -> Result<Option<Fact>, Memory>
+pub(crate) fn fact_of(alloc: Global, tags: &Tags, item: &Held) -> Result<Option<Fact>, Memory>
     ensures { IfOk result (λ fact. fact ≡ leaves_fact_over tags.now.facts item.now) }
 {
     let Some(manifest) = manifest(item.artifact()) else {

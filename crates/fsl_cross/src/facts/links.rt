@@ -14,7 +14,7 @@ use fsl_text::Memory;
 use std::alloc::Global;
 
 /// The fact that an artifact gives, where it is a check-in.
-fn fact_of(alloc: Global, item: &Held) -> Result<Option<Fact>, Memory>
+pub(crate) fn fact_of(alloc: Global, item: &Held) -> Result<Option<Fact>, Memory>
     ensures { IfOk result (λ fact. fact ≡ links_fact item.now) }
 {
     let Some(manifest) = manifest(item.artifact()) else {

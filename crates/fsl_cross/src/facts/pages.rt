@@ -41,7 +41,7 @@ fn attached_of(alloc: Global, name: Name, file: &forms::Attachment) -> Result<At
 }
 
 /// The fact that an artifact gives, where it is a wiki page, a technote or an attachment.
-fn fact_of(alloc: Global, item: &Held) -> Result<Option<Fact>, Memory>
+pub(crate) fn fact_of(alloc: Global, item: &Held) -> Result<Option<Fact>, Memory>
     ensures { IfOk result (λ fact. fact ≡ pages_fact item.now) }
 {
     let name = item.name();

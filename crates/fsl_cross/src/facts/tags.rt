@@ -104,7 +104,7 @@ fn assertions_of(
 }
 
 /// The fact that an artifact gives, where it may have T cards.
-fn fact_of(alloc: Global, links: &Links, item: &Held) -> Result<Option<Fact>, Memory>
+pub(crate) fn fact_of(alloc: Global, links: &Links, item: &Held) -> Result<Option<Fact>, Memory>
     ensures { IfOk result (λ fact. fact ≡ tags_fact_over links.now.facts item.now) }
 {
     let Some((date, cards)) = cards(item.artifact()) else {

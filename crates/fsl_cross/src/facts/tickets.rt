@@ -37,7 +37,7 @@ fn changes_of(alloc: Global, cards: &[TicketChange]) -> Result<List<FieldChange>
 }
 
 /// The fact that an artifact gives, where it is a ticket change.
-fn fact_of(alloc: Global, item: &Held) -> Result<Option<Fact>, Memory>
+pub(crate) fn fact_of(alloc: Global, item: &Held) -> Result<Option<Fact>, Memory>
     ensures { IfOk result (λ fact. fact ≡ ticket_fact item.now) }
 {
     match item.artifact() {

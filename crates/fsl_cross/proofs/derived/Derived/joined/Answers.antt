@@ -6,5 +6,6 @@ returns c = record {
   kinds = c.requires.kinds;
   history = c.requires.history;
   contents = c.requires.contents;
-  timeline = c.in_ok-timeline.ensures;
+  timeline = c.in_ok-timeline.ensures.timeline;
+  attached = c.in_ok-timeline.ensures.attached;
 }

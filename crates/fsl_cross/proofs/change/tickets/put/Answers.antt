@@ -1,0 +1,20 @@
+use Rattle.std.proofs.Common.{◌∙◌}
+use Rattle.fsl_cross.proofs.Trailing.{tickets-same, tickets-failed, tickets-kept, tickets-facts, tickets-fields}
+use Rattle.fsl_cross.proofs.change.tickets.put.Goals as goal
+
+pub keep-requires : goal.keep-requires
+keep-requires g c = tickets-same c.in_ok-undo.undo.after c.add.new.self c.in_ok-undo.ensures.after
+
+pub returns-in_err-undo-clause-led : goal.returns-in_err-undo-clause-led
+returns-in_err-undo-clause-led g c = tickets-failed c.args.tickets.now c.add.new.self c.args.undos.now c.in_err-undo.ensures.err
+
+pub returns-clause-facts : goal.returns-clause-facts
+returns-clause-facts g c = tickets-facts c.keep.result c.add.new.self c.keep.new.table _ c.in_ok-undo.ensures.facts c.keep.ensures.table
+
+pub returns-clause-led : goal.returns-clause-led
+returns-clause-led g c =
+    tickets-kept c.keep.result c.args.tickets.now c.add.new.self c.keep.new.table c.args.undos.now c.keep.new.undos c.in_ok-undo.undo c.in_ok-undo.ensures.before c.in_ok-undo.ensures.after
+    c.keep.ensures.table c.keep.ensures.undos c.keep.ensures.same c.keep.ensures.back
+
+pub returns-clause-fields : goal.returns-clause-fields
+returns-clause-fields g c = tickets-fields c.keep.result c.add.new.self c.keep.new.table c.args.tickets.now.fields c.in_ok-undo.ensures.fields c.keep.ensures.table

@@ -1,0 +1,9 @@
+//! Changes of the tables by one artifact more, one module a table.
+pub(crate) mod attached;
+pub(crate) mod history;
+pub(crate) mod leaves;
+pub(crate) mod links;
+pub(crate) mod rows;
+pub(crate) mod tags;
+pub(crate) mod threads;
+pub(crate) mod tickets;
