@@ -15,14 +15,7 @@ use Rattle.fsl_files.specs.declared.entry.Entry.{Entry}
 use Rattle.fsl_files.specs.Kept.{Lines, Pairs, Rows, IsKept, baseline_at, parent_at, facts_of, held_of, is_touched}
 use Rattle.fsl_files.specs.Touches.{is_followed}
 use Rattle.fsl_files.proofs.Linked.{has-of}
-
-or_left : (a b : Bool) → (a || b) ≡ false → a ≡ false
-or_left true b h = h
-or_left false b h = refl
-
-or_right : (a b : Bool) → (a || b) ≡ false → b ≡ false
-or_right true b h = absurd (true≢false h)
-or_right false b h = h
+use Rattle.fsl_files.proofs.Staying.{or_left, or_right}
 
 other : (name : List ℕ) (s : Option (List ℕ)) → option_map_or (bytes_eq name) s false ≡ false → is_name s name ≡ false
 other name None h = refl

@@ -22,11 +22,11 @@ use Rattle.fsl_files.proofs.Deciding.{same_row-decides}
 use Rattle.fsl_files.proofs.Linked.{has-of}
 use Rattle.fsl_files.proofs.Reading.{row-at}
 
-or_left : (a b : Bool) → (a || b) ≡ false → a ≡ false
+pub or_left : (a b : Bool) → (a || b) ≡ false → a ≡ false
 or_left true b h = h
 or_left false b h = refl
 
-or_right : (a b : Bool) → (a || b) ≡ false → b ≡ false
+pub or_right : (a b : Bool) → (a || b) ≡ false → b ≡ false
 or_right true b h = absurd (true≢false h)
 or_right false b h = h
 
