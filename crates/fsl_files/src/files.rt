@@ -1,51 +1,258 @@
 //! The table of files.
-ghost use Rattle.std.specs.Prelude.{◌≡◌, [], IfOk, All, map};
-ghost use Rattle.std.specs.List.Sorted.{IsStrictlySortedBy};
-ghost use Rattle.fsl_order.specs.Names.{bytes_cmp};
-ghost use Rattle.fsl_order.specs.Rows.{by_name, AreDistinct};
+ghost use Rattle.std.specs.Prelude.{◌≡◌, ◌+◌, ◌*◌, ◌≤◌, ◌<◌, ◌∷◌, [], false, true, length, IfOk, OnOk, OnErr, All, map};
+ghost use Rattle.fsl_order.specs.Held.{IsAsBefore};
+ghost use Rattle.fsl_order.specs.Names.{has};
+ghost use Rattle.fsl_order.specs.Rows.{by_name, AreDistinct, ListsChanged};
 ghost use Rattle.fsl_files.specs.Conditions.{IsFilesFact};
 ghost use Rattle.fsl_files.specs.Files as table;
+ghost use Rattle.fsl_files.specs.Files.{files_row};
+ghost use Rattle.fsl_files.specs.Touches.{is_followed, counted};
 
-use super::found::{Found, find, parent_of};
+use super::entry::{Entry, line_of};
+use super::found::{Found, find, find_both};
+use super::lookup::Lookup;
+use super::put::{put_either, put_new};
 use super::{Change, Fact, Listing, changes, rows};
 use fsl_name::Name;
-use fsl_rows::Rows;
-use fsl_text::{List, Memory};
+use fsl_rows::Named;
+use fsl_table::{Log, Pair, Table, log};
+use fsl_text::{List, Memory, Steps};
 use std::alloc::Global;
-use std::marker::Model;
+use std::marker::{Brand, Model};
+use std::snapshot::Snapshot;
+use std::sync::ledger::{Blank, Ledger};
 
-/// The files of check-ins. Contracts see it as the facts by name.
+/// The files of check-ins. Contracts see it as the facts by name, and the room that its maps have to spare.
 #[derive(Drop)]
 pub struct Files {
-    rows: Rows<Fact>,
+    facts: Table<Name, Entry>,
+    /// A pair for each baseline and the check-in that has it; the baseline need not be there.
+    deltas: Table<Pair, ()>,
+    /// A pair for each primary parent and the check-in that has it; the parent need not be there.
+    children: Table<Pair, ()>,
 }
 
 impl Model for Files {
-    ghost use Rattle.std.specs.Prelude.{[], All};
     ghost use Rattle.fsl_order.specs.Held.{Held};
     ghost use Rattle.fsl_files.specs.declared.Fact.{Fact};
-    ghost use Rattle.fsl_files.specs.Conditions.{IsFilesFact};
+    ghost use Rattle.fsl_files.specs.Kept.{held_of, IsKept};
 
     ghost Value = { Held Fact };
 
-    ghost view = { λ t. record { facts = t.rows; spare = [] } };
+    ghost view = { λ t. held_of (record { facts = t.facts; deltas = t.deltas; children = t.children }) };
 
-    ghost invariant = { λ t. All IsFilesFact t.rows };
+    ghost invariant = { λ t. IsKept (record { facts = t.facts; deltas = t.deltas; children = t.children }) };
+}
+
+/// What takes a change back, and the names whose rows it changed. Contracts see it as both, with the table before and after.
+#[derive(Drop)]
+pub struct Undo {
+    facts: Log<Name, Entry>,
+    deltas: Log<Pair, ()>,
+    children: Log<Pair, ()>,
+    changed: List<Name>,
+    before: Snapshot<Files>,
+    after: Snapshot<Files>,
+}
+
+impl Model for Undo {
+    ghost use Rattle.fsl_order.specs.Held.{Change, IsAsBefore};
+    ghost use Rattle.fsl_files.specs.declared.Fact.{Fact};
+    ghost use Rattle.fsl_files.specs.Kept.{Rows, IsKept, held_of, TakesBack};
+
+    ghost Value = { Change Fact };
+
+    ghost view = { λ u. record { before = u.before.value; after = u.after.value; changed = u.changed } };
+
+    ghost invariant = { λ u. (now : Rows) → IsKept now → IsAsBefore u.after.value (held_of now) → TakesBack (record { facts = u.facts; deltas = u.deltas; children = u.children }) u.before.value now };
+}
+
+impl Undo {
+    /// The names whose rows the change changed, ascending. The row of a name is its files, and its changes against its primary parent.
+    pub fn changed(&self) -> &List<Name>
+        ensures { result.now ≡ self.now.changed }
+    {
+        &self.changed
+    }
 }
 
 impl Files {
+    /// The table without check-ins. Takes no memory.
+    pub fn new(alloc: Global) -> Files
+        ensures { result.facts ≡ [] }
+    {
+        let facts = Table::new(alloc);
+        let deltas = Table::new(alloc);
+        let children = Table::new(alloc);
+        Files {
+            facts,
+            deltas,
+            children,
+        }
+    }
+
     /// The table of some facts, of which no two have one name. In each the files rise by path, and where it has no baseline each
-    /// has a hash. The table is the same in whatever order the facts stand. It takes time by n log n of the facts, and copies each
-    /// once. `Memory` is the only error.
+    /// has a hash. The table is the same in whatever order the facts stand: that is the law `fsl_order::by_name_in_any_order`. It takes
+    /// time by n log n of the facts, and copies each once. `Memory` is the only error.
     pub fn build(alloc: Global, facts: &[Fact]) -> Result<Files, Memory>
         requires names { AreDistinct (map (λ f. f.name) facts.now) }
         requires fit { All IsFilesFact facts.now }
         ensures facts { IfOk result (λ t. t.facts ≡ by_name (λ f. f.name) facts.now) }
-        ensures spare { IfOk result (λ t. t.spare ≡ []) }
     {
+        Files::build_counted::<Brand>(alloc, facts, Blank::new(1))
+    }
+
+    fn build_counted<L: Ledger>(
+        alloc: Global,
+        facts: &[Fact],
+        blank: Blank,
+    ) -> Result<Files, Memory>
+        requires name { blank.name ≡ L.name }
+        requires parts { blank.parts ≡ L.parts }
+        requires counts { 0 < L.parts }
+        requires distinct { AreDistinct (map (λ f. f.name) facts.now) }
+        requires fit { All IsFilesFact facts.now }
+        ensures facts { IfOk result (λ t. t.facts ≡ by_name (λ f. f.name) facts.now) }
+    {
+        let mut steps: Steps<L> = Steps::new(blank);
+        let mut entries = Table::new(alloc);
+        let mut deltas = Table::new(alloc);
+        let mut children = Table::new(alloc);
+        let mut left = facts.len();
+        while left > 0 {
+            left -= 1;
+            let fact = facts[left].copied(alloc)?;
+            put_new(
+                alloc,
+                &mut entries,
+                &mut deltas,
+                &mut children,
+                line_of(fact),
+                &mut steps,
+            )?;
+        }
         Ok(Files {
-            rows: Rows::build(alloc, facts)?,
+            facts: entries,
+            deltas,
+            children,
         })
+    }
+
+    /// Adds a check-in whose name isn't there, which is moved. Its files rise by path, and where it has no baseline each has a hash.
+    /// `Memory` is the only error, and the table then holds what it held. Where no check-in names it as its baseline or primary
+    /// parent, it takes at most 10 touches, and 10 for each of its F cards and each file of its primary parent and of its baseline.
+    pub fn add<L: Ledger>(
+        &mut self,
+        alloc: Global,
+        fact: Fact,
+        steps: &mut Steps<L>,
+    ) -> Result<Undo, Memory>
+        requires absent { has (map (λ f. f.name) self.old.facts) fact.name ≡ false }
+        requires fit { IsFilesFact fact }
+        ensures facts { OnOk result (self.new.facts ≡ by_name (λ f. f.name) (fact ∷ self.old.facts)) }
+        ensures before { IfOk result (λ undo. undo.before ≡ self.old) }
+        ensures after { IfOk result (λ undo. undo.after ≡ self.new) }
+        ensures changed { IfOk result (λ undo. ListsChanged (files_row self.old.facts) (files_row self.new.facts) undo.changed) }
+        ensures err { OnErr result (IsAsBefore self.old self.new) }
+        ensures cost { is_followed self.old.facts fact.name ≡ false → steps.new ≤ steps.old + 10 * (1 + length fact.files + counted self.old.facts fact.parent + counted self.old.facts fact.baseline) }
+    {
+        self.put(alloc, fact, steps)
+    }
+
+    /// Puts a check-in in the place of that of its name, which is there. It is moved. Its files rise by path, and where it has no
+    /// baseline each has a hash. `Memory` is the only error, and the table then holds what it held.
+    pub fn change<L: Ledger>(
+        &mut self,
+        alloc: Global,
+        fact: Fact,
+        steps: &mut Steps<L>,
+    ) -> Result<Undo, Memory>
+        requires there { has (map (λ f. f.name) self.old.facts) fact.name ≡ true }
+        requires fit { IsFilesFact fact }
+        ensures facts { OnOk result (self.new.facts ≡ by_name (λ f. f.name) (fact ∷ self.old.facts)) }
+        ensures before { IfOk result (λ undo. undo.before ≡ self.old) }
+        ensures after { IfOk result (λ undo. undo.after ≡ self.new) }
+        ensures changed { IfOk result (λ undo. ListsChanged (files_row self.old.facts) (files_row self.new.facts) undo.changed) }
+        ensures err { OnErr result (IsAsBefore self.old self.new) }
+    {
+        self.put(alloc, fact, steps)
+    }
+
+    /// Puts a check-in, in the place of that of its name where there is one.
+    fn put<L: Ledger>(
+        &mut self,
+        alloc: Global,
+        fact: Fact,
+        steps: &mut Steps<L>,
+    ) -> Result<Undo, Memory>
+        requires fit { IsFilesFact fact }
+        ensures facts { OnOk result (self.new.facts ≡ by_name (λ f. f.name) (fact ∷ self.old.facts)) }
+        ensures before { IfOk result (λ undo. undo.before ≡ self.old) }
+        ensures after { IfOk result (λ undo. undo.after ≡ self.new) }
+        ensures changed { IfOk result (λ undo. ListsChanged (files_row self.old.facts) (files_row self.new.facts) undo.changed) }
+        ensures err { OnErr result (IsAsBefore self.old self.new) }
+        ensures cost { has (map (λ f. f.name) self.old.facts) fact.name ≡ false → is_followed self.old.facts fact.name ≡ false → steps.new ≤ steps.old + 10 }
+    {
+        let before = Snapshot::of(&*self);
+        let mut facts = Log::new(alloc);
+        let mut deltas = Log::new(alloc);
+        let mut children = Log::new(alloc);
+        match put_either(
+            alloc,
+            &mut self.facts,
+            &mut self.deltas,
+            &mut self.children,
+            &mut facts,
+            &mut deltas,
+            &mut children,
+            line_of(fact),
+            steps,
+        ) {
+            Ok(changed) => {
+                let after = Snapshot::of(&*self);
+                Ok(Undo {
+                    facts,
+                    deltas,
+                    children,
+                    changed,
+                    before,
+                    after,
+                })
+            }
+            Err(Memory) => {
+                log::undo(&mut self.facts, facts, steps);
+                log::undo(&mut self.deltas, deltas, steps);
+                log::undo(&mut self.children, children, steps);
+                Err(Memory)
+            }
+        }
+    }
+
+    /// Takes the last change back that wasn't taken back. It takes no memory.
+    pub fn undo(&mut self, undo: Undo)
+        requires { IsAsBefore undo.after self.old }
+        ensures { IsAsBefore undo.before self.new }
+    {
+        self.take_back::<Brand>(undo, Blank::new(1));
+    }
+
+    fn take_back<L: Ledger>(&mut self, undo: Undo, blank: Blank)
+        requires name { blank.name ≡ L.name }
+        requires parts { blank.parts ≡ L.parts }
+        requires counts { 0 < L.parts }
+        requires last { IsAsBefore undo.after self.old }
+        ensures { IsAsBefore undo.before self.new }
+    {
+        let mut steps: Steps<L> = Steps::new(blank);
+        let Undo {
+            facts,
+            deltas,
+            children,
+            ..
+        } = undo;
+        log::undo(&mut self.facts, facts, &mut steps);
+        log::undo(&mut self.deltas, deltas, &mut steps);
+        log::undo(&mut self.children, children, &mut steps);
     }
 
     /// The files of a check-in, by rising path. Without a baseline they are its own. With one they are those of the baseline, each
@@ -55,7 +262,22 @@ impl Files {
     pub fn files(&self, alloc: Global, name: Name) -> Result<Listing, Memory>
         ensures { IfOk result (λ l. l ≡ table.files self.now.facts name) }
     {
-        match find(&self.rows, name) {
+        self.files_counted::<Brand>(alloc, name, Blank::new(1))
+    }
+
+    fn files_counted<L: Ledger>(
+        &self,
+        alloc: Global,
+        name: Name,
+        blank: Blank,
+    ) -> Result<Listing, Memory>
+        requires name { blank.name ≡ L.name }
+        requires parts { blank.parts ≡ L.parts }
+        requires counts { 0 < L.parts }
+        ensures { IfOk result (λ l. l ≡ table.files self.now.facts name) }
+    {
+        let mut steps: Steps<L> = Steps::new(blank);
+        match find(&Lookup::of(&self.facts), name, &mut steps) {
             Found::NotCheckin => Ok(Listing::NotCheckin),
             Found::NoBaseline => Ok(Listing::NoBaseline),
             Found::Known(files) => Ok(Listing::Known(rows::collected(alloc, files)?)),
@@ -68,16 +290,24 @@ impl Files {
     pub fn changes(&self, alloc: Global, name: Name) -> Result<Option<List<Change>>, Memory>
         ensures { IfOk result (λ c. c ≡ table.changes self.now.facts name) }
     {
-        let Some(parent) = parent_of(&self.rows, name) else {
-            return Ok(None);
-        };
-        let Found::Known(old) = find(&self.rows, parent) else {
-            return Ok(None);
-        };
-        let Found::Known(new) = find(&self.rows, name) else {
-            return Ok(None);
-        };
-        let changes = changes::differences(alloc, old, new)?;
-        Ok(Some(changes))
+        self.changes_counted::<Brand>(alloc, name, Blank::new(1))
+    }
+
+    fn changes_counted<L: Ledger>(
+        &self,
+        alloc: Global,
+        name: Name,
+        blank: Blank,
+    ) -> Result<Option<List<Change>>, Memory>
+        requires name { blank.name ≡ L.name }
+        requires parts { blank.parts ≡ L.parts }
+        requires counts { 0 < L.parts }
+        ensures { IfOk result (λ c. c ≡ table.changes self.now.facts name) }
+    {
+        let mut steps: Steps<L> = Steps::new(blank);
+        match find_both(&Lookup::of(&self.facts), name, &mut steps) {
+            None => Ok(None),
+            Some((old, new)) => Ok(Some(changes::differences(alloc, old, new)?)),
+        }
     }
 }

@@ -1,17 +1,23 @@
 //! The files of check-ins, and what changed against the primary parent. `Files` is the table of them, and its answers are those of
-//! the definitions over the facts it was built from. In whatever order these stand it
-//! is the same: `fsl_order::by_name_in_any_order`.
+//! the definitions over the facts that it holds. In whatever order these came it is the same: `fsl_order::by_name_in_any_order`. A
+//! check-in more, and another in the place of one, are calls of their own, which tell the names whose rows differ and can be taken
+//! back.
 #![tactic(auto)]
 
 ghost use Rattle.std.specs.Prelude.{◌≡◌, IfOk};
 
 mod changes;
+mod entry;
 mod files;
 mod found;
+mod lookup;
 mod overlay;
+mod put;
 mod rows;
+mod same;
+mod touched;
 
-pub use files::Files;
+pub use files::{Files, Undo};
 use fsl_name::Name;
 use fsl_text::{List, Text};
 

@@ -6,4 +6,4 @@ use Rattle.fsl_files.proofs.found.own.Goals as goal
 
 pub returns-clause-listing : goal.returns-clause-listing
 returns-clause-listing c =
-    ap listing.Known (c.new.ensures.files ∙ ap (overlay []) c.items-files.ensures ∙ own_files c.args.fact.now c.requires.fit c.requires.own)
+    ap listing.Known (c.new.ensures.files ∙ ap (overlay []) c.items-files.ensures ∙ own_files c.args.entry.now c.requires.fit c.requires.own)

@@ -1,0 +1,15 @@
+use Rattle.std.proofs.Common.{◌≡◌, ◌≤◌, drop, length}
+use Rattle.fsl_order.specs.Rows.{by_name}
+use Rattle.fsl_files.specs.Kept.{IsKept, facts_of}
+use Rattle.fsl_files.proofs.files.Files.build_counted.Given as goal
+
+-- those that are done are there
+abbrev pub invariant-loop-left : goal.invariant-loop-left
+invariant-loop-left g l = record {
+  done : facts_of l.entries.entries ≡ by_name (λ f. f.name) (drop l.left l.facts);
+  kept : IsKept (record { facts = l.entries; deltas = l.deltas; children = l.children });
+  within : l.left ≤ length l.facts;
+}
+
+abbrev pub decreases-loop-left : goal.decreases-loop-left
+decreases-loop-left g l = l.left
