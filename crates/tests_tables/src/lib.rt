@@ -8,6 +8,8 @@ mod circles;
 #[cfg(test)]
 mod names;
 #[cfg(test)]
+mod notes;
+#[cfg(test)]
 mod posts;
 #[cfg(test)]
 mod tags;
