@@ -45,7 +45,9 @@ fn show(alloc: Global, pages: &Pages, into: &mut Text) -> Result<(), Memory> {
         None => add(into, b"-")?,
         Some(name) => add(into, &name.text()[..4])?,
     }
-    if pages.attached(alloc, b"t")?.items().is_empty() && pages.history(alloc, b"t")?.items().is_empty() {
+    if pages.attached(alloc, b"t")?.items().is_empty()
+        && pages.history(alloc, b"t")?.items().is_empty()
+    {
         return Ok(());
     }
     add(into, b"attached")
