@@ -1,5 +1,10 @@
 mod WorkedRows
-pub mod Indexed
-pub mod Moved
-pub mod Listed
+pub mod Answering
+pub mod Canonical
+pub mod Changing
 pub mod Current
+pub mod Latest
+pub mod Listed
+pub mod Moved
+pub mod Placing
+pub mod Standing

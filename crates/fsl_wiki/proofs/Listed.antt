@@ -1,7 +1,8 @@
 -- The current attachments of a target, as a map by file has them.
 use Rattle.std.specs.Prelude.{◌≡◌, ◌&&◌, ◌||◌, ℕ, List, [], ◌∷◌, true, false, cond, Option, Some, None, is_some, map, filter, filter_map}
 use Rattle.std.proofs.Common.{refl, sym, ap, ◌∙◌}
-use Rattle.std.specs.Ordering.{eq_by_cmp}
+use Rattle.std.specs.Ordering.{eq_by_cmp, on}
+use Rattle.std.specs.declared.cmp.Ordering.{Ordering}
 use Rattle.std.specs.Cmp.{eq_by_cmp_equiv}
 use Rattle.std.specs.Cmp.Lexicographic.{texts_ties, nat_list_eq_equiv}
 use Rattle.std.specs.List.{IsDistinct, AllByRecursion, cons_option, list_any}
@@ -10,7 +11,7 @@ use Rattle.std.specs.Map.{keys_of, values_of}
 use Rattle.std.specs.Str.{bytes_eq}
 use Rattle.std.proofs.lemmas.Map.Made.{is_some-lookup}
 use Rattle.std.proofs.lemmas.Map.Keys.{IsDistinct-from_sorted}
-use Rattle.fsl_order.specs.Names.{bytes_cmp, has}
+use Rattle.fsl_order.specs.Names.{bytes_cmp, dated_cmp, has}
 use Rattle.fsl_order.specs.Rows.{greater, greatest, ascending}
 use Rattle.fsl_order.proofs.Orders.{bytes_cmp-IsTotalOrder}
 use Rattle.fsl_order.proofs.SortedLemmas.{ascending-from}
@@ -18,7 +19,6 @@ use Rattle.fsl_wiki.specs.declared.Attached.{Attached}
 use Rattle.fsl_wiki.specs.declared.Fact.{Fact}
 use Rattle.fsl_wiki.specs.Pages.{as_attached, current, attached}
 use Rattle.fsl_order.specs.Maps.{value_at}
-use Rattle.fsl_wiki.specs.Kept.{attached_cmp}
 
 module _ {X : Type 0} where
   -- ---- what look-ups of the keys give
@@ -43,6 +43,9 @@ module _ {X : Type 0} where
   has-keys es q = (λ i. list_any (λ k. texts_ties q k i) (keys_of es)) ∙ sym (is_some-lookup (eq_by_cmp bytes_cmp q) es)
 
 -- ---- which files have an attachment
+
+abbrev attached_cmp : Attached → Attached → Ordering
+attached_cmp = on (λ a. (a.date, a.name)) dated_cmp
 
 some-greater : (a : Attached) (p : Option Attached) → is_some (greater attached_cmp (Some a) p) ≡ true
 some-greater a None = refl
@@ -73,8 +76,3 @@ listed facts target es rising is =
     files =
         ascending-from (map (λ (a : Attached). a.file) (filter (λ a. bytes_eq a.target target) (filter_map as_attached facts))) (keys_of es) rising
         (λ q. has-keys es q ∙ ap is_some (is q) ∙ there target q (filter_map as_attached facts))
-
--- a target without a map has no attachments
-pub none_listed : (facts : List Fact) (target : List ℕ) → ((file : List ℕ) → None ≡ current facts target file) → [] ≡ attached facts target
-unfolding IsStrictlySortedBy
-none_listed facts target is = listed facts target [] tt is

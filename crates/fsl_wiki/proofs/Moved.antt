@@ -1,31 +1,27 @@
--- What stands in an index doesn't depend on the order of the facts.
-use Rattle.std.specs.Prelude.{◌≡◌, ◌&&◌, ℕ, List, [], ◌∷◌, Bool, true, false, cond, Option, Some, None, map, filter, filter_map, Contains, IsPermutation}
+-- The current technote doesn't depend on the order of the facts.
+use Rattle.std.specs.Prelude.{◌≡◌, ℕ, List, [], ◌∷◌, Bool, true, false, cond, Option, Some, None, map, filter, filter_map, Contains, IsPermutation}
 use Rattle.std.proofs.Common.{refl, sym, ap, ◌∙◌, subst, arith}
 use Rattle.std.specs.declared.cmp.Ordering.TheVariants.{Equal}
 use Rattle.std.specs.Cmp.{on_total}
 use Rattle.std.specs.Ordering.{on}
 use Rattle.std.specs.List.{cons_option}
 use Rattle.std.specs.Map.{lookup, keys_of}
-use Rattle.std.specs.BTreeMap.{BTreeMap}
 use Rattle.std.specs.Str.{bytes_eq}
 use Rattle.std.specs.Cmp.Lexicographic.{nat_list_eq_equiv}
 use Rattle.std.proofs.lemmas.List.{length-map, get_or-map}
 use Rattle.std.proofs.lemmas.List.Sorted.{Contains-permutation, IsPermutation-sym}
 use Rattle.std.proofs.lemmas.Map.Views.{lookup-from_Contains}
 use Rattle.fsl_order.specs.Names.{dated_cmp}
-use Rattle.fsl_order.specs.Rows.{keyed, by_name, greatest, AreDistinct}
+use Rattle.fsl_order.specs.Rows.{by_name, greatest, AreDistinct}
 use Rattle.fsl_order.proofs.Orders.{dated_cmp-IsTotalOrder, dated_cmp-IsAntisymmetric}
-use Rattle.fsl_order.proofs.RowLemmas.{pairs, keyed-permutation}
+use Rattle.fsl_order.proofs.RowLemmas.{pairs}
 use Rattle.fsl_order.proofs.GreatestLemmas.{greatest-alike}
 use Rattle.fsl_order.proofs.Gathered.{distinct-given, moved-given}
-use Rattle.fsl_order.proofs.Places.{distinct-places, dated-other}
 use Rattle.fsl_wiki.specs.declared.Fact.{Fact}
 use Rattle.fsl_wiki.specs.declared.Fact.TheVariants as fact
-use Rattle.fsl_wiki.specs.declared.Page.{Page}
 use Rattle.fsl_wiki.specs.declared.Note.{Note}
 use Rattle.fsl_wiki.specs.declared.Attached.{Attached}
-use Rattle.fsl_wiki.specs.Pages.{name_of, as_page, as_note, as_attached, current_note, current}
-use Rattle.fsl_wiki.specs.Kept.{placed, IsIndexOf}
+use Rattle.fsl_wiki.specs.Pages.{name_of, as_note, as_attached, current_note}
 
 -- ---- items with dates and distinct names
 
@@ -53,10 +49,6 @@ module _ {Y : Type 0} (date : Y → ℕ) (name : Y → List ℕ) where
   ties ys y z d cy cz e = same_item ys y z d cy cz (ap (λ p. p.1) (dated_cmp-IsAntisymmetric (place y) (place z) e))
 
   module _ (ys zs : List Y) (d : AreDistinct (map name ys)) (moved : IsPermutation ys zs) where
-    keyed-moved : keyed dated_cmp place ys ≡ keyed dated_cmp place zs
-    keyed-moved = keyed-permutation dated_cmp-IsTotalOrder place dated_cmp-IsAntisymmetric ys zs
-        (distinct-places dated_cmp place dated_cmp-IsTotalOrder dated_cmp-IsAntisymmetric name (λ x y h. dated-other (date x) (date y) (name x) (name y) h) ys d) moved
-
     greatest-moved : greatest (on place dated_cmp) ys ≡ greatest (on place dated_cmp) zs
     greatest-moved =
         greatest-alike (on place dated_cmp) (on_total place dated_cmp-IsTotalOrder) ys zs (λ y z cy cz e. ties ys y z d cy cz e)
@@ -99,44 +91,21 @@ module _ {Y : Type 0} (kind : Fact → Option Y) (test : Y → Bool) where
         subst (λ l. IsPermutation l (items (by_name name_of facts))) (sym (filter-is facts))
         (subst (IsPermutation (filter_map (λ f. only (kind f)) facts)) (sym (filter-is (by_name name_of facts))) (moved-given (λ f. only (kind f)) name_of name same-only facts d))
 
-    keyed-items : keyed dated_cmp (λ y. (date y, name y)) (items facts) ≡ keyed dated_cmp (λ y. (date y, name y)) (items (by_name name_of facts))
-    keyed-items = keyed-moved date name (items facts) (items (by_name name_of facts)) distinct-items moved-items
-
     greatest-items : greatest (on (λ y. (date y, name y)) dated_cmp) (items facts) ≡ greatest (on (λ y. (date y, name y)) dated_cmp) (items (by_name name_of facts))
     greatest-items = greatest-moved date name (items facts) (items (by_name name_of facts)) distinct-items moved-items
 
--- ---- pages, technotes and attachments
-
-page_name : (f : Fact) (p : Page) → as_page f ≡ Some p → p.name ≡ name_of f
-page_name (fact.Page q) p e = let same : q ≡ p = cc in ap (λ p. p.name) (sym same)
-page_name (fact.Note n) p e = cc
-page_name (fact.Attached a) p e = cc
+-- ---- technotes and attachments
 
 pub note_name : (f : Fact) (n : Note) → as_note f ≡ Some n → n.name ≡ name_of f
 note_name (fact.Page p) n e = cc
 note_name (fact.Note m) n e = let same : m ≡ n = cc in ap (λ n. n.name) (sym same)
 note_name (fact.Attached a) n e = cc
 
-attached_name : (f : Fact) (a : Attached) → as_attached f ≡ Some a → a.name ≡ name_of f
+pub attached_name : (f : Fact) (a : Attached) → as_attached f ≡ Some a → a.name ≡ name_of f
 attached_name (fact.Page p) a e = cc
 attached_name (fact.Note n) a e = cc
 attached_name (fact.Attached b) a e = let same : b ≡ a = cc in ap (λ a. a.name) (sym same)
 
 module _ (facts : List Fact) (d : AreDistinct (map name_of facts)) where
-  placed-by_name : (title : List ℕ) → placed facts title ≡ placed (by_name name_of facts) title
-  placed-by_name title = keyed-items as_page (λ p. bytes_eq p.title title) (λ p. p.date) (λ p. p.name) page_name facts d
-
   pub note-by_name : (id : List ℕ) → current_note facts id ≡ current_note (by_name name_of facts) id
   note-by_name id = greatest-items as_note (λ n. bytes_eq n.id id) (λ n. n.date) (λ n. n.name) note_name facts d
-
-  current-by_name : (target file : List ℕ) → current facts target file ≡ current (by_name name_of facts) target file
-  current-by_name target file = greatest-items as_attached (λ a. bytes_eq a.target target && bytes_eq a.file file) (λ a. a.date) (λ a. a.name) attached_name facts d
-
-  -- an index of facts is one of the facts by name
-  pub index-by_name : (titles : List (List ℕ × BTreeMap (ℕ × List ℕ) Page)) (notes : List (List ℕ × Note)) (targets : List (List ℕ × BTreeMap (List ℕ) Attached))
-      → IsIndexOf facts titles notes targets → IsIndexOf (by_name name_of facts) titles notes targets
-  index-by_name titles notes targets is = record {
-    titles_are = λ title. is.titles_are title ∙ placed-by_name title;
-    notes_are = λ id. is.notes_are id ∙ note-by_name id;
-    targets_are = λ target file. is.targets_are target file ∙ current-by_name target file;
-  }

@@ -1,32 +1,267 @@
--- What the maps of the table keep.
-use Rattle.std.specs.Prelude.{◌≡◌, ℕ, List, filter, filter_map}
-use Rattle.std.specs.declared.cmp.Ordering.{Ordering}
-use Rattle.std.specs.Ordering.{on}
-use Rattle.std.specs.BTreeMap.{BTreeMap}
+-- How the tables hold the facts: each by its name, a key for each among the versions of what it is a version of, and a key for each attachment among those of its target.
+use Rattle.std.specs.Prelude.{ℕ, List, [], ◌∷◌, Bool, true, false, not, ◌&&◌, ◌||◌, if◌then◌else◌, Option, Some, None, map, filter}
+use Rattle.std.specs.Option.{option_and_then, option_map, option_map_or, option_or}
+use mathlib.Core.Bool.{beq}
 use Rattle.std.specs.Str.{bytes_eq}
-use Rattle.fsl_order.specs.Names.{dated_cmp}
-use Rattle.fsl_order.specs.Rows.{keyed}
-use Rattle.fsl_order.specs.Maps.{value_at, group_at}
+use Rattle.std.specs.Ordering.{is_eq, on}
+use Rattle.std.specs.List.Sorted.{IsStrictlySortedBy}
+use Rattle.std.specs.Map.{keys_of}
+use Rattle.std.specs.declared.cmp.Ordering.{Ordering}
+use Rattle.fsl_order.specs.Names.{bytes_cmp, dated_cmp}
+use Rattle.fsl_order.specs.Rows.{greatest}
+use Rattle.fsl_order.specs.Held.{Held, IsAsBefore}
+use Rattle.fsl_table.specs.Contents.{Contents, value_at, with_entry, without_key, first_of}
+use Rattle.fsl_table.specs.Within.{within_cmp, within, above}
+use Rattle.fsl_table.specs.Placed.{ArePlaced, key_of}
+use Rattle.fsl_table.specs.declared.within.Within.{Within}
+use Rattle.fsl_table.specs.declared.step.Step.{Step}
+use Rattle.fsl_table.specs.Undo.{undone, CanUndo}
 use Rattle.fsl_wiki.specs.declared.Page.{Page}
 use Rattle.fsl_wiki.specs.declared.Note.{Note}
 use Rattle.fsl_wiki.specs.declared.Attached.{Attached}
 use Rattle.fsl_wiki.specs.declared.Fact.{Fact}
-use Rattle.fsl_wiki.specs.Pages.{as_page, current_note, current}
+use Rattle.fsl_wiki.specs.declared.Fact.TheVariants as fact
+use Rattle.fsl_wiki.specs.declared.group.Group.{Group}
+use Rattle.fsl_wiki.specs.declared.entry.Entry.{Entry}
+use Rattle.fsl_wiki.specs.declared.entry.Row.{Row}
+use Rattle.fsl_wiki.specs.declared.entry.Entry.TheVariants as entry
+use Rattle.fsl_wiki.specs.Groups.{group_cmp, page_group, note_group, file_group}
+use Rattle.fsl_wiki.specs.Late.{late_cmp}
+use Rattle.fsl_wiki.specs.Pages.{name_of, as_page, as_attached}
 
 -- technotes by date and name
 abbrev pub note_cmp : Note → Note → Ordering
 note_cmp = on (λ n. (n.date, n.name)) dated_cmp
 
--- attachments by date and name
-abbrev pub attached_cmp : Attached → Attached → Ordering
-attached_cmp = on (λ a. (a.date, a.name)) dated_cmp
+abbrev pub Lines : Type 0
+Lines = List (List ℕ × Entry)
 
--- the versions of a title beside their dates and names, in the order of these
-abbrev pub placed : List Fact → List ℕ → List ((ℕ × List ℕ) × Page)
-placed facts title = keyed dated_cmp (λ p. (p.date, p.name)) (filter (λ p. bytes_eq p.title title) (filter_map as_page facts))
+abbrev pub Spot : Type 0
+Spot = Within Group (ℕ × List ℕ)
 
--- the maps have, of each title, id, and target with file, what the facts have
-pub record IsIndexOf (facts : List Fact) (titles : List (List ℕ × BTreeMap (ℕ × List ℕ) Page)) (notes : List (List ℕ × Note)) (targets : List (List ℕ × BTreeMap (List ℕ) Attached)) : Type 0 where
-  pub titles_are : (title : List ℕ) → group_at titles title ≡ placed facts title
-  pub notes_are : (id : List ℕ) → value_at notes id ≡ current_note facts id
-  pub targets_are : (target file : List ℕ) → value_at (group_at targets target) file ≡ current facts target file
+abbrev pub spot_cmp : Spot → Spot → Ordering
+spot_cmp = within_cmp group_cmp late_cmp
+
+abbrev pub Spots : Type 0
+Spots = List (Spot × Unit {0})
+
+abbrev pub Target : Type 0
+Target = Within (List ℕ) (ℕ × List ℕ)
+
+abbrev pub target_cmp : Target → Target → Ordering
+target_cmp = within_cmp bytes_cmp late_cmp
+
+abbrev pub Targets : Type 0
+Targets = List (Target × Unit {0})
+
+-- ---- facts and entries
+
+-- the fact of a name and an entry
+abbrev pub fact_at : List ℕ → Entry → Fact
+fact_at name (entry.Page e) = fact.Page (record { name = name; date = e.date; title = e.title; user = e.user })
+fact_at name (entry.Note e) = fact.Note (record { name = name; date = e.date; time = e.time; id = e.id })
+fact_at name (entry.Attached e) = fact.Attached (record { name = name; date = e.date; target = e.target; file = e.file; source = e.source })
+
+abbrev pub fact_of : List ℕ × Entry → Fact
+fact_of e = fact_at e.0 e.1
+
+abbrev pub facts_of : Lines → List Fact
+facts_of es = map fact_of es
+
+-- what a fact has beside its name
+abbrev pub entry_of : Fact → Entry
+entry_of (fact.Page p) = entry.Page (record { date = p.date; title = p.title; user = p.user })
+entry_of (fact.Note n) = entry.Note (record { date = n.date; time = n.time; id = n.id })
+entry_of (fact.Attached a) = entry.Attached (record { date = a.date; target = a.target; file = a.file; source = a.source })
+
+-- what an entry is a version of
+abbrev pub group_in : Entry → Group
+group_in (entry.Page e) = page_group e.title
+group_in (entry.Note e) = note_group e.id
+group_in (entry.Attached e) = file_group e.target e.file
+
+abbrev pub date_in : Entry → ℕ
+date_in (entry.Page e) = e.date
+date_in (entry.Note e) = e.date
+date_in (entry.Attached e) = e.date
+
+-- what a fact is a version of
+abbrev pub group_of : Fact → Group
+group_of (fact.Page p) = page_group p.title
+group_of (fact.Note n) = note_group n.id
+group_of (fact.Attached a) = file_group a.target a.file
+
+abbrev pub date_of : Fact → ℕ
+date_of (fact.Page p) = p.date
+date_of (fact.Note n) = n.date
+date_of (fact.Attached a) = a.date
+
+abbrev pub place_of : Fact → ℕ × List ℕ
+place_of f = (date_of f, name_of f)
+
+abbrev pub item : List ℕ × Entry → Option Fact
+item e = Some (fact_of e)
+
+abbrev pub file_item : List ℕ × Entry → Option Attached
+file_item e = as_attached (fact_of e)
+
+abbrev pub file_place : Attached → ℕ × List ℕ
+file_place a = (a.date, a.name)
+
+abbrev pub page_in : List ℕ → Entry → Option Page
+page_in name e = as_page (fact_at name e)
+
+abbrev pub attached_in : List ℕ → Entry → Option Attached
+attached_in name e = as_attached (fact_at name e)
+
+-- the name in a place
+abbrev pub name_in : ℕ × List ℕ → List ℕ
+name_in p = p.1
+
+abbrev pub page_at : Lines → List ℕ → Option Page
+page_at es name = option_and_then (page_in name) (value_at bytes_cmp name es)
+
+abbrev pub file_at : Lines → List ℕ → Option Attached
+file_at es name = option_and_then (attached_in name) (value_at bytes_cmp name es)
+
+-- an attachment, where it is there and of this file
+abbrev pub first_file : Option Attached → List ℕ → Option Attached
+first_file None file = None
+first_file (Some a) file = if bytes_eq a.file file then Some a else None
+
+-- of the attachments at some places the first one of a file
+abbrev pub first_of_file : Lines → List ℕ → List (ℕ × List ℕ) → Option Attached
+first_of_file es file [] = None
+first_of_file es file (p ∷ ps) = option_or (first_file (file_at es p.1) file) (first_of_file es file ps)
+
+-- ---- keys
+
+abbrev pub spot_of : List ℕ → Entry → Spot
+spot_of name e = record { first = group_in e; second = Some (date_in e, name) }
+
+abbrev pub target_of : List ℕ → Entry → Option Target
+target_of name (entry.Page e) = None
+target_of name (entry.Note e) = None
+target_of name (entry.Attached e) = Some (record { first = e.target; second = Some (e.date, name) })
+
+-- with a key, where there is one
+abbrev pub with_target : Option Target → Targets → Targets
+with_target None ts = ts
+with_target (Some k) ts = with_entry target_cmp k tt ts
+
+abbrev pub without_target : Option Target → Targets → Targets
+without_target None ts = ts
+without_target (Some k) ts = without_key target_cmp k ts
+
+abbrev pub without_spot : Option Spot → Spots → Spots
+without_spot None ss = ss
+without_spot (Some k) ss = without_key spot_cmp k ss
+
+abbrev pub is_page : Entry → Bool
+is_page (entry.Page e) = true
+is_page (entry.Note e) = false
+is_page (entry.Attached e) = false
+
+-- the key before all versions of something
+abbrev pub before_all : Group → Spot
+before_all g = record { first = g; second = None }
+
+abbrev pub race_in : Entry → Option Spot
+race_in (entry.Page e) = None
+race_in (entry.Note e) = Some (before_all (note_group e.id))
+race_in (entry.Attached e) = Some (before_all (file_group e.target e.file))
+
+abbrev pub AreSpots : Lines → Spots → Type 0
+AreSpots es ss = ArePlaced group_cmp late_cmp name_in (key_of item group_of place_of) es ss
+
+abbrev pub AreTargets : Lines → Targets → Type 0
+AreTargets es ts = ArePlaced bytes_cmp late_cmp name_in (key_of file_item (λ a. a.target) file_place) es ts
+
+-- ---- which version is the current one
+
+-- the latest version
+abbrev pub latest : List Fact → Group → Option Fact
+latest facts g = greatest (on place_of dated_cmp) (filter (λ f. is_eq (group_cmp g (group_of f))) facts)
+
+-- whether what may be there has this name
+abbrev pub is_called : List ℕ → Option Fact → Bool
+is_called name o = option_map_or (λ f. bytes_eq (name_of f) name) o false
+
+-- whether the version of a name is the current one
+abbrev pub leads : Lines → List ℕ → Option Spot → Bool
+leads es name None = false
+leads es name (Some k) = is_called name (latest (facts_of es) k.first)
+
+-- the place of the first version, where there is one
+abbrev pub top : Spots → Option Spot → Option (ℕ × List ℕ)
+top ss None = None
+top ss (Some k) = option_map (λ e. e.0) (first_of (above late_cmp k.second (within group_cmp k.first ss)))
+
+-- whether what may be a place has a name
+abbrev pub is_placed : List ℕ → Option (ℕ × List ℕ) → Bool
+is_placed name None = false
+is_placed name (Some p) = bytes_eq name p.1
+
+-- the race of the entry of a name
+abbrev pub race_at : Lines → List ℕ → Option Spot
+race_at es name = option_and_then race_in (value_at bytes_cmp name es)
+
+-- ---- rows
+
+abbrev pub no_row : Row
+no_row = record { page = false; note = false; attached = false }
+
+abbrev pub row_in : Entry → Bool → Row
+row_in (entry.Page e) leads = record { page = true; note = false; attached = false }
+row_in (entry.Note e) leads = record { page = false; note = leads; attached = false }
+row_in (entry.Attached e) leads = record { page = false; note = false; attached = leads }
+
+-- the row of what may be there, where it is told which one is current
+abbrev pub row_by : Option Entry → (Option Spot → Bool) → Row
+row_by None leads = no_row
+row_by (Some e) leads = row_in e (leads (race_in e))
+
+abbrev pub same_row : Row → Row → Bool
+same_row a b = beq a.page b.page && (beq a.note b.note && beq a.attached b.attached)
+
+-- whether a name is in one list and not in the other
+abbrev pub in_one : Bool → Bool → Bool
+in_one before after = (after && not before) || (before && not after)
+
+-- ---- the table
+
+pub record Rows : Type 0 where
+  pub facts : Contents (List ℕ) Entry
+  pub spots : Contents Spot (Unit {0})
+  pub targets : Contents Target (Unit {0})
+
+abbrev pub held_of : Rows → Held Fact
+held_of r = record { facts = facts_of r.facts.entries; spare = r.facts.spare ∷ r.spots.spare ∷ r.targets.spare ∷ [] }
+
+pub record IsKept (r : Rows) : Type 0 where
+  pub ordered : IsStrictlySortedBy bytes_cmp (keys_of r.facts.entries)
+  pub spots_ordered : IsStrictlySortedBy spot_cmp (keys_of r.spots.entries)
+  pub spots : AreSpots r.facts.entries r.spots.entries
+  pub targets_ordered : IsStrictlySortedBy target_cmp (keys_of r.targets.entries)
+  pub targets : AreTargets r.facts.entries r.targets.entries
+
+pub record Logs : Type 0 where
+  pub facts : List (Step (List ℕ) Entry)
+  pub spots : List (Step Spot (Unit {0}))
+  pub targets : List (Step Target (Unit {0}))
+
+-- what the logs leave
+abbrev pub undone_rows : Logs → Rows → Rows
+undone_rows logs r = record {
+  facts = undone bytes_cmp logs.facts r.facts;
+  spots = undone spot_cmp logs.spots r.spots;
+  targets = undone target_cmp logs.targets r.targets;
+}
+
+-- the logs find their memory, and lead back
+pub record TakesBack (logs : Logs) (before : Held Fact) (now : Rows) : Type 0 where
+  pub facts_can : CanUndo bytes_cmp logs.facts now.facts
+  pub spots_can : CanUndo spot_cmp logs.spots now.spots
+  pub targets_can : CanUndo target_cmp logs.targets now.targets
+  pub kept : IsKept (undone_rows logs now)
+  pub back : IsAsBefore before (held_of (undone_rows logs now))

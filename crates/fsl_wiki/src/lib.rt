@@ -1,22 +1,23 @@
-//! Wiki pages, technotes and attachments. `Pages` is the table of them, and its answers are those of the definitions over the facts it
-//! was built from. In whatever order these stand it
-//! is the same: `fsl_order::by_name_in_any_order`.
+//! Wiki pages, technotes and attachments. `Pages` is the table of them, and its answers are those of the definitions over the facts
+//! that it holds. In whatever order these came it is the same: `fsl_order::by_name_in_any_order`. A fact more, and another in the
+//! place of one, are calls of their own, which tell the names whose rows differ and can be taken back.
 #![tactic(auto)]
 
 ghost use Rattle.std.specs.Prelude.{◌≡◌, IfOk};
 ghost use Rattle.fsl_wiki.specs.Pages.{name_of};
 ghost use Rattle.fsl_wiki.specs.Laws.{NoOtherCurrent};
 
-mod attachments;
-mod index;
-mod notes;
+mod entry;
+mod group;
+mod late;
 mod pages;
-mod versions;
+mod reading;
+mod rows;
 
 use fsl_date::Moment;
 use fsl_name::Name;
 use fsl_text::{Memory, Text};
-pub use pages::Pages;
+pub use pages::{Pages, Undo};
 use std::alloc::Global;
 
 /// A version of a wiki page.
@@ -109,6 +110,17 @@ impl Fact {
             Fact::Page(page) => page.name,
             Fact::Note(note) => note.name,
             Fact::Attached(attached) => attached.name,
+        }
+    }
+
+    /// A fact with the same content. `Memory` is the only error.
+    pub fn copied(&self, alloc: Global) -> Result<Fact, Memory>
+        ensures { IfOk result (λ fact. fact ≡ self.now) }
+    {
+        match self {
+            Fact::Page(page) => Ok(Fact::Page(page.copied(alloc)?)),
+            Fact::Note(note) => Ok(Fact::Note(*note)),
+            Fact::Attached(attached) => Ok(Fact::Attached(attached.copied(alloc)?)),
         }
     }
 }

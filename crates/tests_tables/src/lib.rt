@@ -10,6 +10,8 @@ mod files;
 #[cfg(test)]
 mod names;
 #[cfg(test)]
+mod notes;
+#[cfg(test)]
 mod posts;
 #[cfg(test)]
 mod tags;
