@@ -1,3 +1,6 @@
 pub mod WorkedRows
 pub mod NameLemmas
 pub mod FactLemmas
+pub mod Turning
+pub mod Listing
+pub mod Laying

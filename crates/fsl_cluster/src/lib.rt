@@ -5,8 +5,11 @@
 
 mod clusters;
 mod counts;
+mod entry;
 mod gather;
 mod name_set;
+mod sets;
+mod tables;
 mod writing;
 
 pub use clusters::Clusters;
