@@ -84,7 +84,7 @@ module _ (es : Entries) (name : List ℕ) (v : Entry) (sorted : Sorted es) (ther
       ap (λ x. ((is_public (value_at bytes_cmp q es) && not x) || (has v.members q && (not (bytes_eq q name) && (is_public (value_at bytes_cmp q es) && not (is_listed (λ e. e.members) less q))))) && not (bytes_eq q name))
       (listed_less (λ e. e.members) es name v sorted there q)
       ∙ elim (bytes_eq q name) as (λ b. (((is_public (value_at bytes_cmp q es) && not (has v.members q || is_listed (λ e. e.members) less q)) || (has v.members q && (not b && (is_public (value_at bytes_cmp q es) && not (is_listed (λ e. e.members) less q))))) && not b)
-          ≡ (is_public (cond b None (value_at bytes_cmp q es)) && not (is_listed (λ e. e.members) less q))) [
+      ≡ (is_public (cond b None (value_at bytes_cmp q es)) && not (is_listed (λ e. e.members) less q))) [
         | true ↦ never ((is_public (value_at bytes_cmp q es) && not (has v.members q || is_listed (λ e. e.members) less q)) || (has v.members q && false))
         | false ↦ left (is_public (value_at bytes_cmp q es)) (has v.members q) (is_listed (λ e. e.members) less q)
       ]

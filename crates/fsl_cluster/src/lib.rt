@@ -8,6 +8,7 @@ mod counts;
 mod entry;
 mod gather;
 mod name_set;
+mod rows;
 mod sets;
 mod tables;
 mod writing;

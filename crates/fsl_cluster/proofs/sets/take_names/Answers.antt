@@ -27,7 +27,7 @@ loop-one-preserved g c =
       turned = λ before all. c.in_ok-take_name.ensures.turned before (c.loop-one.invariant.turned before all);
       ordered = c.in_ok-take_name.ensures.ordered;
       undoes = λ before u. c.take_name.ensures.undoes before (c.loop-one.invariant.undoes before u);
-      cost = omega (arith, c.take_name.ensures.most , c.loop-one.invariant.cost);
+      cost = omega (arith, c.take_name.ensures.most, c.loop-one.invariant.cost);
       logged = omega (arith, c.take_name.ensures.logged, c.loop-one.invariant.logged);
       within = omega (arith, c.loop-one-test.true);
     }
