@@ -19,7 +19,7 @@ use Rattle.fsl_cluster.specs.declared.Fact.{Fact}
 use Rattle.fsl_cluster.specs.declared.entry.Entry.{Entry}
 use Rattle.fsl_cluster.specs.declared.tables.Tables.{Tables}
 use Rattle.fsl_cluster.specs.declared.tables.Logs.{Logs}
-use Rattle.fsl_cluster.specs.Kept.{Entries, ArePairs, AreLaid, IsKept, AreUndone, TakesBack, held_of, fact_of, facts_of, entry_of, lists, is_free, is_absent, undone_tables}
+use Rattle.fsl_cluster.specs.Kept.{Entries, ArePairs, AreLaid, IsKept, AreUndone, TakesBack, held_of, fact_of, facts_of, entry_of, lists, is_free, is_absent, undone_tables, AreAsGood}
 
 same_entries : (es fs : Entries) → facts_of es ≡ facts_of fs → es ≡ fs
 same_entries es fs h = same_facts fact_of (λ f. f.name) (λ e. refl) entry_of (λ e. refl) es fs h
@@ -42,14 +42,6 @@ pub record HasEntries (t s : Tables) : Type 0 where
   pub unclustered : s.unclustered.entries ≡ t.unclustered.entries
   pub missing : s.missing.entries ≡ t.missing.entries
 
--- each map of the second is as good as that of the first
-pub record AreAsGood (t s : Tables) : Type 0 where
-  pub facts : IsAsGood t.facts s.facts
-  pub members : IsAsGood t.members s.members
-  pub refs : IsAsGood t.refs s.refs
-  pub unclustered : IsAsGood t.unclustered s.unclustered
-  pub missing : IsAsGood t.missing s.missing
-
 pub good_entries : (t s : Tables) → AreAsGood t s → HasEntries t s
 good_entries t s g = record { facts = g.facts.entries; members = g.members.entries; refs = g.refs.entries; unclustered = g.unclustered.entries; missing = g.missing.entries }
 
@@ -59,12 +51,12 @@ pairs_as f es fs ps rs p q k key = ap (λ es. is_some (value_at pair_cmp key es)
 pub kept_as : (t s : Tables) → HasEntries t s → IsKept t → IsKept s
 kept_as t s h k = record {
   laid = record {
-      ordered = subst (λ es. IsStrictlySortedBy bytes_cmp (keys_of es)) (sym h.facts) k.laid.ordered;
-      members_ordered = subst (λ es. IsStrictlySortedBy pair_cmp (keys_of es)) (sym h.members) k.laid.members_ordered;
-      refs_ordered = subst (λ es. IsStrictlySortedBy pair_cmp (keys_of es)) (sym h.refs) k.laid.refs_ordered;
-      members = pairs_as (λ e. e.members) t.facts.entries s.facts.entries t.members.entries s.members.entries h.facts h.members k.laid.members;
-      refs = pairs_as (λ e. e.refs) t.facts.entries s.facts.entries t.refs.entries s.refs.entries h.facts h.refs k.laid.refs;
-    };
+    ordered = subst (λ es. IsStrictlySortedBy bytes_cmp (keys_of es)) (sym h.facts) k.laid.ordered;
+    members_ordered = subst (λ es. IsStrictlySortedBy pair_cmp (keys_of es)) (sym h.members) k.laid.members_ordered;
+    refs_ordered = subst (λ es. IsStrictlySortedBy pair_cmp (keys_of es)) (sym h.refs) k.laid.refs_ordered;
+    members = pairs_as (λ e. e.members) t.facts.entries s.facts.entries t.members.entries s.members.entries h.facts h.members k.laid.members;
+    refs = pairs_as (λ e. e.refs) t.facts.entries s.facts.entries t.refs.entries s.refs.entries h.facts h.refs k.laid.refs;
+  };
   unclustered_ordered = subst (λ es. IsStrictlySortedBy bytes_cmp (keys_of es)) (sym h.unclustered) k.unclustered_ordered;
   missing_ordered = subst (λ es. IsStrictlySortedBy bytes_cmp (keys_of es)) (sym h.missing) k.missing_ordered;
   unclustered = λ q. ap (λ es. is_some (value_at bytes_cmp q es)) h.unclustered ∙ k.unclustered q ∙ ap (λ es. is_free es q) (sym h.facts);
@@ -97,6 +89,10 @@ takes_back logs before after now kb ka kn same u =
       kept = kept_as before (undone_tables logs now) (record { facts = f.good.entries; members = m.good.entries; refs = r.good.entries; unclustered = n.good.entries; missing = g.good.entries }) kb;
       back = record { facts = ap facts_of f.good.entries; spare = (f.good.spare, (m.good.spare, (r.good.spare, (n.good.spare, (g.good.spare, tt))))) };
     }
+
+pub sorted_none : (ns : List (List ℕ × Unit {0})) → ns ≡ [] → IsStrictlySortedBy bytes_cmp (keys_of ns)
+unfolding IsStrictlySortedBy
+sorted_none ns e = subst (λ es. IsStrictlySortedBy bytes_cmp (keys_of es)) (sym e) tt
 
 pub laid_none : (t : Tables) → t.facts.entries ≡ [] → t.members.entries ≡ [] → t.refs.entries ≡ [] → AreLaid t
 unfolding IsStrictlySortedBy
@@ -151,4 +147,14 @@ undone_none logs t f m r u g = record {
   refs = undoes-none pair_cmp logs.refs t.refs r;
   unclustered = undoes-none bytes_cmp logs.unclustered t.unclustered u;
   missing = undoes-none bytes_cmp logs.missing t.missing g;
+}
+
+-- what the logs lead back to, and then as good
+pub undone_good : (logs : Logs) (now before s : Tables) → AreUndone logs now before → AreAsGood (undone_tables logs now) s → AreAsGood before s
+undone_good logs now before s u g = record {
+  facts = good_chain before.facts (undone bytes_cmp logs.facts now.facts) s.facts u.facts.back g.facts;
+  members = good_chain before.members (undone pair_cmp logs.members now.members) s.members u.members.back g.members;
+  refs = good_chain before.refs (undone pair_cmp logs.refs now.refs) s.refs u.refs.back g.refs;
+  unclustered = good_chain before.unclustered (undone bytes_cmp logs.unclustered now.unclustered) s.unclustered u.unclustered.back g.unclustered;
+  missing = good_chain before.missing (undone bytes_cmp logs.missing now.missing) s.missing u.missing.back g.missing;
 }

@@ -115,14 +115,14 @@ kept_over t s name v w kept there was public same_members same_refs facts member
     let over : Entries = with_entry bytes_cmp name w es in
     record {
       laid = record {
-          ordered = subst (λ es. IsStrictlySortedBy bytes_cmp (keys_of es)) (sym facts) (sorted-insert_entry bytes_cmp-IsTotalOrder name w es kept.laid.ordered);
-          members_ordered = subst (λ ps. IsStrictlySortedBy pair_cmp (keys_of ps)) (sym members) kept.laid.members_ordered;
-          refs_ordered = subst (λ ps. IsStrictlySortedBy pair_cmp (keys_of ps)) (sym refs) kept.laid.refs_ordered;
-          members = subst (ArePairs (λ e. e.members) s.facts.entries) (sym members)
-              (moved (λ e. e.members) over s.facts.entries t.members.entries facts (pairs_over (λ e. e.members) es name v kept.laid.ordered there w same_members t.members.entries kept.laid.members));
-          refs = subst (ArePairs (λ e. e.refs) s.facts.entries) (sym refs)
-              (moved (λ e. e.refs) over s.facts.entries t.refs.entries facts (pairs_over (λ e. e.refs) es name v kept.laid.ordered there w same_refs t.refs.entries kept.laid.refs));
-        };
+        ordered = subst (λ es. IsStrictlySortedBy bytes_cmp (keys_of es)) (sym facts) (sorted-insert_entry bytes_cmp-IsTotalOrder name w es kept.laid.ordered);
+        members_ordered = subst (λ ps. IsStrictlySortedBy pair_cmp (keys_of ps)) (sym members) kept.laid.members_ordered;
+        refs_ordered = subst (λ ps. IsStrictlySortedBy pair_cmp (keys_of ps)) (sym refs) kept.laid.refs_ordered;
+        members = subst (ArePairs (λ e. e.members) s.facts.entries) (sym members)
+            (moved (λ e. e.members) over s.facts.entries t.members.entries facts (pairs_over (λ e. e.members) es name v kept.laid.ordered there w same_members t.members.entries kept.laid.members));
+        refs = subst (ArePairs (λ e. e.refs) s.facts.entries) (sym refs)
+            (moved (λ e. e.refs) over s.facts.entries t.refs.entries facts (pairs_over (λ e. e.refs) es name v kept.laid.ordered there w same_refs t.refs.entries kept.laid.refs));
+      };
       unclustered_ordered = unclustered_ordered;
       missing_ordered = subst (λ ns. IsStrictlySortedBy bytes_cmp (keys_of ns)) (sym missing) kept.missing_ordered;
       unclustered = λ q.

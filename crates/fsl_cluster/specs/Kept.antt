@@ -11,7 +11,7 @@ use Rattle.fsl_table.specs.Exact.{pair_cmp}
 use Rattle.fsl_table.specs.declared.key.Pair.{Pair}
 use Rattle.fsl_table.specs.Contents.{value_at, first_of}
 use Rattle.fsl_table.specs.Pairs.{seconds}
-use Rattle.fsl_table.specs.Undo.{Undoes, undone, CanUndo}
+use Rattle.fsl_table.specs.Undo.{Undoes, IsAsGood, undone, CanUndo}
 use Rattle.fsl_cluster.specs.declared.Fact.{Fact}
 use Rattle.fsl_cluster.specs.declared.entry.Entry.{Entry}
 use Rattle.fsl_cluster.specs.declared.tables.Tables.{Tables}
@@ -134,3 +134,11 @@ pub record TakesBack (logs : Logs) (before : Held Fact) (now : Tables) : Type 0 
   pub missing_can : CanUndo bytes_cmp logs.missing now.missing
   pub kept : IsKept (undone_tables logs now)
   pub back : IsAsBefore before (held_of (undone_tables logs now))
+
+-- each map of the second is as good as that of the first
+pub record AreAsGood (t s : Tables) : Type 0 where
+  pub facts : IsAsGood t.facts s.facts
+  pub members : IsAsGood t.members s.members
+  pub refs : IsAsGood t.refs s.refs
+  pub unclustered : IsAsGood t.unclustered s.unclustered
+  pub missing : IsAsGood t.missing s.missing

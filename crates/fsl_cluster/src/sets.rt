@@ -29,6 +29,20 @@ fn is_there<L: Ledger>(facts: &Table<Name, Entry>, name: &Name, steps: &mut Step
     }
 }
 
+/// Whether a name is in a set.
+pub(crate) fn is_entered<L: Ledger>(
+    names: &Table<Name, ()>,
+    name: &Name,
+    steps: &mut Steps<L>,
+) -> bool
+    ensures { result ≡ is_in names.now.entries name.now }
+{
+    match names.get(name, steps) {
+        None => false,
+        Some(_) => true,
+    }
+}
+
 /// Whether a fact is there, and public.
 fn is_there_public<L: Ledger>(facts: &Table<Name, Entry>, name: &Name, steps: &mut Steps<L>) -> bool
     ensures { result ≡ is_public (value_at bytes_cmp name.now facts.now.entries) }
