@@ -8,8 +8,8 @@ use Rattle.fsl_order.specs.Held.{Held, IsAsBefore, AreAtMost}
 use Rattle.fsl_order.proofs.Orders.{bytes_cmp-IsTotalOrder}
 use Rattle.fsl_table.specs.Exact.{pair_cmp, exact_pair}
 use Rattle.fsl_table.specs.declared.key.Pair.{Pair}
-use Rattle.fsl_table.specs.Contents.{Contents, value_at}
-use Rattle.fsl_table.specs.Undo.{IsAsGood, undone}
+use Rattle.fsl_table.specs.Contents.{value_at}
+use Rattle.fsl_table.specs.Undo.{undone}
 use Rattle.fsl_table.proofs.PairOrder.{pair_cmp-IsTotalOrder}
 use Rattle.fsl_table.proofs.Facts.{same_facts}
 use Rattle.fsl_table.proofs.Finding.{same_found, same_units}

@@ -1,5 +1,5 @@
 -- The names that a change tells.
-use Rattle.std.proofs.Common.{◌≡◌, ◌||◌, ℕ, List, [], Bool, Result, Ok, Err, ap, ◌∙◌}
+use Rattle.std.proofs.Common.{◌≡◌, ◌||◌, ℕ, List, [], Result, Ok, Err, ap, ◌∙◌}
 use Rattle.std.specs.Result.{IfOk, OnOk}
 use Rattle.std.specs.List.Sorted.{IsStrictlySortedBy}
 use Rattle.fsl_order.specs.Names.{bytes_cmp, has}

@@ -1,5 +1,5 @@
 -- What the maps keep: with one fact more, with one less, and with one that becomes public.
-use Rattle.std.proofs.Common.{◌≡◌, ℕ, List, Bool, true, false, not, ◌||◌, ◌&&◌, Option, Some, None, is_some, option_and_then, refl, sym, ap, subst, ◌∙◌}
+use Rattle.std.proofs.Common.{◌≡◌, ℕ, List, true, false, not, ◌||◌, ◌&&◌, Some, None, is_some, option_and_then, sym, ap, subst, ◌∙◌}
 use Rattle.std.specs.Str.{bytes_eq}
 use Rattle.std.specs.BTreeMap.{is_at}
 use Rattle.std.specs.List.Sorted.{IsStrictlySortedBy}
@@ -14,7 +14,7 @@ use Rattle.fsl_table.proofs.Entries.{sorted-insert_entry, sorted-remove_entry}
 use Rattle.fsl_cluster.specs.declared.entry.Entry.{Entry}
 use Rattle.fsl_cluster.specs.declared.tables.Tables.{Tables}
 use Rattle.fsl_cluster.specs.Kept.{Entries, ArePairs, AreLaid, IsKept, lists, is_listed, is_named, is_public, is_in, is_free, is_absent, is_unheld, is_freed}
-use Rattle.fsl_cluster.proofs.Listing.{Sorted, named_is, pairs_with, pairs_without, pairs_over}
+use Rattle.fsl_cluster.proofs.Listing.{named_is, pairs_with, pairs_without, pairs_over}
 use Rattle.fsl_cluster.proofs.Laying.{free_with, absent_with, free_less, absent_less, free_over, absent_over}
 
 abbrev Pairs : Type 0

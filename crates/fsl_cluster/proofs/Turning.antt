@@ -7,7 +7,7 @@ use Rattle.std.specs.Cmp.Lexicographic.{bytes_decides}
 use Rattle.fsl_order.specs.Names.{bytes_cmp}
 use Rattle.fsl_table.specs.Contents.{value_at, with_entry, without_key}
 use Rattle.fsl_table.proofs.Finding.{value-with, value-without}
-use Rattle.fsl_cluster.specs.Kept.{is_in, differs, AreTurned}
+use Rattle.fsl_cluster.specs.Kept.{is_in, differs}
 
 abbrev Names : Type 0
 Names = List (List ℕ × Unit {0})

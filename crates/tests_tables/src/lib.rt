@@ -6,6 +6,8 @@ mod changes;
 #[cfg(test)]
 mod circles;
 #[cfg(test)]
+mod clusters;
+#[cfg(test)]
 mod names;
 #[cfg(test)]
 mod posts;

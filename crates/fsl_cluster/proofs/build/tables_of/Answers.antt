@@ -1,8 +1,8 @@
-use Rattle.std.proofs.Common.{◌≡◌, ◌||◌, ◌∙◌, Bool, true, false, List, ℕ, refl, ap, sym}
+use Rattle.std.proofs.Common.{◌≡◌, ◌||◌, ◌∙◌, Bool, true, false, List, refl, ap, sym}
 use Rattle.fsl_order.specs.Names.{has}
 use Rattle.fsl_cluster.specs.declared.Fact.{Fact}
 use Rattle.fsl_cluster.specs.Clusters.{unclustered, missing}
-use Rattle.fsl_cluster.specs.Kept.{facts_of, is_in, is_free, is_absent}
+use Rattle.fsl_cluster.specs.Kept.{is_in}
 use Rattle.fsl_cluster.proofs.Canonical.{sorted_none}
 use Rattle.fsl_cluster.proofs.FactLemmas.{AreAnswers, answers}
 use Rattle.fsl_cluster.proofs.Reading.{free_is, absent_is}

@@ -1,4 +1,4 @@
-use Rattle.std.proofs.Common.{◌≡◌, ◌||◌, ◌&&◌, not, ◌∙◌, ap, sym, subst, refl, List, ℕ}
+use Rattle.std.proofs.Common.{◌||◌, ◌&&◌, not, ◌∙◌, ap, sym, subst, refl}
 use Rattle.std.specs.Str.{bytes_eq}
 use Rattle.fsl_order.specs.Names.{bytes_cmp}
 use Rattle.fsl_table.specs.Contents.{value_at}

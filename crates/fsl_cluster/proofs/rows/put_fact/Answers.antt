@@ -1,14 +1,13 @@
-use Rattle.std.proofs.Common.{◌≡◌, ◌||◌, ◌&&◌, not, ◌∙◌, ap, sym, subst, is_some, List, ℕ}
+use Rattle.std.proofs.Common.{◌≡◌, ◌||◌, ◌&&◌, not, ◌∙◌, ap, sym, subst, is_some}
 use Rattle.std.specs.Str.{bytes_eq}
 use Rattle.fsl_order.specs.Names.{bytes_cmp, has}
 use Rattle.fsl_table.specs.Contents.{value_at, with_entry}
 use Rattle.fsl_table.specs.Exact.{pair_cmp}
 use Rattle.fsl_table.specs.Pairs.{is_name}
-use Rattle.fsl_table.specs.Undo.{Undoes}
 use Rattle.fsl_table.proofs.Outcomes.{on_ok_map, both_ok}
 use Rattle.fsl_cluster.specs.declared.entry.Entry.{Entry}
 use Rattle.fsl_cluster.specs.declared.tables.Tables.{Tables}
-use Rattle.fsl_cluster.specs.Kept.{entry_of, is_in, is_unheld, is_named, AreUndone, AreTurned}
+use Rattle.fsl_cluster.specs.Kept.{entry_of, is_in, is_unheld, AreUndone, AreTurned}
 use Rattle.fsl_cluster.proofs.Putting.{kept_with}
 use Rattle.fsl_cluster.proofs.rows.put_fact.Goals as goal
 

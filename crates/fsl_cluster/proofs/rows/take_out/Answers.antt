@@ -1,4 +1,4 @@
-use Rattle.std.proofs.Common.{◌≡◌, ◌∙◌, ap, sym, subst, Some}
+use Rattle.std.proofs.Common.{◌≡◌, sym, subst, Some}
 use Rattle.fsl_order.specs.Names.{bytes_cmp}
 use Rattle.fsl_table.specs.Contents.{value_at}
 use Rattle.fsl_table.specs.Undo.{Undoes}

@@ -1,7 +1,6 @@
 use Rattle.std.proofs.lemmas.List.{drop_more}
-use Rattle.std.proofs.Common.{◌≡◌, ◌∙◌, ◌∷◌, ◌+◌, ◌&&◌, ◌||◌, not, drop, ap, sym, arith}
+use Rattle.std.proofs.Common.{◌≡◌, ◌∙◌, ◌∷◌, ◌+◌, ◌&&◌, not, drop, ap, sym, arith}
 use Rattle.std.specs.Str.{bytes_eq}
-use Rattle.std.specs.Cmp.Lexicographic.{bytes_decides}
 use Rattle.fsl_order.specs.Names.{has}
 use Rattle.fsl_cluster.specs.Kept.{is_in}
 use Rattle.fsl_cluster.proofs.Turning.{out-step}

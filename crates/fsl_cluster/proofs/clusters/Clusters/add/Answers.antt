@@ -1,14 +1,10 @@
-use Rattle.std.proofs.Common.{◌≡◌, ◌∙◌, ◌∷◌, ◌+◌, ◌≤◌, List, ℕ, Option, Some, None, true, false, map, length, option_map, refl, sym, ap, subst, arith}
-use Rattle.fsl_order.specs.Names.{bytes_cmp, has}
-use Rattle.fsl_order.specs.Rows.{by_name, named}
+use Rattle.std.proofs.Common.{◌∙◌, ◌∷◌, map, refl, sym, ap, subst}
+use Rattle.fsl_order.specs.Names.{has}
+use Rattle.fsl_order.specs.Rows.{by_name}
 use Rattle.fsl_order.specs.Held.{IsAsBefore}
-use Rattle.fsl_table.specs.Contents.{value_at}
-use Rattle.fsl_table.proofs.Facts.{absent-entry, has-facts, named-facts, facts_with}
-use Rattle.fsl_cluster.specs.declared.Fact.{Fact}
-use Rattle.fsl_cluster.specs.declared.entry.Entry.{Entry}
-use Rattle.fsl_cluster.specs.Kept.{AreUndone, AreAsGood, TakesBack, held_of, fact_of, facts_of, entry_of, publishes, logged}
+use Rattle.fsl_table.proofs.Facts.{absent-entry, facts_with}
+use Rattle.fsl_cluster.specs.Kept.{AreUndone, AreAsGood, TakesBack, held_of, fact_of, facts_of, entry_of}
 use Rattle.fsl_cluster.proofs.Canonical.{kept_as, takes_back, as_good, good_entries, undone_none, undone_good}
-use Rattle.fsl_cluster.proofs.Publishing.{publishing}
 use Rattle.fsl_cluster.proofs.clusters.Clusters.add.Goals as goal
 
 pub put_new-requires-clause-absent : goal.put_new-requires-clause-absent

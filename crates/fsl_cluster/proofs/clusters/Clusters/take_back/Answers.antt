@@ -2,7 +2,7 @@ use Rattle.std.proofs.Common.{sym, ap, subst}
 use Rattle.fsl_order.specs.Held.{IsAsBefore}
 use Rattle.fsl_cluster.specs.declared.tables.Tables.{Tables}
 use Rattle.fsl_cluster.specs.Kept.{TakesBack, held_of, undone_tables}
-use Rattle.fsl_cluster.proofs.Canonical.{kept_as, chain, good_entries}
+use Rattle.fsl_cluster.proofs.Canonical.{chain}
 use Rattle.fsl_cluster.proofs.clusters.Clusters.take_back.Goals as goal
 
 pub returns : goal.returns
