@@ -1,5 +1,5 @@
 //! The maps of many facts at once.
-ghost use Rattle.std.specs.Prelude.{ℕ, List, ◌≡◌, ◌||◌, [], map, IfOk, OnOk, None};
+ghost use Rattle.std.specs.Prelude.{ℕ, List, ◌≡◌, ◌||◌, [], map, IfOk, OnOk, None, IsPermutation};
 ghost use Rattle.std.specs.List.Sorted.{IsStrictlySortedBy};
 ghost use Rattle.std.specs.Map.{keys_of};
 ghost use Rattle.fsl_order.specs.Names.{bytes_cmp, has};
@@ -13,61 +13,127 @@ use crate::{Fact, gather};
 use fsl_name::Name;
 use fsl_table::pairs::link_each;
 use fsl_table::{Log, Table};
-use fsl_text::{Memory, Steps};
+use fsl_text::{List, Memory, Steps};
 use std::alloc::Global;
 use std::sync::ledger::Ledger;
 
-/// Puts a new fact and its pairs in. Its names are copied.
+/// A list of some names.
+fn copy(alloc: Global, names: &[Name]) -> Result<List<Name>, Memory>
+    ensures { IfOk result (λ list. list ≡ names.now) }
+{
+    Ok(List::from_vec(names.to_vec(alloc)?))
+}
+
+/// A fact with the same content.
+fn copied(alloc: Global, fact: &Fact) -> Result<Fact, Memory>
+    ensures { IfOk result (λ copy. copy ≡ fact.now) }
+{
+    Ok(Fact {
+        name: fact.name,
+        private: fact.private,
+        members: copy(alloc, fact.members.items())?,
+        refs: copy(alloc, fact.refs.items())?,
+    })
+}
+
+/// Copies of some facts.
+fn copies(alloc: Global, facts: &[Fact]) -> Result<Vec<Fact>, Memory>
+    ensures { IfOk result (λ list. list.items ≡ facts.now) }
+{
+    let mut list = Vec::new(alloc);
+    for fact in facts {
+        list.push(copied(alloc, fact)?)?;
+    }
+    Ok(list)
+}
+
+/// The facts in the order of their names, in which they are put into a map the fastest.
+fn in_name_order(mut facts: Vec<Fact>) -> Vec<Fact>
+    ensures { IsPermutation facts.items result.items }
+{
+    facts.sort_unstable_by_key(|fact| fact.name);
+    facts
+}
+
+/// Puts a new fact and its pairs in.
 fn lay<L: Ledger>(
     alloc: Global,
     tables: &mut Tables,
-    fact: &Fact,
+    fact: Fact,
     steps: &mut Steps<L>,
 ) -> Result<(), Memory>
     requires laid { AreLaid tables.old }
-    requires absent { value_at bytes_cmp fact.now.name tables.old.facts.entries ≡ None }
-    ensures entries { OnOk result (tables.new.facts.entries ≡ with_entry bytes_cmp fact.now.name (entry_of fact.now) tables.old.facts.entries) }
+    requires absent { value_at bytes_cmp fact.name tables.old.facts.entries ≡ None }
+    ensures entries { OnOk result (tables.new.facts.entries ≡ with_entry bytes_cmp fact.name (entry_of fact) tables.old.facts.entries) }
     ensures laid { OnOk result (AreLaid tables.new) }
     ensures unclustered { tables.new.unclustered ≡ tables.old.unclustered }
     ensures missing { tables.new.missing ≡ tables.old.missing }
 {
-    let name = fact.name;
+    let Fact {
+        name,
+        private,
+        members,
+        refs,
+    } = fact;
     link_each(
         &mut tables.members,
         &mut Log::new(alloc),
         name,
-        fact.members.items(),
+        members.items(),
         steps,
     )?;
     link_each(
         &mut tables.refs,
         &mut Log::new(alloc),
         name,
-        fact.refs.items(),
+        refs.items(),
         steps,
     )?;
-    let entry = Entry::of(alloc, fact)?;
+    let entry = Entry {
+        private,
+        members,
+        refs,
+    };
     match tables.facts.put(name, entry, steps) {
         Ok(_) => Ok(()),
         Err(_) => Err(Memory),
     }
 }
 
-/// The maps of the facts and of the pairs, beside empty sets.
-fn lay_all<L: Ledger>(alloc: Global, facts: &[Fact], steps: &mut Steps<L>) -> Result<Tables, Memory>
+/// The maps of the facts and of the pairs, beside empty sets. The facts are moved.
+fn lay_all<L: Ledger>(
+    alloc: Global,
+    facts: Vec<Fact>,
+    steps: &mut Steps<L>,
+) -> Result<Tables, Memory>
+    requires { AreDistinct (map (λ f. f.name) facts.items) }
+    ensures facts { IfOk result (λ t. facts_of t.facts.entries ≡ by_name (λ f. f.name) facts.items) }
+    ensures laid { IfOk result AreLaid }
+    ensures unclustered { IfOk result (λ t. t.unclustered.entries ≡ []) }
+    ensures missing { IfOk result (λ t. t.missing.entries ≡ []) }
+{
+    let mut tables = Tables::new(alloc);
+    let mut left = facts;
+    while let Some(fact) = left.pop() {
+        lay(alloc, &mut tables, fact, steps)?;
+    }
+    Ok(tables)
+}
+
+/// The same of facts that are copied, and put in in the order of their names.
+fn lay_copies<L: Ledger>(
+    alloc: Global,
+    facts: &[Fact],
+    steps: &mut Steps<L>,
+) -> Result<Tables, Memory>
     requires { AreDistinct (map (λ f. f.name) facts.now) }
     ensures facts { IfOk result (λ t. facts_of t.facts.entries ≡ by_name (λ f. f.name) facts.now) }
     ensures laid { IfOk result AreLaid }
     ensures unclustered { IfOk result (λ t. t.unclustered.entries ≡ []) }
     ensures missing { IfOk result (λ t. t.missing.entries ≡ []) }
 {
-    let mut tables = Tables::new(alloc);
-    let mut left = facts.len();
-    while left > 0 {
-        left -= 1;
-        lay(alloc, &mut tables, &facts[left], steps)?;
-    }
-    Ok(tables)
+    let ordered = in_name_order(copies(alloc, facts)?);
+    lay_all(alloc, ordered, steps)
 }
 
 /// Puts a name in.
@@ -111,7 +177,7 @@ pub(crate) fn tables_of<L: Ledger>(
     ensures facts { IfOk result (λ t. facts_of t.facts.entries ≡ by_name (λ f. f.name) facts.now) }
     ensures kept { IfOk result IsKept }
 {
-    let mut tables = lay_all(alloc, facts, steps)?;
+    let mut tables = lay_copies(alloc, facts, steps)?;
     let members = gather::members(alloc, facts)?;
     let unclustered = gather::public_without(alloc, facts, &members)?;
     enter_all(&mut tables.unclustered, unclustered.items(), steps)?;

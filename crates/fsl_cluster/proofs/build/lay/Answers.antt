@@ -11,7 +11,7 @@ use Rattle.fsl_cluster.proofs.build.lay.Goals as goal
 pub returns-in-Ok-clause-laid : goal.returns-in-Ok-clause-laid
 returns-in-Ok-clause-laid g c =
     let old = c.args.tables.now in
-    let name = c.args.fact.now.name in
+    let name = c.args.fact.name in
     let new : Tables = record {
       facts = c.put.new.self;
       members = c.link_each.new.pairs;
@@ -19,8 +19,8 @@ returns-in-Ok-clause-laid g c =
       unclustered = old.unclustered;
       missing = old.missing;
     } in
-    laid_with old new name (entry_of c.args.fact.now) c.requires.laid c.requires.absent
-    (c.in-Ok.ensures.ok ∙ ap (λ v. with_entry bytes_cmp name v old.facts.entries) c.in_ok-entry.ensures)
+    laid_with old new name (entry_of c.args.fact) c.requires.laid c.requires.absent
+    c.in-Ok.ensures.ok
     (c.in_ok-link_each.ensures.ordered c.requires.laid.members_ordered) (c.in_ok-link_each-2.ensures.ordered c.requires.laid.refs_ordered)
     (λ k. c.in_ok-link_each.ensures.pairs k ∙ ap (λ l. is_some (value_at pair_cmp k old.members.entries) || (is_name k.second name && has l k.first)) c.items.ensures)
     (λ k. c.in_ok-link_each-2.ensures.pairs k ∙ ap (λ l. is_some (value_at pair_cmp k old.refs.entries) || (is_name k.second name && has l k.first)) c.items-2.ensures)
