@@ -14,7 +14,7 @@ use Rattle.fsl_order.specs.Rows.{ascending, by_name, AreDistinct}
 use Rattle.fsl_order.proofs.AscendingLemmas.{ascending-same, has-ascending}
 use Rattle.fsl_order.proofs.MovedLemmas.{IsPermutation-by_name}
 use Rattle.fsl_cluster.specs.declared.Fact.{Fact}
-use Rattle.fsl_cluster.specs.Clusters.{names, unclustered, missing, AreAnswers}
+use Rattle.fsl_cluster.specs.Clusters.{names, unclustered, missing}
 
 -- ---- whether a name stands in what is made of a list
 
@@ -99,6 +99,11 @@ absent_names : (facts : List Fact) (held absent : List (List ℕ)) → held ≡ 
 absent_names facts held absent is_held made =
     made ∙ ap ascending (filter_agree (λ name. not (has held name)) (λ name. not (has (names facts) name))
     (λ name. ap not (ap (λ set. has set name) is_held ∙ has-ascending (names facts) name)) (flat_map (λ f. f.refs) facts))
+
+-- the answers, which are the same over the facts by name
+pub record AreAnswers (facts : List Fact) (free absent : List (List ℕ)) : Type 0 where
+  pub unclustered : free ≡ unclustered (by_name named facts)
+  pub missing : absent ≡ missing (by_name named facts)
 
 pub answers : (facts seen : List Fact) (members held free absent : List (List ℕ)) → AreDistinct (map named facts) → seen ≡ facts
     → members ≡ ascending (flat_map (λ f. f.members) facts) → held ≡ ascending (names facts)

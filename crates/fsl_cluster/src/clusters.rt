@@ -1,65 +1,196 @@
 //! The table of unclustered and missing names.
-ghost use Rattle.std.specs.Prelude.{◌≡◌, [], IfOk, map};
-ghost use Rattle.fsl_order.specs.Rows.{by_name, AreDistinct};
+ghost use Rattle.std.specs.Prelude.{◌≡◌, ◌+◌, ◌*◌, ◌≤◌, ◌<◌, [], ◌∷◌, length, false, true, map, Some, OnOk, OnErr, IfOk};
+ghost use Rattle.fsl_order.specs.Names.{has};
+ghost use Rattle.fsl_order.specs.Rows.{by_name, named, AreDistinct, ListsChanged};
+ghost use Rattle.fsl_order.specs.Held.{IsAsBefore};
+ghost use Rattle.fsl_cluster.specs.Clusters.{clusters_row};
 ghost use Rattle.fsl_cluster.specs.Clusters as table;
 
-use super::name_set::NameSet;
-use super::{Fact, gather};
+use super::Fact;
+use super::build::tables_of;
+use super::rows::{put_new, put_over};
+use super::tables::{Logs, Tables, undo_all};
 use fsl_name::Name;
-use fsl_text::{List, Memory};
+use fsl_table::keys::keys;
+use fsl_text::{List, Memory, Steps};
 use std::alloc::Global;
-use std::marker::Model;
+use std::marker::{Brand, Model};
 use std::snapshot::Snapshot;
+use std::sync::ledger::{Blank, Ledger};
 
-/// The unclustered and the missing names of held artifacts. Contracts see it as the facts by name.
+/// The unclustered and the missing names of held artifacts. Contracts see it as the facts by name, and the room that its maps have
+/// to spare.
 #[derive(Drop)]
 pub struct Clusters {
-    pub(crate) unclustered: NameSet,
-    pub(crate) missing: NameSet,
-    /// What contracts see. It takes no bytes.
-    facts: Vec<Snapshot<Fact>>,
+    pub(crate) tables: Tables,
 }
 
 impl Model for Clusters {
-    ghost use Rattle.std.specs.Prelude.{[], map};
-    ghost use Rattle.fsl_order.specs.Rows.{by_name};
     ghost use Rattle.fsl_order.specs.Held.{Held};
     ghost use Rattle.fsl_cluster.specs.declared.Fact.{Fact};
-    ghost use Rattle.fsl_cluster.specs.Clusters.{AreAnswers};
+    ghost use Rattle.fsl_cluster.specs.Kept.{held_of, IsKept};
 
     ghost Value = { Held Fact };
 
-    ghost view = { λ c. record { facts = by_name (λ f. f.name) (map (λ s. s.value) c.facts.items); spare = [] } };
+    ghost view = { λ c. held_of c.tables };
 
-    ghost invariant = { λ c. AreAnswers (map (λ s. s.value) c.facts.items) c.unclustered c.missing };
+    ghost invariant = { λ c. IsKept c.tables };
 }
 
-/// The facts as contracts see them.
-fn seen(alloc: Global, facts: &[Fact]) -> Result<Vec<Snapshot<Fact>>, Memory>
-    ensures { IfOk result (λ seen. map (λ s. s.value) seen.items ≡ facts.now) }
-{
-    let mut seen = Vec::new(alloc);
-    for fact in facts {
-        seen.push(Snapshot::of(fact))?;
+/// What takes a change back, and the names whose rows it changed. Contracts see it as both, with the table before and after.
+#[derive(Drop)]
+pub struct Undo {
+    logs: Logs,
+    changed: List<Name>,
+    before: Snapshot<Clusters>,
+    after: Snapshot<Clusters>,
+}
+
+impl Model for Undo {
+    ghost use Rattle.fsl_order.specs.Held.{Change, IsAsBefore};
+    ghost use Rattle.fsl_cluster.specs.declared.Fact.{Fact};
+    ghost use Rattle.fsl_cluster.specs.declared.tables.Tables as maps;
+    ghost use Rattle.fsl_cluster.specs.Kept.{IsKept, held_of, TakesBack};
+
+    ghost Value = { Change Fact };
+
+    ghost view = { λ u. record { before = u.before.value; after = u.after.value; changed = u.changed } };
+
+    ghost invariant = { λ u. (now : maps.Tables) → IsKept now → IsAsBefore u.after.value (held_of now) → TakesBack u.logs u.before.value now };
+}
+
+impl Undo {
+    /// The names whose rows the change changed, ascending. The row of a name is whether it is unclustered, and whether it is missing.
+    pub fn changed(&self) -> &List<Name>
+        ensures { result.now ≡ self.now.changed }
+    {
+        &self.changed
     }
-    Ok(seen)
 }
 
 impl Clusters {
+    /// The table without artifacts. Takes no memory.
+    pub fn new(alloc: Global) -> Clusters
+        ensures { result.facts ≡ [] }
+    {
+        Clusters {
+            tables: Tables::new(alloc),
+        }
+    }
+
     /// The table of some facts, of which no two have one name. It is the same in whatever order they stand:
     /// that is the law `fsl_order::by_name_in_any_order`. `Memory` is the only error.
     pub fn build(alloc: Global, facts: &[Fact]) -> Result<Clusters, Memory>
         requires { AreDistinct (map (λ f. f.name) facts.now) }
         ensures facts { IfOk result (λ t. t.facts ≡ by_name (λ f. f.name) facts.now) }
-        ensures spare { IfOk result (λ t. t.spare ≡ []) }
     {
-        let members = gather::members(alloc, facts)?;
-        let held = gather::held(alloc, facts)?;
-        Ok(Clusters {
-            unclustered: gather::public_without(alloc, facts, &members)?,
-            missing: gather::refs_without(alloc, facts, &held)?,
-            facts: seen(alloc, facts)?,
-        })
+        Clusters::build_counted::<Brand>(alloc, facts, Blank::new(1))
+    }
+
+    fn build_counted<L: Ledger>(
+        alloc: Global,
+        facts: &[Fact],
+        blank: Blank,
+    ) -> Result<Clusters, Memory>
+        requires name { blank.name ≡ L.name }
+        requires parts { blank.parts ≡ L.parts }
+        requires counts { 0 < L.parts }
+        requires distinct { AreDistinct (map (λ f. f.name) facts.now) }
+        ensures facts { IfOk result (λ t. t.facts ≡ by_name (λ f. f.name) facts.now) }
+    {
+        let mut steps: Steps<L> = Steps::new(blank);
+        let tables = tables_of(alloc, facts, &mut steps)?;
+        Ok(Clusters { tables })
+    }
+
+    /// Adds an artifact whose name isn't there. `Memory` is the only error, and the table then holds what it held. It takes at most
+    /// 6 touches, and 6 for each member and each name that is referred to.
+    pub fn add<L: Ledger>(
+        &mut self,
+        alloc: Global,
+        fact: Fact,
+        steps: &mut Steps<L>,
+    ) -> Result<Undo, Memory>
+        requires absent { has (map (λ f. f.name) self.old.facts) fact.name ≡ false }
+        ensures facts { OnOk result (self.new.facts ≡ by_name (λ f. f.name) (fact ∷ self.old.facts)) }
+        ensures before { IfOk result (λ undo. undo.before ≡ self.old) }
+        ensures after { IfOk result (λ undo. undo.after ≡ self.new) }
+        ensures changed { IfOk result (λ undo. ListsChanged (clusters_row self.old.facts) (clusters_row self.new.facts) undo.changed) }
+        ensures err { OnErr result (IsAsBefore self.old self.new) }
+        ensures cost { steps.new ≤ steps.old + 6 * (1 + length fact.members + length fact.refs) }
+    {
+        let before = Snapshot::of(&*self);
+        let mut logs = Logs::new(alloc);
+        match put_new(alloc, &mut self.tables, &mut logs, fact, steps) {
+            Ok(changed) => {
+                let after = Snapshot::of(&*self);
+                Ok(Undo {
+                    logs,
+                    changed,
+                    before,
+                    after,
+                })
+            }
+            Err(Memory) => {
+                undo_all(&mut self.tables, logs, steps);
+                Err(Memory)
+            }
+        }
+    }
+
+    /// Puts an artifact in the place of that of its name, which is there. `Memory` is the only error, and the table then holds what
+    /// it held. Where a private artifact becomes public and is else the same, it takes at most 6 touches.
+    pub fn change<L: Ledger>(
+        &mut self,
+        alloc: Global,
+        fact: Fact,
+        steps: &mut Steps<L>,
+    ) -> Result<Undo, Memory>
+        requires there { has (map (λ f. f.name) self.old.facts) fact.name ≡ true }
+        ensures facts { OnOk result (self.new.facts ≡ by_name (λ f. f.name) (fact ∷ self.old.facts)) }
+        ensures before { IfOk result (λ undo. undo.before ≡ self.old) }
+        ensures after { IfOk result (λ undo. undo.after ≡ self.new) }
+        ensures changed { IfOk result (λ undo. ListsChanged (clusters_row self.old.facts) (clusters_row self.new.facts) undo.changed) }
+        ensures err { OnErr result (IsAsBefore self.old self.new) }
+        ensures cost { named (λ f. f.name) self.old.facts fact.name ≡ Some (record fact { private = true }) → fact.private ≡ false → steps.new ≤ steps.old + 6 }
+    {
+        let before = Snapshot::of(&*self);
+        let mut logs = Logs::new(alloc);
+        match put_over(alloc, &mut self.tables, &mut logs, fact, steps) {
+            Ok(changed) => {
+                let after = Snapshot::of(&*self);
+                Ok(Undo {
+                    logs,
+                    changed,
+                    before,
+                    after,
+                })
+            }
+            Err(Memory) => {
+                undo_all(&mut self.tables, logs, steps);
+                Err(Memory)
+            }
+        }
+    }
+
+    /// Takes the last change back that wasn't taken back. It takes no memory.
+    pub fn undo(&mut self, undo: Undo)
+        requires { IsAsBefore undo.after self.old }
+        ensures { IsAsBefore undo.before self.new }
+    {
+        self.take_back::<Brand>(undo, Blank::new(1));
+    }
+
+    fn take_back<L: Ledger>(&mut self, undo: Undo, blank: Blank)
+        requires name { blank.name ≡ L.name }
+        requires parts { blank.parts ≡ L.parts }
+        requires counts { 0 < L.parts }
+        requires last { IsAsBefore undo.after self.old }
+        ensures { IsAsBefore undo.before self.new }
+    {
+        let mut steps: Steps<L> = Steps::new(blank);
+        let Undo { logs, .. } = undo;
+        undo_all(&mut self.tables, logs, &mut steps);
     }
 
     /// The names of the public artifacts that stand in no M card of a held cluster, ascending. `Memory` is the only
@@ -67,13 +198,37 @@ impl Clusters {
     pub fn unclustered(&self, alloc: Global) -> Result<List<Name>, Memory>
         ensures { IfOk result (λ names. names ≡ table.unclustered self.now.facts) }
     {
-        self.unclustered.to_list(alloc)
+        self.unclustered_counted::<Brand>(alloc, Blank::new(1))
+    }
+
+    fn unclustered_counted<L: Ledger>(
+        &self,
+        alloc: Global,
+        blank: Blank,
+    ) -> Result<List<Name>, Memory>
+        requires name { blank.name ≡ L.name }
+        requires parts { blank.parts ≡ L.parts }
+        requires counts { 0 < L.parts }
+        ensures { IfOk result (λ names. names ≡ table.unclustered self.now.facts) }
+    {
+        let mut steps: Steps<L> = Steps::new(blank);
+        keys(alloc, &self.tables.unclustered, &mut steps)
     }
 
     /// The names that a held artifact refers to and that aren't held, ascending. `Memory` is the only error.
     pub fn missing(&self, alloc: Global) -> Result<List<Name>, Memory>
         ensures { IfOk result (λ names. names ≡ table.missing self.now.facts) }
     {
-        self.missing.to_list(alloc)
+        self.missing_counted::<Brand>(alloc, Blank::new(1))
+    }
+
+    fn missing_counted<L: Ledger>(&self, alloc: Global, blank: Blank) -> Result<List<Name>, Memory>
+        requires name { blank.name ≡ L.name }
+        requires parts { blank.parts ≡ L.parts }
+        requires counts { 0 < L.parts }
+        ensures { IfOk result (λ names. names ≡ table.missing self.now.facts) }
+    {
+        let mut steps: Steps<L> = Steps::new(blank);
+        keys(alloc, &self.tables.missing, &mut steps)
     }
 }

@@ -1,15 +1,21 @@
 //! Clusters: which names of held artifacts stand in no cluster, and which names are referred to and not held.
-//! `Clusters` is the table of both, and its answers are those of the definitions over the facts it was built from. In whatever order these stand it
-//! is the same: `fsl_order::by_name_in_any_order`.
+//! `Clusters` is the table of both, and its answers are those of the definitions over the facts that it holds. In whatever order these
+//! came it is the same: `fsl_order::by_name_in_any_order`. An artifact more, and another in the place of one, are calls of their own,
+//! which tell the names whose rows differ and can be taken back.
 #![tactic(auto)]
 
+mod build;
 mod clusters;
 mod counts;
+mod entry;
 mod gather;
 mod name_set;
+mod rows;
+mod sets;
+mod tables;
 mod writing;
 
-pub use clusters::Clusters;
+pub use clusters::{Clusters, Undo};
 use fsl_name::Name;
 use fsl_text::List;
 pub use writing::make_cluster;

@@ -1,12 +1,10 @@
 //! Names, ascending, each once.
-ghost use Rattle.std.specs.Prelude.{◌≡◌, IfOk, length};
+ghost use Rattle.std.specs.Prelude.{◌≡◌};
 ghost use Rattle.std.specs.List.Sorted.{IsStrictlySortedBy};
 ghost use Rattle.fsl_order.specs.Names.{bytes_cmp, has};
 ghost use Rattle.fsl_order.specs.Rows.{ascending};
 
 use fsl_name::Name;
-use fsl_text::{List, Memory};
-use std::alloc::Global;
 use std::marker::Model;
 
 /// A set of names, which contracts see as the ascending list of them.
@@ -54,18 +52,10 @@ impl NameSet {
         self.names.binary_search(name).is_ok()
     }
 
-    /// How many names there are.
-    pub fn count(&self) -> u64
-        ensures { result ≡ length self.now }
+    /// The names.
+    pub fn items(&self) -> &[Name]
+        ensures { result.now ≡ self.now }
     {
-        self.names.len() as u64
-    }
-
-    /// A copy of the names.
-    pub fn to_list(&self, alloc: Global) -> Result<List<Name>, Memory>
-        ensures { IfOk result (λ names. names ≡ self.now) }
-    {
-        let names = self.names.as_slice().to_vec(alloc)?;
-        Ok(List::from_vec(names))
+        self.names.as_slice()
     }
 }

@@ -17,7 +17,7 @@ use Rattle.fsl_table.proofs.Seconds.{has_seconds}
 use Rattle.std.specs.BTreeMap.{is_at}
 use Rattle.fsl_leaves.specs.declared.line.Line.{Line}
 use Rattle.fsl_leaves.specs.Kept.{Lines, ArePairs, lists, is_in, continued, ends, leaf, walked, ends_walk, counted}
-use Rattle.fsl_leaves.proofs.Finds.{Finds, same_finds, or-true, finds_any}
+use Rattle.fsl_table.proofs.Finds.{Finds, same_finds, or-true, finds_any}
 
 abbrev Sorted : Lines → Type 0
 Sorted es = IsStrictlySortedBy bytes_cmp (keys_of es)

@@ -1,6 +1,7 @@
 pub mod Belonging
 pub mod Entries
 pub mod Finding
+pub mod Finds
 pub mod Gathered
 pub mod Greatest
 pub mod Keeping

@@ -1,5 +1,5 @@
 -- The keys of one entry more, and of one less.
-use Rattle.std.proofs.Common.{◌≡◌, ℕ, List, [], ◌∷◌, Bool, true, false, cond, not, ◌||◌, ◌&&◌, Option, Some, None, is_some, refl, sym, ap, ◌∙◌}
+use Rattle.std.proofs.Common.{◌≡◌, ℕ, List, Bool, true, false, cond, not, ◌||◌, ◌&&◌, Option, Some, None, is_some, refl, sym, ap, ◌∙◌}
 use mathlib.Core.Bool.{true≢false}
 use Rattle.std.specs.Option.{option_and_then}
 use Rattle.std.specs.Str.{bytes_eq}
@@ -17,7 +17,7 @@ use Rattle.fsl_table.specs.Placed.{is_key, key_at, is_placed, ArePlaced, with_pl
 use Rattle.fsl_table.specs.Within.{within_cmp, is_second}
 use Rattle.fsl_table.specs.declared.within.Within.{Within}
 use Rattle.fsl_table.proofs.Belonging.{key_eq, within-IsTotalOrder}
-use Rattle.fsl_table.proofs.Entries.{lookup-insert_entry, sorted-insert_entry, sorted-remove_entry}
+use Rattle.fsl_table.proofs.Entries.{lookup-insert_entry, sorted-insert_entry}
 use Rattle.fsl_table.proofs.Finding.{lookup-without, same_found, same_units, value-with, value-without}
 
 or-false : (b : Bool) → (b || false) ≡ b

@@ -1,6 +1,6 @@
 //! The steps that take tables back, the last one first.
-ghost use Rattle.std.specs.Prelude.{◌≡◌, ◌+◌, ◌≤◌, length, [], ◌∷◌, ◌++◌, OnOk, OnErr, IfErr, MatchOption};
-ghost use Rattle.fsl_table.specs.Contents.{Contents, with_entry, without_key};
+ghost use Rattle.std.specs.Prelude.{◌≡◌, ◌+◌, ◌≤◌, length, [], ◌∷◌, ◌++◌, is_some, IfOk, OnOk, OnErr, IfErr, MatchOption};
+ghost use Rattle.fsl_table.specs.Contents.{Contents, value_at, with_entry, without_key};
 ghost use Rattle.fsl_table.specs.Undo.{stepped, undone, IsAllowed, IsAsGood, CanUndo, Undoes};
 
 use crate::key::Key;
@@ -89,6 +89,40 @@ pub fn undo<K: Key + Drop, V: Drop, L: Ledger>(
     }
 }
 
+/// Puts a value, logs what takes it back, and tells whether the key was there. For want of memory all stays.
+pub fn insert<K: Key + Drop, V: Drop, L: Ledger>(
+    table: &mut Table<K, V>,
+    log: &mut Log<K, V>,
+    key: K,
+    again: K,
+    value: V,
+    steps: &mut Steps<L>,
+) -> Result<bool, Memory>
+    requires { again ≡ key }
+    ensures there { IfOk result (λ there. there ≡ is_some (value_at K.cmp key table.old.entries)) }
+    ensures logged { length log.new ≤ length log.old + 1 }
+    ensures ok { OnOk result (table.new.entries ≡ with_entry K.cmp key value table.old.entries) }
+    ensures err { OnErr result (table.new ≡ table.old) }
+    ensures kept { OnErr result (log.new ≡ log.old) }
+    ensures undoes { (before : Contents K V) → Undoes K.cmp log.old table.old before → Undoes K.cmp log.new table.new before }
+    ensures cost { steps.new ≤ steps.old + 1 }
+{
+    if log.steps.reserve(1).is_err() {
+        return Err(Memory);
+    }
+    match table.put(key, value, steps) {
+        Ok(None) => {
+            let _ = log.steps.push(Step::Remove(again));
+            Ok(false)
+        }
+        Ok(Some(before)) => {
+            let _ = log.steps.push(Step::Put(again, before));
+            Ok(true)
+        }
+        Err(_) => Err(Memory),
+    }
+}
+
 /// Puts a value, and logs what takes it back. For want of memory all stays.
 pub fn put<K: Key + Drop, V: Drop, L: Ledger>(
     table: &mut Table<K, V>,
@@ -102,22 +136,38 @@ pub fn put<K: Key + Drop, V: Drop, L: Ledger>(
     ensures logged { length log.new ≤ length log.old + 1 }
     ensures ok { OnOk result (table.new.entries ≡ with_entry K.cmp key value table.old.entries) }
     ensures err { OnErr result (table.new ≡ table.old) }
+    ensures kept { OnErr result (log.new ≡ log.old) }
+    ensures undoes { (before : Contents K V) → Undoes K.cmp log.old table.old before → Undoes K.cmp log.new table.new before }
+    ensures cost { steps.new ≤ steps.old + 1 }
+{
+    insert(table, log, key, again, value, steps)?;
+    Ok(())
+}
+
+/// Takes a key out, logs what takes that back, and tells whether the key was there. For want of memory all stays.
+pub fn take<K: Key + Drop, V: Drop, L: Ledger>(
+    table: &mut Table<K, V>,
+    log: &mut Log<K, V>,
+    key: K,
+    steps: &mut Steps<L>,
+) -> Result<bool, Memory>
+    ensures there { IfOk result (λ there. there ≡ is_some (value_at K.cmp key table.old.entries)) }
+    ensures logged { length log.new ≤ length log.old + 1 }
+    ensures ok { OnOk result (table.new.entries ≡ without_key K.cmp key table.old.entries) }
+    ensures err { OnErr result (table.new ≡ table.old) }
+    ensures kept { OnErr result (log.new ≡ log.old) }
     ensures undoes { (before : Contents K V) → Undoes K.cmp log.old table.old before → Undoes K.cmp log.new table.new before }
     ensures cost { steps.new ≤ steps.old + 1 }
 {
     if log.steps.reserve(1).is_err() {
         return Err(Memory);
     }
-    match table.put(key, value, steps) {
-        Ok(None) => {
-            let _ = log.steps.push(Step::Remove(again));
-            Ok(())
+    match table.remove(&key, steps) {
+        Some(before) => {
+            let _ = log.steps.push(Step::Put(key, before));
+            Ok(true)
         }
-        Ok(Some(before)) => {
-            let _ = log.steps.push(Step::Put(again, before));
-            Ok(())
-        }
-        Err(_) => Err(Memory),
+        None => Ok(false),
     }
 }
 
@@ -131,17 +181,10 @@ pub fn remove<K: Key + Drop, V: Drop, L: Ledger>(
     ensures logged { length log.new ≤ length log.old + 1 }
     ensures ok { OnOk result (table.new.entries ≡ without_key K.cmp key table.old.entries) }
     ensures err { OnErr result (table.new ≡ table.old) }
+    ensures kept { OnErr result (log.new ≡ log.old) }
     ensures undoes { (before : Contents K V) → Undoes K.cmp log.old table.old before → Undoes K.cmp log.new table.new before }
     ensures cost { steps.new ≤ steps.old + 1 }
 {
-    if log.steps.reserve(1).is_err() {
-        return Err(Memory);
-    }
-    match table.remove(&key, steps) {
-        Some(before) => {
-            let _ = log.steps.push(Step::Put(key, before));
-            Ok(())
-        }
-        None => Ok(()),
-    }
+    take(table, log, key, steps)?;
+    Ok(())
 }

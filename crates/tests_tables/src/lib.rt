@@ -6,6 +6,8 @@ mod changes;
 #[cfg(test)]
 mod circles;
 #[cfg(test)]
+mod clusters;
+#[cfg(test)]
 mod files;
 #[cfg(test)]
 mod names;

@@ -3,7 +3,7 @@ use Rattle.fsl_table.specs.Contents.{value_at}
 use Rattle.fsl_table.specs.Undo.{Undoes}
 use Rattle.fsl_table.specs.declared.step.Step.TheVariants.{Put}
 use Rattle.fsl_table.proofs.Steps.{taken_put, taken_allowed, undoes-push}
-use Rattle.fsl_table.proofs.log.remove.Goals as goal
+use Rattle.fsl_table.proofs.log.take.Goals as goal
 
 pub returns-in-Some-clause-undoes : goal.returns-in-Some-clause-undoes
 returns-in-Some-clause-undoes g c = λ before u.

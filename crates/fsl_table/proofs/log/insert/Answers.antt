@@ -3,7 +3,7 @@ use Rattle.fsl_table.specs.Contents.{value_at}
 use Rattle.fsl_table.specs.Undo.{IsAsGood, Undoes, stepped}
 use Rattle.fsl_table.specs.declared.step.Step.TheVariants.{Put, Remove}
 use Rattle.fsl_table.proofs.Steps.{new_taken, old_put, old_allowed, undoes-push}
-use Rattle.fsl_table.proofs.log.put.Goals as goal
+use Rattle.fsl_table.proofs.log.insert.Goals as goal
 
 pub returns-in-Ok-None-clause-undoes : goal.returns-in-Ok-None-clause-undoes
 returns-in-Ok-None-clause-undoes g c = λ before u.

@@ -1,0 +1,7 @@
+use Rattle.std.proofs.Common.{◌∙◌, ap, length}
+use Rattle.fsl_cluster.specs.Clusters.{missing}
+use Rattle.fsl_cluster.proofs.Reading.{missing_length}
+use Rattle.fsl_cluster.proofs.clusters.Clusters.missing_count.Goals as goal
+
+pub returns : goal.returns
+returns c = c.len.ensures.len ∙ missing_length c.self.inside.tables c.self.invariant ∙ ap (λ h. length (missing h.facts)) c.self.view_is

@@ -1,0 +1,7 @@
+use Rattle.std.proofs.Common.{◌∙◌, ap, length}
+use Rattle.fsl_cluster.specs.Clusters.{unclustered}
+use Rattle.fsl_cluster.proofs.Reading.{unclustered_length}
+use Rattle.fsl_cluster.proofs.clusters.Clusters.unclustered_count.Goals as goal
+
+pub returns : goal.returns
+returns c = c.len.ensures.len ∙ unclustered_length c.self.inside.tables c.self.invariant ∙ ap (λ h. length (unclustered h.facts)) c.self.view_is

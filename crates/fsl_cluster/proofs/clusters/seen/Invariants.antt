@@ -1,5 +1,0 @@
-use Rattle.std.proofs.Common.{◌≡◌, map, take}
-use Rattle.fsl_cluster.proofs.clusters.seen.Given as goal
-
-abbrev pub invariant-loop-fact : goal.invariant-loop-fact
-invariant-loop-fact l = map (λ s. s.value) l.seen.items ≡ take l.fact-index l.facts

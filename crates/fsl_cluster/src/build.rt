@@ -1,0 +1,188 @@
+//! The maps of many facts at once.
+ghost use Rattle.std.specs.Prelude.{ℕ, List, ◌≡◌, ◌||◌, [], map, IfOk, OnOk, None, IsPermutation};
+ghost use Rattle.std.specs.List.Sorted.{IsStrictlySortedBy};
+ghost use Rattle.std.specs.Map.{keys_of};
+ghost use Rattle.fsl_order.specs.Names.{bytes_cmp, has};
+ghost use Rattle.fsl_order.specs.Rows.{by_name, AreDistinct};
+ghost use Rattle.fsl_table.specs.Contents.{value_at, with_entry};
+ghost use Rattle.fsl_cluster.specs.Kept.{AreLaid, IsKept, entry_of, facts_of, is_in};
+
+use crate::entry::Entry;
+use crate::tables::Tables;
+use crate::{Fact, gather};
+use fsl_name::Name;
+use fsl_table::pairs::link_each;
+use fsl_table::{Log, Table};
+use fsl_text::{List, Memory, Steps};
+use std::alloc::Global;
+use std::sync::ledger::Ledger;
+
+/// A list of some names.
+fn copy(alloc: Global, names: &[Name]) -> Result<List<Name>, Memory>
+    ensures { IfOk result (λ list. list ≡ names.now) }
+{
+    Ok(List::from_vec(names.to_vec(alloc)?))
+}
+
+/// A fact with the same content.
+fn copied(alloc: Global, fact: &Fact) -> Result<Fact, Memory>
+    ensures { IfOk result (λ copy. copy ≡ fact.now) }
+{
+    Ok(Fact {
+        name: fact.name,
+        private: fact.private,
+        members: copy(alloc, fact.members.items())?,
+        refs: copy(alloc, fact.refs.items())?,
+    })
+}
+
+/// Copies of some facts.
+fn copies(alloc: Global, facts: &[Fact]) -> Result<Vec<Fact>, Memory>
+    ensures { IfOk result (λ list. list.items ≡ facts.now) }
+{
+    let mut list = Vec::new(alloc);
+    for fact in facts {
+        list.push(copied(alloc, fact)?)?;
+    }
+    Ok(list)
+}
+
+/// The facts in the order of their names, in which they are put into a map the fastest.
+fn in_name_order(mut facts: Vec<Fact>) -> Vec<Fact>
+    ensures { IsPermutation facts.items result.items }
+{
+    facts.sort_unstable_by_key(|fact| fact.name);
+    facts
+}
+
+/// Puts a new fact and its pairs in.
+fn lay<L: Ledger>(
+    alloc: Global,
+    tables: &mut Tables,
+    fact: Fact,
+    steps: &mut Steps<L>,
+) -> Result<(), Memory>
+    requires laid { AreLaid tables.old }
+    requires absent { value_at bytes_cmp fact.name tables.old.facts.entries ≡ None }
+    ensures entries { OnOk result (tables.new.facts.entries ≡ with_entry bytes_cmp fact.name (entry_of fact) tables.old.facts.entries) }
+    ensures laid { OnOk result (AreLaid tables.new) }
+    ensures unclustered { tables.new.unclustered ≡ tables.old.unclustered }
+    ensures missing { tables.new.missing ≡ tables.old.missing }
+{
+    let Fact {
+        name,
+        private,
+        members,
+        refs,
+    } = fact;
+    link_each(
+        &mut tables.members,
+        &mut Log::new(alloc),
+        name,
+        members.items(),
+        steps,
+    )?;
+    link_each(
+        &mut tables.refs,
+        &mut Log::new(alloc),
+        name,
+        refs.items(),
+        steps,
+    )?;
+    let entry = Entry {
+        private,
+        members,
+        refs,
+    };
+    match tables.facts.put(name, entry, steps) {
+        Ok(_) => Ok(()),
+        Err(_) => Err(Memory),
+    }
+}
+
+/// The maps of the facts and of the pairs, beside empty sets. The facts are moved.
+fn lay_all<L: Ledger>(
+    alloc: Global,
+    facts: Vec<Fact>,
+    steps: &mut Steps<L>,
+) -> Result<Tables, Memory>
+    requires { AreDistinct (map (λ f. f.name) facts.items) }
+    ensures facts { IfOk result (λ t. facts_of t.facts.entries ≡ by_name (λ f. f.name) facts.items) }
+    ensures laid { IfOk result AreLaid }
+    ensures unclustered { IfOk result (λ t. t.unclustered.entries ≡ []) }
+    ensures missing { IfOk result (λ t. t.missing.entries ≡ []) }
+{
+    let mut tables = Tables::new(alloc);
+    let mut left = facts;
+    while let Some(fact) = left.pop() {
+        lay(alloc, &mut tables, fact, steps)?;
+    }
+    Ok(tables)
+}
+
+/// The same of facts that are copied, and put in in the order of their names.
+fn lay_copies<L: Ledger>(
+    alloc: Global,
+    facts: &[Fact],
+    steps: &mut Steps<L>,
+) -> Result<Tables, Memory>
+    requires { AreDistinct (map (λ f. f.name) facts.now) }
+    ensures facts { IfOk result (λ t. facts_of t.facts.entries ≡ by_name (λ f. f.name) facts.now) }
+    ensures laid { IfOk result AreLaid }
+    ensures unclustered { IfOk result (λ t. t.unclustered.entries ≡ []) }
+    ensures missing { IfOk result (λ t. t.missing.entries ≡ []) }
+{
+    let ordered = in_name_order(copies(alloc, facts)?);
+    lay_all(alloc, ordered, steps)
+}
+
+/// Puts a name in.
+fn enter<L: Ledger>(
+    set: &mut Table<Name, ()>,
+    name: Name,
+    steps: &mut Steps<L>,
+) -> Result<(), Memory>
+    requires { IsStrictlySortedBy bytes_cmp (keys_of set.old.entries) }
+    ensures entries { OnOk result (set.new.entries ≡ with_entry bytes_cmp name tt set.old.entries) }
+{
+    match set.put(name, (), steps) {
+        Ok(_) => Ok(()),
+        Err(_) => Err(Memory),
+    }
+}
+
+/// Puts some names in.
+fn enter_all<L: Ledger>(
+    set: &mut Table<Name, ()>,
+    names: &[Name],
+    steps: &mut Steps<L>,
+) -> Result<(), Memory>
+    requires { IsStrictlySortedBy bytes_cmp (keys_of set.old.entries) }
+    ensures names { OnOk result ((q : List ℕ) → is_in set.new.entries q ≡ (has names.now q || is_in set.old.entries q)) }
+    ensures ordered { OnOk result (IsStrictlySortedBy bytes_cmp (keys_of set.new.entries)) }
+{
+    for name in names {
+        enter(set, *name, steps)?;
+    }
+    Ok(())
+}
+
+/// The maps of some facts, of which no two have one name.
+pub(crate) fn tables_of<L: Ledger>(
+    alloc: Global,
+    facts: &[Fact],
+    steps: &mut Steps<L>,
+) -> Result<Tables, Memory>
+    requires { AreDistinct (map (λ f. f.name) facts.now) }
+    ensures facts { IfOk result (λ t. facts_of t.facts.entries ≡ by_name (λ f. f.name) facts.now) }
+    ensures kept { IfOk result IsKept }
+{
+    let mut tables = lay_copies(alloc, facts, steps)?;
+    let members = gather::members(alloc, facts)?;
+    let unclustered = gather::public_without(alloc, facts, &members)?;
+    enter_all(&mut tables.unclustered, unclustered.items(), steps)?;
+    let held = gather::held(alloc, facts)?;
+    let missing = gather::refs_without(alloc, facts, &held)?;
+    enter_all(&mut tables.missing, missing.items(), steps)?;
+    Ok(tables)
+}
