@@ -42,7 +42,7 @@ rise_of text m is =
     second_holds _ (files_rise m.files) (first_holds _ (has_hashes m) (first_holds _ (all_differ m.parents) (first_holds _ (list_all is_tag_written m.tags) well)))
 
 -- the fact of what some bytes are meets it
-fit_of : (name text : List ℕ) (private : Bool) (a : Artifact) → IsKind text a → IfSome (files_fact (record { name = name; private = private; artifact = a })) IsFilesFact
+pub fit_of : (name text : List ℕ) (private : Bool) (a : Artifact) → IsKind text a → IfSome (files_fact (record { name = name; private = private; artifact = a })) IsFilesFact
 fit_of name text private (kind.Manifest m) is = record { rising = rises-as_files m.files ∙ rise_of text m is; whole = whole-without m.baseline m.files is.2.hashes }
 fit_of name text private Plain is = tt
 fit_of name text private (Cluster c) is = tt

@@ -12,10 +12,14 @@ pub mod Retagged
 pub mod Paired
 pub mod PairsAdded
 pub mod Marking
-pub mod Adding
+pub mod AddedItems
 pub mod Stays
+pub mod ClusterFacts
 pub mod Seeing
 pub mod Undoing
+pub mod Published
+pub mod Among
+pub mod Making
 pub mod FactLemmas
 pub mod TipLemmas
 pub mod FileLemmas

@@ -1,11 +1,12 @@
 -- The pairs of a set, from those of the set without one item.
-use Rattle.std.proofs.Common.{◌≡◌, ℕ, true, false, ◌&&◌, List, [], ◌∷◌, Bool, Option, Some, None, map, refl, sym, ap, ◌∙◌, subst}
+use Rattle.std.proofs.Common.{◌≡◌, ℕ, true, false, ◌&&◌, List, [], ◌∷◌, Bool, Option, Some, None, All, map, refl, sym, ap, ◌∙◌, subst}
 use Rattle.std.specs.Prelude.{◌||◌, filter_map, option_map, is_some, IfSome}
 use Rattle.std.specs.List.{list_any, cons_option, AllByRecursion, IsDistinct}
 use Rattle.std.specs.Str.{bytes_eq}
 use Rattle.std.specs.Cmp.Lexicographic.{nat_list_eq_equiv}
 use Rattle.std.specs.List.Sorted.{IsStrictlySortedBy}
-use Rattle.std.proofs.lemmas.List.Sorted.{list_any-IsPermutation}
+use Rattle.std.proofs.lemmas.List.Sorted.{list_any-IsPermutation, All-permutation}
+use Rattle.std.proofs.lemmas.List.Elements.{All-cons}
 use Rattle.fsl_order.specs.Names.{bytes_cmp, has}
 use Rattle.fsl_order.specs.Rows.{by_name, named, AreDistinct}
 use Rattle.fsl_order.proofs.MovedLemmas.{IsPermutation-by_name}
@@ -15,10 +16,10 @@ use Rattle.fsl_table.specs.Pairs.{is_name}
 use Rattle.fsl_table.specs.declared.key.Pair.{Pair}
 use Rattle.fsl_cross.specs.declared.Item.{Item}
 use Rattle.fsl_cross.specs.Attached.{pair_of, pair_name, is_pair, is_pair_of, AreOrdered, ArePairs}
-use Rattle.fsl_cross.specs.Tables.{without}
+use Rattle.fsl_cross.specs.Tables.{IsItem, without}
 use Rattle.fsl_cross.proofs.Moved.{item_name}
 use Rattle.fsl_cross.proofs.FactLemmas.{Rise}
-use Rattle.fsl_cross.proofs.Mapped.{by_name-given, distinct-given}
+use Rattle.fsl_cross.proofs.Mapped.{by_name-given, distinct-given, distinct-rising}
 use Rattle.fsl_cross.proofs.Pushing.{or-false}
 use Rattle.fsl_cross.proofs.Added.{given-added, given-absent, rising-out}
 
@@ -65,3 +66,13 @@ module _ (items : List Item) (rise : Rise items) (x : Item) (at : named item_nam
     ordered = ordered are.ordered;
     there = λ k. there k ∙ ap (λ b. is_pair_of k (id_of x) x.name || b) (are.there k) ∙ sym (any-added k);
   }
+
+-- ---- the items with one more
+
+distinct-with : (item : Item) (items : List Item) → Rise items → has (map item_name items) item.name ≡ false → AreDistinct (map item_name (item ∷ items))
+unfolding IsDistinct
+distinct-with item items rise absent = (all-apart item.name (map item_name items) absent, distinct-rising (map item_name items) rise)
+
+pub kinds-with : (item : Item) (items : List Item) → Rise items → has (map item_name items) item.name ≡ false → IsItem item → All IsItem items → All IsItem (by_name item_name (item ∷ items))
+kinds-with item items rise absent is all =
+    All-permutation IsItem (item ∷ items) (by_name item_name (item ∷ items)) (IsPermutation-by_name item_name (item ∷ items) (distinct-with item items rise absent)) (All-cons IsItem item items is all)

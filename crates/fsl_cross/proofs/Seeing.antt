@@ -4,6 +4,7 @@ use Rattle.std.specs.List.Sorted.{IsStrictlySortedBy}
 use Rattle.fsl_order.specs.Names.{bytes_cmp}
 use Rattle.fsl_order.specs.Held.{Held, IsAsBefore, AreAtMost}
 use Rattle.fsl_table.specs.Trail.{AreAllAtMost}
+use Rattle.fsl_table.proofs.Trails.{all_at_most-self}
 use Rattle.fsl_ticket.specs.Seen as ticket
 use Rattle.fsl_cross.specs.declared.Item.{Item}
 use Rattle.fsl_cross.specs.declared.derived.Derived.{Derived}
@@ -106,3 +107,10 @@ seen-before s fields items d whole are same_fields same_items = record {
       (d.attached.targets.spare ∷ d.attached.changes.spare ∷ []) whole.tables are.links.spare are.tags.spare are.leaves.spare are.files.spare are.timeline.spare are.pages.spare are.tickets.spare are.threads.spare are.clusters.spare
       (pair-back (room s 9) d.attached.targets.spare d.attached.changes.spare whole.pairs are.targets_room are.changes_room);
 }
+
+-- where nothing but the list of items was touched, and that is the same
+pub seen-same : (fields : List (List ℕ)) (items now : List Item) (d : Derived) → now ≡ items → tables.IsAsBefore (seen_of fields items d) (seen_of fields now d)
+seen-same fields items now d same = record { fields = refl; items = same; spare = all_at_most-self (spare_of d) }
+
+pub seen-itself : (s : Seen) → tables.IsAsBefore s s
+seen-itself s = record { fields = refl; items = refl; spare = all_at_most-self s.spare }

@@ -12,7 +12,9 @@ use Rattle.fsl_wiki.specs.Pages.{name_of}
 use Rattle.fsl_ticket.specs.declared.Fact as ticket
 use Rattle.fsl_forum.specs.declared.Fact as forum
 use Rattle.fsl_cross.specs.declared.Item.{Item}
-use Rattle.fsl_cross.specs.Facts.{as_manifest, pages_fact, ticket_fact, forum_fact}
+use Rattle.fsl_cross.specs.Facts.{as_manifest, pages_fact, pages_fact_of, ticket_fact, ticket_fact_of, forum_fact, forum_fact_of}
+use Rattle.fsl_cross.specs.Checkins.{tags_facts}
+use Rattle.fsl_cross.specs.Told.{has_contents, own_row}
 use Rattle.fsl_cross.specs.Tables.{pages_facts, ticket_facts, forum_facts, timeline_row_of, without}
 use Rattle.fsl_cross.specs.Inside.{note_row, attachment_row, kind_by, post_row}
 use Rattle.fsl_cross.specs.Mixed.{OtherRowsStay}
@@ -35,6 +37,51 @@ rows-stay items old ps ts fs name (kind.Control c) none = refl
 rows-stay items old ps ts fs name (kind.Wiki w) none = refl
 rows-stay items old ps ts fs name (kind.Ticket t) none = refl
 
+no-page : (name : List ℕ) (a : Artifact) → has_contents a ≡ false → pages_fact_of name a ≡ None
+no-page name (kind.Wiki w) told = cc
+no-page name (kind.Attachment w) told = cc
+no-page name (kind.Technote w) told = cc
+no-page name (kind.Ticket w) told = refl
+no-page name (kind.Forum w) told = refl
+no-page name (kind.Manifest w) told = refl
+no-page name (kind.Control w) told = refl
+no-page name (kind.Cluster w) told = refl
+no-page name kind.Plain told = refl
+
+no-ticket : (name : List ℕ) (a : Artifact) → has_contents a ≡ false → ticket_fact_of name a ≡ None
+no-ticket name (kind.Ticket w) told = cc
+no-ticket name (kind.Wiki w) told = refl
+no-ticket name (kind.Attachment w) told = refl
+no-ticket name (kind.Technote w) told = refl
+no-ticket name (kind.Forum w) told = refl
+no-ticket name (kind.Manifest w) told = refl
+no-ticket name (kind.Control w) told = refl
+no-ticket name (kind.Cluster w) told = refl
+no-ticket name kind.Plain told = refl
+
+no-post : (name : List ℕ) (a : Artifact) → has_contents a ≡ false → forum_fact_of name a ≡ None
+no-post name (kind.Forum w) told = cc
+no-post name (kind.Wiki w) told = refl
+no-post name (kind.Attachment w) told = refl
+no-post name (kind.Technote w) told = refl
+no-post name (kind.Ticket w) told = refl
+no-post name (kind.Manifest w) told = refl
+no-post name (kind.Control w) told = refl
+no-post name (kind.Cluster w) told = refl
+no-post name kind.Plain told = refl
+
+-- the row of an artifact without contents
+pub row-told : (items : List Item) (name : List ℕ) (a : Artifact) → has_contents a ≡ false → own_row (tags_facts items) name a ≡ timeline_row_of items name a
+row-told items name (kind.Manifest m) told = refl
+row-told items name (kind.Control c) told = refl
+row-told items name (kind.Cluster c) told = refl
+row-told items name kind.Plain told = refl
+row-told items name (kind.Wiki w) told = cc
+row-told items name (kind.Attachment w) told = cc
+row-told items name (kind.Technote w) told = cc
+row-told items name (kind.Ticket w) told = cc
+row-told items name (kind.Forum w) told = cc
+
 module _ (items : List Item) (rise : Rise items) (x : Item) (at : named item_name items x.name ≡ Some x) where
   -- an artifact that gives a table nothing leaves its facts
   pub facts-stay : {F : Type 0} (fact_name : F → List ℕ) (give : Item → Option F) → ((item : Item) → IfSome (give item) (λ f. fact_name f ≡ item.name)) → give x ≡ None → filter_map give items ≡ filter_map give (without x.name items)
@@ -45,3 +92,7 @@ module _ (items : List Item) (rise : Rise items) (x : Item) (at : named item_nam
   others-stay page tick post item apart none =
       rows-stay items (without x.name items) (facts-stay name_of pages_fact pages-own page) (facts-stay (λ (f : ticket.Fact). f.name) ticket_fact ticket-own tick) (facts-stay (λ (f : forum.Fact). f.name) forum_fact forum-own post)
       item.name item.artifact none
+
+  -- .. as one is that has no contents
+  pub told-stay : has_contents x.artifact ≡ false → OtherRowsStay items x.name
+  told-stay told = others-stay (no-page x.name x.artifact told) (no-ticket x.name x.artifact told) (no-post x.name x.artifact told)

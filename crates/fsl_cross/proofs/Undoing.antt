@@ -28,12 +28,12 @@ use Rattle.fsl_cross.proofs.Without.{rising-without, kinds-without}
 
 -- ---- the items
 
-names-private : (n : List ℕ) (private : Bool) (items : List Item) → map item_name (map (private_at n private) items) ≡ map item_name items
+pub names-private : (n : List ℕ) (private : Bool) (items : List Item) → map item_name (map (private_at n private) items) ≡ map item_name items
 names-private n private [] = refl
 names-private n private (item ∷ items) =
     λ i. elim (bytes_eq item.name n) as (λ b. (cond b (record item { private = private }) item).name ≡ item.name) [ true ↦ refl | false ↦ refl ] i ∷ names-private n private items i
 
-kinds-private : (n : List ℕ) (private : Bool) (items : List Item) → All IsItem items → All IsItem (map (private_at n private) items)
+pub kinds-private : (n : List ℕ) (private : Bool) (items : List Item) → All IsItem items → All IsItem (map (private_at n private) items)
 kinds-private n private [] all = All-nil IsItem
 kinds-private n private (item ∷ items) all =
     All-cons IsItem (private_at n private item) (map (private_at n private) items)
@@ -59,6 +59,9 @@ can-go-back what n us before after d back seen = record {
     leaves = (leaves_in before, leads-later (leaves_in before) us.history.leaves (leaves_in after) d.history.leaves back.leaves seen.leaves);
   };
   contents = record {
+    files = (files_in before, leads-later (files_in before) us.contents.files (files_in after) d.contents.files back.files seen.files);
+    pages = (pages_in before, leads-later (pages_in before) us.contents.pages (pages_in after) d.contents.pages back.pages seen.pages);
+    clusters = (clusters_in before, leads-later (clusters_in before) us.contents.clusters (clusters_in after) d.contents.clusters back.clusters seen.clusters);
     tickets = (tickets_in before, tickets-later (tickets_in before) us.contents.tickets (tickets_in after) d.contents.tickets back.tickets seen.tickets);
     threads = (threads_in before, leads-later (threads_in before) us.contents.threads (threads_in after) d.contents.threads back.threads seen.threads);
   };
@@ -78,12 +81,12 @@ went-back what n us before after d new back seen went =
       links = went.history.links (links_in before) (leads-later (links_in before) us.history.links (links_in after) d.history.links back.links seen.links);
       tags = went.history.tags (tags_in before) (leads-later (tags_in before) us.history.tags (tags_in after) d.history.tags back.tags seen.tags);
       leaves = went.history.leaves (leaves_in before) (leads-later (leaves_in before) us.history.leaves (leaves_in after) d.history.leaves back.leaves seen.leaves);
-      files = subst (IsAsBefore (files_in before)) (sym went.contents.files) (as_before-trans (files_in before) (files_in after) d.contents.files back.files seen.files);
+      files = went.contents.files (files_in before) (leads-later (files_in before) us.contents.files (files_in after) d.contents.files back.files seen.files);
       timeline = went.timeline (timeline_in before) (leads-later (timeline_in before) us.timeline (timeline_in after) d.timeline back.timeline seen.timeline);
-      pages = subst (IsAsBefore (pages_in before)) (sym went.contents.pages) (as_before-trans (pages_in before) (pages_in after) d.contents.pages back.pages seen.pages);
+      pages = went.contents.pages (pages_in before) (leads-later (pages_in before) us.contents.pages (pages_in after) d.contents.pages back.pages seen.pages);
       tickets = went.contents.tickets (tickets_in before) (tickets-later (tickets_in before) us.contents.tickets (tickets_in after) d.contents.tickets back.tickets seen.tickets);
       threads = went.contents.threads (threads_in before) (leads-later (threads_in before) us.contents.threads (threads_in after) d.contents.threads back.threads seen.threads);
-      clusters = subst (IsAsBefore (clusters_in before)) (sym went.contents.clusters) (as_before-trans (clusters_in before) (clusters_in after) d.contents.clusters back.clusters seen.clusters);
+      clusters = went.contents.clusters (clusters_in before) (leads-later (clusters_in before) us.contents.clusters (clusters_in after) d.contents.clusters back.clusters seen.clusters);
       attached = record {
         targets = subst (ArePairs (filter_map target_pair before.items)) (sym went.attached.targets.entries) targets.pairs;
         changes = subst (ArePairs (filter_map change_pair before.items)) (sym went.attached.changes.entries) changes.pairs;

@@ -31,7 +31,7 @@ use Rattle.fsl_cross.specs.Built.{IsAttachedOf}
 use Rattle.fsl_cross.specs.Checkins.{links_facts, tags_facts}
 use Rattle.fsl_cross.specs.Marks.{private_at}
 use Rattle.fsl_cross.specs.Tables.{Seen, without, leaves_facts, files_facts, pages_facts, ticket_facts, forum_facts, cluster_facts, timeline_rows}
-use Rattle.fsl_cross.specs.Trails.{Leads, TicketsLead, Led, Logged, CanGoBack, WentBack, CanTicketsGoBack, TicketsWentBack}
+use Rattle.fsl_cross.specs.Trails.{Leads, TicketsLead, Led, TicketsLed, Logged, CanGoBack, WentBack, CanTicketsGoBack, TicketsWentBack}
 
 -- ---- changes while an artifact comes
 
@@ -45,6 +45,21 @@ pub record IsHistoryLed (old : History) (us : HistoryUndos) (new : History) (vs 
 pub record IsAttachedLed (old : Attached) (us : AttachedUndos) (new : Attached) (vs : AttachedUndos) : Type 0 where
   pub targets : Logged old.targets us.targets new.targets vs.targets
   pub changes : Logged old.changes us.changes new.changes vs.changes
+
+-- so do those of the tables of files, pages, tickets, posts and clusters
+pub record AreContentsLed (old : contents.Contents) (us : ContentsUndos) (new : contents.Contents) (vs : ContentsUndos) : Type 0 where
+  pub files : Led old.files us.files new.files vs.files
+  pub pages : Led old.pages us.pages new.pages vs.pages
+  pub tickets : TicketsLed old.tickets us.tickets new.tickets vs.tickets
+  pub threads : Led old.threads us.threads new.threads vs.threads
+  pub clusters : Led old.clusters us.clusters new.clusters vs.clusters
+
+-- so do those of all tables
+pub record AllLed (old : Derived) (us : Undos) (new : Derived) (vs : Undos) : Type 0 where
+  pub history : IsHistoryLed old.history us.history new.history vs.history
+  pub contents : AreContentsLed old.contents us.contents new.contents vs.contents
+  pub attached : IsAttachedLed old.attached us.attached new.attached vs.attached
+  pub timeline : Led old.timeline us.timeline new.timeline vs.timeline
 
 -- ---- changes that are taken back
 
@@ -130,18 +145,21 @@ unmade Published n items = map (private_at n true) items
 
 -- ---- all changes
 
--- the changes led from some tables of tickets and posts to these
+-- the changes led from some tables of files, pages, tickets, posts and clusters to these
 pub record CanContentsGoBack (us : ContentsUndos) (now : contents.Contents) : Type 0 where
+  pub files : CanGoBack us.files now.files
+  pub pages : CanGoBack us.pages now.pages
   pub tickets : CanTicketsGoBack us.tickets now.tickets
   pub threads : CanGoBack us.threads now.threads
+  pub clusters : CanGoBack us.clusters now.clusters
 
--- whichever they led from, the new ones are as good; the others stay
+-- whichever they led from, the new ones are as good
 pub record ContentsWentBack (us : ContentsUndos) (now new : contents.Contents) : Type 0 where
-  pub files : new.files ≡ now.files
-  pub pages : new.pages ≡ now.pages
+  pub files : WentBack us.files now.files new.files
+  pub pages : WentBack us.pages now.pages new.pages
   pub tickets : TicketsWentBack us.tickets now.tickets new.tickets
   pub threads : WentBack us.threads now.threads new.threads
-  pub clusters : new.clusters ≡ now.clusters
+  pub clusters : WentBack us.clusters now.clusters new.clusters
 
 pub record CanGoBackAll (us : Undos) (now : Derived) : Type 0 where
   pub history : CanHistoryGoBack us.history now.history
@@ -168,11 +186,11 @@ pub record IsBack (what : What) (n : List ℕ) (us : Undos) (before after : Seen
   pub links : Leads (links_in before) us.history.links (links_in after)
   pub tags : Leads (tags_in before) us.history.tags (tags_in after)
   pub leaves : Leads (leaves_in before) us.history.leaves (leaves_in after)
-  pub files : IsAsBefore (files_in before) (files_in after)
+  pub files : Leads (files_in before) us.contents.files (files_in after)
   pub timeline : Leads (timeline_in before) us.timeline (timeline_in after)
-  pub pages : IsAsBefore (pages_in before) (pages_in after)
+  pub pages : Leads (pages_in before) us.contents.pages (pages_in after)
   pub tickets : TicketsLead (tickets_in before) us.contents.tickets (tickets_in after)
   pub threads : Leads (threads_in before) us.contents.threads (threads_in after)
-  pub clusters : IsAsBefore (clusters_in before) (clusters_in after)
+  pub clusters : Leads (clusters_in before) us.contents.clusters (clusters_in after)
   pub targets : TakesPairsBack us.attached.targets (filter_map target_pair before.items) (get_or (room before 9) 0 0) (filter_map target_pair after.items) (get_or (room after 9) 0 0)
   pub changes : TakesPairsBack us.attached.changes (filter_map change_pair before.items) (get_or (room before 9) 1 0) (filter_map change_pair after.items) (get_or (room after 9) 1 0)

@@ -10,3 +10,4 @@ pub mod Marks
 pub mod Built
 pub mod Back
 pub mod Fresh
+pub mod Told

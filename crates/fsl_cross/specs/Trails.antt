@@ -13,6 +13,8 @@ use Rattle.fsl_links.specs.declared.Fact as links
 use Rattle.fsl_links.specs.Links.{links_row}
 use Rattle.fsl_tags.specs.declared.Fact as tags
 use Rattle.fsl_ticket.specs.Seen as ticket
+use Rattle.fsl_wiki.specs.declared.Fact as wiki
+use Rattle.fsl_wiki.specs.Pages.{pages_row}
 use Rattle.fsl_forum.specs.declared.Fact as forum
 use Rattle.fsl_forum.specs.Threads.{threads_row}
 use Rattle.fsl_tags.specs.Tags.{tags_row}
@@ -50,6 +52,9 @@ AreTold row us = AllByRecursion (λ u. ListsChanged (row u.before.facts) (row u.
 
 abbrev pub LinksTold : List (held.Change links.Fact) → Type 0
 LinksTold us = AreTold links_row us
+
+abbrev pub PagesTold : List (held.Change wiki.Fact) → Type 0
+PagesTold us = AreTold pages_row us
 
 abbrev pub ThreadsTold : List (held.Change forum.Fact) → Type 0
 ThreadsTold us = AreTold threads_row us

@@ -53,14 +53,23 @@ fn take_history_back(history: &mut History, undos: HistoryUndos)
     take_all_back(&mut history.leaves, leaves);
 }
 
-/// Takes changes of the tables of tickets and posts back. Takes no memory.
+/// Takes changes of the tables of files, pages, tickets, posts and clusters back. Takes no memory.
 fn take_contents_back(contents: &mut Contents, undos: ContentsUndos)
     requires { CanContentsGoBack undos contents.old }
     ensures { ContentsWentBack undos contents.old contents.new }
 {
-    let ContentsUndos { tickets, threads } = undos;
+    let ContentsUndos {
+        files,
+        pages,
+        tickets,
+        threads,
+        clusters,
+    } = undos;
+    take_all_back(&mut contents.files, files);
+    take_all_back(&mut contents.pages, pages);
     take_all_back(&mut contents.tickets, tickets);
     take_all_back(&mut contents.threads, threads);
+    take_all_back(&mut contents.clusters, clusters);
 }
 
 fn attached_back<L: Ledger>(attached: &mut Attached, undos: AttachedUndos, blank: Blank)

@@ -1,9 +1,14 @@
 //! Changes of the tables by one artifact more, one module a table.
 pub(crate) mod attached;
+pub(crate) mod clusters;
+pub(crate) mod contents;
+pub(crate) mod files;
 pub(crate) mod history;
 pub(crate) mod leaves;
 pub(crate) mod links;
+pub(crate) mod pages;
 pub(crate) mod rows;
 pub(crate) mod tags;
 pub(crate) mod threads;
 pub(crate) mod tickets;
+pub(crate) mod told;

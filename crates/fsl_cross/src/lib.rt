@@ -4,6 +4,7 @@
 
 ghost use Rattle.fsl_cross.specs.Tables.{SameInAnyOrder, AddedInAnyOrder};
 
+mod adding;
 mod attached;
 mod back;
 mod beside;

@@ -9,8 +9,13 @@ ghost use Rattle.fsl_leaves.specs.declared.Fact as leaves;
 ghost use Rattle.fsl_timeline.specs.declared.Row as timeline;
 ghost use Rattle.fsl_forum.specs.declared.Fact as forum;
 ghost use Rattle.fsl_ticket.specs.Seen as ticket;
+ghost use Rattle.fsl_files.specs.declared.Fact as files;
+ghost use Rattle.fsl_wiki.specs.declared.Fact as wiki;
+ghost use Rattle.fsl_cluster.specs.declared.Fact as cluster;
 ghost use Rattle.fsl_cross.specs.Chained.{tickets-chain};
 
+use fsl_cluster::Clusters;
+use fsl_files::Files;
 use fsl_forum::Threads;
 use fsl_leaves::Leaves;
 use fsl_links::Links;
@@ -18,6 +23,7 @@ use fsl_tags::Tags;
 use fsl_text::{List, Memory};
 use fsl_ticket::Tickets;
 use fsl_timeline::Timeline;
+use fsl_wiki::Pages;
 
 /// A table whose changes can be taken back, the last one first.
 pub(crate) trait Reversible {
@@ -204,4 +210,64 @@ impl Reversible for Tickets {
     }
 
     ghost good_chain = { tickets-chain };
+}
+
+impl Reversible for Files {
+    type Undo = fsl_files::Undo;
+
+    ghost State = { Held files.Fact };
+
+    ghost is_good = { IsAsBefore };
+
+    ghost seen = { λ t. t };
+
+    ghost before = { λ u. u.before };
+
+    ghost after = { λ u. u.after };
+
+    fn take_back(&mut self, undo: fsl_files::Undo) {
+        self.undo(undo);
+    }
+
+    ghost good_chain = { as_before-trans };
+}
+
+impl Reversible for Pages {
+    type Undo = fsl_wiki::Undo;
+
+    ghost State = { Held wiki.Fact };
+
+    ghost is_good = { IsAsBefore };
+
+    ghost seen = { λ t. t };
+
+    ghost before = { λ u. u.before };
+
+    ghost after = { λ u. u.after };
+
+    fn take_back(&mut self, undo: fsl_wiki::Undo) {
+        self.undo(undo);
+    }
+
+    ghost good_chain = { as_before-trans };
+}
+
+impl Reversible for Clusters {
+    type Undo = fsl_cluster::Undo;
+
+    ghost State = { Held cluster.Fact };
+
+    ghost is_good = { IsAsBefore };
+
+    ghost seen = { λ t. t };
+
+    ghost before = { λ u. u.before };
+
+    ghost after = { λ u. u.after };
+
+    fn take_back(&mut self, undo: fsl_cluster::Undo) {
+        self.undo(undo);
+    }
+
+    ghost good_chain = { as_before-trans };
 }

@@ -1,15 +1,19 @@
 //! All tables of a set of artifacts.
-ghost use Rattle.std.specs.Prelude.{◌≡◌, [], All, IfOk, map};
-ghost use Rattle.fsl_order.specs.Rows.{AreDistinct};
+ghost use Rattle.std.specs.Prelude.{◌≡◌, [], true, false, All, Some, IfOk, OnOk, OnErr, map, option_map};
+ghost use Rattle.fsl_order.specs.Rows.{AreDistinct, named};
 ghost use Rattle.fsl_cross.specs.Checkins as checkins;
-ghost use Rattle.fsl_cross.specs.Tables.{IsItem, IsAsBefore, item_set, tables, without};
+ghost use Rattle.fsl_cross.specs.Tables.{IsItem, IsAsBefore, item_set, tables, with_item, published, without};
+ghost use Rattle.fsl_cross.specs.Told.{has_contents};
 ghost use Rattle.std.specs.List.Sorted.{IsStrictlySortedBy};
-ghost use Rattle.fsl_order.specs.Names.{bytes_cmp};
+ghost use Rattle.fsl_order.specs.Names.{bytes_cmp, has};
 
+use super::adding::{publish_named, take_named};
 use super::back::{Back, take_back, unmake};
 use super::checkin::manifest;
 use super::derived::Derived;
+use super::held::Held;
 use super::items::Items;
+use super::undos::{Undos, What};
 use super::{Item, Values, checkin, tip};
 use fsl_cluster::Clusters;
 use fsl_files::Files;
@@ -18,12 +22,14 @@ use fsl_leaves::Leaves;
 use fsl_links::Links;
 use fsl_name::Name;
 use fsl_tags::Tags;
-use fsl_text::{List, Memory, Text};
+use fsl_text::{List, Memory, Steps, Text};
 use fsl_ticket::Tickets;
 use fsl_timeline::Timeline;
 use fsl_wiki::Pages;
 use std::alloc::Global;
 use std::marker::Model;
+use std::snapshot::Snapshot;
+use std::sync::ledger::Ledger;
 
 /// The tables of a set of artifacts. Contracts see it as the configured fields of tickets and the artifacts by name.
 #[derive(Drop)]
@@ -76,6 +82,97 @@ impl Tables {
     {
         let fields = copied(alloc, fields.items())?;
         Tables::of_set(alloc, fields, Items::new(alloc))
+    }
+
+    /// Adds an artifact whose name isn't there: a check-in, a control artifact, a cluster or a plain one. `Memory` is the only error, and
+    /// the tables then hold what they held.
+    pub fn add<L: Ledger>(
+        &mut self,
+        alloc: Global,
+        item: Item,
+        steps: &mut Steps<L>,
+    ) -> Result<Back, Memory>
+        requires absent { has (map (λ i. i.name) self.old.items) item.name ≡ false }
+        requires kind { IsItem item }
+        requires told { has_contents item.artifact ≡ false }
+        ensures items { OnOk result (self.new.items ≡ with_item item self.old.items) }
+        ensures fields { OnOk result (self.new.fields ≡ self.old.fields) }
+        ensures before { IfOk result (λ back. back.before ≡ self.old) }
+        ensures after { IfOk result (λ back. back.after ≡ self.new) }
+        ensures err { OnErr result (IsAsBefore self.old self.new) }
+    {
+        let before = Snapshot::of(&*self);
+        let name = item.name;
+        let held = Held::of(alloc, item)?;
+        self.items.put(held)?;
+        let mut undos = Undos::new(alloc);
+        match take_named(
+            alloc,
+            &mut self.derived,
+            &mut undos,
+            &self.items,
+            name,
+            steps,
+        ) {
+            Ok(()) => {
+                let after = Snapshot::of(&*self);
+                Ok(Back {
+                    what: What::Added,
+                    name,
+                    undos,
+                    before,
+                    after,
+                })
+            }
+            Err(Memory) => {
+                take_back(&mut self.derived, undos);
+                self.items.take(name);
+                Err(Memory)
+            }
+        }
+    }
+
+    /// Makes an artifact public, which is there and private. `Memory` is the only error, and the tables then hold what they held.
+    pub fn publish<L: Ledger>(
+        &mut self,
+        alloc: Global,
+        name: Name,
+        steps: &mut Steps<L>,
+    ) -> Result<Back, Memory>
+        requires { option_map (λ i. i.private) (named (λ i. i.name) self.old.items name) ≡ Some true }
+        ensures items { OnOk result (self.new.items ≡ published name self.old.items) }
+        ensures fields { OnOk result (self.new.fields ≡ self.old.fields) }
+        ensures before { IfOk result (λ back. back.before ≡ self.old) }
+        ensures after { IfOk result (λ back. back.after ≡ self.new) }
+        ensures err { OnErr result (IsAsBefore self.old self.new) }
+    {
+        let before = Snapshot::of(&*self);
+        self.items.set_private(name, false);
+        let mut undos = Undos::new(alloc);
+        match publish_named(
+            alloc,
+            &mut self.derived,
+            &mut undos,
+            &self.items,
+            name,
+            steps,
+        ) {
+            Ok(()) => {
+                let after = Snapshot::of(&*self);
+                Ok(Back {
+                    what: What::Published,
+                    name,
+                    undos,
+                    before,
+                    after,
+                })
+            }
+            Err(Memory) => {
+                take_back(&mut self.derived, undos);
+                self.items.set_private(name, true);
+                Err(Memory)
+            }
+        }
     }
 
     /// Takes the last change back that wasn't taken back. Takes no memory.

@@ -149,7 +149,7 @@ fn first_tag(alloc: Global, cards: &[TagCard]) -> Result<Text, Memory>
 }
 
 /// The row of a control artifact.
-fn control(alloc: Global, name: Name, control: &Control) -> Result<Row, Memory>
+pub(crate) fn control(alloc: Global, name: Name, control: &Control) -> Result<Row, Memory>
     ensures { IfOk result (λ r. r ≡ control_row name control.now) }
 {
     Ok(Row {

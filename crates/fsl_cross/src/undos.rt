@@ -1,6 +1,8 @@
 //! What takes changes of all tables back, the changes of each table in their order.
 ghost use Rattle.fsl_cross.specs.Fresh.{AreNone};
 
+use fsl_cluster as cluster;
+use fsl_files as files;
 use fsl_forum as forum;
 use fsl_leaves as leaves;
 use fsl_links as links;
@@ -9,6 +11,7 @@ use fsl_tags as tags;
 use fsl_text::List;
 use fsl_ticket as ticket;
 use fsl_timeline as timeline;
+use fsl_wiki as wiki;
 use std::alloc::Global;
 
 /// Changes of the tables of parentage, tags and leaves.
@@ -22,8 +25,11 @@ pub(crate) struct HistoryUndos {
 /// Changes of the tables of files, pages, tickets, posts and clusters.
 #[derive(Drop)]
 pub(crate) struct ContentsUndos {
+    pub(crate) files: List<files::Undo>,
+    pub(crate) pages: List<wiki::Undo>,
     pub(crate) tickets: List<ticket::Undo>,
     pub(crate) threads: List<forum::Undo>,
+    pub(crate) clusters: List<cluster::Undo>,
 }
 
 /// Changes of what attachments are found by.
@@ -53,8 +59,11 @@ impl Undos {
             leaves: List::new(alloc),
         };
         let contents = ContentsUndos {
+            files: List::new(alloc),
+            pages: List::new(alloc),
             tickets: List::new(alloc),
             threads: List::new(alloc),
+            clusters: List::new(alloc),
         };
         let attached = AttachedUndos {
             targets: Log::new(alloc),

@@ -4,7 +4,7 @@ use Rattle.std.specs.Str.{bytes_eq}
 use Rattle.std.proofs.lemmas.Map.Keys.{IsDistinct-IsPermutation}
 use Rattle.std.proofs.lemmas.List.Sorted.{IsPermutation-map}
 use Rattle.fsl_cross.proofs.Moved.{item_name}
-use Rattle.fsl_cross.proofs.Adding.{added-built}
+use Rattle.fsl_cross.proofs.AddedItems.{added-built}
 use Rattle.fsl_cross.proofs.added_in_any_order.Goals as goal
 
 pub returns : goal.returns

@@ -1,0 +1,55 @@
+//! One artifact more in the table of wiki pages, technotes and attachments.
+ghost use Rattle.std.specs.Prelude.{◌≡◌, ◌∷◌, false, map, OnOk};
+ghost use Rattle.fsl_order.specs.Names.{has};
+ghost use Rattle.fsl_order.specs.Rows.{by_name};
+ghost use Rattle.fsl_wiki.specs.Pages.{name_of};
+ghost use Rattle.fsl_cross.specs.Tables.{pages_facts, without};
+ghost use Rattle.fsl_cross.specs.Mixed.{IsIn};
+ghost use Rattle.fsl_cross.specs.Trails.{Led, PagesTold};
+
+use crate::facts::pages::fact_of;
+use crate::held::Held;
+use crate::items::Items;
+use crate::reversible::keep;
+use fsl_text::{List, Memory, Steps};
+use fsl_wiki::{Fact, Pages, Undo};
+use std::alloc::Global;
+use std::sync::ledger::Ledger;
+
+/// Adds a fact, and keeps what takes that back. `Memory` is the only error.
+fn put<L: Ledger>(
+    alloc: Global,
+    pages: &mut Pages,
+    undos: &mut List<Undo>,
+    fact: Fact,
+    steps: &mut Steps<L>,
+) -> Result<(), Memory>
+    requires { has (map name_of pages.old.facts) (name_of fact) ≡ false }
+    ensures facts { OnOk result (pages.new.facts ≡ by_name name_of (fact ∷ pages.old.facts)) }
+    ensures led { Led pages.old undos.old pages.new undos.new }
+    ensures told { OnOk result (PagesTold undos.old → PagesTold undos.new) }
+{
+    let undo = pages.add(alloc, fact, steps)?;
+    keep(pages, undos, undo)
+}
+
+/// Takes an artifact in that is new in a set. `Memory` is the only error.
+pub(crate) fn add<L: Ledger>(
+    alloc: Global,
+    pages: &mut Pages,
+    undos: &mut List<Undo>,
+    items: &Items,
+    item: &Held,
+    steps: &mut Steps<L>,
+) -> Result<(), Memory>
+    requires new { IsIn items.now item.now }
+    requires facts { pages.old.facts ≡ pages_facts (without item.now.name items.now) }
+    ensures facts { OnOk result (pages.new.facts ≡ pages_facts items.now) }
+    ensures led { Led pages.old undos.old pages.new undos.new }
+    ensures told { OnOk result (PagesTold undos.old → PagesTold undos.new) }
+{
+    match fact_of(alloc, item)? {
+        Some(fact) => put(alloc, pages, undos, fact, steps),
+        None => Ok(()),
+    }
+}
