@@ -4,5 +4,6 @@ pub mod Connections
 pub mod Dials
 pub mod Lines
 pub mod Memory
+pub mod Sockets
 pub mod Streams
 pub mod Whole

@@ -5,19 +5,26 @@
 
 mod dial;
 mod door;
+mod gate;
 mod lines;
 mod link;
 mod memory;
 mod memory_link;
 mod outside;
 mod std_forms;
+mod tcp_dial;
+mod tcp_door;
+mod timed;
 mod whole;
 
 pub use dial::MemoryDial;
 pub use door::MemoryDoor;
+pub use gate::{Gate, NoGate, Point};
 pub use link::{Accepted, Dial, Door, Link};
 pub use memory::{MemorySink, MemorySource};
 pub use memory_link::MemoryLink;
 pub use outside::{Failed, Sink, Source};
 pub use std_forms::{StdSink, StdSource};
+pub use tcp_dial::TcpDial;
+pub use tcp_door::TcpDoor;
 pub use whole::{ReadFault, read_whole, write_whole};

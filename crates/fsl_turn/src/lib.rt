@@ -1,0 +1,15 @@
+//! Turns on a machine that several threads share.
+//!
+//! A [`Machine`] makes one step for each event, by a relation that it names. [`Turns`] lets several users step one machine, each
+//! through a pass of its own: [`Locked`] puts the machine under a lock, [`Solo`] has one user alone, whose pass tells its calls.
+#![tactic(auto)]
+
+mod locked;
+mod machine;
+mod solo;
+mod turns;
+
+pub use locked::{Locked, LockedPass, Origin};
+pub use machine::{Machine, step_uncounted};
+pub use solo::{Solo, SoloPass};
+pub use turns::Turns;

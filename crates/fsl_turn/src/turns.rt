@@ -1,0 +1,28 @@
+//! Users that step one machine in turns.
+ghost use Rattle.std.specs.Prelude.{◌≡◌, List, [], ◌∷◌, Option};
+ghost use Rattle.fsl_turn.specs.Told.{Tells};
+
+use crate::machine::Machine;
+use std::sync::Wait;
+
+/// A way to let several users step one machine in turns.
+pub trait Turns<M: Machine> {
+    /// What a user steps the machine through.
+    type Pass;
+
+    /// The calls of a pass, in their order. None where the pass doesn't tell them.
+    ghost calls: { Self.Pass → Option (List (M.Event × M.Answer)) };
+
+    /// The second is the first after any number of turns.
+    ghost grows: { Self.Pass → Self.Pass → Type 0 };
+
+    /// Makes the step of an event, between two states of the machine, while no other user makes one. It may wait.
+    fn turn<R: Wait>(&self, rt: &R, pass: &mut Self::Pass, event: &M::Event) -> M::Answer
+        ensures step { (a : M) × (b : M) × M.may_step a event.now result b }
+        ensures told { Tells (calls pass.old) (calls pass.new) (λ made. made ≡ (event.now, result) ∷ []) }
+        ensures grown { grows pass.old pass.new };
+
+    ghost grows_self: { (p : Self.Pass) → grows p p };
+
+    ghost grows_through: { (p q r : Self.Pass) → grows p q → grows q r → grows p r };
+}
