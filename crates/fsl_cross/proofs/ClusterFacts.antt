@@ -2,6 +2,7 @@
 use Rattle.std.proofs.Common.{◌≡◌, ℕ, true, false, cond, List, [], ◌∷◌, Bool, Option, Some, None, map, refl, sym, ap, ◌∙◌, Result}
 use Rattle.std.specs.Prelude.{IfSome, is_some, option_and_then, filter_map, OnOk}
 use Rattle.std.specs.Str.{bytes_eq}
+use Rattle.std.specs.Cmp.Lexicographic.{bytes_decides}
 use Rattle.fsl_order.specs.Names.{has}
 use Rattle.fsl_order.specs.Rows.{by_name, named}
 use Rattle.fsl_order.proofs.RowLemmas.{is_some-named}
@@ -56,6 +57,11 @@ module _ (items : List Item) (rise : Rise items) (x : Item) (at : named item_nam
   clusters-there before f is of =
       (λ i. has (map fact_name ((is ∙ as-hidden items) i)) (of i).name) ∙ sym (is_some-named fact_name (filter_map hidden items) x.name)
       ∙ ap is_some (named-given item_name fact_name hidden hidden-own items rise x.name ∙ ap (option_and_then hidden) at)
+
+  pub clusters-hidden : (before : List Fact) (f : Fact) → before ≡ cluster_facts (map (private_at x.name true) items) → f ≡ cluster_fact x → named (λ f. f.name) before f.name ≡ Some (record f { private = true })
+  clusters-hidden before f is of =
+      (λ i. named fact_name ((is ∙ as-hidden items) i) (of i).name) ∙ named-given item_name fact_name hidden hidden-own items rise x.name ∙ ap (option_and_then hidden) at
+      ∙ ap (λ b. Some (cluster_fact (cond b (record x { private = true }) x))) ((bytes_decides x.name x.name).1 refl) ∙ ap (λ (g : Fact). Some (record g { private = true })) (sym of)
 
   pub clusters-published : {X E : Type 0} (r : Result X E) (before after : List Fact) (f : Fact) → before ≡ cluster_facts (map (private_at x.name true) items) → f ≡ cluster_fact x
       → OnOk r (after ≡ by_name (λ f. f.name) (f ∷ before)) → OnOk r (after ≡ cluster_facts items)

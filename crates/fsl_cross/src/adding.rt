@@ -1,5 +1,5 @@
 //! One artifact more in all tables.
-ghost use Rattle.std.specs.Prelude.{◌≡◌, true, false, All, Some, map, option_map, OnOk};
+ghost use Rattle.std.specs.Prelude.{◌≡◌, ◌≤◌, ◌+◌, true, false, All, Some, map, option_map, OnOk};
 ghost use Rattle.std.specs.List.Sorted.{IsStrictlySortedBy};
 ghost use Rattle.fsl_order.specs.Names.{bytes_cmp};
 ghost use Rattle.fsl_order.specs.Rows.{named};
@@ -112,6 +112,7 @@ pub(crate) fn publish_named<L: Ledger>(
     requires tables { AreTablesOf derived.old.contents.tickets.fields (map (private_at name true) items.now) derived.old }
     ensures tables { OnOk result (AreTablesOf derived.old.contents.tickets.fields items.now derived.new) }
     ensures led { AllLed derived.old undos.old derived.new undos.new }
+    ensures cost { steps.new ≤ steps.old + 6 }
 {
     match items.get(name) {
         Some(item) => clusters::publish(

@@ -1,5 +1,5 @@
 //! All tables of a set of artifacts.
-ghost use Rattle.std.specs.Prelude.{◌≡◌, [], true, false, All, Some, IfOk, OnOk, OnErr, map, option_map};
+ghost use Rattle.std.specs.Prelude.{◌≡◌, ◌≤◌, ◌+◌, [], true, false, All, Some, IfOk, OnOk, OnErr, map, option_map};
 ghost use Rattle.fsl_order.specs.Rows.{AreDistinct, named};
 ghost use Rattle.fsl_cross.specs.Checkins as checkins;
 ghost use Rattle.fsl_cross.specs.Tables.{IsItem, IsAsBefore, item_set, tables, with_item, published, without};
@@ -132,7 +132,8 @@ impl Tables {
         }
     }
 
-    /// Makes an artifact public, which is there and private. `Memory` is the only error, and the tables then hold what they held.
+    /// Makes an artifact public, which is there and private. It takes at most 16 touches. `Memory` is the only error, and the tables then
+    /// hold what they held.
     pub fn publish<L: Ledger>(
         &mut self,
         alloc: Global,
@@ -145,6 +146,7 @@ impl Tables {
         ensures before { IfOk result (λ back. back.before ≡ self.old) }
         ensures after { IfOk result (λ back. back.after ≡ self.new) }
         ensures err { OnErr result (IsAsBefore self.old self.new) }
+        ensures cost { steps.new ≤ steps.old + 16 }
     {
         let before = Snapshot::of(&*self);
         self.items.set_private(name, false);

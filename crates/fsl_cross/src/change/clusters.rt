@@ -1,7 +1,8 @@
 //! One artifact more in the table of clusters, and an artifact that becomes public.
-ghost use Rattle.std.specs.Prelude.{◌≡◌, ◌∷◌, true, false, map, OnOk};
+ghost use Rattle.std.specs.Prelude.{◌≡◌, ◌≤◌, ◌+◌, ◌*◌, ◌∷◌, length, true, false, Some, map, OnOk};
 ghost use Rattle.fsl_order.specs.Names.{has};
-ghost use Rattle.fsl_order.specs.Rows.{by_name};
+ghost use Rattle.fsl_order.specs.Rows.{by_name, named};
+ghost use Rattle.fsl_artifact.specs.References.{members, references};
 ghost use Rattle.fsl_cross.specs.Marks.{private_at};
 ghost use Rattle.fsl_cross.specs.Mixed.{IsIn};
 ghost use Rattle.fsl_cross.specs.Tables.{cluster_facts, without};
@@ -27,6 +28,7 @@ fn put<L: Ledger>(
     requires { has (map (λ f. f.name) clusters.old.facts) fact.name ≡ false }
     ensures facts { OnOk result (clusters.new.facts ≡ by_name (λ f. f.name) (fact ∷ clusters.old.facts)) }
     ensures led { Led clusters.old undos.old clusters.new undos.new }
+    ensures cost { steps.new ≤ steps.old + 6 * (1 + length fact.members + length fact.refs) }
 {
     let undo = clusters.add(alloc, fact, steps)?;
     keep(clusters, undos, undo)
@@ -43,6 +45,7 @@ fn change<L: Ledger>(
     requires { has (map (λ f. f.name) clusters.old.facts) fact.name ≡ true }
     ensures facts { OnOk result (clusters.new.facts ≡ by_name (λ f. f.name) (fact ∷ clusters.old.facts)) }
     ensures led { Led clusters.old undos.old clusters.new undos.new }
+    ensures cost { named (λ f. f.name) clusters.old.facts fact.name ≡ Some (record fact { private = true }) → fact.private ≡ false → steps.new ≤ steps.old + 6 }
 {
     let undo = clusters.change(alloc, fact, steps)?;
     keep(clusters, undos, undo)
@@ -61,6 +64,7 @@ pub(crate) fn add<L: Ledger>(
     requires facts { clusters.old.facts ≡ cluster_facts (without item.now.name items.now) }
     ensures facts { OnOk result (clusters.new.facts ≡ cluster_facts items.now) }
     ensures led { Led clusters.old undos.old clusters.new undos.new }
+    ensures cost { steps.new ≤ steps.old + 6 * (1 + length (members item.now.artifact) + length (references item.now.artifact)) }
 {
     let fact = fact_of(alloc, item)?;
     put(alloc, clusters, undos, fact, steps)
@@ -80,6 +84,7 @@ pub(crate) fn publish<L: Ledger>(
     requires facts { clusters.old.facts ≡ cluster_facts (map (private_at item.now.name true) items.now) }
     ensures facts { OnOk result (clusters.new.facts ≡ cluster_facts items.now) }
     ensures led { Led clusters.old undos.old clusters.new undos.new }
+    ensures cost { steps.new ≤ steps.old + 6 }
 {
     let fact = fact_of(alloc, item)?;
     change(alloc, clusters, undos, fact, steps)
