@@ -181,8 +181,7 @@ pub(crate) fn tables_of<L: Ledger>(
     let members = gather::members(alloc, facts)?;
     let unclustered = gather::public_without(alloc, facts, &members)?;
     enter_all(&mut tables.unclustered, unclustered.items(), steps)?;
-    let held = gather::held(alloc, facts)?;
-    let missing = gather::refs_without(alloc, facts, &held)?;
+    let missing = gather::refs_unheld(alloc, facts, &tables.facts, steps)?;
     enter_all(&mut tables.missing, missing.items(), steps)?;
     Ok(tables)
 }
