@@ -94,24 +94,23 @@ free_names facts members free in_clusters made =
     made ∙ ap (λ fs. ascending (names fs)) (filter_agree (λ f. not f.private && not (has members f.name)) (is_free facts)
     (λ f. ap (λ b. not f.private && not b) (ap (λ set. has set f.name) in_clusters ∙ has-ascending (flat_map (λ g. g.members) facts) f.name)) facts)
 
-absent_names : (facts : List Fact) (held absent : List (List ℕ)) → held ≡ ascending (names facts)
-    → absent ≡ ascending (filter (λ name. not (has held name)) (flat_map (λ f. f.refs) facts)) → absent ≡ missing facts
+absent_names : (facts : List Fact) (held : List ℕ → Bool) (absent : List (List ℕ)) → ((q : List ℕ) → held q ≡ has (names facts) q)
+    → absent ≡ ascending (filter (λ name. not (held name)) (flat_map (λ f. f.refs) facts)) → absent ≡ missing facts
 absent_names facts held absent is_held made =
-    made ∙ ap ascending (filter_agree (λ name. not (has held name)) (λ name. not (has (names facts) name))
-    (λ name. ap not (ap (λ set. has set name) is_held ∙ has-ascending (names facts) name)) (flat_map (λ f. f.refs) facts))
+    made ∙ ap ascending (filter_agree (λ name. not (held name)) (λ name. not (has (names facts) name)) (λ name. ap not (is_held name)) (flat_map (λ f. f.refs) facts))
 
 -- the answers, which are the same over the facts by name
 pub record AreAnswers (facts : List Fact) (free absent : List (List ℕ)) : Type 0 where
   pub unclustered : free ≡ unclustered (by_name named facts)
   pub missing : absent ≡ missing (by_name named facts)
 
-pub answers : (facts seen : List Fact) (members held free absent : List (List ℕ)) → AreDistinct (map named facts) → seen ≡ facts
-    → members ≡ ascending (flat_map (λ f. f.members) facts) → held ≡ ascending (names facts)
+pub answers : (facts seen : List Fact) (members : List (List ℕ)) (held : List ℕ → Bool) (free absent : List (List ℕ)) → AreDistinct (map named facts) → seen ≡ facts
+    → members ≡ ascending (flat_map (λ f. f.members) facts) → ((q : List ℕ) → held q ≡ has (names (by_name named facts)) q)
     → free ≡ ascending (names (filter (λ f. not f.private && not (has members f.name)) facts))
-    → absent ≡ ascending (filter (λ name. not (has held name)) (flat_map (λ f. f.refs) facts)) → AreAnswers seen free absent
+    → absent ≡ ascending (filter (λ name. not (held name)) (flat_map (λ f. f.refs) facts)) → AreAnswers seen free absent
 answers facts seen members held free absent distinct same in_clusters is_held first second = record {
   unclustered = free_names facts members free in_clusters first ∙ unclustered-by_name facts distinct ∙ ap (λ fs. unclustered (table fs)) (sym same);
-  missing = absent_names facts held absent is_held second ∙ missing-by_name facts distinct ∙ ap (λ fs. missing (table fs)) (sym same);
+  missing = absent_names facts held absent (λ q. is_held q ∙ sym (moved_names facts distinct q)) second ∙ missing-by_name facts distinct ∙ ap (λ fs. missing (table fs)) (sym same);
 }
 
 -- ---- one element more in a loop

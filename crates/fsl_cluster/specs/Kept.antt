@@ -5,6 +5,7 @@ use Rattle.std.specs.Str.{bytes_eq}
 use Rattle.std.specs.Cmp.Lexicographic.{pointwise}
 use Rattle.std.specs.List.Sorted.{IsStrictlySortedBy}
 use Rattle.std.specs.Map.{keys_of}
+use Rattle.std.specs.Borrow.{Bor}
 use Rattle.fsl_order.specs.Names.{bytes_cmp, has}
 use Rattle.fsl_order.specs.Held.{Held, IsAsBefore}
 use Rattle.fsl_table.specs.Exact.{pair_cmp}
@@ -29,6 +30,10 @@ facts_of es = map fact_of es
 
 abbrev pub entry_of : Fact → Entry
 entry_of f = record { private = f.private; members = f.members; refs = f.refs }
+
+-- the facts that are lent
+abbrev pub lent : List (Bor Fact) → List Fact
+lent refs = map (λ r. r.now) refs
 
 abbrev pub held_of : Tables → Held Fact
 held_of t = record { facts = facts_of t.facts.entries; spare = t.facts.spare ∷ t.members.spare ∷ t.refs.spare ∷ t.unclustered.spare ∷ t.missing.spare ∷ [] }

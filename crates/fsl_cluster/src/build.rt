@@ -5,7 +5,7 @@ ghost use Rattle.std.specs.Map.{keys_of};
 ghost use Rattle.fsl_order.specs.Names.{bytes_cmp, has};
 ghost use Rattle.fsl_order.specs.Rows.{by_name, AreDistinct};
 ghost use Rattle.fsl_table.specs.Contents.{value_at, with_entry};
-ghost use Rattle.fsl_cluster.specs.Kept.{AreLaid, IsKept, entry_of, facts_of, is_in};
+ghost use Rattle.fsl_cluster.specs.Kept.{AreLaid, IsKept, entry_of, facts_of, is_in, lent};
 
 use crate::entry::Entry;
 use crate::tables::Tables;
@@ -36,23 +36,24 @@ fn copied(alloc: Global, fact: &Fact) -> Result<Fact, Memory>
     })
 }
 
-/// Copies of some facts.
-fn copies(alloc: Global, facts: &[Fact]) -> Result<Vec<Fact>, Memory>
-    ensures { IfOk result (λ list. list.items ≡ facts.now) }
+/// Some facts, lent one by one.
+fn each(alloc: Global, facts: &[Fact]) -> Result<Vec<&Fact>, Memory>
+    ensures { IfOk result (λ list. lent list.items ≡ facts.now) }
 {
-    let mut list = Vec::new(alloc);
+    let mut list = Vec::with_capacity(alloc, facts.len())?;
     for fact in facts {
-        list.push(copied(alloc, fact)?)?;
+        list.push(fact)?;
     }
     Ok(list)
 }
 
-/// The facts in the order of their names, in which they are put into a map the fastest.
-fn in_name_order(mut facts: Vec<Fact>) -> Vec<Fact>
-    ensures { IsPermutation facts.items result.items }
+/// Some facts in the order of their names, in which they are put into a map the fastest.
+fn in_name_order(alloc: Global, facts: &[Fact]) -> Result<Vec<&Fact>, Memory>
+    ensures { IfOk result (λ ordered. IsPermutation facts.now (lent ordered.items)) }
 {
-    facts.sort_unstable_by_key(|fact| fact.name);
-    facts
+    let mut ordered = each(alloc, facts)?;
+    ordered.sort_unstable_by_key(|fact| fact.name);
+    Ok(ordered)
 }
 
 /// Puts a new fact and its pairs in.
@@ -100,14 +101,14 @@ fn lay<L: Ledger>(
     }
 }
 
-/// The maps of the facts and of the pairs, beside empty sets. The facts are moved.
+/// The maps of the facts and of the pairs, beside empty sets. The facts are copied.
 fn lay_all<L: Ledger>(
     alloc: Global,
-    facts: Vec<Fact>,
+    facts: Vec<&Fact>,
     steps: &mut Steps<L>,
 ) -> Result<Tables, Memory>
-    requires { AreDistinct (map (λ f. f.name) facts.items) }
-    ensures facts { IfOk result (λ t. facts_of t.facts.entries ≡ by_name (λ f. f.name) facts.items) }
+    requires { AreDistinct (map (λ f. f.name) (lent facts.items)) }
+    ensures facts { IfOk result (λ t. facts_of t.facts.entries ≡ by_name (λ f. f.name) (lent facts.entry.items)) }
     ensures laid { IfOk result AreLaid }
     ensures unclustered { IfOk result (λ t. t.unclustered.entries ≡ []) }
     ensures missing { IfOk result (λ t. t.missing.entries ≡ []) }
@@ -115,13 +116,14 @@ fn lay_all<L: Ledger>(
     let mut tables = Tables::new(alloc);
     let mut left = facts;
     while let Some(fact) = left.pop() {
-        lay(alloc, &mut tables, fact, steps)?;
+        let copy = copied(alloc, fact)?;
+        lay(alloc, &mut tables, copy, steps)?;
     }
     Ok(tables)
 }
 
-/// The same of facts that are copied, and put in in the order of their names.
-fn lay_copies<L: Ledger>(
+/// The same, put in in the order of their names.
+fn lay_in_order<L: Ledger>(
     alloc: Global,
     facts: &[Fact],
     steps: &mut Steps<L>,
@@ -132,7 +134,7 @@ fn lay_copies<L: Ledger>(
     ensures unclustered { IfOk result (λ t. t.unclustered.entries ≡ []) }
     ensures missing { IfOk result (λ t. t.missing.entries ≡ []) }
 {
-    let ordered = in_name_order(copies(alloc, facts)?);
+    let ordered = in_name_order(alloc, facts)?;
     lay_all(alloc, ordered, steps)
 }
 
@@ -177,12 +179,11 @@ pub(crate) fn tables_of<L: Ledger>(
     ensures facts { IfOk result (λ t. facts_of t.facts.entries ≡ by_name (λ f. f.name) facts.now) }
     ensures kept { IfOk result IsKept }
 {
-    let mut tables = lay_copies(alloc, facts, steps)?;
+    let mut tables = lay_in_order(alloc, facts, steps)?;
     let members = gather::members(alloc, facts)?;
     let unclustered = gather::public_without(alloc, facts, &members)?;
     enter_all(&mut tables.unclustered, unclustered.items(), steps)?;
-    let held = gather::held(alloc, facts)?;
-    let missing = gather::refs_without(alloc, facts, &held)?;
+    let missing = gather::refs_unheld(alloc, facts, &tables.facts, steps)?;
     enter_all(&mut tables.missing, missing.items(), steps)?;
     Ok(tables)
 }

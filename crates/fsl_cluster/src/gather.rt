@@ -1,30 +1,20 @@
 //! The names that facts have.
-ghost use Rattle.std.specs.Prelude.{◌≡◌, ◌++◌, ◌&&◌, IfOk, OnOk, map, filter, not};
+ghost use Rattle.std.specs.Prelude.{◌≡◌, ◌++◌, ◌&&◌, IfOk, OnOk, map, filter, not, is_some};
 ghost use Rattle.std.specs.List.{flat_map};
-ghost use Rattle.fsl_order.specs.Names.{has};
+ghost use Rattle.fsl_order.specs.Names.{bytes_cmp, has};
 ghost use Rattle.fsl_order.specs.Rows.{ascending};
+ghost use Rattle.fsl_table.specs.Contents.{value_at};
 ghost use Rattle.fsl_cluster.specs.Clusters.{names};
 
 use super::Fact;
+use super::entry::Entry;
 use super::name_set::NameSet;
+use super::sets::is_there;
 use fsl_name::Name;
-use fsl_text::Memory;
+use fsl_table::Table;
+use fsl_text::{Memory, Steps};
 use std::alloc::{AllocError, Global};
-
-/// The names of facts.
-fn names_of(alloc: Global, facts: &[Fact]) -> Result<Vec<Name>, AllocError>
-    ensures { IfOk result (λ found. found.items ≡ map (λ f. f.name) facts.now) }
-{
-    facts.iter().map(|fact| fact.name).collect(alloc)
-}
-
-/// The names of the facts.
-pub fn held(alloc: Global, facts: &[Fact]) -> Result<NameSet, Memory>
-    ensures { IfOk result (λ set. set ≡ ascending (names facts.now)) }
-{
-    let names = names_of(alloc, facts)?;
-    Ok(NameSet::of(names))
-}
+use std::sync::ledger::Ledger;
 
 /// The members of the clusters among the facts.
 pub fn members(alloc: Global, facts: &[Fact]) -> Result<NameSet, Memory>
@@ -56,25 +46,35 @@ pub fn public_without(alloc: Global, facts: &[Fact], members: &NameSet) -> Resul
     Ok(NameSet::of(names))
 }
 
-/// Puts those of some names at the end that aren't in a set.
-fn append_without(names: &mut Vec<Name>, more: &[Name], held: &NameSet) -> Result<(), Memory>
-    ensures { OnOk result (names.new.items ≡ names.old.items ++ filter (λ name. not (has held.now name)) more.now) }
+/// Puts those of some names at the end that aren't held.
+fn append_unheld<L: Ledger>(
+    names: &mut Vec<Name>,
+    more: &[Name],
+    held: &Table<Name, Entry>,
+    steps: &mut Steps<L>,
+) -> Result<(), Memory>
+    ensures { OnOk result (names.new.items ≡ names.old.items ++ filter (λ name. not (is_some (value_at bytes_cmp name held.now.entries))) more.now) }
 {
     for name in more {
-        if !held.contains(name) {
+        if !is_there(held, name, steps) {
             names.push(*name)?;
         }
     }
     Ok(())
 }
 
-/// The names that the facts refer to and that aren't in a set.
-pub fn refs_without(alloc: Global, facts: &[Fact], held: &NameSet) -> Result<NameSet, Memory>
-    ensures { IfOk result (λ set. set ≡ ascending (filter (λ name. not (has held.now name)) (flat_map (λ f. f.refs) facts.now))) }
+/// The names that the facts refer to and that aren't held.
+pub fn refs_unheld<L: Ledger>(
+    alloc: Global,
+    facts: &[Fact],
+    held: &Table<Name, Entry>,
+    steps: &mut Steps<L>,
+) -> Result<NameSet, Memory>
+    ensures { IfOk result (λ set. set ≡ ascending (filter (λ name. not (is_some (value_at bytes_cmp name held.now.entries))) (flat_map (λ f. f.refs) facts.now))) }
 {
     let mut names = Vec::new(alloc);
     for fact in facts {
-        append_without(&mut names, fact.refs.items(), held)?;
+        append_unheld(&mut names, fact.refs.items(), held, steps)?;
     }
     Ok(NameSet::of(names))
 }

@@ -19,7 +19,11 @@ use std::collections::BTreeSet;
 use std::sync::ledger::Ledger;
 
 /// Whether a fact is there.
-fn is_there<L: Ledger>(facts: &Table<Name, Entry>, name: &Name, steps: &mut Steps<L>) -> bool
+pub(crate) fn is_there<L: Ledger>(
+    facts: &Table<Name, Entry>,
+    name: &Name,
+    steps: &mut Steps<L>,
+) -> bool
     ensures there { result ≡ is_some (value_at bytes_cmp name.now facts.now.entries) }
     ensures cost { steps.new ≡ steps.old + 1 }
 {

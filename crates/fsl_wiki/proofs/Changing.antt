@@ -125,10 +125,6 @@ group_stays k e g own (x ∷ xs) h =
       | Greater ↦ λ h. ap (λ l. cond (is_eq (group_cmp g (group_of (fact_of x)))) (fact_of x ∷ l) l) (group_stays k e g own xs h)
     ] h
 
--- a version of something in which one is current, and another fact
-abbrev IsRaced : Entry → Type 0
-IsRaced x = race_in x ≡ Some (before_all (group_in x))
-
 not_in : (x y : Entry) → is_page x ≡ false → is_race (race_in y) (group_in x) ≡ false → in_group (group_in x) (Some y) ≡ false
 not_in (entry.Page x) y raced h = absurd (true≢false raced)
 not_in (entry.Note x) (entry.Page y) raced h = refl
@@ -225,9 +221,6 @@ module _ (es : Lines) (sorted : IsStrictlySortedBy bytes_cmp (keys_of es)) (k : 
         ∙ flips (is_race new (group_in x)) (is_race old (group_in x)) (leads es q j) (leads after q j) (stays x raced)
         ∙ row_told x (leads es q j) (leads after q j) raced
         ∙ (λ i. not (same_row (row_in x (leads es q (sym (race_told x raced) i))) (row_in x (leads after q (sym (race_told x raced) i)))))
-
-    none_apart : (s : Option Spot) (t : Spot) → s ≡ Some t → value_at bytes_cmp q es ≡ None → in_group t.first (value_at bytes_cmp q es) ≡ false
-    none_apart s t is none = ap (in_group t.first) none
 
     with_none : value_at bytes_cmp q es ≡ None → told None
     with_none none =

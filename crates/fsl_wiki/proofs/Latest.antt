@@ -50,10 +50,6 @@ module _ {Y : Type 0} (place : Y → ℕ × List ℕ) (name : Y → List ℕ) (o
   first_item [] = refl
   first_item (e ∷ es) = refl
 
-  abbrev its_entry : Option Y → Option ((ℕ × List ℕ) × Y)
-  its_entry None = None
-  its_entry (Some y) = Some (place y, y)
-
   pub first_in_order : (ys : List Y) → AreDistinct (map name ys) → first_of (in_order late_cmp place ys) ≡ greatest (on place dated_cmp) ys
   first_in_order ys d =
       first_item (keyed late_cmp place ys) ∙ ap (option_map (λ e. e.1)) (first_greatest dated_cmp dated_cmp-IsTotalOrder place ys (all_apart ys d)) ∙ by (greatest (on place dated_cmp) ys)

@@ -27,6 +27,7 @@ use Rattle.fsl_wiki.specs.Groups.{group_cmp, page_group, note_group, file_group}
 use Rattle.fsl_wiki.specs.Pages.{name_of, as_page, as_note, as_attached, current_note, current, pages_row}
 use Rattle.fsl_wiki.specs.Kept.{Lines, fact_of, fact_at, facts_of, group_of, place_of, latest, is_called, leads, row_by}
 use Rattle.fsl_wiki.proofs.Canonical.{own}
+use Rattle.fsl_wiki.proofs.Moved.{note_name, attached_name}
 
 -- ---- those that a fact of one name gives
 
@@ -181,16 +182,6 @@ page_name (fact.Page q) p e = let same : q ≡ p = cc in ap (λ p. p.name) (sym 
 page_name (fact.Note n) p e = cc
 page_name (fact.Attached a) p e = cc
 
-note_name : (f : Fact) (n : Note) → as_note f ≡ Some n → n.name ≡ name_of f
-note_name (fact.Page p) n e = cc
-note_name (fact.Note m) n e = let same : m ≡ n = cc in ap (λ n. n.name) (sym same)
-note_name (fact.Attached a) n e = cc
-
-file_name : (f : Fact) (a : Attached) → as_attached f ≡ Some a → a.name ≡ name_of f
-file_name (fact.Page p) a e = cc
-file_name (fact.Note n) a e = cc
-file_name (fact.Attached b) a e = let same : b ≡ a = cc in ap (λ a. a.name) (sym same)
-
 module _ (es : Lines) (q : List ℕ) (sorted : IsStrictlySortedBy bytes_cmp (keys_of es)) where
   abbrev facts : List Fact
   facts = facts_of es
@@ -228,7 +219,7 @@ module _ (es : Lines) (q : List ℕ) (sorted : IsStrictlySortedBy bytes_cmp (key
 
   pub row_is : pages_row facts q ≡ triple (row_by (value_at bytes_cmp q es) (leads es q))
   row_is =
-      (λ i. (pages_part i, any_given as_note (λ n. n.name) note_name note_test es q sorted i, any_given as_attached (λ a. a.name) file_name file_test es q sorted i))
+      (λ i. (pages_part i, any_given as_note (λ n. n.name) note_name note_test es q sorted i, any_given as_attached (λ a. a.name) attached_name file_test es q sorted i))
       ∙ by (value_at bytes_cmp q es)
     where
       by : (o : Option Entry) → parts o ≡ triple (row_by o (leads es q))

@@ -1,6 +1,6 @@
 use Rattle.std.proofs.Common.{◌||◌, ◌&&◌, ◌∙◌, ap, is_some}
-use Rattle.fsl_order.specs.Names.{bytes_cmp, has}
-use Rattle.fsl_table.specs.Contents.{value_at, with_entry}
+use Rattle.fsl_order.specs.Names.{has}
+use Rattle.fsl_table.specs.Contents.{value_at}
 use Rattle.fsl_table.specs.Exact.{pair_cmp}
 use Rattle.fsl_table.specs.Pairs.{is_name}
 use Rattle.fsl_cluster.specs.declared.tables.Tables.{Tables}
