@@ -45,8 +45,11 @@ impl<R: Net + Clock> Peer<R> {
 
     /// A new connection to one address.
     fn connect_to(&self, address: SocketAddr) -> io::Result<Timed<R::Stream>> {
-        let stream =
-            TcpStream::connect_timeout(&self.rt, &address, Duration::from_secs(GRACE_SECONDS))?;
+        let stream = TcpStream::connect_timeout(
+            &self.rt,
+            &address,
+            Duration::from_secs(GRACE_SECONDS),
+        )?;
         Timed::begin(&self.rt, stream)
     }
 }
