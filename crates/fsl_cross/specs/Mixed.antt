@@ -56,6 +56,16 @@ is_child items n q = not (bytes_eq q n) && is_name (primary (links_facts items) 
 abbrev pub is_other_checkin : List Item → List ℕ → List ℕ → Bool
 is_other_checkin items n q = not (bytes_eq q n) && is_some (checkin items q)
 
+-- each of some names that has the name as its primary parent, or is that of another check-in, has its new fact
+abbrev pub TagsGo : List Item → List ℕ → List (List ℕ) → List tags.Fact → List tags.Fact → Type 0
+TagsGo items n names before now = GoesOn (tags_mixed items n) (pushed (is_child items n) names) before now
+
+abbrev pub LeavesGo : List Item → List ℕ → List (List ℕ) → List leaves.Fact → List leaves.Fact → Type 0
+LeavesGo items n names before now = GoesOn (leaves_mixed items n) (pushed (is_other_checkin items n) names) before now
+
+abbrev pub RowsGo : List Item → List ℕ → List (List ℕ) → List Row → List Row → Type 0
+RowsGo items n names before now = GoesOn (rows_mixed items n) (pushed (is_other_checkin items n) names) before now
+
 -- the names whose rows some changes changed
 abbrev pub all_changed : {F : Type 0} → List (Change F) → List (List ℕ)
 all_changed us = flat_map (λ u. u.changed) us

@@ -4,7 +4,7 @@ ghost use Rattle.fsl_order.specs.Names.{has};
 ghost use Rattle.fsl_order.specs.Rows.{by_name, named};
 ghost use Rattle.fsl_cross.specs.Checkins.{tags_facts};
 ghost use Rattle.fsl_cross.specs.Inside.{leaves_fact_over};
-ghost use Rattle.fsl_cross.specs.Mixed.{IsIn, IsMixture, GoesOn, IsTagsTrail, leaves_mixed, pushed, is_other_checkin, all_changed};
+ghost use Rattle.fsl_cross.specs.Mixed.{IsIn, LeavesGo, IsMixture, IsTagsTrail, leaves_mixed, all_changed};
 ghost use Rattle.fsl_cross.specs.Tables.{leaves_facts, without};
 ghost use Rattle.fsl_cross.specs.Trails.{Led};
 
@@ -98,7 +98,7 @@ fn retag<L: Ledger>(
     requires new { IsIn items.now item.now }
     requires tags { tags.now.facts ≡ tags_facts items.now }
     requires facts { IsMixture (leaves_mixed items.now item.now.name) leaves.old.facts }
-    ensures facts { OnOk result (GoesOn (leaves_mixed items.now item.now.name) (pushed (is_other_checkin items.now item.now.name) (name ∷ [])) leaves.old.facts leaves.new.facts) }
+    ensures facts { OnOk result (LeavesGo items.now item.now.name (name ∷ []) leaves.old.facts leaves.new.facts) }
     ensures led { Led leaves.old undos.old leaves.new undos.new }
 {
     if name == item.name() {
@@ -124,7 +124,7 @@ fn retag_each<L: Ledger>(
     requires new { IsIn items.now item.now }
     requires tags { tags.now.facts ≡ tags_facts items.now }
     requires facts { IsMixture (leaves_mixed items.now item.now.name) leaves.old.facts }
-    ensures facts { OnOk result (GoesOn (leaves_mixed items.now item.now.name) (pushed (is_other_checkin items.now item.now.name) names.now) leaves.old.facts leaves.new.facts) }
+    ensures facts { OnOk result (LeavesGo items.now item.now.name names.now leaves.old.facts leaves.new.facts) }
     ensures led { Led leaves.old undos.old leaves.new undos.new }
 {
     for name in names {
@@ -147,7 +147,7 @@ fn retag_changed<L: Ledger>(
     requires new { IsIn items.now item.now }
     requires tags { tags.now.facts ≡ tags_facts items.now }
     requires facts { IsMixture (leaves_mixed items.now item.now.name) leaves.old.facts }
-    ensures facts { OnOk result (GoesOn (leaves_mixed items.now item.now.name) (pushed (is_other_checkin items.now item.now.name) (all_changed changes.now)) leaves.old.facts leaves.new.facts) }
+    ensures facts { OnOk result (LeavesGo items.now item.now.name (all_changed changes.now) leaves.old.facts leaves.new.facts) }
     ensures led { Led leaves.old undos.old leaves.new undos.new }
 {
     for change in changes {

@@ -5,7 +5,7 @@ ghost use Rattle.fsl_order.specs.Rows.{by_name};
 ghost use Rattle.fsl_timeline.specs.Timeline.{retired};
 ghost use Rattle.fsl_cross.specs.Checkins.{tags_facts, checkin};
 ghost use Rattle.fsl_cross.specs.Inside.{checkin_row};
-ghost use Rattle.fsl_cross.specs.Mixed.{IsIn, IsMixture, GoesOn, IsTagsTrail, OtherRowsStay, rows_mixed, timeline_row, pushed, is_other_checkin, all_changed};
+ghost use Rattle.fsl_cross.specs.Mixed.{IsIn, RowsGo, IsMixture, IsTagsTrail, OtherRowsStay, rows_mixed, timeline_row, all_changed};
 ghost use Rattle.fsl_cross.specs.Tables.{timeline_rows, without};
 ghost use Rattle.fsl_cross.specs.Trails.{Led};
 
@@ -119,7 +119,7 @@ fn retag<L: Ledger>(
     requires new { IsIn items.now item.now }
     requires tags { tags.now.facts ≡ tags_facts items.now }
     requires facts { IsMixture (rows_mixed items.now item.now.name) timeline.old.facts }
-    ensures facts { OnOk result (GoesOn (rows_mixed items.now item.now.name) (pushed (is_other_checkin items.now item.now.name) (name ∷ [])) timeline.old.facts timeline.new.facts) }
+    ensures facts { OnOk result (RowsGo items.now item.now.name (name ∷ []) timeline.old.facts timeline.new.facts) }
     ensures led { Led timeline.old undos.old timeline.new undos.new }
 {
     if name == item.name() {
@@ -145,7 +145,7 @@ fn retag_each<L: Ledger>(
     requires new { IsIn items.now item.now }
     requires tags { tags.now.facts ≡ tags_facts items.now }
     requires facts { IsMixture (rows_mixed items.now item.now.name) timeline.old.facts }
-    ensures facts { OnOk result (GoesOn (rows_mixed items.now item.now.name) (pushed (is_other_checkin items.now item.now.name) names.now) timeline.old.facts timeline.new.facts) }
+    ensures facts { OnOk result (RowsGo items.now item.now.name names.now timeline.old.facts timeline.new.facts) }
     ensures led { Led timeline.old undos.old timeline.new undos.new }
 {
     for name in names {
@@ -168,7 +168,7 @@ pub(crate) fn retag_changed<L: Ledger>(
     requires new { IsIn items.now item.now }
     requires tags { tags.now.facts ≡ tags_facts items.now }
     requires facts { IsMixture (rows_mixed items.now item.now.name) timeline.old.facts }
-    ensures facts { OnOk result (GoesOn (rows_mixed items.now item.now.name) (pushed (is_other_checkin items.now item.now.name) (all_changed changes.now)) timeline.old.facts timeline.new.facts) }
+    ensures facts { OnOk result (RowsGo items.now item.now.name (all_changed changes.now) timeline.old.facts timeline.new.facts) }
     ensures led { Led timeline.old undos.old timeline.new undos.new }
 {
     for change in changes {

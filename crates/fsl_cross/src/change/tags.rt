@@ -10,7 +10,7 @@ ghost use Rattle.fsl_tags.specs.Conditions.{IsParentChange};
 ghost use Rattle.fsl_tags.specs.Tags.{IsTagFact};
 ghost use Rattle.fsl_cross.specs.Checkins.{links_facts, tags_facts};
 ghost use Rattle.fsl_cross.specs.Inside.{tags_fact_over};
-ghost use Rattle.fsl_cross.specs.Mixed.{IsIn, IsMixture, GoesOn, IsLinksTrail, tags_mixed, pushed, is_child, all_changed};
+ghost use Rattle.fsl_cross.specs.Mixed.{IsIn, TagsGo, IsMixture, IsLinksTrail, tags_mixed, all_changed};
 ghost use Rattle.fsl_cross.specs.Tables.{without};
 ghost use Rattle.fsl_cross.specs.Trails.{Led, TagsTold};
 
@@ -122,7 +122,7 @@ fn give_parent<L: Ledger>(
     requires new { IsIn items.now item.now }
     requires links { links.now.facts ≡ links_facts items.now }
     requires facts { IsMixture (tags_mixed items.now item.now.name) tags.old.facts }
-    ensures facts { OnOk result (GoesOn (tags_mixed items.now item.now.name) (pushed (is_child items.now item.now.name) (child ∷ [])) tags.old.facts tags.new.facts) }
+    ensures facts { OnOk result (TagsGo items.now item.now.name (child ∷ []) tags.old.facts tags.new.facts) }
     ensures led { Led tags.old undos.old tags.new undos.new }
     ensures told { OnOk result (TagsTold undos.old → TagsTold undos.new) }
 {
@@ -149,7 +149,7 @@ fn give_parents<L: Ledger>(
     requires new { IsIn items.now item.now }
     requires links { links.now.facts ≡ links_facts items.now }
     requires facts { IsMixture (tags_mixed items.now item.now.name) tags.old.facts }
-    ensures facts { OnOk result (GoesOn (tags_mixed items.now item.now.name) (pushed (is_child items.now item.now.name) children.now) tags.old.facts tags.new.facts) }
+    ensures facts { OnOk result (TagsGo items.now item.now.name children.now tags.old.facts tags.new.facts) }
     ensures led { Led tags.old undos.old tags.new undos.new }
     ensures told { OnOk result (TagsTold undos.old → TagsTold undos.new) }
 {
@@ -174,7 +174,7 @@ fn give_late<L: Ledger>(
     requires new { IsIn items.now item.now }
     requires links { links.now.facts ≡ links_facts items.now }
     requires facts { IsMixture (tags_mixed items.now item.now.name) tags.old.facts }
-    ensures facts { OnOk result (GoesOn (tags_mixed items.now item.now.name) (pushed (is_child items.now item.now.name) (all_changed changes.now)) tags.old.facts tags.new.facts) }
+    ensures facts { OnOk result (TagsGo items.now item.now.name (all_changed changes.now) tags.old.facts tags.new.facts) }
     ensures led { Led tags.old undos.old tags.new undos.new }
     ensures told { OnOk result (TagsTold undos.old → TagsTold undos.new) }
 {
