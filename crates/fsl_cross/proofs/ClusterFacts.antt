@@ -1,5 +1,5 @@
 -- The facts of clusters, one item more, and an item that becomes public.
-use Rattle.std.proofs.Common.{◌≡◌, ℕ, true, false, cond, List, [], ◌∷◌, Bool, Option, Some, None, map, refl, sym, ap, ◌∙◌, Result}
+use Rattle.std.proofs.Common.{◌≡◌, ℕ, true, false, cond, List, [], ◌∷◌, Option, Some, map, refl, sym, ap, ◌∙◌, Result}
 use Rattle.std.specs.Prelude.{IfSome, is_some, option_and_then, filter_map, OnOk}
 use Rattle.std.specs.Str.{bytes_eq}
 use Rattle.std.specs.Cmp.Lexicographic.{bytes_decides}

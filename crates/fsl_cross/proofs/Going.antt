@@ -1,6 +1,6 @@
 -- A mixture that goes on: a name more, a slice of names, and the names of several changes.
 use Rattle.std.proofs.Common.{◌≡◌, ℕ, ◌+◌, ◌<◌, true, false, cond, List, [], ◌∷◌, ◌++◌, length, take, get_or, Bool, refl, sym, ap, ◌∙◌, Result, Ok, Err}
-use Rattle.std.specs.Prelude.{OnOk, flat_map}
+use Rattle.std.specs.Prelude.{OnOk}
 use Rattle.std.proofs.lemmas.List.{take_more, append_assoc}
 use Rattle.fsl_order.specs.Held.{Change}
 use Rattle.fsl_cross.specs.Mixed.{pushed, IsMixture, GoesOn, all_changed}

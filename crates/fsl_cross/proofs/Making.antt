@@ -1,7 +1,7 @@
 -- What is kept of a change of all tables, and what stands where memory was wanting.
 use Rattle.std.proofs.Common.{◌≡◌, ℕ, ◌≤◌, List, [], refl, sym, ◌∙◌, subst, arith}
 use Rattle.std.specs.Prelude.{filter_map, Result, Ok, Err, OnErr}
-use Rattle.fsl_order.specs.Held.{Held, Change, IsAsBefore}
+use Rattle.fsl_order.specs.Held.{Held, Change}
 use Rattle.fsl_table.specs.Exact.{pair_cmp}
 use Rattle.fsl_table.specs.Undo.{Undoes, undone}
 use Rattle.fsl_table.proofs.Steps.{undoes-none}
@@ -18,7 +18,7 @@ use Rattle.fsl_cross.specs.Built.{AreTablesOf}
 use Rattle.fsl_cross.specs.Checkins.{links_facts, tags_facts}
 use Rattle.fsl_cross.specs.Fresh.{AreNone}
 use Rattle.fsl_cross.specs.Tables.{Seen, leaves_facts, files_facts, pages_facts, ticket_facts, forum_facts, cluster_facts, timeline_rows}
-use Rattle.fsl_cross.specs.Trails.{Leads, Led, TicketsLead, TicketsLed, Logged}
+use Rattle.fsl_cross.specs.Trails.{Leads, Led, TicketsLead, TicketsLed}
 use Rattle.fsl_cross.proofs.Paired.{takes_back}
 use Rattle.fsl_cross.proofs.Seeing.{seen_of, whole-seen}
 use Rattle.fsl_cross.proofs.Trailing.{leads-later, tickets-later}

@@ -1,5 +1,5 @@
 -- One item taken out of an ordered map, and one that is made private or public.
-use Rattle.std.proofs.Common.{◌≡◌, ℕ, true, false, cond, List, [], ◌∷◌, Bool, Option, Some, None, map, refl, sym, ap, ◌∙◌, subst}
+use Rattle.std.proofs.Common.{◌≡◌, ℕ, true, false, cond, List, [], ◌∷◌, Bool, Some, None, map, refl, sym, ap, ◌∙◌, subst}
 use Rattle.std.specs.Prelude.{filter, not}
 use Rattle.std.specs.List.{AllByRecursion}
 use Rattle.std.specs.List.Sorted.{IsStrictlySortedBy}
@@ -10,12 +10,11 @@ use Rattle.std.specs.BTreeMap.{is_at}
 use Rattle.std.specs.Str.{bytes_eq}
 use Rattle.std.specs.Cmp.Lexicographic.{texts_ties, nat_list_eq_equiv, bytes_decides}
 use Rattle.fsl_order.specs.Names.{bytes_cmp}
-use Rattle.fsl_order.specs.Rows.{named}
 use Rattle.fsl_order.proofs.Orders.{bytes_cmp-IsTotalOrder}
 use Rattle.fsl_rows.specs.Kept.{IsKept}
 use Rattle.fsl_rows.proofs.Keeping.{lookup-kept, names-kept}
 use Rattle.fsl_rows.proofs.Rising.{rising-filter}
-use Rattle.fsl_table.specs.Contents.{value_at, without_key}
+use Rattle.fsl_table.specs.Contents.{without_key}
 use Rattle.fsl_table.proofs.Entries.{sorted-remove_entry}
 use Rattle.fsl_table.proofs.Finding.{value-without}
 use Rattle.fsl_cross.specs.declared.Item.{Item}

@@ -1,15 +1,14 @@
 -- Pairs of ids and of what belongs to them, one item more.
-use Rattle.std.proofs.Common.{◌≡◌, ◌≤◌, ℕ, true, false, cond, not, ◌&&◌, length, List, [], ◌∷◌, Bool, Result, Ok, Err, Option, Some, None, refl, sym, ap, ◌∙◌, subst}
-use Rattle.std.specs.Prelude.{◌||◌, ◌==◌, filter_map, option_map, is_some}
+use Rattle.std.proofs.Common.{◌≡◌, ◌≤◌, ℕ, true, false, cond, not, ◌&&◌, length, List, [], ◌∷◌, Bool, Ok, Err, Option, Some, None, refl, sym, ap, ◌∙◌, subst}
+use Rattle.std.specs.Prelude.{◌||◌, ◌==◌, filter_map, option_map}
 use Rattle.std.specs.List.{list_any, list_all, cons_option, position_or_len}
-use Rattle.std.specs.Option.{option_map_or}
 use Rattle.std.specs.List.Sorted.{IsStrictlySortedBy}
 use Rattle.fsl_name.specs.Name.{name_in, name_read, is_name_digit, bytes_of_digits}
 use Rattle.fsl_name.specs.declared.NameFault.{NameFault}
 use Rattle.fsl_name.specs.declared.NameFault.TheVariants.{Length, Digit}
 use Rattle.fsl_table.specs.Contents.{Contents, value_at}
 use Rattle.fsl_table.specs.Exact.{pair_cmp, exact_pair}
-use Rattle.fsl_table.specs.Undo.{IsAsGood, Undoes, undone}
+use Rattle.fsl_table.specs.Undo.{Undoes}
 use Rattle.fsl_table.specs.declared.key.Pair.{Pair}
 use Rattle.fsl_table.specs.declared.step.Step.{Step}
 use Rattle.fsl_table.proofs.Finding.{same_found, same_units}

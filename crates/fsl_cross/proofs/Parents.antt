@@ -24,10 +24,10 @@ use Rattle.fsl_cross.specs.Checkins.{links_facts, tags_fact, tags_facts, checkin
 use Rattle.fsl_cross.specs.Tables.{without}
 use Rattle.fsl_cross.specs.Mixed.{mixed, tags_mixed, IsMixture, GoesOn, pushed, is_child, all_changed}
 use Rattle.fsl_cross.specs.Trails.{Leads, LinksTold}
-use Rattle.fsl_cross.proofs.Mapped.{named-has, named-given, by_name-given}
+use Rattle.fsl_cross.proofs.Mapped.{named-given, by_name-given}
 use Rattle.fsl_cross.proofs.Moved.{item_name}
 use Rattle.fsl_cross.proofs.FactLemmas.{Rise, links_own, tags_own, fact-fit}
-use Rattle.fsl_cross.proofs.Sets.{set_at, given-same, mixed-own, mixed-at, mixed-next, mixed-end}
+use Rattle.fsl_cross.proofs.Sets.{set_at, mixed-own, mixed-next, mixed-end}
 use Rattle.fsl_cross.proofs.Added.{given-added, given-absent, mixed-added, rising-out}
 use Rattle.fsl_cross.proofs.Gifts.{if_some, gift-behind, gift-none}
 use Rattle.fsl_cross.proofs.Going.{goes-put, goes-none}

@@ -1,6 +1,6 @@
 -- What a set gives doesn't depend on which of its artifacts are private, but for clusters.
 use Rattle.std.proofs.Common.{◌≡◌, ℕ, true, false, cond, List, [], ◌∷◌, Bool, Option, Some, None, map, All, refl, sym, ap, ◌∙◌, subst}
-use Rattle.std.specs.Prelude.{filter_map, option_map, is_some}
+use Rattle.std.specs.Prelude.{filter_map, option_map}
 use Rattle.std.specs.List.{list_any, cons_option}
 use Rattle.std.specs.List.Sorted.{IsStrictlySortedBy}
 use Rattle.std.specs.Str.{bytes_eq}
@@ -17,7 +17,7 @@ use Rattle.fsl_cross.specs.Checkins.{links_facts, tags_facts}
 use Rattle.fsl_cross.specs.Facts.{links_fact, files_fact, pages_fact, ticket_fact, forum_fact}
 use Rattle.fsl_cross.specs.Inside.{tags_fact_over, leaves_fact_over, item_row_over}
 use Rattle.fsl_cross.specs.Marks.{private_at}
-use Rattle.fsl_cross.specs.Tables.{IsItem, leaves_facts, files_facts, pages_facts, ticket_facts, forum_facts, cluster_facts, timeline_rows}
+use Rattle.fsl_cross.specs.Tables.{IsItem, leaves_facts, pages_facts, ticket_facts, forum_facts, cluster_facts, timeline_rows}
 use Rattle.fsl_cross.proofs.Moved.{item_name}
 use Rattle.fsl_cross.proofs.Mapped.{named-has}
 use Rattle.fsl_cross.proofs.Sets.{rising-found}

@@ -1,11 +1,11 @@
 -- Names that are done, and rows that some changes left as they were.
-use Rattle.std.proofs.Common.{◌≡◌, ℕ, ◌+◌, ◌<◌, true, false, cond, ◌&&◌, List, [], ◌∷◌, ◌++◌, length, take, get_or, Bool, refl, sym, ap, ◌∙◌, subst}
-use Rattle.std.specs.Prelude.{◌||◌, ◌≢◌, flat_map}
+use Rattle.std.proofs.Common.{◌≡◌, ℕ, ◌+◌, ◌<◌, true, false, cond, List, [], ◌∷◌, ◌++◌, length, take, get_or, Bool, refl, sym, ap, ◌∙◌, subst}
+use Rattle.std.specs.Prelude.{◌||◌, ◌≢◌}
 use Rattle.std.specs.Bool.{MatchBool}
 use Rattle.std.specs.Str.{bytes_eq}
 use Rattle.std.specs.Cmp.Lexicographic.{bytes_decides}
-use Rattle.std.proofs.lemmas.List.{take_more, append_assoc}
-use Rattle.fsl_order.specs.Held.{Held, Change, IsAsBefore}
+use Rattle.std.proofs.lemmas.List.{take_more}
+use Rattle.fsl_order.specs.Held.{Held, Change}
 use Rattle.fsl_order.specs.Names.{has}
 use Rattle.fsl_cross.specs.Mixed.{pushed, all_changed}
 use Rattle.fsl_cross.specs.Trails.{Leads, AreTold}

@@ -1,7 +1,6 @@
 -- Leaves and rows of check-ins whose tags change.
-use Rattle.std.proofs.Common.{◌≡◌, ℕ, true, false, cond, ◌&&◌, List, [], ◌∷◌, Bool, Option, Some, None, map, not, refl, sym, ap, ◌∙◌, subst}
-use mathlib.Core.Bool.{true≢false}
-use Rattle.std.specs.Prelude.{IfSome, is_some, option_map, option_and_then, filter_map, unwrap_or, codes, OnOk, Result}
+use Rattle.std.proofs.Common.{◌≡◌, ℕ, true, false, ◌&&◌, List, [], ◌∷◌, Bool, Option, Some, None, map, not, refl, sym, ap, ◌∙◌, subst}
+use Rattle.std.specs.Prelude.{is_some, option_map, option_and_then, unwrap_or, codes, OnOk, Result}
 use Rattle.std.specs.List.{cons_option}
 use Rattle.std.specs.Str.{bytes_eq}
 use Rattle.fsl_order.specs.Held.{Held, Change}
@@ -23,7 +22,7 @@ use Rattle.fsl_cross.specs.Facts.{as_manifest}
 use Rattle.fsl_cross.specs.Checkins.{tags_facts, checkin, branch}
 use Rattle.fsl_cross.specs.Tables.{leaves_fact, leaves_facts, timeline_rows, timeline_row_of, without}
 use Rattle.fsl_cross.specs.Inside.{checkin_row, leaves_fact_over}
-use Rattle.fsl_cross.specs.Mixed.{mixed, IsMixture, GoesOn, leaves_mixed, rows_mixed, timeline_row, pushed, is_other_checkin, all_changed}
+use Rattle.fsl_cross.specs.Mixed.{IsMixture, GoesOn, leaves_mixed, rows_mixed, timeline_row, pushed, is_other_checkin, all_changed}
 use Rattle.fsl_cross.specs.Trails.{Leads, TagsTold}
 use Rattle.fsl_cross.proofs.Moved.{item_name}
 use Rattle.fsl_cross.proofs.FactLemmas.{Rise, leaves_own}

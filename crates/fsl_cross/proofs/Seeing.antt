@@ -1,14 +1,13 @@
 -- The tables inside of all tables, and the room that they have to spare.
-use Rattle.std.proofs.Common.{◌≡◌, ℕ, ◌≤◌, zero, suc, List, [], ◌∷◌, All, map, length, get_or, refl, sym, ap, ◌∙◌, subst, arith}
+use Rattle.std.proofs.Common.{◌≡◌, ℕ, ◌≤◌, zero, suc, List, [], ◌∷◌, All, map, length, get_or, refl, ◌∙◌, subst, arith}
 use Rattle.std.specs.List.Sorted.{IsStrictlySortedBy}
 use Rattle.fsl_order.specs.Names.{bytes_cmp}
-use Rattle.fsl_order.specs.Held.{Held, IsAsBefore, AreAtMost}
+use Rattle.fsl_order.specs.Held.{AreAtMost}
 use Rattle.fsl_table.specs.Trail.{AreAllAtMost}
 use Rattle.fsl_table.proofs.Trails.{all_at_most-self}
-use Rattle.fsl_ticket.specs.Seen as ticket
 use Rattle.fsl_cross.specs.declared.Item.{Item}
 use Rattle.fsl_cross.specs.declared.derived.Derived.{Derived}
-use Rattle.fsl_cross.specs.Built.{AreTablesOf, IsHistoryOf, AreContentsOf, IsAttachedOf, spare_of}
+use Rattle.fsl_cross.specs.Built.{AreTablesOf, IsAttachedOf, spare_of}
 use Rattle.fsl_cross.specs.Checkins.{links_facts, tags_facts}
 use Rattle.fsl_cross.specs.Tables.{Seen, IsItem, leaves_facts, files_facts, pages_facts, ticket_facts, forum_facts, cluster_facts, timeline_rows}
 use Rattle.fsl_cross.specs.Tables as tables

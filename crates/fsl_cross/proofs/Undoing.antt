@@ -1,27 +1,21 @@
 -- A change of all tables that is taken back.
-use Rattle.std.proofs.Common.{◌≡◌, ℕ, ◌≤◌, true, false, cond, Bool, List, [], ◌∷◌, All, map, refl, sym, ap, ◌∙◌, subst, arith}
+use Rattle.std.proofs.Common.{◌≡◌, ℕ, ◌≤◌, true, false, cond, Bool, List, [], ◌∷◌, All, map, refl, sym, subst, arith}
 use Rattle.std.specs.Prelude.{filter_map, get_or}
 use Rattle.std.specs.Str.{bytes_eq}
 use Rattle.std.specs.List.Sorted.{IsStrictlySortedBy}
 use Rattle.std.proofs.lemmas.List.Elements.{All-nil, All-cons, All-head, All-tail}
 use Rattle.fsl_order.specs.Names.{bytes_cmp}
-use Rattle.fsl_order.specs.Held.{Held, Change, IsAsBefore}
-use Rattle.fsl_table.specs.Contents.{Contents}
 use Rattle.fsl_table.specs.Exact.{pair_cmp}
-use Rattle.fsl_table.specs.Undo.{undone, IsAsGood}
-use Rattle.fsl_table.specs.declared.key.Pair.{Pair}
-use Rattle.fsl_table.specs.declared.step.Step.{Step}
-use Rattle.fsl_table.proofs.Trails.{as_before-trans}
+use Rattle.fsl_table.specs.Undo.{undone}
 use Rattle.fsl_cross.specs.declared.Item.{Item}
 use Rattle.fsl_cross.specs.declared.derived.Derived.{Derived}
 use Rattle.fsl_cross.specs.declared.undos.Undos.{Undos}
 use Rattle.fsl_cross.specs.declared.undos.What.{What}
 use Rattle.fsl_cross.specs.declared.undos.What.TheVariants.{Added, Published}
-use Rattle.fsl_cross.specs.Attached.{ArePairs, TakesBack, target_pair, change_pair}
+use Rattle.fsl_cross.specs.Attached.{ArePairs, target_pair, change_pair}
 use Rattle.fsl_cross.specs.Back.{IsBack, AreAsSeen, CanGoBackAll, AllWentBack, unmade, room, links_in, tags_in, leaves_in, files_in, timeline_in, pages_in, tickets_in, threads_in, clusters_in}
 use Rattle.fsl_cross.specs.Marks.{private_at}
 use Rattle.fsl_cross.specs.Tables.{Seen, IsItem}
-use Rattle.fsl_cross.specs.Trails.{Leads}
 use Rattle.fsl_cross.proofs.Moved.{item_name}
 use Rattle.fsl_cross.proofs.Trailing.{leads-later, tickets-later}
 use Rattle.fsl_cross.proofs.Without.{rising-without, kinds-without}

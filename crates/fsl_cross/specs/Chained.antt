@@ -1,5 +1,4 @@
 -- Tables of tickets of which each is as good as the one before.
-use Rattle.std.specs.Prelude.{List}
 use Rattle.std.proofs.Common.{◌∙◌}
 use Rattle.fsl_ticket.specs.Seen as ticket
 use Rattle.fsl_table.proofs.Trails.{at_most-trans}

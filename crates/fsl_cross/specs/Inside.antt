@@ -1,12 +1,9 @@
 -- The facts and the values of check-ins over the facts of a table, and what the tables of a set hold.
-use Rattle.std.specs.Prelude.{◌≡◌, ℕ, List, [], Bool, false, if◌then◌else◌, Option, Some, None, is_some, map, filter_map, slice_get, option_map, option_and_then, unwrap_or, codes}
+use Rattle.std.specs.Prelude.{ℕ, List, [], Bool, false, if◌then◌else◌, Option, Some, None, is_some, filter_map, slice_get, option_map, option_and_then, unwrap_or, codes}
 use Rattle.std.specs.List.{list_any}
 use Rattle.std.specs.Option.{option_eq, option_map_or}
 use Rattle.std.specs.Str.{bytes_eq}
-use Rattle.std.specs.List.Sorted.{IsStrictlySortedBy}
-use Rattle.fsl_order.specs.Names.{bytes_cmp}
 use Rattle.fsl_order.specs.Rows.{named}
-use Rattle.fsl_order.specs.Held.{Held}
 use Rattle.fsl_name.specs.Name.{name_text}
 use Rattle.fsl_date.specs.Moment.{date_in}
 use Rattle.fsl_manifest.specs.declared.Manifest.{Manifest}
@@ -21,21 +18,17 @@ use Rattle.fsl_links.specs.Links.{primary}
 use Rattle.fsl_tags.specs.declared.Fact as tags
 use Rattle.fsl_tags.specs.Tags.{force}
 use Rattle.fsl_leaves.specs.declared.Fact as leaves
-use Rattle.fsl_files.specs.declared.Fact as files
 use Rattle.fsl_timeline.specs.declared.Row.{Row}
 use Rattle.fsl_timeline.specs.declared.RowKind.{RowKind}
 use Rattle.fsl_timeline.specs.declared.RowKind.TheVariants as row
 use Rattle.fsl_wiki.specs.declared.Fact as wiki
 use Rattle.fsl_wiki.specs.Pages as pages
-use Rattle.fsl_ticket.specs.Seen as change
 use Rattle.fsl_forum.specs.declared.Fact as forum
 use Rattle.fsl_forum.specs.Threads as threads
-use Rattle.fsl_cluster.specs.declared.Fact as cluster
 use Rattle.fsl_cross.specs.declared.Item.{Item}
 use Rattle.fsl_cross.specs.declared.Values.{Values}
 use Rattle.fsl_cross.specs.Facts.{as_manifest, tag_cards, assertions, pages_fact, ticket_fact}
-use Rattle.fsl_cross.specs.Checkins.{links_facts, tags_facts}
-use Rattle.fsl_cross.specs.Tables.{leaves_facts, files_facts, pages_facts, ticket_facts, forum_facts, cluster_facts, tag_text, timeline_rows}
+use Rattle.fsl_cross.specs.Tables.{pages_facts, ticket_facts, tag_text}
 
 -- an artifact that may have T cards, with its assertions and its primary parent by some facts
 abbrev pub tags_fact_over : List links.Fact → Item → Option tags.Fact

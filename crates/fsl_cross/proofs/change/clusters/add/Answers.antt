@@ -1,4 +1,3 @@
-use Rattle.std.proofs.Common.{◌∙◌}
 use Rattle.fsl_cross.proofs.ClusterFacts.{clusters-absent, clusters-added}
 use Rattle.fsl_cross.proofs.change.clusters.add.Goals as goal
 

@@ -1,4 +1,4 @@
-use Rattle.std.proofs.Common.{◌≡◌, [], sym, subst}
+use Rattle.std.proofs.Common.{sym, subst}
 use Rattle.fsl_table.proofs.Outcomes.{always_ok}
 use Rattle.fsl_table.proofs.Trails.{as_before-self}
 use Rattle.fsl_cross.specs.Trails.{Leads, LinksTold, TagsTold}

@@ -1,4 +1,4 @@
-use Rattle.std.proofs.Common.{◌≡◌, ◌∙◌, subst}
+use Rattle.std.proofs.Common.{◌∙◌, subst}
 use Rattle.std.proofs.lemmas.List.{take_all}
 use Rattle.fsl_cross.specs.Mixed.{GoesOn, leaves_mixed, pushed, is_other_checkin, all_changed}
 use Rattle.fsl_cross.proofs.Going.{goes-mixture, goes-change}

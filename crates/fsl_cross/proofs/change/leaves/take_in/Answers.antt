@@ -1,4 +1,4 @@
-use Rattle.std.proofs.Common.{◌≡◌, ◌∷◌, [], ap, ◌∙◌}
+use Rattle.std.proofs.Common.{◌∷◌, [], ap, ◌∙◌}
 use Rattle.fsl_cross.specs.Mixed.{leaves_mixed, pushed, is_other_checkin, all_changed}
 use Rattle.fsl_table.proofs.Outcomes.{on_ok_map}
 use Rattle.fsl_cross.proofs.Retagged.{leaves-end}

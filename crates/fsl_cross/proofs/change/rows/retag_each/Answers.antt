@@ -1,4 +1,4 @@
-use Rattle.std.proofs.Common.{◌≡◌, ◌∙◌, subst}
+use Rattle.std.proofs.Common.{subst}
 use Rattle.std.proofs.lemmas.List.{take_all}
 use Rattle.fsl_cross.specs.Mixed.{GoesOn, rows_mixed, pushed, is_other_checkin}
 use Rattle.fsl_cross.proofs.Going.{goes-mixture, goes-next}

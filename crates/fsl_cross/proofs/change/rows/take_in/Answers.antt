@@ -1,4 +1,4 @@
-use Rattle.std.proofs.Common.{◌≡◌, ◌∷◌, [], false, ap, ◌∙◌}
+use Rattle.std.proofs.Common.{◌∷◌, [], false, ap, ◌∙◌}
 use Rattle.std.specs.Str.{bytes_eq}
 use Rattle.fsl_table.proofs.Outcomes.{on_ok_map}
 use Rattle.fsl_cross.specs.Mixed.{rows_mixed, pushed, is_other_checkin, all_changed}

@@ -1,4 +1,3 @@
-use Rattle.std.proofs.Common.{◌∙◌}
 use Rattle.fsl_cross.proofs.Trailing.{as_before-is, failed-led, kept-led, kept-facts}
 use Rattle.fsl_cross.proofs.change.tags.change.Goals as goal
 

@@ -1,4 +1,3 @@
-use Rattle.std.proofs.Common.{◌∙◌}
 use Rattle.fsl_cross.proofs.Trailing.{tickets-same, tickets-failed, tickets-kept, tickets-facts, tickets-fields}
 use Rattle.fsl_cross.proofs.change.tickets.put.Goals as goal
 

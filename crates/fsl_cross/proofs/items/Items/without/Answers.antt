@@ -1,4 +1,4 @@
-use Rattle.std.proofs.Common.{rules, ◌≡◌, ◌∙◌, ap, sym, subst, map, IfOk}
+use Rattle.std.proofs.Common.{rules, ◌≡◌, ◌∙◌, ap, sym, subst, map}
 use Rattle.fsl_order.specs.Rows.{by_name, AreDistinct}
 use Rattle.fsl_cross.specs.Tables.{without}
 use Rattle.fsl_cross.proofs.Moved.{item_name}

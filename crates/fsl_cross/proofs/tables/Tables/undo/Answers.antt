@@ -1,10 +1,9 @@
-use Rattle.std.proofs.Common.{◌≡◌, sym, ap, subst, ◌∙◌, List, All, map, ℕ}
+use Rattle.std.proofs.Common.{◌≡◌, sym, ap, subst, ◌∙◌, All, map}
 use Rattle.std.specs.List.Sorted.{IsStrictlySortedBy}
 use Rattle.fsl_order.specs.Names.{bytes_cmp}
-use Rattle.fsl_cross.specs.declared.Item.{Item}
 use Rattle.fsl_cross.specs.Built.{AreTablesOf}
 use Rattle.fsl_cross.specs.Back.{AreAsSeen, unmade}
-use Rattle.fsl_cross.specs.Tables.{Seen, Change, IsAsBefore, IsItem}
+use Rattle.fsl_cross.specs.Tables.{Change, IsAsBefore, IsItem}
 use Rattle.fsl_cross.proofs.Moved.{item_name}
 use Rattle.fsl_cross.proofs.Seeing.{seen_of, as-seen, seen-tables, seen-before}
 use Rattle.fsl_cross.proofs.Undoing.{can-go-back, went-back, rising-unmade, kinds-unmade}

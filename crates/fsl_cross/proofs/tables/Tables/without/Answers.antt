@@ -1,5 +1,5 @@
-use Rattle.std.proofs.Common.{All, sym, ap, subst, ◌∙◌}
-use Rattle.fsl_cross.specs.Tables.{IsItem, Seen, without}
+use Rattle.std.proofs.Common.{All, sym, subst}
+use Rattle.fsl_cross.specs.Tables.{IsItem}
 use Rattle.fsl_cross.proofs.Without.{kinds-without}
 use Rattle.fsl_cross.proofs.tables.Tables.without.Goals as goal
 
