@@ -14,7 +14,7 @@ use Rattle.fsl_blobs.specs.Held.{state_of}
 use Rattle.fsl_blobs.specs.Kept.{is_same}
 use Rattle.fsl_blobs.specs.declared.BlobState.{BlobState}
 use Rattle.fsl_blobs.specs.declared.BlobState.TheVariants as blob
-use Rattle.fsl_blobs.proofs.KeptLemmas.{is_same-means, turned, shown, blob-get, publish-get, shun-get}
+use Rattle.fsl_blobs.proofs.ShunnedNames.{shunned_are_not_held}
 use Rattle.fsl_journal.specs.Log.{Log}
 use Rattle.fossil.specs.declared.load.Loaded.{Loaded}
 use Rattle.fossil.specs.declared.message.Sent.{Sent}
@@ -22,52 +22,6 @@ use Rattle.fossil.specs.Sets.{name_line}
 use Rattle.fossil.specs.Put.{TextAndRecords, text_and_records_of}
 use Rattle.fossil.specs.Taking.{taken_as, IsFileTaken}
 use Rattle.fossil.proofs.TakingLemmas.{none_appended}
-
--- ---- held names aren't shunned
-
-abbrev pub IsApart : Contents → Type 0
-IsApart c = (q : List ℕ) → set.contains c.shunned q ≡ true → map_of.get c.held q ≡ None
-
-blob-shunned : (c : Contents) (name : List ℕ) (private : Bool) (bytes : List ℕ) → (after c (record_of.Blob private name bytes)).shunned ≡ c.shunned
-blob-shunned c name private bytes =
-    elim (is_new c name) as (λ b. (cond b (record c { held = map_of.insert c.held name (record { private = private; bytes = bytes }) }) c).shunned ≡ c.shunned) [ true ↦ refl | false ↦ refl ]
-
-publish-shunned : (c : Contents) (name : List ℕ) → (after c (record_of.Publish name)).shunned ≡ c.shunned
-publish-shunned c name =
-    elim (map_of.get c.held name) as (λ o. (option_map_or (λ a. record c { held = map_of.insert c.held name (record a { private = false }) }) o c).shunned ≡ c.shunned) [ None ↦ refl | Some a ↦ refl ]
-
-shun-shunned : (c : Contents) (name q : List ℕ) → set.contains (after c (record_of.Shun name)).shunned q ≡ (is_same name q || set.contains c.shunned q)
-shun-shunned c name q = set.contains-insert bytes_cmp-IsTotalOrder c.shunned name q ∙ ap (λ (b : Bool). b || set.contains c.shunned q) (turned q name)
-
-not_new : (held shunned : Bool) → shunned ≡ true → not (held || shunned) ≡ true → ⊥
-not_new true s e h = cc
-not_new false true e h = cc
-not_new false false e h = cc
-
-apart-after : (c : Contents) (r : Record) → IsApart c → IsApart (after c r)
-apart-after c (record_of.Config config) h = h
-apart-after c (record_of.Blob private name bytes) h = λ q shunned.
-    let was : set.contains c.shunned q ≡ true = sym (ap (λ (s : set.FinSet bytes_cmp). set.contains s q) (blob-shunned c name private bytes)) ∙ shunned in
-    blob-get c name private bytes q
-    ∙ elim (is_same name q && is_new c name) as (λ b. (is_same name q && is_new c name) ≡ b → cond b (Some (record { private = private; bytes = bytes })) (map_of.get c.held q) ≡ None) [
-      | true ↦ λ e.
-          let parts = and_parts (is_same name q) (is_new c name) e in
-          absurd (not_new (map_of.contains_key c.held name) (set.contains c.shunned name) (subst (λ (x : List ℕ). set.contains c.shunned x ≡ true) (sym (is_same-means name q parts.0)) was) parts.1)
-      | false ↦ λ _. h q was
-    ] refl
-apart-after c (record_of.Publish name) h = λ q shunned.
-    let was : set.contains c.shunned q ≡ true = sym (ap (λ (s : set.FinSet bytes_cmp). set.contains s q) (publish-shunned c name)) ∙ shunned in
-    publish-get c name q ∙ ap (option_map (shown name q)) (h q was)
-apart-after c (record_of.Shun name) h = λ q shunned.
-    shun-get c name q
-    ∙ elim (is_same name q) as (λ b. (b || set.contains c.shunned q) ≡ true → cond b None (map_of.get c.held q) ≡ None) [ true ↦ λ _. refl | false ↦ λ e. h q e ] (sym (shun-shunned c name q) ∙ shunned)
-
-apart-fold : (records : List Record) (c : Contents) → IsApart c → IsApart (fold after c records)
-apart-fold [] c h = h
-apart-fold (r ∷ records) c h = apart-fold records (after c r) (apart-after c r h)
-
-pub apart : (records : List Record) → IsApart (contents records)
-apart records = apart-fold records nothing (λ q shunned. map_of.get-empty bytes_cmp q)
 
 -- ---- one file
 
@@ -86,7 +40,7 @@ taken_by f false (Some a) h =
     ≡ taken_as (cond p (blob.Private (length a.bytes)) (blob.Public (length a.bytes))) f) [ true ↦ refl | false ↦ refl ]
 
 taken_is : (records : List Record) (f : Sent) → text_and_records_of (contents records) f ≡ taken_as (state_of (contents records) f.name) f
-taken_is records f = taken_by f (set.contains (contents records).shunned f.name) (map_of.get (contents records).held f.name) (apart records f.name)
+taken_is records f = taken_by f (set.contains (contents records).shunned f.name) (map_of.get (contents records).held f.name) (shunned_are_not_held records f.name)
 
 -- a file was taken by what its name was
 pub file_taken : (f : Sent) (before after : Loaded) (text_before text_after : List ℕ) (was : BlobState) (t : TextAndRecords) → was ≡ state_of (contents before.blobs.records) f.name → taken_as was f ≡ t

@@ -1,4 +1,4 @@
-pub mod OneList
+pub mod OneReport
 pub mod OneOutcome
 pub mod SomeOutcome
 pub mod MessageLemmas
@@ -20,5 +20,4 @@ pub mod ShunLemmas
 pub mod InitLemmas
 pub mod CommandLemmas
 pub mod WordsLemmas
-pub mod ItemLemmas
 pub mod QuestionLemmas

@@ -20,7 +20,7 @@ use Rattle.fossil.specs.Printed as printing
 use Rattle.fossil.specs.Ingest as ingest
 use Rattle.fossil.specs.Put.{IsPut, IsPutRead, IsPutFiles}
 use Rattle.fossil.specs.Outcome.{Outcome, without_commit, with_commit, not_repository, report_outcome, IsAnswered, IsIngestOfFiles, IsPutOfFiles, IsShunOf, IsLoaded, IsCommandOutcome, said, IsSaidOutcome, HasOneOutcome}
-use Rattle.fossil.proofs.OneList.{one_result}
+use Rattle.fossil.proofs.OneReport.{one_result}
 use Rattle.fossil.proofs.MessageLemmas.{one_files, one_refused, not_both}
 
 -- ---- ingest

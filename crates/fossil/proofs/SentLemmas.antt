@@ -17,6 +17,7 @@ use Rattle.fsl_artifact.specs.declared.Artifact.{Artifact}
 use Rattle.fsl_artifact.specs.Kind.{IsKind}
 use Rattle.fsl_artifact.specs.References.{members, references}
 use Rattle.fsl_cluster.specs.declared.Fact.{Fact}
+use Rattle.fsl_repo.proofs.Zipped.{AllZip-push}
 use Rattle.fossil.specs.declared.message.Sent.{Sent}
 use Rattle.fossil.specs.Sets.{held_after, after_arrival, set_of, is_sent_public, IsFactOf, fact_of}
 
@@ -203,12 +204,6 @@ taken_again public held facts seen new file t there same =
 
 -- ---- a new name
 
-pub AllZip-push : {A B : Type 0} (R : A → B → Type 0) (xs : List A) (ys : List B) (x : A) (y : B) → AllZip R xs ys → R x y → AllZip R (xs ++ x ∷ []) (ys ++ y ∷ [])
-AllZip-push R [] [] x y all r = (r, tt)
-AllZip-push R [] (b ∷ ys) x y all r = absurd all
-AllZip-push R (a ∷ xs) [] x y all r = absurd all
-AllZip-push R (a ∷ xs) (b ∷ ys) x y all r = (all.0, AllZip-push R xs ys x y all.1 r)
-
 either : (b c : Bool) → cond b true c ≡ (c || (b || false))
 either true true = refl
 either true false = refl
@@ -336,10 +331,3 @@ names_more files i f names new after lt is so_far public updates e name =
     ap (λ (s : BTreeSet (List ℕ)). contains bytes_cmp s name) e ∙ updates.0 name ∙ ap (λ (b : Bool). cond b true (contains bytes_cmp names name)) (sym (texts_ties f.name name))
     ∙ ap (λ (b : Bool). cond (bytes_eq f.name name) true b) (so_far name)
     ∙ is_more (is_sent_public (take i files) name) (is_of name f) f.private public ∙ sym (public_next files i f name lt is)
-
--- ---- lists
-
-pub all_of : {X : Type 0} (P : X → Type 0) (xs : List X) → AllByRecursion P xs → All P xs
-all_of P [] h i d lt = absurd (omega (arith, lt))
-all_of P (x ∷ xs) h zero d lt = h.0
-all_of P (x ∷ xs) h (suc i) d lt = all_of P xs h.1 i d (omega (arith, lt))

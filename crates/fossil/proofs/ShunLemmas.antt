@@ -18,7 +18,7 @@ use Rattle.fossil.specs.Put.{TextAndRecords}
 use Rattle.fossil.specs.Outcome.{with_commit}
 use Rattle.fossil.specs.Shun.{shunning, IsDoneAs, IsShunned}
 use Rattle.fossil.proofs.InputLemmas.{some_bytes}
-use Rattle.fossil.proofs.HeldLemmas.{apart}
+use Rattle.fsl_blobs.proofs.ShunnedNames.{shunned_are_not_held}
 use Rattle.fossil.proofs.TakingLemmas.{none_appended}
 use Rattle.fossil.proofs.AppendLemmas.{IsAppended}
 
@@ -50,7 +50,7 @@ shunned_by name false (Some a) h =
     elim a.private as (λ p. removed name ≡ shunned_as (cond p (blob.Private (length a.bytes)) (blob.Public (length a.bytes))) name) [ true ↦ refl | false ↦ refl ]
 
 shunned_is : (records : List Record) (name : List ℕ) → shunning (contents records) name ≡ shunned_as (state_of (contents records) name) name
-shunned_is records name = shunned_by name (set.contains (contents records).shunned name) (map_of.get (contents records).held name) (apart records name)
+shunned_is records name = shunned_by name (set.contains (contents records).shunned name) (map_of.get (contents records).held name) (shunned_are_not_held records name)
 
 module _ (name : List ℕ) (before after : Loaded) (answer : Printed) (was : BlobState) (is : was ≡ state_of (contents before.blobs.records) name) (same : before.blobs.records ≡ before.journal.records) where
   -- the name was shunned by what it was

@@ -11,7 +11,7 @@ use Rattle.fsl_journal.proofs.SomeFile.{some_file}
 use Rattle.fsl_blobs.specs.Fold.{Held, Contents, contents}
 use Rattle.fsl_cluster.specs.declared.Fact.{Fact}
 use Rattle.fsl_cross.specs.declared.Item.{Item}
-use Rattle.fsl_query.specs.Items.{IsItemOf}
+use Rattle.fsl_repo.specs.Machine.{IsItemOf}
 use Rattle.fsl_query.specs.declared.Refused.{Refused}
 use Rattle.fsl_query.specs.Reports.{IsReport, report, content}
 use Rattle.fsl_words.specs.declared.Question.{Question}

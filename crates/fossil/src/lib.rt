@@ -8,7 +8,6 @@
 #![tactic(auto)]
 
 mod answer;
-mod artifact;
 mod ask;
 mod cat;
 mod checking;
@@ -17,7 +16,6 @@ mod fault;
 mod ingest;
 mod init;
 mod input;
-mod items;
 mod load;
 mod message;
 mod put;

@@ -4,9 +4,7 @@ ghost use Rattle.fsl_blobs.specs.Fold.{contents};
 ghost use Rattle.fsl_record.specs.declared.Record.{Record};
 ghost use Rattle.fsl_words.specs.declared.Question.{Question};
 ghost use Rattle.fsl_query.specs.Answers.{IsReported};
-ghost use Rattle.fsl_query.specs.Items.{AreItems};
 ghost use Rattle.fsl_query.specs.Refusals.{refusal_text};
-ghost use Rattle.fsl_query.specs.Reports.{configured};
 ghost use Rattle.fsl_words.specs.declared.Command.TheVariants as command_of;
 ghost use Rattle.fossil.specs.Printed as printing;
 ghost use Rattle.fossil.specs.Outcome.{IsAnswered, without_commit};
@@ -15,14 +13,13 @@ ghost use Rattle.fossil.specs.Acts.{Acts};
 
 use super::answer::{Answer, refusal};
 use super::fault::Fault;
-use super::items::items_of;
 use super::load::{load, not_loaded};
 use super::say::made;
 use super::status::DONE;
 use fsl_blobs::Blobs;
-use fsl_cross::Tables;
 use fsl_disk::Disk;
 use fsl_query::{QueryFault, Refused, answer, refusal_text};
+use fsl_repo::tables_of;
 use fsl_text::{Memory, Text};
 use fsl_words::Question;
 use std::alloc::Global;
@@ -33,15 +30,6 @@ pub fn question_refusal(alloc: Global, refused: &Refused) -> Result<Answer, Memo
 {
     let reason = refusal_text(alloc, refused)?;
     refusal(alloc, reason.bytes())
-}
-
-/// All tables of the held artifacts, with the fields of tickets that the Config has.
-fn tables_of(alloc: Global, blobs: &Blobs) -> Result<Tables, Memory>
-    ensures items { IfOk result (λ tables. AreItems (contents blobs.now.records).held tables.items) }
-    ensures fields { IfOk result (λ tables. tables.fields ≡ configured (contents blobs.now.records)) }
-{
-    let items = items_of(alloc, blobs)?;
-    Tables::build(alloc, &blobs.config().fields, items)
 }
 
 /// What is answered where a question found this: the report, or the reason why there is none.

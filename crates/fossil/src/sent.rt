@@ -8,11 +8,11 @@ ghost use Rattle.fsl_artifact.specs.Kind.{IsKind};
 ghost use Rattle.fsl_artifact.specs.References as told;
 ghost use Rattle.fossil.specs.Sets.{set_of, is_sent_public, IsFactOf};
 
-use super::artifact::read_artifact;
 use super::message::Sent;
 use fsl_artifact::{Artifact, members, refs};
 use fsl_cluster::Fact;
 use fsl_name::Name;
+use fsl_repo::read_artifact;
 use fsl_text::{List, Memory};
 use std::alloc::Global;
 use std::collections::BTreeSet;

@@ -21,16 +21,12 @@ use Rattle.fsl_blobs.specs.Fold.{Contents}
 use Rattle.fsl_blobs.specs.declared.Found.{Found}
 use Rattle.fsl_blobs.specs.declared.Found.TheVariants as found_as
 use Rattle.fsl_blobs.specs.Held.{matching, found}
+use Rattle.fsl_repo.specs.Machine.{AreItems, configured}
 use Rattle.fsl_words.specs.declared.Question.{Question}
 use Rattle.fsl_words.specs.declared.Question.TheVariants.{Cat, Timeline, Leaves, Tags, Tip, Files, Wiki, Ticket, Thread, Phantoms}
 use Rattle.fsl_query.specs.declared.Refused.{Refused}
 use Rattle.fsl_query.specs.declared.Refused.TheVariants as refused
-use Rattle.fsl_query.specs.Items.{AreItems}
 use Rattle.fsl_query.specs.Lines.{timeline_line, leaf_line, tag_line, tip_line, file_line, change_line, page_line, attachment_line, field_line, post_line, wanted_line}
-
--- the configured ticket fields
-abbrev pub configured : Contents → List (List ℕ)
-configured c = option_map_or (λ config. config.fields) c.config []
 
 -- all tables of the items
 abbrev pub tables_now : Contents → List Item → TableFacts

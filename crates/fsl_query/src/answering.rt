@@ -1,11 +1,11 @@
 //! Answers questions.
 ghost use Rattle.std.specs.Prelude.{◌≡◌, Ok, Err, IfOk};
 ghost use Rattle.fsl_blobs.specs.Fold.{contents};
+ghost use Rattle.fsl_repo.specs.Machine.{AreItems, configured};
 ghost use Rattle.fsl_query.specs.declared.Refused.{Refused};
 ghost use Rattle.fsl_query.specs.declared.QueryFault.TheVariants as query_fault;
-ghost use Rattle.fsl_query.specs.Items.{AreItems};
 ghost use Rattle.fsl_cross.specs.Tables as cross;
-ghost use Rattle.fsl_query.specs.Reports.{configured, of_prefix, files_report, report};
+ghost use Rattle.fsl_query.specs.Reports.{of_prefix, files_report, report};
 ghost use Rattle.fsl_query.specs.Answers.{IsAnswer, IsReported};
 
 use crate::finding::{content, found};

@@ -26,6 +26,7 @@ use fsl_name::Name;
 use fsl_text::{List, Text};
 use fsl_wire::{Caps, Message};
 pub use laws::builds_keep;
+pub use parsing::{read_artifact, tables_of};
 pub use repo::Repo;
 use std::marker::Model;
 

@@ -7,7 +7,7 @@ use Rattle.fsl_cluster.specs.declared.Fact.{Fact}
 use Rattle.fsl_cluster.specs.Clusters.{missing}
 use Rattle.fsl_cross.specs.Tables as cross
 use Rattle.fsl_query.specs.Lines.{wanted_line}
-use Rattle.fsl_query.proofs.PhantomLemmas.{wants_by}
+use Rattle.fsl_repo.proofs.Storing.{wants_by}
 use Rattle.fsl_query.proofs.phantoms.report.Goals as goal
 
 pub returns : goal.returns

@@ -1,4 +1,0 @@
-use Rattle.fossil.proofs.artifact.read_artifact.Given as goal
-
-abbrev pub ghosts-read_counted : goal.ghosts-read_counted
-ghosts-read_counted a = record { name = a.blank.name; parts = a.blank.parts }
