@@ -7,3 +7,5 @@ pub mod Arriving
 pub mod Replies
 pub mod Sending
 pub mod Keeps
+pub mod Onward
+pub mod Laters

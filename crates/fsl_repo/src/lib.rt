@@ -12,6 +12,7 @@ mod clusters;
 mod commits;
 mod laws;
 mod listing;
+mod machine;
 mod opening;
 mod parsing;
 mod placed;
@@ -22,10 +23,13 @@ mod sending;
 mod wanting;
 
 pub use below::Below;
+use fsl_blobs::Known;
+use fsl_journal::CommitFault;
 use fsl_name::Name;
-use fsl_text::{List, Text};
+use fsl_text::{List, Memory, Text};
 use fsl_wire::{Caps, Message};
 pub use laws::builds_keep;
+pub use machine::steps_go_on;
 pub use parsing::{read_artifact, tables_of};
 pub use repo::Repo;
 use std::marker::Model;
@@ -123,4 +127,42 @@ impl Reply {
     {
         self.held.bytes()
     }
+}
+
+/// What is asked of a repository.
+#[derive(Drop)]
+pub enum Event {
+    /// An artifact arrives.
+    Arrive {
+        name: Name,
+        bytes: Text,
+        private: bool,
+    },
+    /// A name is announced by one who may send its artifact.
+    Announce {
+        name: Name,
+    },
+    /// A name is shunned.
+    Shun {
+        name: Name,
+    },
+    /// A cluster of public names that stand in none is made, where there are enough.
+    Cluster,
+    /// A reply is built.
+    Build {
+        ask: Ask,
+    },
+    /// The appended records are put on the disk.
+    Commit,
+}
+
+/// What a repository answers to an event, that of the event's own call.
+#[derive(Drop)]
+pub enum Answer {
+    Arrive(Result<Arrival, ArriveFault>),
+    Announce(Result<Known, Memory>),
+    Shun(Result<Shunning, ShunFault>),
+    Cluster(Result<Clustering, ArriveFault>),
+    Build(Result<Reply, BuildFault>),
+    Commit(Result<u64, CommitFault>),
 }

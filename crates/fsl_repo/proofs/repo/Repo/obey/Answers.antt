@@ -1,0 +1,13 @@
+use Rattle.std.proofs.Common.{◌≡◌, List, ℕ, sym, ◌∙◌, subst}
+use Rattle.fsl_repo.specs.declared.Event.{Event}
+use Rattle.fsl_repo.specs.declared.Event.TheVariants as event
+use Rattle.fsl_repo.specs.declared.Answer.TheVariants as answer
+use Rattle.fsl_repo.specs.Machine.{ArriveStep}
+use Rattle.fsl_repo.specs.Onward.{Step}
+use Rattle.fsl_repo.proofs.repo.Repo.obey.Goals as goal
+
+pub returns-in-Arrive-clause-step : goal.returns-in-Arrive-clause-step
+returns-in-Arrive-clause-step g c =
+    let F : Event → Type 0 = λ e. Step c.args.self.now.seen.state e (answer.Arrive c.arrive.result) c.arrive.new.self.seen.state in
+    let G : List ℕ → Type 0 = λ bytes. ArriveStep c.args.self.now.seen.state c.in-Arrive.name bytes c.in-Arrive.private c.arrive.result c.arrive.new.self.seen.state in
+    subst F (sym c.in-Arrive.is) (subst G c.bytes.ensures c.arrive.ensures.step)

@@ -1,0 +1,187 @@
+-- What every step keeps, and which repository is later than another. An impl's laws stand on it, so it is no proof file.
+use Rattle.std.proofs.Common.{◌≡◌, inl, inr, ℕ, ◌+◌, ◌≤◌, Bool, true, false, not, cond, List, [], ◌∷◌, ◌++◌, length, drop, Option, Some, None, Result, Ok, Err, refl, sym, ap, subst, ◌∙◌, arith, append_assoc}
+use Rattle.std.specs.Prelude.{count_by, nat_lt, nat_le, if◌then◌else◌, IsTrue, MatchBool, MatchOption}
+use Rattle.std.proofs.lemmas.List.{append-nil, drop-append-le}
+use Rattle.std.proofs.lemmas.List.Sums.{sum_by-append}
+use Rattle.fsl_text.specs.declared.memory.Memory.{Memory}
+use Rattle.fsl_record.specs.declared.Record.{Record}
+use Rattle.fsl_record.specs.declared.Record.TheVariants as record_of
+use Rattle.fsl_journal.specs.declared.CommitFault.{CommitFault}
+use Rattle.fsl_blobs.specs.declared.Known.{Known}
+use Rattle.fsl_blobs.specs.declared.Known.TheVariants as known
+use Rattle.fsl_disk.proofs.Moments.{keeps_on}
+use Rattle.fsl_disk.specs.Disk.{DiskState, Keeps}
+use Rattle.fsl_cluster.specs.Clusters as clusters
+use Rattle.fsl_cross.specs.declared.Item.{Item}
+use Rattle.fsl_repo.specs.declared.Ask.{Ask}
+use Rattle.fsl_repo.specs.declared.Arrival.{Arrival}
+use Rattle.fsl_repo.specs.declared.Arrival.TheVariants as arrival
+use Rattle.fsl_repo.specs.declared.ArriveFault.{ArriveFault}
+use Rattle.fsl_repo.specs.declared.Shunning.{Shunning}
+use Rattle.fsl_repo.specs.declared.Shunning.TheVariants as shunning
+use Rattle.fsl_repo.specs.declared.ShunFault.{ShunFault}
+use Rattle.fsl_repo.specs.declared.Clustering.{Clustering}
+use Rattle.fsl_repo.specs.declared.Clustering.TheVariants as clustering
+use Rattle.fsl_repo.specs.declared.ArriveFault.TheVariants as arrive_fault
+use Rattle.fsl_repo.specs.declared.BuildFault.{BuildFault}
+use Rattle.fsl_repo.specs.declared.Event.{Event}
+use Rattle.fsl_repo.specs.declared.Event.TheVariants as event
+use Rattle.fsl_repo.specs.declared.Answer.{Answer}
+use Rattle.fsl_repo.specs.declared.Answer.TheVariants as answer
+use Rattle.fsl_repo.specs.Machine.{State, IsDueOrMemory, Leaves, now, AreItems, arrived, announced, announce, shun, shunned, shun_wants, IsArrival, IsClusterArrival, IsClusteringOf, IsClustering, IsCommit, ArriveStep, AnnounceStep, ShunStep, ClusterStep, unclustered_names, due_cluster, as_clustering}
+use Rattle.fsl_repo.specs.Replies.{BuildStep, IsBuilt}
+use Rattle.fsl_repo.specs.Whole.{Seen, Whole, IsLater, is_blob, blobs, stored}
+use Rattle.fsl_repo.specs.Onward.{Step, MayStep, IsLaterOn, StepsGoOn}
+use Rattle.fsl_name.specs.Name.{name_of}
+
+-- ---- the records go on
+
+abbrev Grows : State → State → Type 0
+Grows old new = (more : List Record) × (new.records ≡ old.records ++ more)
+
+same_records : (old : State) → Grows old old
+same_records old = ([], sym (append-nil old.records))
+
+by_leaves : (old due new : State) → Leaves old due new → Grows old due → Grows old new
+by_leaves old due new l g = (g.0, ap (λ (s : State). s.records) l.state ∙ g.1)
+
+by_due : {A : Type 0} (old new : State) (IsDue : A → State → Type 0) (memory : A) (May : Type 0) (r : A) → ((due : State) → IsDue r due → Grows old due) → IsDueOrMemory old IsDue memory May r new → Grows old new
+by_due old new IsDue memory May r go (inl x) = by_leaves old x.0 new x.2 (go x.0 x.1)
+by_due old new IsDue memory May r go (inr y) = by_leaves old old new y.2 (same_records old)
+
+arrived_grows : (s : State) (name bytes : List ℕ) (private : Bool) (r : Result Arrival ArriveFault) → Grows s (arrived s name bytes private r)
+arrived_grows s name bytes private (Ok arrival.Shunned) = same_records s
+arrived_grows s name bytes private (Ok arrival.Present) = same_records s
+arrived_grows s name bytes private (Ok arrival.Published) = (record_of.Publish name ∷ [], refl)
+arrived_grows s name bytes private (Ok arrival.Stored) = (record_of.Blob private name bytes ∷ [], refl)
+arrived_grows s name bytes private (Err e) = same_records s
+
+announced_grows : (s : State) (name : List ℕ) (k : Known) → Grows s (announced s name k)
+announced_grows s name known.Held = same_records s
+announced_grows s name known.Shunned = same_records s
+announced_grows s name known.Again = same_records s
+announced_grows s name known.Full = same_records s
+announced_grows s name known.New = same_records s
+
+shunned_grows : (s : State) (name : List ℕ) (r : Result Shunning ShunFault) → Grows s (shunned s name r)
+shunned_grows s name (Ok shunning.Already) = same_records s
+shunned_grows s name (Ok shunning.Removed) = (record_of.Shun name ∷ [], refl)
+shunned_grows s name (Ok shunning.Listed) = (record_of.Shun name ∷ [], refl)
+shunned_grows s name (Err e) = same_records s
+
+by_equal : (s due due2 : State) → due ≡ due2 → Grows s due2 → Grows s due
+by_equal s due due2 is g = subst (Grows s) (sym is) g
+
+module _ (s : State) (result : Result Clustering ArriveFault) (due : State) where
+  of_grows : (few : Bool) (items : List Item)
+      → MatchBool few ((result ≡ Ok (clustering.Few (length (unclustered_names items)))) × (due ≡ s)) (IsClusterArrival s (due_cluster items) result due) → Grows s due
+  of_grows true items p = by_equal s due s p.1 (same_records s)
+  of_grows false items p =
+      by_equal s due (arrived s (name_of (due_cluster items)) (due_cluster items) false p.0) p.3
+      (arrived_grows s (name_of (due_cluster items)) (due_cluster items) false p.0)
+
+  clustering_grows : (stopped : Option ℕ)
+      → MatchOption stopped ((items : List Item) × AreItems (now s).held items × IsClusteringOf s items result due)
+      (λ faults. (result ≡ Err (arrive_fault.Stopped faults)) × (due ≡ s)) → Grows s due
+  clustering_grows None p = of_grows (nat_le (length (unclustered_names p.0)) 100) p.0 p.2
+  clustering_grows (Some faults) p = by_equal s due s p.1 (same_records s)
+
+commit_grows : (stopped : Option ℕ) (old : State) (r : Result ℕ CommitFault) (new : State) → IsCommit stopped old r new → Grows old new
+commit_grows (Some faults) old r new p = by_leaves old old new p.1 (same_records old)
+commit_grows None old r new (inl p) = by_leaves old (record old { stopped = Some new.faults }) new p.2 (same_records old)
+commit_grows None old r new (inr p) = ([], ap (λ (s : State). s.records) p.1 ∙ sym (append-nil old.records))
+
+pub grows : (old : State) (e : Event) (a : Answer) (new : State) → Step old e a new → Grows old new
+grows old (event.Arrive name bytes private) (answer.Arrive r) new p =
+    by_due old new (λ r due. IsArrival old name bytes private r × (due ≡ arrived old name bytes private r)) _ _ r
+    (λ due is. by_equal old due (arrived old name bytes private r) is.1 (arrived_grows old name bytes private r)) p
+grows old (event.Arrive name bytes private) (answer.Announce r) new p = absurd p
+grows old (event.Arrive name bytes private) (answer.Shun r) new p = absurd p
+grows old (event.Arrive name bytes private) (answer.Cluster r) new p = absurd p
+grows old (event.Arrive name bytes private) (answer.Build r) new p = absurd p
+grows old (event.Arrive name bytes private) (answer.Commit r) new p = absurd p
+grows old (event.Announce name) (answer.Arrive r) new p = absurd p
+grows old (event.Announce name) (answer.Announce r) new p =
+    by_due old new (λ r due. (r ≡ Ok (announce old name)) × (due ≡ announced old name (announce old name))) _ _ r
+    (λ due is. by_equal old due (announced old name (announce old name)) is.1 (announced_grows old name (announce old name))) p
+grows old (event.Announce name) (answer.Shun r) new p = absurd p
+grows old (event.Announce name) (answer.Cluster r) new p = absurd p
+grows old (event.Announce name) (answer.Build r) new p = absurd p
+grows old (event.Announce name) (answer.Commit r) new p = absurd p
+grows old (event.Shun name) (answer.Arrive r) new p = absurd p
+grows old (event.Shun name) (answer.Announce r) new p = absurd p
+grows old (event.Shun name) (answer.Shun r) new p =
+    by_due old new (λ r due. (r ≡ shun old name) × (due ≡ shunned old name r)) _ _ r
+    (λ due is. by_equal old due (shunned old name r) is.1 (shunned_grows old name r)) p
+grows old (event.Shun name) (answer.Cluster r) new p = absurd p
+grows old (event.Shun name) (answer.Build r) new p = absurd p
+grows old (event.Shun name) (answer.Commit r) new p = absurd p
+grows old event.Cluster (answer.Arrive r) new p = absurd p
+grows old event.Cluster (answer.Announce r) new p = absurd p
+grows old event.Cluster (answer.Shun r) new p = absurd p
+grows old event.Cluster (answer.Cluster r) new p = by_due old new (IsClustering old) _ _ r (λ due is. clustering_grows old r due old.stopped is) p
+grows old event.Cluster (answer.Build r) new p = absurd p
+grows old event.Cluster (answer.Commit r) new p = absurd p
+grows old (event.Build ask) (answer.Arrive r) new p = absurd p
+grows old (event.Build ask) (answer.Announce r) new p = absurd p
+grows old (event.Build ask) (answer.Shun r) new p = absurd p
+grows old (event.Build ask) (answer.Cluster r) new p = absurd p
+grows old (event.Build ask) (answer.Build r) new p =
+    by_due old new (λ r due. IsBuilt old ask r × (due ≡ old)) _ _ r (λ due is. by_equal old due old is.1 (same_records old)) p
+grows old (event.Build ask) (answer.Commit r) new p = absurd p
+grows old event.Commit (answer.Arrive r) new p = absurd p
+grows old event.Commit (answer.Announce r) new p = absurd p
+grows old event.Commit (answer.Shun r) new p = absurd p
+grows old event.Commit (answer.Cluster r) new p = absurd p
+grows old event.Commit (answer.Build r) new p = absurd p
+grows old event.Commit (answer.Commit r) new p = commit_grows old.stopped old r new p
+
+-- ---- later
+
+blobs_of_both : (xs ys : List Record) → blobs (xs ++ ys) ≡ blobs xs + blobs ys
+blobs_of_both xs ys = sum_by-append (λ r. cond (is_blob r) 1 0) xs ys
+
+pub same : (s : Seen) → IsLater s s
+same s = record { more = []; records = sym (append-nil s.state.records); stored = omega arith }
+
+pub later : (old new : Seen) (e : Event) (a : Answer) → old.loaded ≤ length old.state.records → new.loaded ≡ old.loaded → Step old.state e a new.state → IsLater old new
+later old new e a within loaded step =
+    let g = grows old.state e a new.state step in
+    record {
+      more = g.0;
+      records = g.1;
+      stored =
+          (λ i. blobs (drop (loaded i) (g.1 i)))
+          ∙ ap blobs (drop-append-le old.loaded old.state.records g.0 within)
+          ∙ blobs_of_both (drop old.loaded old.state.records) g.0;
+    }
+
+pub through : (a b c : Seen) → IsLater a b → IsLater b c → IsLater a c
+through a b c p q =
+    record {
+      more = p.more ++ q.more;
+      records = q.records ∙ ap (λ (r : List Record). r ++ q.more) p.records ∙ append_assoc a.state.records p.more q.more;
+      stored = let both = blobs_of_both p.more q.more in omega (arith, p.stored, q.stored, both);
+    }
+
+pub seen_never_falls : (a b : Seen) → IsLater a b → stored a ≤ stored b
+seen_never_falls a b p = omega (arith, p.stored)
+
+pub steps_go_on : StepsGoOn
+steps_go_on = record { grows = grows; later = later; same = same; through = through; never_falls = seen_never_falls }
+
+-- ---- repositories with their disks
+
+pub later_self : {D : Type 0} (d : DiskState) (a : Whole D) → IsLaterOn d d a a
+later_self d a = record { seen = same a.seen; keeps = search }
+
+pub later_through : {D : Type 0} (d e f : DiskState) (a b c : Whole D) → IsLaterOn d e a b → IsLaterOn e f b c → IsLaterOn d f a c
+later_through d e f a b c p q = record { seen = through a.seen b.seen c.seen p.seen q.seen; keeps = keeps_on d e f p.keeps q.keeps }
+
+pub step_later : {D : Type 0} (d e : DiskState) (a : Whole D) (event : Event) (answer : Answer) (b : Whole D) → MayStep d e a event answer b → IsLaterOn d e a b
+step_later d e a event answer b p =
+    let within : a.seen.loaded ≤ length a.seen.state.records = omega (arith, p.old_whole.seen.loaded, p.old_whole.seen.committed) in
+    record { seen = later a.seen b.seen event answer within p.loaded p.step; keeps = p.keeps }
+
+pub never_falls : {D : Type 0} (d e : DiskState) (a b : Whole D) → IsLaterOn d e a b → stored a.seen ≤ stored b.seen
+never_falls d e a b p = seen_never_falls a.seen b.seen p.seen

@@ -1,0 +1,42 @@
+-- The steps of a repository as those of a machine, and what each of them keeps: the records go on, and the state after it is later.
+use Rattle.std.specs.Prelude.{◌≡◌, ℕ, ◌≤◌, List, ◌++◌, length}
+use Rattle.fsl_disk.specs.Disk.{DiskState, Keeps}
+use Rattle.fsl_record.specs.declared.Record.{Record}
+use Rattle.fsl_repo.specs.declared.Event.{Event}
+use Rattle.fsl_repo.specs.declared.Event.TheVariants as event
+use Rattle.fsl_repo.specs.declared.Answer.{Answer}
+use Rattle.fsl_repo.specs.declared.Answer.TheVariants as answer
+use Rattle.fsl_repo.specs.Machine.{State, ArriveStep, AnnounceStep, ShunStep, ClusterStep, IsCommit}
+use Rattle.fsl_repo.specs.Replies.{BuildStep}
+use Rattle.fsl_repo.specs.Whole.{Seen, Whole, IsWholeOn, IsLater, stored}
+
+-- the step of an event: an answer of its kind, and the state that it leaves
+abbrev pub Step : State → Event → Answer → State → Type 0
+Step old (event.Arrive name bytes private) (answer.Arrive result) new = ArriveStep old name bytes private result new
+Step old (event.Announce name) (answer.Announce result) new = AnnounceStep old name result new
+Step old (event.Shun name) (answer.Shun result) new = ShunStep old name result new
+Step old event.Cluster (answer.Cluster result) new = ClusterStep old result new
+Step old (event.Build ask) (answer.Build result) new = BuildStep old ask result new
+Step old event.Commit (answer.Commit result) new = IsCommit old.stopped old result new
+Step old _ _ new = ⊥
+
+-- a step of a repository: both have what every repository has, the state makes the step of the event, and the disk stays of its kind
+pub record MayStep {D : Type 0} (before after : DiskState) (old : Whole D) (e : Event) (a : Answer) (new : Whole D) : Type 0 where
+  pub old_whole : IsWholeOn before old
+  pub new_whole : IsWholeOn after new
+  pub step : Step old.seen.state e a new.seen.state
+  pub loaded : new.seen.loaded ≡ old.seen.loaded
+  pub keeps : Keeps before after
+
+-- a repository is later than another: its state is, and its disk is of the same kind
+pub record IsLaterOn {D : Type 0} (before after : DiskState) (old new : Whole D) : Type 0 where
+  pub seen : IsLater old.seen new.seen
+  pub keeps : Keeps before after
+
+-- Law. Whatever the event and its answer
+pub record StepsGoOn : Type 0 where
+  pub grows : (old : State) (e : Event) (a : Answer) (new : State) → Step old e a new → (more : List Record) × (new.records ≡ old.records ++ more)
+  pub later : (old new : Seen) (e : Event) (a : Answer) → old.loaded ≤ length old.state.records → new.loaded ≡ old.loaded → Step old.state e a new.state → IsLater old new
+  pub same : (s : Seen) → IsLater s s
+  pub through : (a b c : Seen) → IsLater a b → IsLater b c → IsLater a c
+  pub never_falls : (a b : Seen) → IsLater a b → stored a ≤ stored b
