@@ -1,5 +1,5 @@
-//! The rows of names, each after that of its primary parent. Only in a circle of parents, which no hashes make, the row is worked
-//! out from as many names above as there are facts.
+//! The rows of names, each after that of its primary parent, from which it is merged by the law `effective_by_parent`. Only in a circle
+//! of parents, which no hashes make, the row is worked out from as many names above as there are facts.
 ghost use Rattle.std.specs.List.{AllByRecursion};
 ghost use Rattle.std.specs.Prelude.{◌≡◌, List, ℕ, [], length, IfOk, OnOk};
 ghost use Rattle.fsl_tags.specs.Climbed.{climbed as climbed_row};
