@@ -1,7 +1,7 @@
 //! Tables that change by one fact: what each change tells of the names whose rows differ, and that it can be taken back.
 ghost use Rattle.std.specs.Prelude.{◌≡◌, ◌<◌, [], IfOk};
 
-use crate::names::letter;
+use crate::names::{add, are_distinct, letter, put_names};
 use fsl_date::Moment;
 use fsl_leaves::Leaves;
 use fsl_links::Links;
@@ -63,6 +63,91 @@ fn count_retired(alloc: Global) -> Result<usize, Fail> {
 #[test]
 fn a_retired_row_is_told(rt: HostRuntime) -> Result<(), Fail> {
     assert_eq!(rt; count_retired(rt.alloc())?, 1);
+    Ok(())
+}
+
+/// Adds the texts of the latest rows.
+fn add_latest(alloc: Global, table: &Timeline, into: &mut Text) -> Result<(), Memory> {
+    for row in table.latest(alloc, 9)?.items() {
+        add(into, row.text.bytes())?;
+    }
+    Ok(())
+}
+
+/// Puts a row in the place of one of its name and takes that back: what it tells, and what stands after each.
+fn change_back<L: Ledger>(
+    alloc: Global,
+    table: &mut Timeline,
+    first: Row,
+    second: Row,
+    into: &mut Text,
+    steps: &mut Steps<L>,
+) -> Result<(), Memory>
+    requires empty { table.old.facts ≡ [] }
+    requires same { second.name ≡ first.name }
+{
+    table.add(alloc, first, steps)?;
+    let undo = table.change(alloc, second, steps)?;
+    put_names(into, undo.changed().items());
+    let _ = add_latest(alloc, table, into);
+    table.undo(undo);
+    let _ = add_latest(alloc, table, into);
+    Ok(())
+}
+
+fn changed<L: Ledger>(
+    alloc: Global,
+    first: Row,
+    second: Row,
+    into: &mut Text,
+    blank: Blank,
+) -> Result<(), Memory>
+    requires name { blank.name ≡ L.name }
+    requires parts { blank.parts ≡ L.parts }
+    requires counts { 0 < L.parts }
+    requires same { second.name ≡ first.name }
+{
+    let mut steps: Steps<L> = Steps::new(blank);
+    let mut table = Timeline::new(alloc);
+    change_back(alloc, &mut table, first, second, into, &mut steps)
+}
+
+fn change_row(alloc: Global, into: &mut Text) -> Result<(), Fail> {
+    let time = Moment::new(1).ok_or("no moment")?;
+    let name = letter(b'p');
+    let first = row_at(alloc, time, name, b"old")?;
+    let second = row_at(alloc, time, name, b"new")?;
+    Ok(changed::<Brand>(alloc, first, second, into, Blank::new(1))?)
+}
+
+/// A row in the place of one of its name is told, and goes back.
+#[test]
+fn a_changed_row_is_told(rt: HostRuntime) -> Result<(), Fail> {
+    let mut text = Text::empty(rt.alloc());
+    change_row(rt.alloc(), &mut text)?;
+    assert_eq!(rt; text.bytes(), b" 516b new old".as_slice());
+    Ok(())
+}
+
+fn build_rows(alloc: Global, into: &mut Text) -> Result<(), Fail> {
+    let early = Moment::new(1).ok_or("no moment")?;
+    let late = Moment::new(2).ok_or("no moment")?;
+    let rows = [
+        row_at(alloc, early, letter(b'p'), b"early")?,
+        row_at(alloc, late, letter(b'q'), b"late")?,
+    ];
+    if are_distinct(&[rows[0].name, rows[1].name]) {
+        add_latest(alloc, &Timeline::build(alloc, &rows)?, into)?;
+    }
+    Ok(())
+}
+
+/// The latest row comes first.
+#[test]
+fn rows_are_built(rt: HostRuntime) -> Result<(), Fail> {
+    let mut text = Text::empty(rt.alloc());
+    build_rows(rt.alloc(), &mut text)?;
+    assert_eq!(rt; text.bytes(), b" late early".as_slice());
     Ok(())
 }
 

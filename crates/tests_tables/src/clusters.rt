@@ -2,8 +2,9 @@
 ghost use Rattle.std.specs.Prelude.{◌≡◌, ◌<◌, false};
 ghost use Rattle.std.specs.Str.{bytes_eq};
 
-use crate::names::{letter, names_of};
-use fsl_cluster::{Clusters, Fact, Undo};
+use crate::names::{letter, names_of, put, put_names};
+use fsl_cluster::{Clusters, Fact};
+use fsl_name::Name;
 use fsl_text::{Memory, Steps, Text};
 use std::alloc::Global;
 use std::marker::Brand;
@@ -20,40 +21,36 @@ fn artifact(alloc: Global, name: u8, private: bool, letters: &[u8]) -> Result<Fa
     })
 }
 
-/// What a name is: unclustered, missing or neither.
-fn kind(alloc: Global, clusters: &Clusters, name: u8) -> Result<&'static [u8], Memory> {
-    if clusters.is_missing(letter(name)) {
-        return Ok(b"m");
+/// Whether a name is unclustered.
+fn is_unclustered(alloc: Global, clusters: &Clusters, name: Name) -> bool {
+    match clusters.unclustered(alloc) {
+        Ok(names) => names.items().contains(&name),
+        Err(Memory) => false,
     }
-    let names = clusters.unclustered(alloc)?;
-    if names.items().contains(&letter(name)) {
-        return Ok(b"u");
-    }
-    Ok(b"-")
 }
 
-/// Puts what three names are at the end of a text.
-fn show(alloc: Global, clusters: &Clusters, into: &mut Text) -> Result<(), Memory> {
-    into.append(b" ")?;
-    into.append(kind(alloc, clusters, b'a')?)?;
-    into.append(kind(alloc, clusters, b'b')?)?;
-    into.append(kind(alloc, clusters, b'k')?)
+/// Adds what a name is: unclustered, missing or neither.
+fn put_kind(alloc: Global, clusters: &Clusters, name: u8, into: &mut Text) {
+    let missing = clusters.is_missing(letter(name));
+    let unclustered = is_unclustered(alloc, clusters, letter(name));
+    put(
+        into,
+        if missing {
+            b"m"
+        } else if unclustered {
+            b"u"
+        } else {
+            b"-"
+        },
+    );
 }
 
-/// Shows what stands after a change, and how many names it told.
-fn show_change(
-    alloc: Global,
-    clusters: &Clusters,
-    undo: &Undo,
-    into: &mut Text,
-) -> Result<(), Memory> {
-    show(alloc, clusters, into)?;
-    match undo.changed().items().len() {
-        1 => into.append(b"1"),
-        2 => into.append(b"2"),
-        3 => into.append(b"3"),
-        _ => into.append(b"?"),
-    }
+/// Adds what three names are.
+fn show(alloc: Global, clusters: &Clusters, into: &mut Text) {
+    put(into, b"are");
+    put_kind(alloc, clusters, b'a', into);
+    put_kind(alloc, clusters, b'b', into);
+    put_kind(alloc, clusters, b'k', into);
 }
 
 /// Takes two artifacts in and the second back, and shows what stands then.
@@ -72,11 +69,13 @@ fn come_and_go<L: Ledger>(
     let mut steps: Steps<L> = Steps::new(blank);
     let mut clusters = Clusters::new(alloc);
     clusters.add(alloc, first, &mut steps)?;
-    show(alloc, &clusters, into)?;
+    show(alloc, &clusters, into);
     let undo = clusters.add(alloc, second, &mut steps)?;
-    show_change(alloc, &clusters, &undo, into)?;
+    put_names(into, undo.changed().items());
+    show(alloc, &clusters, into);
     clusters.undo(undo);
-    show(alloc, &clusters, into)
+    show(alloc, &clusters, into);
+    Ok(())
 }
 
 /// Puts an artifact in the place of one of its name and takes that back, and shows what stands then.
@@ -95,35 +94,42 @@ fn be_changed<L: Ledger>(
     let mut steps: Steps<L> = Steps::new(blank);
     let mut clusters = Clusters::new(alloc);
     clusters.add(alloc, first, &mut steps)?;
-    show(alloc, &clusters, into)?;
+    show(alloc, &clusters, into);
     let undo = clusters.change(alloc, second, &mut steps)?;
-    show_change(alloc, &clusters, &undo, into)?;
+    put_names(into, undo.changed().items());
+    show(alloc, &clusters, into);
     clusters.undo(undo);
-    show(alloc, &clusters, into)
-}
-
-fn in_order(alloc: Global, first: Fact, second: Fact, into: &mut Text) -> Result<(), Fail> {
-    if second.name == first.name {
-        return Err(Fail::new("one name"));
-    }
-    come_and_go::<Brand>(alloc, first, second, into, Blank::new(1))?;
+    show(alloc, &clusters, into);
     Ok(())
 }
 
-fn both_orders(alloc: Global, into: &mut Text) -> Result<(), Fail> {
+fn in_order(alloc: Global, first: Fact, second: Fact, into: &mut Text) -> Result<(), Memory> {
+    if second.name != first.name {
+        return come_and_go::<Brand>(alloc, first, second, into, Blank::new(1));
+    }
+    Ok(())
+}
+
+fn cluster_first(alloc: Global, into: &mut Text) -> Result<(), Memory> {
     let member = artifact(alloc, b'a', false, b"")?;
     let cluster = artifact(alloc, b'k', false, b"ab")?;
-    in_order(alloc, cluster, member, into)?;
+    in_order(alloc, cluster, member, into)
+}
+
+fn cluster_last(alloc: Global, into: &mut Text) -> Result<(), Memory> {
     let member = artifact(alloc, b'a', false, b"")?;
     let cluster = artifact(alloc, b'k', false, b"ab")?;
     in_order(alloc, member, cluster, into)
 }
 
-fn changes(alloc: Global, into: &mut Text) -> Result<(), Memory> {
+fn becomes_public(alloc: Global, into: &mut Text) -> Result<(), Memory> {
     let first = artifact(alloc, b'a', true, b"")?;
     let mut second = artifact(alloc, b'a', false, b"")?;
     second.name = first.name;
-    be_changed::<Brand>(alloc, first, second, into, Blank::new(1))?;
+    be_changed::<Brand>(alloc, first, second, into, Blank::new(1))
+}
+
+fn other_members(alloc: Global, into: &mut Text) -> Result<(), Memory> {
     let first = artifact(alloc, b'k', false, b"ab")?;
     let mut second = artifact(alloc, b'k', false, b"k")?;
     second.name = first.name;
@@ -131,13 +137,45 @@ fn changes(alloc: Global, into: &mut Text) -> Result<(), Memory> {
 }
 
 #[test]
-fn artifacts_come_and_go(rt: HostRuntime) -> Result<(), Fail> {
+fn a_cluster_comes_before_a_member(rt: HostRuntime) -> Result<(), Fail> {
     let mut text = Text::empty(rt.alloc());
-    both_orders(rt.alloc(), &mut text)?;
-    changes(rt.alloc(), &mut text)?;
+    cluster_first(rt.alloc(), &mut text)?;
     assert_eq!(rt;
         text.bytes(),
-        b" mmu -mu1 mmu u-- -mu3 u-- --- u--1 --- mmu ---3 mmu".as_slice()
+        b" are m m u 86f7 are - m u are m m u".as_slice()
+    );
+    Ok(())
+}
+
+#[test]
+fn a_cluster_comes_after_a_member(rt: HostRuntime) -> Result<(), Fail> {
+    let mut text = Text::empty(rt.alloc());
+    cluster_last(rt.alloc(), &mut text)?;
+    assert_eq!(rt;
+        text.bytes(),
+        b" are u - - 13fb 86f7 e9d7 are - m u are u - -".as_slice()
+    );
+    Ok(())
+}
+
+#[test]
+fn a_private_artifact_becomes_public(rt: HostRuntime) -> Result<(), Fail> {
+    let mut text = Text::empty(rt.alloc());
+    becomes_public(rt.alloc(), &mut text)?;
+    assert_eq!(rt;
+        text.bytes(),
+        b" are - - - 86f7 are u - - are - - -".as_slice()
+    );
+    Ok(())
+}
+
+#[test]
+fn a_cluster_gets_other_members(rt: HostRuntime) -> Result<(), Fail> {
+    let mut text = Text::empty(rt.alloc());
+    other_members(rt.alloc(), &mut text)?;
+    assert_eq!(rt;
+        text.bytes(),
+        b" are m m u 13fb 86f7 e9d7 are - - - are m m u".as_slice()
     );
     Ok(())
 }

@@ -3,7 +3,7 @@ ghost use Rattle.std.specs.Prelude.{◌≡◌, ◌<◌, [], false, IfOk};
 ghost use Rattle.std.specs.Str.{bytes_eq};
 ghost use Rattle.fsl_files.specs.Conditions.{IsFilesFact};
 
-use crate::names::{add, add_names, letter};
+use crate::names::{add, letter, put, put_names};
 use fsl_files::{Change, Fact, FileRow, Files, How, Perm, Undo};
 use fsl_name::Name;
 use fsl_text::{List, Memory, Steps, Text};
@@ -76,8 +76,8 @@ fn add_change(into: &mut Text, change: &Change) -> Result<(), Memory> {
     into.append(change.path.bytes())
 }
 
-/// Adds what a check-in changes against its primary parent, or a dash.
-fn show(alloc: Global, files: &Files, name: Name, into: &mut Text) -> Result<(), Memory> {
+/// Adds what a check-in changes against its primary parent, or a question mark.
+fn add_changes(alloc: Global, files: &Files, name: Name, into: &mut Text) -> Result<(), Memory> {
     add(into, b"/")?;
     let Some(changes) = files.changes(alloc, name)? else {
         return add(into, b"?");
@@ -88,19 +88,12 @@ fn show(alloc: Global, files: &Files, name: Name, into: &mut Text) -> Result<(),
     Ok(())
 }
 
-/// What two check-ins change.
-fn shown(alloc: Global, files: &Files, child: Name, delta: Name) -> Result<Text, Memory> {
-    let mut into = Text::empty(alloc);
-    show(alloc, files, delta, &mut into)?;
-    show(alloc, files, child, &mut into)?;
-    Ok(into)
-}
-
-/// The names whose rows a change changed.
-fn changed(alloc: Global, undo: &Undo) -> Result<Text, Memory> {
-    let mut into = Text::empty(alloc);
-    add_names(&mut into, undo.changed().items())?;
-    Ok(into)
+/// Adds what two check-ins change, as far as there is memory.
+fn show(alloc: Global, files: &Files, into: &mut Text) {
+    put(into, b"delta");
+    let _ = add_changes(alloc, files, letter(b'd'), into);
+    put(into, b"child");
+    let _ = add_changes(alloc, files, letter(b'c'), into);
 }
 
 /// The names that the last check-in changed, and those that another in its place did, and what stands then and once each is taken
@@ -112,8 +105,9 @@ fn there_and_back<L: Ledger>(
     second: Fact,
     third: Fact,
     other: Fact,
+    into: &mut Text,
     steps: &mut Steps<L>,
-) -> Result<Text, Memory>
+) -> Result<(), Memory>
     requires none { files.old.facts ≡ [] }
     requires second { bytes_eq second.name first.name ≡ false }
     requires third { bytes_eq third.name second.name ≡ false }
@@ -124,21 +118,15 @@ fn there_and_back<L: Ledger>(
     requires third_fit { IsFilesFact third }
     requires other_fit { IsFilesFact other }
 {
-    let (child, delta) = (letter(b'c'), letter(b'd'));
     let (added, change) = arrive(alloc, files, first, second, third, other, steps)?;
-    let by_third = changed(alloc, &added);
-    let by_other = changed(alloc, &change);
-    let last = shown(alloc, files, child, delta);
+    put_names(into, added.changed().items());
+    put_names(into, change.changed().items());
+    show(alloc, files, into);
     files.undo(change);
-    let whole = shown(alloc, files, child, delta);
+    show(alloc, files, into);
     files.undo(added);
-    let early = shown(alloc, files, child, delta);
-    let mut into = by_third?;
-    add(&mut into, whole?.bytes())?;
-    add(&mut into, by_other?.bytes())?;
-    add(&mut into, last?.bytes())?;
-    add(&mut into, early?.bytes())?;
-    Ok(into)
+    show(alloc, files, into);
+    Ok(())
 }
 
 fn in_a_table<L: Ledger>(
@@ -147,8 +135,9 @@ fn in_a_table<L: Ledger>(
     second: Fact,
     third: Fact,
     other: Fact,
+    into: &mut Text,
     blank: Blank,
-) -> Result<Text, Memory>
+) -> Result<(), Memory>
     requires name { blank.name ≡ L.name }
     requires parts { blank.parts ≡ L.parts }
     requires counts { 0 < L.parts }
@@ -163,60 +152,70 @@ fn in_a_table<L: Ledger>(
 {
     let mut steps: Steps<L> = Steps::new(blank);
     let mut files = Files::new(alloc);
-    there_and_back(alloc, &mut files, first, second, third, other, &mut steps)
+    there_and_back(
+        alloc, &mut files, first, second, third, other, into, &mut steps,
+    )
 }
 
 /// The same, where the three have names of their own.
-fn found(alloc: Global, first: Fact, second: Fact, third: Fact, other: Fact) -> Result<Text, Fail>
+fn come(
+    alloc: Global,
+    first: Fact,
+    second: Fact,
+    third: Fact,
+    other: Fact,
+    into: &mut Text,
+) -> Result<(), Memory>
     requires same { other.name ≡ third.name }
     requires first_fit { IsFilesFact first }
     requires second_fit { IsFilesFact second }
     requires third_fit { IsFilesFact third }
     requires other_fit { IsFilesFact other }
 {
-    if second.name == first.name {
-        return Err(Fail::new("one name"));
+    if second.name != first.name && third.name != second.name && third.name != first.name {
+        return in_a_table::<Brand>(alloc, first, second, third, other, into, Blank::new(1));
     }
-    if third.name == second.name {
-        return Err(Fail::new("one name"));
-    }
-    if third.name == first.name {
-        return Err(Fail::new("one name"));
-    }
-    Ok(in_a_table::<Brand>(alloc, first, second, third, other, Blank::new(1))?)
+    Ok(())
 }
 
 /// A check-in `c`, its primary parent `d`, whose baseline is `a`, and then `a`, which another takes the place of.
-fn baseline_last(alloc: Global) -> Result<Text, Fail> {
+fn baseline_last(alloc: Global, into: &mut Text) -> Result<(), Memory> {
     let (a, c, d) = (letter(b'a'), letter(b'c'), letter(b'd'));
     let child = checkin(alloc, c, None, Some(d), b"x")?;
     let delta = checkin(alloc, d, Some(a), Some(a), b"y")?;
     let base = checkin(alloc, a, None, None, b"x")?;
     let other = checkin(alloc, a, None, None, b"z")?;
-    found(alloc, child, delta, base, other)
+    come(alloc, child, delta, base, other, into)
 }
 
 /// The same in the other order, and another check-in in the place of `c`.
-fn baseline_first(alloc: Global) -> Result<Text, Fail> {
+fn baseline_first(alloc: Global, into: &mut Text) -> Result<(), Memory> {
     let (a, c, d) = (letter(b'a'), letter(b'c'), letter(b'd'));
     let base = checkin(alloc, a, None, None, b"x")?;
     let delta = checkin(alloc, d, Some(a), Some(a), b"y")?;
     let child = checkin(alloc, c, None, Some(d), b"x")?;
     let other = checkin(alloc, c, None, Some(a), b"x")?;
-    found(alloc, base, delta, child, other)
+    come(alloc, base, delta, child, other, into)
 }
 
 #[test]
-fn a_baseline_comes_after_its_delta_and_before_it(rt: HostRuntime) -> Result<(), Fail> {
-    let late = baseline_last(rt.alloc())?;
+fn a_baseline_comes_after_its_delta(rt: HostRuntime) -> Result<(), Fail> {
+    let mut text = Text::empty(rt.alloc());
+    baseline_last(rt.alloc(), &mut text)?;
     assert_eq!(rt;
-        late.bytes(),
-        b" 3c36 84a5 86f7  / +y / *x -y  3c36 84a5 86f7  / +y / +x -y -z  / ? / ?".as_slice()
+        text.bytes(),
+        b" 3c36 84a5 86f7 3c36 84a5 86f7 delta / +y child / +x -y -z delta / +y child / *x -y delta / ? child / ?".as_slice()
     );
-    let early = baseline_first(rt.alloc())?;
+    Ok(())
+}
+
+#[test]
+fn a_baseline_comes_before_its_delta(rt: HostRuntime) -> Result<(), Fail> {
+    let mut text = Text::empty(rt.alloc());
+    baseline_first(rt.alloc(), &mut text)?;
     assert_eq!(rt;
-        early.bytes(),
-        b" 84a5  / +y / *x -y  84a5  / +y / *x  / +y / ?".as_slice()
+        text.bytes(),
+        b" 84a5 84a5 delta / +y child / *x delta / +y child / *x -y delta / +y child / ?".as_slice()
     );
     Ok(())
 }

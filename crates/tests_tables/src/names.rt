@@ -49,3 +49,13 @@ pub fn add_names(into: &mut Text, names: &[Name]) -> Result<(), Memory> {
     }
     Ok(())
 }
+
+/// Adds a word behind a space, or nothing where there is no memory: then the text isn't the one that a test wants.
+pub fn put(into: &mut Text, word: &[u8]) {
+    let _ = add(into, word);
+}
+
+/// Adds the first digits of each name, as far as there is memory.
+pub fn put_names(into: &mut Text, names: &[Name]) {
+    let _ = add_names(into, names);
+}

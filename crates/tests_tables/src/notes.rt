@@ -5,11 +5,11 @@ ghost use Rattle.std.specs.Str.{bytes_eq};
 ghost use Rattle.fsl_order.specs.Rows.{by_name};
 ghost use Rattle.fsl_wiki.specs.Pages.{name_of};
 
-use crate::names::{add, letter};
+use crate::names::{letter, put};
 use fsl_date::Moment;
 use fsl_name::Name;
 use fsl_text::{Memory, Steps, Text};
-use fsl_wiki::{Attached, Fact, Note, Pages};
+use fsl_wiki::{Attached, Fact, Note, Page, Pages};
 use std::alloc::Global;
 use std::marker::Brand;
 use std::sync::ledger::{Blank, Ledger};
@@ -26,6 +26,16 @@ fn note(name: u8, date: i64) -> Result<Fact, Fail> {
     }))
 }
 
+/// A version of the page `t`.
+fn page(alloc: Global, name: u8, date: i64) -> Result<Fact, Fail> {
+    Ok(Fact::Page(Page {
+        name: letter(name),
+        date: Moment::new(date).ok_or("no moment")?,
+        title: Text::of(alloc, b"t")?,
+        user: Text::of(alloc, b"ann")?,
+    }))
+}
+
 /// An attachment to the page `t`.
 fn attachment(alloc: Global, name: Name, date: Moment) -> Result<Fact, Memory>
     ensures { IfOk result (λ fact. name_of fact ≡ name) }
@@ -39,18 +49,21 @@ fn attachment(alloc: Global, name: Name, date: Moment) -> Result<Fact, Memory>
     }))
 }
 
+/// Whether the page `t` has an attachment, or a version.
+fn has_page(alloc: Global, pages: &Pages) -> Result<bool, Memory> {
+    let attached = pages.attached(alloc, b"t")?.items().is_empty();
+    Ok(!attached || !pages.history(alloc, b"t")?.items().is_empty())
+}
+
 /// Adds the first digits of the current technote, or a dash, and a word for the attachments.
-fn show(alloc: Global, pages: &Pages, into: &mut Text) -> Result<(), Memory> {
+fn show(alloc: Global, pages: &Pages, into: &mut Text) {
     match pages.note(letter(b'x')) {
-        None => add(into, b"-")?,
-        Some(name) => add(into, &name.text()[..4])?,
+        None => put(into, b"-"),
+        Some(name) => put(into, &name.text()[..4]),
     }
-    if pages.attached(alloc, b"t")?.items().is_empty()
-        && pages.history(alloc, b"t")?.items().is_empty()
-    {
-        return Ok(());
+    if has_page(alloc, pages) != Ok(false) {
+        put(into, b"attached");
     }
-    add(into, b"attached")
 }
 
 /// Takes two facts in, and shows what stands after each.
@@ -67,9 +80,10 @@ fn arrive<L: Ledger>(
     ensures facts { IfOk result (λ _. pages.new.facts ≡ by_name name_of (second.now ∷ first.now ∷ [])) }
 {
     pages.add(alloc, first.copied(alloc)?, steps)?;
-    show(alloc, pages, into)?;
+    show(alloc, pages, into);
     pages.add(alloc, second.copied(alloc)?, steps)?;
-    show(alloc, pages, into)
+    show(alloc, pages, into);
+    Ok(())
 }
 
 /// Puts a fact in the place of the second, takes that back, and shows what stands after each.
@@ -87,9 +101,9 @@ fn move_back<L: Ledger>(
 {
     let undo = pages.change(alloc, moved, steps)?;
     let changed = undo.changed().items().len();
-    show(alloc, pages, into)?;
+    show(alloc, pages, into);
     pages.undo(undo);
-    show(alloc, pages, into)?;
+    show(alloc, pages, into);
     Ok(changed)
 }
 
@@ -133,5 +147,18 @@ fn technotes_come_and_go(rt: HostRuntime) -> Result<(), Fail> {
     let mut text = Text::empty(rt.alloc());
     assert_eq!(rt; shown(rt.alloc(), &new, &old, &mut text)?, 1);
     assert_eq!(rt; text.bytes(), b" e9d7 e9d7 e9d7 attached e9d7".as_slice());
+    Ok(())
+}
+
+#[test]
+fn a_page_stays_while_a_technote_comes_and_goes(rt: HostRuntime) -> Result<(), Fail> {
+    let page = page(rt.alloc(), b'a', 1)?;
+    let note = note(b'b', 2)?;
+    let mut text = Text::empty(rt.alloc());
+    assert_eq!(rt; shown(rt.alloc(), &page, &note, &mut text)?, 1);
+    assert_eq!(rt;
+        text.bytes(),
+        b" - attached e9d7 attached - attached e9d7 attached".as_slice()
+    );
     Ok(())
 }

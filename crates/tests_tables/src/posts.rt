@@ -2,7 +2,7 @@
 ghost use Rattle.std.specs.Prelude.{◌≡◌, ◌<◌, [], false, IfOk};
 ghost use Rattle.std.specs.Str.{bytes_eq};
 
-use crate::names::{add_names, letter};
+use crate::names::{letter, put, put_names};
 use fsl_date::Moment;
 use fsl_forum::*;
 use fsl_name::Name;
@@ -53,15 +53,6 @@ fn arrive<L: Ledger>(
     Ok((undo, change))
 }
 
-/// The names that changes changed.
-fn changed(alloc: Global, first: &Undo, second: &Undo) -> Result<Text, Memory> {
-    let mut into = Text::empty(alloc);
-    add_names(&mut into, first.changed().items())?;
-    into.append(b"/")?;
-    add_names(&mut into, second.changed().items())?;
-    Ok(into)
-}
-
 /// The names that changes changed, and the thread of a post after them and once they are taken back.
 fn there_and_back<L: Ledger>(
     alloc: Global,
@@ -69,19 +60,22 @@ fn there_and_back<L: Ledger>(
     first: Fact,
     second: Fact,
     other: Fact,
+    into: &mut Text,
     steps: &mut Steps<L>,
-) -> Result<(Text, Option<Name>, Option<Name>), Memory>
+) -> Result<(Option<Name>, Option<Name>), Memory>
     requires none { threads.old.facts ≡ [] }
     requires differ { bytes_eq second.name first.name ≡ false }
     requires same { other.name ≡ first.name }
 {
     let name = first.name;
     let (undo, change) = arrive(alloc, threads, first, second, other, steps)?;
-    let names = changed(alloc, &undo, &change);
+    put_names(into, undo.changed().items());
+    put(into, b"then");
+    put_names(into, change.changed().items());
     let after = threads.place(name);
     threads.undo(change);
     threads.undo(undo);
-    Ok((names?, after, threads.place(name)))
+    Ok((after, threads.place(name)))
 }
 
 fn in_a_table<L: Ledger>(
@@ -89,8 +83,9 @@ fn in_a_table<L: Ledger>(
     first: Fact,
     second: Fact,
     other: Fact,
+    into: &mut Text,
     blank: Blank,
-) -> Result<(Text, Option<Name>, Option<Name>), Memory>
+) -> Result<(Option<Name>, Option<Name>), Memory>
     requires name { blank.name ≡ L.name }
     requires parts { blank.parts ≡ L.parts }
     requires counts { 0 < L.parts }
@@ -99,28 +94,33 @@ fn in_a_table<L: Ledger>(
 {
     let mut steps: Steps<L> = Steps::new(blank);
     let mut threads = Threads::new(alloc);
-    there_and_back(alloc, &mut threads, first, second, other, &mut steps)
+    there_and_back(alloc, &mut threads, first, second, other, into, &mut steps)
 }
 
 /// A reply of `b` to `a`, which names another root, comes before `a`, and is then a start.
-fn found(alloc: Global, date: Moment) -> Result<(Text, Option<Name>, Option<Name>), Fail> {
-    invalid_stays();
+fn found(
+    alloc: Global,
+    date: Moment,
+    into: &mut Text,
+) -> Result<(Option<Name>, Option<Name>), Memory> {
     let a = letter(b'a');
     let b = letter(b'b');
     if a == b {
-        return Err(Fail::new("one name"));
+        return Ok((None, None));
     }
     let reply = post(alloc, b, date, Some(letter(b'm')), Some(a))?;
     let second = post(alloc, a, date, None, None)?;
     let start = post(alloc, b, date, None, None)?;
-    Ok(in_a_table::<Brand>(alloc, reply, second, start, Blank::new(1))?)
+    in_a_table::<Brand>(alloc, reply, second, start, into, Blank::new(1))
 }
 
 #[test]
 fn a_reply_comes_before_its_post_and_becomes_a_start(rt: HostRuntime) -> Result<(), Fail> {
+    invalid_stays();
     let date = Moment::new(1).ok_or("no moment")?;
-    let (names, after, before) = found(rt.alloc(), date)?;
-    assert_eq!(rt; names.bytes(), b" 86f7 e9d7/ e9d7".as_slice());
+    let mut names = Text::empty(rt.alloc());
+    let (after, before) = found(rt.alloc(), date, &mut names)?;
+    assert_eq!(rt; names.bytes(), b" 86f7 e9d7 then e9d7".as_slice());
     assert_eq!(rt; (after, before), (Some(letter(b'b')), Some(letter(b'm'))));
     Ok(())
 }

@@ -3,7 +3,7 @@ ghost use Rattle.std.specs.Prelude.{◌≡◌, ◌<◌, ◌∷◌, [], false, If
 ghost use Rattle.std.specs.Str.{bytes_eq};
 ghost use Rattle.fsl_order.specs.Rows.{by_name};
 
-use crate::names::letter;
+use crate::names::{add, letter};
 use fsl_date::Moment;
 use fsl_text::{List, Memory, Steps, Text};
 use fsl_ticket::{Fact, FieldChange, Tickets};
@@ -28,21 +28,21 @@ fn change(alloc: Global, name: u8, id: u8, date: i64, value: &[u8]) -> Result<Fa
     })
 }
 
-/// Puts the first field of a ticket at the end of a text, or a dash.
-fn show(alloc: Global, tickets: &Tickets, id: u8, into: &mut Text) -> Result<(), Memory> {
-    into.append(b" ")?;
+/// Adds the first field of a ticket, or a dash.
+fn add_field(alloc: Global, tickets: &Tickets, id: u8, into: &mut Text) -> Result<(), Memory> {
     let Some(values) = tickets.fields(alloc, letter(id))? else {
-        return into.append(b"-");
+        return add(into, b"-");
     };
     match values.items().first() {
-        Some(value) => into.append(value.bytes()),
+        Some(value) => add(into, value.bytes()),
         None => Ok(()),
     }
 }
 
-fn show_both(alloc: Global, tickets: &Tickets, into: &mut Text) -> Result<(), Memory> {
-    show(alloc, tickets, b'x', into)?;
-    show(alloc, tickets, b'y', into)
+/// Adds the first fields of two tickets, as far as there is memory.
+fn show(alloc: Global, tickets: &Tickets, into: &mut Text) {
+    let _ = add_field(alloc, tickets, b'x', into);
+    let _ = add_field(alloc, tickets, b'y', into);
 }
 
 /// Puts the second change in the place of that of its name, takes that back, and shows what stood after each.
@@ -60,9 +60,9 @@ fn move_back<L: Ledger>(
 {
     let undo = tickets.change(alloc, moved, steps)?;
     let changed = undo.changed().items().len();
-    show_both(alloc, tickets, into)?;
+    show(alloc, tickets, into);
     tickets.undo(undo);
-    show_both(alloc, tickets, into)?;
+    show(alloc, tickets, into);
     Ok(changed)
 }
 
@@ -80,9 +80,10 @@ fn arrive<L: Ledger>(
     ensures facts { IfOk result (λ _. tickets.new.facts ≡ by_name (λ f. f.name) (second.now ∷ first.now ∷ [])) }
 {
     tickets.add(alloc, first.copied(alloc)?, steps)?;
-    show_both(alloc, tickets, into)?;
+    show(alloc, tickets, into);
     tickets.add(alloc, second.copied(alloc)?, steps)?;
-    show_both(alloc, tickets, into)
+    show(alloc, tickets, into);
+    Ok(())
 }
 
 fn in_a_table<L: Ledger>(

@@ -5,7 +5,8 @@ ghost use Rattle.fsl_tags.specs.Tags.{IsTagFact};
 
 use super::fit::is_fit;
 use super::{assertion, child, table, tags};
-use crate::names::{add, add_names, letter};
+use crate::names::{letter, put, put_names};
+use fsl_name::Name;
 use fsl_rows::Named;
 use fsl_tags::*;
 use fsl_text::{List, Memory, Steps, Text};
@@ -60,24 +61,21 @@ fn arrive<L: Ledger>(
     Ok((undo, change))
 }
 
-/// The values of three tags on `a` and on `b`.
-fn shown(alloc: Global, tags: &Tags) -> Result<Text, Memory> {
-    let mut into = Text::empty(alloc);
-    for byte in *b"ab" {
-        for tag in [b"branch".as_slice(), b"sym-b".as_slice(), b"k".as_slice()] {
-            match tags.effective(letter(byte), tag) {
-                Some(assertion) => add(&mut into, assertion.value.bytes())?,
-                None => add(&mut into, b"-")?,
-            }
-        }
+/// Adds the value of a tag on a check-in, or a dash.
+fn show_tag(tags: &Tags, name: Name, tag: &[u8], into: &mut Text) {
+    match tags.effective(name, tag) {
+        Some(assertion) => put(into, assertion.value.bytes()),
+        None => put(into, b"-"),
     }
-    Ok(into)
 }
 
-fn changed(alloc: Global, undo: &Undo) -> Result<Text, Memory> {
-    let mut into = Text::empty(alloc);
-    add_names(&mut into, undo.changed().items())?;
-    Ok(into)
+/// Adds the values of three tags on `a` and on `b`.
+fn show(tags: &Tags, into: &mut Text) {
+    for byte in *b"ab" {
+        for tag in [b"branch".as_slice(), b"sym-b".as_slice(), b"k".as_slice()] {
+            show_tag(tags, letter(byte), tag, into);
+        }
+    }
 }
 
 /// What a table shows after all, the names that the last change changed, and what it shows once all but the first is taken back.
@@ -87,8 +85,9 @@ fn there_and_back<L: Ledger>(
     early: &Fact,
     second: &Fact,
     whole: &Fact,
+    into: &mut Text,
     steps: &mut Steps<L>,
-) -> Result<Text, Memory>
+) -> Result<(), Memory>
     requires none { tags.old.facts ≡ [] }
     requires early { early.now ≡ record whole.now { parent = None } }
     requires differ { bytes_eq second.now.name early.now.name ≡ false }
@@ -97,15 +96,12 @@ fn there_and_back<L: Ledger>(
     requires whole_fit { IsTagFact (second.now ∷ early.now ∷ []) whole.now }
 {
     let (undo, change) = arrive(alloc, tags, early, second, whole, steps)?;
-    let after = shown(alloc, tags);
-    let names = changed(alloc, &change);
+    show(tags, into);
+    put_names(into, change.changed().items());
     tags.undo(change);
     tags.undo(undo);
-    let before = shown(alloc, tags);
-    let mut text = after?;
-    text.append(names?.bytes())?;
-    text.append(before?.bytes())?;
-    Ok(text)
+    show(tags, into);
+    Ok(())
 }
 
 fn in_a_table<L: Ledger>(
@@ -113,8 +109,9 @@ fn in_a_table<L: Ledger>(
     early: &Fact,
     second: &Fact,
     whole: &Fact,
+    into: &mut Text,
     blank: Blank,
-) -> Result<Text, Memory>
+) -> Result<(), Memory>
     requires name { blank.name ≡ L.name }
     requires parts { blank.parts ≡ L.parts }
     requires counts { 0 < L.parts }
@@ -126,19 +123,19 @@ fn in_a_table<L: Ledger>(
 {
     let mut steps: Steps<L> = Steps::new(blank);
     let mut tags = Tags::new(alloc);
-    there_and_back(alloc, &mut tags, early, second, whole, &mut steps)
+    there_and_back(alloc, &mut tags, early, second, whole, into, &mut steps)
 }
 
-/// What a table shows where a fact comes before a second one.
-fn found(alloc: Global, whole: &Fact, second: &Fact) -> Result<Text, Fail> {
+/// Shows a table where a fact comes before a second one.
+fn come(alloc: Global, whole: &Fact, second: &Fact, into: &mut Text) -> Result<(), Memory> {
     let early = without_parent(alloc, whole)?;
     if second.name == early.name {
-        return Err(Fail::new("one name"));
+        return Ok(());
     }
     if !fit(alloc, &early, second, whole)? {
-        return Err(Fail::new("no facts of tags"));
+        return Ok(());
     }
-    Ok(in_a_table::<Brand>(alloc, &early, second, whole, Blank::new(1))?)
+    in_a_table::<Brand>(alloc, &early, second, whole, into, Blank::new(1))
 }
 
 fn parent(alloc: Global) -> Result<Fact, Fail> {
@@ -153,38 +150,58 @@ fn parent(alloc: Global) -> Result<Fact, Fail> {
     })
 }
 
+fn child_first(alloc: Global, into: &mut Text) -> Result<(), Fail> {
+    let parent = parent(alloc)?;
+    let child = child(b'b', b'a', List::new(alloc));
+    come(alloc, &child, &parent, into)?;
+    put(into, b"and");
+    come(alloc, &parent, &child, into)?;
+    Ok(())
+}
+
 #[test]
 fn a_parent_comes_before_or_after_its_child(rt: HostRuntime) -> Result<(), Fail> {
-    let parent = parent(rt.alloc())?;
-    let child = child(b'b', b'a', List::new(rt.alloc()));
-    let late = found(rt.alloc(), &child, &parent)?;
-    assert_eq!(rt; late.bytes(), b" v v - v v - e9d7 - - - - - -".as_slice());
-    let early = found(rt.alloc(), &parent, &child)?;
-    assert_eq!(rt; early.bytes(), b" v v - v v - v v - - - -".as_slice());
+    let mut text = Text::empty(rt.alloc());
+    child_first(rt.alloc(), &mut text)?;
+    assert_eq!(rt;
+        text.bytes(),
+        b" v v - v v - e9d7 - - - - - - and v v - v v - v v - - - -".as_slice()
+    );
+    Ok(())
+}
+
+fn circle(alloc: Global, into: &mut Text) -> Result<(), Fail> {
+    let tagged = child(b'a', b'b', tags(alloc)?);
+    let other = child(b'b', b'a', List::new(alloc));
+    come(alloc, &tagged, &other, into)?;
+    put(into, b"and");
+    come(alloc, &other, &tagged, into)?;
     Ok(())
 }
 
 #[test]
 fn check_ins_come_into_a_circle(rt: HostRuntime) -> Result<(), Fail> {
-    let tagged = child(b'a', b'b', tags(rt.alloc())?);
-    let other = child(b'b', b'a', List::new(rt.alloc()));
-    let first = found(rt.alloc(), &tagged, &other)?;
-    assert_eq!(rt; first.bytes(), b" - - v - - v - - v - - -".as_slice());
-    let last = found(rt.alloc(), &other, &tagged)?;
-    assert_eq!(rt; last.bytes(), b" - - v - - v e9d7 - - - - - -".as_slice());
+    let mut text = Text::empty(rt.alloc());
+    circle(rt.alloc(), &mut text)?;
+    assert_eq!(rt;
+        text.bytes(),
+        b" - - v - - v - - v - - - and - - v - - v e9d7 - - - - - -".as_slice()
+    );
     Ok(())
 }
 
-fn built(alloc: Global) -> Result<Text, Fail> {
-    effective_by_row();
-    others_stay();
+fn built(alloc: Global, into: &mut Text) -> Result<(), Fail> {
     let tags = table(alloc)?;
-    Ok(shown(alloc, &tags)?)
+    show(&tags, into);
+    Ok(())
 }
 
 #[test]
 fn a_circle_that_is_built_shows_the_same(rt: HostRuntime) -> Result<(), Fail> {
-    let found = built(rt.alloc())?;
-    assert_eq!(rt; found.bytes(), b" - - v - - v".as_slice());
+    effective_by_row();
+    others_stay();
+    let mut text = Text::empty(rt.alloc());
+    built(rt.alloc(), &mut text)?;
+    assert_eq!(rt; text.bytes(), b" - - v - - v".as_slice());
     Ok(())
 }
