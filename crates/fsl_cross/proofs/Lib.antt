@@ -14,6 +14,9 @@ pub mod PairsAdded
 pub mod Marking
 pub mod AddedItems
 pub mod Stays
+pub mod Ids
+pub mod Kinded
+pub mod Rekinded
 pub mod ClusterFacts
 pub mod Seeing
 pub mod Undoing
