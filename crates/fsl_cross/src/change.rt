@@ -8,6 +8,7 @@ pub(crate) mod kinds;
 pub(crate) mod leaves;
 pub(crate) mod links;
 pub(crate) mod pages;
+pub(crate) mod row;
 pub(crate) mod rows;
 pub(crate) mod tags;
 pub(crate) mod threads;
