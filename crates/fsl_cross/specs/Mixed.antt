@@ -10,12 +10,14 @@ use Rattle.fsl_links.specs.declared.Fact as links
 use Rattle.fsl_links.specs.Links.{primary}
 use Rattle.fsl_tags.specs.declared.Fact as tags
 use Rattle.fsl_leaves.specs.declared.Fact as leaves
+use Rattle.fsl_wiki.specs.declared.Fact as wiki
+use Rattle.fsl_forum.specs.declared.Fact as forum
 use Rattle.fsl_timeline.specs.declared.Row.{Row}
 use Rattle.fsl_cross.specs.declared.Item.{Item}
 use Rattle.fsl_cross.specs.Facts.{as_manifest}
 use Rattle.fsl_cross.specs.Checkins.{links_facts, tags_fact, tags_facts, checkin}
-use Rattle.fsl_cross.specs.Trails.{Leads, LinksTold, TagsTold}
-use Rattle.fsl_cross.specs.Tables.{leaves_fact, timeline_row_of, without}
+use Rattle.fsl_cross.specs.Trails.{Leads, LinksTold, TagsTold, PagesTold, ThreadsTold}
+use Rattle.fsl_cross.specs.Tables.{leaves_fact, pages_facts, forum_facts, timeline_row_of, without}
 
 -- the new gift at the names that are done, the old one elsewhere
 abbrev pub mixed : {X F : Type 0} → (X → List ℕ) → (X → Option F) → (X → Option F) → List (List ℕ) → X → Option F
@@ -88,6 +90,20 @@ pub record IsTagsTrail (items : List Item) (n : List ℕ) (us : List (Change tag
   pub before : first.facts ≡ tags_facts (without n items)
   pub leads : Leads first us now
   pub told : TagsTold us
+
+-- so did changes of the table of pages
+pub record IsPagesTrail (items : List Item) (n : List ℕ) (us : List (Change wiki.Fact)) (now : Held wiki.Fact) : Type 0 where
+  pub first : Held wiki.Fact
+  pub before : first.facts ≡ pages_facts (without n items)
+  pub leads : Leads first us now
+  pub told : PagesTold us
+
+-- so did changes of the table of posts
+pub record IsThreadsTrail (items : List Item) (n : List ℕ) (us : List (Change forum.Fact)) (now : Held forum.Fact) : Type 0 where
+  pub first : Held forum.Fact
+  pub before : first.facts ≡ forum_facts (without n items)
+  pub leads : Leads first us now
+  pub told : ThreadsTold us
 
 -- the row of each other artifact that is no check-in is the same with and without the one of this name
 abbrev pub OtherRowsStay : List Item → List ℕ → Type 0
