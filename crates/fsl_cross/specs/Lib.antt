@@ -11,3 +11,4 @@ pub mod Built
 pub mod Back
 pub mod Fresh
 pub mod Told
+pub mod Gone
