@@ -17,6 +17,9 @@ pub mod Stays
 pub mod Retiring
 pub mod Alike
 pub mod Validity
+pub mod Ids
+pub mod Kinded
+pub mod Rekinded
 pub mod ClusterFacts
 pub mod Seeing
 pub mod Undoing

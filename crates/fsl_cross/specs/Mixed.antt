@@ -72,6 +72,10 @@ RowsGo items n names before now = GoesOn (rows_mixed items n) (pushed (is_other_
 abbrev pub all_changed : {F : Type 0} → List (Change F) → List (List ℕ)
 all_changed us = flat_map (λ u. u.changed) us
 
+-- the name of a new artifact, and those of other check-ins whose rows some changes changed
+abbrev pub tagged_done : {F : Type 0} → List Item → List ℕ → List (Change F) → List (List ℕ)
+tagged_done items n us = pushed (is_other_checkin items n) (all_changed us) (n ∷ [])
+
 -- the items rise by name, and this is one of them
 pub record IsIn (items : List Item) (item : Item) : Type 0 where
   pub rising : IsStrictlySortedBy bytes_cmp (map (λ i. i.name) items)

@@ -5,6 +5,7 @@ pub(crate) mod contents;
 pub(crate) mod files;
 pub(crate) mod gone;
 pub(crate) mod history;
+pub(crate) mod kinds;
 pub(crate) mod leaves;
 pub(crate) mod links;
 pub(crate) mod pages;
