@@ -14,6 +14,9 @@ pub mod PairsAdded
 pub mod Marking
 pub mod AddedItems
 pub mod Stays
+pub mod Retiring
+pub mod Alike
+pub mod Validity
 pub mod Ids
 pub mod Kinded
 pub mod Rekinded

@@ -55,7 +55,7 @@ any-with {F = F} fact_name give own p items rise x at =
     by (Some f) e named =
         ap (λ o. list_any p (by_name fact_name (cons_option o (filter_map give (without x.name items))))) e
         ∙ any-by_name fact_name p f (filter_map give (without x.name items)) (distinct-given item_name fact_name give own (without x.name items) (rising-out item_name x.name items rise))
-            (ap (has (map fact_name (filter_map give (without x.name items)))) named ∙ given-absent item_name fact_name give own items rise x.name)
+        (ap (has (map fact_name (filter_map give (without x.name items)))) named ∙ given-absent item_name fact_name give own items rise x.name)
         ∙ sym (ap (λ o. option_map_or p o false || list_any p (filter_map give (without x.name items))) e)
 
 module _ (items : List Item) (rise : Rise items) (x : Item) (at : named item_name items x.name ≡ Some x) (id_of : Item → Option (List ℕ)) where

@@ -141,13 +141,13 @@ module _ (items : List Item) (rise : Rise items) (x : Item) (at : named item_nam
   kinds-same attached are id same rows =
       goes-all-none (rows_mixed items n) (is_attachment items) (seconds id attached.targets.entries) rows
       (λ q there is done.
-        let file = some-of (attachment items q) is in
-        let y = attachment-behind items q file.0 file.1 in
-        let target : file.0.target ≡ name_text id = subst (λ o. IfSome o (λ f. f.target ≡ name_text id)) file.1 (targets-at items rise attached are id q there) in
-        let stays : timeline_row items y.0 ≡ timeline_row old y.0
-        = attachment-stays items rise x at y.0.name y.0.artifact file.0 y.3 (ap (attachment_kind items) target ∙ same ∙ sym (ap (attachment_kind old) target)) in
-        subst (λ p. rows_mixed items n (p ∷ done) ≡ rows_mixed items n done) y.2
-        (mixed-same item_name (λ (r : Row). r.name) (timeline_row old) (timeline_row items) (row-own old) (row-own items) items rise done y.0 y.1 stays))
+      let file = some-of (attachment items q) is in
+      let y = attachment-behind items q file.0 file.1 in
+      let target : file.0.target ≡ name_text id = subst (λ o. IfSome o (λ f. f.target ≡ name_text id)) file.1 (targets-at items rise attached are id q there) in
+      let stays : timeline_row items y.0 ≡ timeline_row old y.0
+      = attachment-stays items rise x at y.0.name y.0.artifact file.0 y.3 (ap (attachment_kind items) target ∙ same ∙ sym (ap (attachment_kind old) target)) in
+      subst (λ p. rows_mixed items n (p ∷ done) ≡ rows_mixed items n done) y.2
+      (mixed-same item_name (λ (r : Row). r.name) (timeline_row old) (timeline_row items) (row-own old) (row-own items) items rise done y.0 y.1 stays))
 
   -- ---- at the end
 

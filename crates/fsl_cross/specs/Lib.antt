@@ -11,4 +11,5 @@ pub mod Built
 pub mod Back
 pub mod Fresh
 pub mod Told
+pub mod Gone
 pub mod Kinds

@@ -1,5 +1,5 @@
 -- What items give while a table is changed, one name after another.
-use Rattle.std.specs.Prelude.{◌≡◌, ℕ, List, [], ◌∷◌, Bool, not, ◌&&◌, if◌then◌else◌, cond, Option, Some, None, false, is_some, map, filter_map, flat_map}
+use Rattle.std.specs.Prelude.{◌≡◌, ℕ, ◌≤◌, List, [], ◌∷◌, Bool, not, ◌&&◌, if◌then◌else◌, cond, Option, Some, None, false, is_some, map, filter_map, flat_map, length}
 use Rattle.std.specs.Str.{bytes_eq}
 use Rattle.std.specs.List.Sorted.{IsStrictlySortedBy}
 use Rattle.fsl_order.specs.Names.{bytes_cmp, has}
@@ -95,19 +95,21 @@ pub record IsTagsTrail (items : List Item) (n : List ℕ) (us : List (Change tag
   pub leads : Leads first us now
   pub told : TagsTold us
 
--- so did changes of the table of pages
+-- so did the change of the table of pages, where there is one
 pub record IsPagesTrail (items : List Item) (n : List ℕ) (us : List (Change wiki.Fact)) (now : Held wiki.Fact) : Type 0 where
   pub first : Held wiki.Fact
   pub before : first.facts ≡ pages_facts (without n items)
   pub leads : Leads first us now
   pub told : PagesTold us
+  pub single : length us ≤ 1
 
--- so did changes of the table of posts
+-- so did that of the table of posts
 pub record IsThreadsTrail (items : List Item) (n : List ℕ) (us : List (Change forum.Fact)) (now : Held forum.Fact) : Type 0 where
   pub first : Held forum.Fact
   pub before : first.facts ≡ forum_facts (without n items)
   pub leads : Leads first us now
   pub told : ThreadsTold us
+  pub single : length us ≤ 1
 
 -- the row of each other artifact that is no check-in is the same with and without the one of this name
 abbrev pub OtherRowsStay : List Item → List ℕ → Type 0

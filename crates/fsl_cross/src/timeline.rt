@@ -92,7 +92,7 @@ pub(crate) fn ticket(alloc: Global, name: Name, change: &Ticket) -> Result<Row, 
 }
 
 /// Whether a technote is the current one of its id.
-fn is_current(pages: &Pages, id: Name, name: Name) -> bool
+pub(crate) fn is_current(pages: &Pages, id: Name, name: Name) -> bool
     ensures { result ≡ option_eq bytes_eq (wiki.note pages.now.facts id) (Some name) }
 {
     match pages.note(id) {
@@ -102,7 +102,7 @@ fn is_current(pages: &Pages, id: Name, name: Name) -> bool
 }
 
 /// The row of a technote at the time that it is about, where it is the current one of its id.
-fn technote(
+pub(crate) fn technote(
     alloc: Global,
     pages: &Pages,
     name: Name,
@@ -138,7 +138,12 @@ pub(crate) fn attachment(
 }
 
 /// The row of a post, where it is valid.
-fn post(alloc: Global, threads: &Threads, name: Name, post: &Forum) -> Result<Option<Row>, Memory>
+pub(crate) fn post(
+    alloc: Global,
+    threads: &Threads,
+    name: Name,
+    post: &Forum,
+) -> Result<Option<Row>, Memory>
     ensures { IfOk result (λ r. r ≡ post_row threads.now.facts name post.now) }
 {
     match threads.place(name) {

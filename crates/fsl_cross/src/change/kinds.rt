@@ -29,12 +29,7 @@ use std::sync::ledger::Ledger;
 
 /// The kind of the attachments that have an id as their target: that of a ticket where a change of one has the id, that of a technote
 /// where one has it, else that of the wiki. It takes one touch.
-fn kind_of<L: Ledger>(
-    attached: &Attached,
-    pages: &Pages,
-    id: Name,
-    steps: &mut Steps<L>,
-) -> RowKind
+fn kind_of<L: Ledger>(attached: &Attached, pages: &Pages, id: Name, steps: &mut Steps<L>) -> RowKind
     requires { IsName id }
     ensures { OfItems attached.now pages.now (λ items. result ≡ attachment_kind items (name_text id)) }
 {
@@ -96,12 +91,7 @@ fn attachment_in(artifact: &Artifact) -> Option<&Attachment>
 }
 
 /// The row of an attachment that has some kind. None where the name isn't that of one.
-fn row_at(
-    alloc: Global,
-    kind: RowKind,
-    items: &Items,
-    name: Name,
-) -> Result<Option<Row>, Memory>
+fn row_at(alloc: Global, kind: RowKind, items: &Items, name: Name) -> Result<Option<Row>, Memory>
     ensures { IfOk result (λ row. row ≡ option_map (attachment_row kind name) (attachment_of items.now name)) }
 {
     let Some(item) = items.get(name) else {
@@ -187,7 +177,16 @@ fn change_all<L: Ledger>(
         return Ok(());
     }
     let names = seconds(alloc, &attached.targets, id, steps)?;
-    change_each(alloc, kind, timeline, undos, items, item, names.items(), steps)
+    change_each(
+        alloc,
+        kind,
+        timeline,
+        undos,
+        items,
+        item,
+        names.items(),
+        steps,
+    )
 }
 
 /// Works the rows of those attachments out anew that have the id of the new artifact as their target, where it is a ticket change or a

@@ -13,7 +13,7 @@ change_all-requires-clause-before g c =
 pub returns-in-Some-clause-facts : goal.returns-in-Some-clause-facts
 returns-in-Some-clause-facts g c = on_ok_map c.change_all.result
     (λ go. subst (λ l. KindsGo c.args.items.now c.args.item.now.name l c.args.timeline.now.facts c.change_all.new.timeline.facts)
-      (own-names-are c.args.attached.now c.args.item.now.artifact (Some c.in-Some.id) (ap own_id (sym c.artifact.ensures) ∙ sym c.id_of.ensures ∙ c.in-Some.is)) go) c.change_all.ensures.facts
+    (own-names-are c.args.attached.now c.args.item.now.artifact (Some c.in-Some.id) (ap own_id (sym c.artifact.ensures) ∙ sym c.id_of.ensures ∙ c.in-Some.is)) go) c.change_all.ensures.facts
 
 pub returns-in-None-clause-facts : goal.returns-in-None-clause-facts
 returns-in-None-clause-facts g c =
