@@ -8,6 +8,7 @@ pub(crate) mod history;
 pub(crate) mod kinds;
 pub(crate) mod leaves;
 pub(crate) mod links;
+pub(crate) mod notes;
 pub(crate) mod pages;
 pub(crate) mod posts;
 pub(crate) mod rows;
