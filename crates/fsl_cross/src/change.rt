@@ -11,6 +11,7 @@ pub(crate) mod links;
 pub(crate) mod notes;
 pub(crate) mod pages;
 pub(crate) mod posts;
+pub(crate) mod row;
 pub(crate) mod rows;
 pub(crate) mod tags;
 pub(crate) mod threads;
