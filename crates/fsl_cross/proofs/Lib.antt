@@ -20,6 +20,7 @@ pub mod Validity
 pub mod Ids
 pub mod Kinded
 pub mod Rekinded
+pub mod Currency
 pub mod ClusterFacts
 pub mod Seeing
 pub mod Undoing
