@@ -4,7 +4,6 @@ pub mod SomeOutcome
 pub mod MessageLemmas
 pub mod RefusedLemmas
 pub mod SentLemmas
-pub mod ReportLemmas
 pub mod AnswerLemmas
 pub mod InputLemmas
 pub mod FileLemmas

@@ -1,9 +1,8 @@
 //! What is printed of a set of artifacts.
-ghost use Rattle.std.specs.Prelude.{◌≡◌, ◌++◌, map, flat_map, OnOk, IfOk, codes};
-ghost use Rattle.fsl_order.specs.Rows.{AreDistinct};
+ghost use Rattle.std.specs.Prelude.{◌≡◌, ◌++◌, flat_map, OnOk, IfOk};
 ghost use Rattle.fossil.specs.Sets.{name_line, report};
 
-use fsl_cluster::{Clusters, Fact};
+use fsl_cluster::{Fact, missing, unclustered};
 use fsl_name::Name;
 use fsl_text::{Memory, Text};
 use std::alloc::Global;
@@ -27,24 +26,15 @@ fn add_lines(text: &mut Text, word: &[u8], names: &[Name]) -> Result<(), Memory>
     Ok(())
 }
 
-/// The unclustered names of a table, and then the missing ones, both ascending, each on a line.
-fn lines_of(alloc: Global, clusters: &Clusters) -> Result<Text, Memory>
-    ensures { IfOk result (λ text. text ≡ report clusters.now.facts) }
+/// The unclustered names of a set of artifacts, and then the wanted ones, both ascending, each on a line. The set is given
+/// by its facts, in any order.
+pub fn report_of(alloc: Global, facts: &[Fact]) -> Result<Text, Memory>
+    ensures { IfOk result (λ text. text ≡ report facts.now) }
 {
-    let unclustered = clusters.unclustered(alloc)?;
-    let missing = clusters.missing(alloc)?;
+    let unclustered = unclustered(alloc, facts)?;
+    let missing = missing(alloc, facts)?;
     let mut text = Text::empty(alloc);
     add_lines(&mut text, b"unclustered", unclustered.items())?;
     add_lines(&mut text, b"wanted", missing.items())?;
     Ok(text)
-}
-
-/// The unclustered names of a set of artifacts, and then the wanted ones, both ascending, each on a line. The set is given
-/// by its facts, in any order.
-pub fn report_of(alloc: Global, facts: &[Fact]) -> Result<Text, Memory>
-    requires { AreDistinct (map (λ f. f.name) facts.now) }
-    ensures { IfOk result (λ text. text ≡ report facts.now) }
-{
-    let clusters = Clusters::build(alloc, facts)?;
-    lines_of(alloc, &clusters)
 }

@@ -73,13 +73,13 @@ moved_names facts distinct q =
 abbrev is_free : List Fact → Fact → Bool
 is_free facts f = not f.private && not (has (flat_map (λ g. g.members) facts) f.name)
 
-unclustered-by_name : (facts : List Fact) → AreDistinct (map named facts) → unclustered facts ≡ unclustered (table facts)
+pub unclustered-by_name : (facts : List Fact) → AreDistinct (map named facts) → unclustered facts ≡ unclustered (table facts)
 unclustered-by_name facts distinct =
     ascending-same (names (filter (is_free facts) facts)) (names (filter (is_free (table facts)) (table facts))) λ q.
     has-names (is_free facts) facts q ∙ moved_any (λ f. is_free facts f && bytes_eq q f.name) facts distinct ∙ sym (has-names (is_free facts) (table facts) q)
     ∙ ap (λ fs. has (names fs) q) (filter_agree (is_free facts) (is_free (table facts)) (λ f. ap (λ b. not f.private && not b) (moved_flat_map (λ g. g.members) facts distinct f.name)) (table facts))
 
-missing-by_name : (facts : List Fact) → AreDistinct (map named facts) → missing facts ≡ missing (table facts)
+pub missing-by_name : (facts : List Fact) → AreDistinct (map named facts) → missing facts ≡ missing (table facts)
 missing-by_name facts distinct =
     ascending-same (filter (λ name. not (has (names facts) name)) (flat_map (λ f. f.refs) facts)) (filter (λ name. not (has (names (table facts)) name)) (flat_map (λ f. f.refs) (table facts))) λ q.
     has-filter (λ name. not (has (names facts) name)) (flat_map (λ f. f.refs) facts) q
@@ -88,30 +88,16 @@ missing-by_name facts distinct =
 
 -- ---- the answers, from the sets that they are made of
 
-free_names : (facts : List Fact) (members free : List (List ℕ)) → members ≡ ascending (flat_map (λ f. f.members) facts)
+pub free_names : (facts : List Fact) (members free : List (List ℕ)) → members ≡ ascending (flat_map (λ f. f.members) facts)
     → free ≡ ascending (names (filter (λ f. not f.private && not (has members f.name)) facts)) → free ≡ unclustered facts
 free_names facts members free in_clusters made =
     made ∙ ap (λ fs. ascending (names fs)) (filter_agree (λ f. not f.private && not (has members f.name)) (is_free facts)
     (λ f. ap (λ b. not f.private && not b) (ap (λ set. has set f.name) in_clusters ∙ has-ascending (flat_map (λ g. g.members) facts) f.name)) facts)
 
-absent_names : (facts : List Fact) (held : List ℕ → Bool) (absent : List (List ℕ)) → ((q : List ℕ) → held q ≡ has (names facts) q)
+pub absent_names : (facts : List Fact) (held : List ℕ → Bool) (absent : List (List ℕ)) → ((q : List ℕ) → held q ≡ has (names facts) q)
     → absent ≡ ascending (filter (λ name. not (held name)) (flat_map (λ f. f.refs) facts)) → absent ≡ missing facts
 absent_names facts held absent is_held made =
     made ∙ ap ascending (filter_agree (λ name. not (held name)) (λ name. not (has (names facts) name)) (λ name. ap not (is_held name)) (flat_map (λ f. f.refs) facts))
-
--- the answers, which are the same over the facts by name
-pub record AreAnswers (facts : List Fact) (free absent : List (List ℕ)) : Type 0 where
-  pub unclustered : free ≡ unclustered (by_name named facts)
-  pub missing : absent ≡ missing (by_name named facts)
-
-pub answers : (facts seen : List Fact) (members : List (List ℕ)) (held : List ℕ → Bool) (free absent : List (List ℕ)) → AreDistinct (map named facts) → seen ≡ facts
-    → members ≡ ascending (flat_map (λ f. f.members) facts) → ((q : List ℕ) → held q ≡ has (names (by_name named facts)) q)
-    → free ≡ ascending (names (filter (λ f. not f.private && not (has members f.name)) facts))
-    → absent ≡ ascending (filter (λ name. not (held name)) (flat_map (λ f. f.refs) facts)) → AreAnswers seen free absent
-answers facts seen members held free absent distinct same in_clusters is_held first second = record {
-  unclustered = free_names facts members free in_clusters first ∙ unclustered-by_name facts distinct ∙ ap (λ fs. unclustered (table fs)) (sym same);
-  missing = absent_names facts held absent (λ q. is_held q ∙ sym (moved_names facts distinct q)) second ∙ missing-by_name facts distinct ∙ ap (λ fs. missing (table fs)) (sym same);
-}
 
 -- ---- one element more in a loop
 

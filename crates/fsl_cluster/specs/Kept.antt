@@ -31,10 +31,6 @@ facts_of es = map fact_of es
 abbrev pub entry_of : Fact → Entry
 entry_of f = record { private = f.private; members = f.members; refs = f.refs }
 
--- the facts that are lent
-abbrev pub lent : List (Bor Fact) → List Fact
-lent refs = map (λ r. r.now) refs
-
 abbrev pub held_of : Tables → Held Fact
 held_of t = record { facts = facts_of t.facts.entries; spare = t.facts.spare ∷ t.members.spare ∷ t.refs.spare ∷ t.unclustered.spare ∷ t.missing.spare ∷ [] }
 

@@ -5,11 +5,12 @@ ghost use Rattle.std.specs.Map.{keys_of};
 ghost use Rattle.fsl_order.specs.Names.{bytes_cmp, has};
 ghost use Rattle.fsl_order.specs.Rows.{by_name, AreDistinct};
 ghost use Rattle.fsl_table.specs.Contents.{value_at, with_entry};
-ghost use Rattle.fsl_cluster.specs.Kept.{AreLaid, IsKept, entry_of, facts_of, is_in, lent};
+ghost use Rattle.fsl_cluster.specs.Kept.{AreLaid, IsKept, entry_of, facts_of, is_in};
 
+use crate::Fact;
 use crate::entry::Entry;
+use crate::gather::{missing, unclustered};
 use crate::tables::Tables;
-use crate::{Fact, gather};
 use fsl_name::Name;
 use fsl_table::pairs::link_each;
 use fsl_table::{Log, Table};
@@ -36,24 +37,24 @@ fn copied(alloc: Global, fact: &Fact) -> Result<Fact, Memory>
     })
 }
 
-/// Some facts, lent one by one.
-fn each(alloc: Global, facts: &[Fact]) -> Result<Vec<&Fact>, Memory>
-    ensures { IfOk result (λ list. lent list.items ≡ facts.now) }
+/// Copies of some facts.
+pub(crate) fn copies(alloc: Global, facts: &[Fact]) -> Result<List<Fact>, Memory>
+    ensures { IfOk result (λ list. list ≡ facts.now) }
 {
     let mut list = Vec::with_capacity(alloc, facts.len())?;
     for fact in facts {
-        list.push(fact)?;
+        list.push(copied(alloc, fact)?)?;
     }
-    Ok(list)
+    Ok(List::from_vec(list))
 }
 
-/// Some facts in the order of their names, in which they are put into a map the fastest.
-fn in_name_order(alloc: Global, facts: &[Fact]) -> Result<Vec<&Fact>, Memory>
-    ensures { IfOk result (λ ordered. IsPermutation facts.now (lent ordered.items)) }
+/// Some facts against the order of their names: from the end of these they are put into a map the fastest.
+fn in_order(facts: List<Fact>) -> Vec<Fact>
+    ensures { IsPermutation facts result.items }
 {
-    let mut ordered = each(alloc, facts)?;
-    ordered.sort_unstable_by_key(|fact| fact.name);
-    Ok(ordered)
+    let mut ordered = facts.into_vec();
+    ordered.sort_unstable_by(|one, other| other.name.cmp(&one.name));
+    ordered
 }
 
 /// Puts a new fact and its pairs in.
@@ -101,14 +102,14 @@ fn lay<L: Ledger>(
     }
 }
 
-/// The maps of the facts and of the pairs, beside empty sets. The facts are copied.
+/// The maps of the facts and of the pairs, beside empty sets.
 fn lay_all<L: Ledger>(
     alloc: Global,
-    facts: Vec<&Fact>,
+    facts: Vec<Fact>,
     steps: &mut Steps<L>,
 ) -> Result<Tables, Memory>
-    requires { AreDistinct (map (λ f. f.name) (lent facts.items)) }
-    ensures facts { IfOk result (λ t. facts_of t.facts.entries ≡ by_name (λ f. f.name) (lent facts.entry.items)) }
+    requires { AreDistinct (map (λ f. f.name) facts.items) }
+    ensures facts { IfOk result (λ t. facts_of t.facts.entries ≡ by_name (λ f. f.name) facts.items) }
     ensures laid { IfOk result AreLaid }
     ensures unclustered { IfOk result (λ t. t.unclustered.entries ≡ []) }
     ensures missing { IfOk result (λ t. t.missing.entries ≡ []) }
@@ -116,8 +117,7 @@ fn lay_all<L: Ledger>(
     let mut tables = Tables::new(alloc);
     let mut left = facts;
     while let Some(fact) = left.pop() {
-        let copy = copied(alloc, fact)?;
-        lay(alloc, &mut tables, copy, steps)?;
+        lay(alloc, &mut tables, fact, steps)?;
     }
     Ok(tables)
 }
@@ -125,16 +125,16 @@ fn lay_all<L: Ledger>(
 /// The same, put in in the order of their names.
 fn lay_in_order<L: Ledger>(
     alloc: Global,
-    facts: &[Fact],
+    facts: List<Fact>,
     steps: &mut Steps<L>,
 ) -> Result<Tables, Memory>
-    requires { AreDistinct (map (λ f. f.name) facts.now) }
-    ensures facts { IfOk result (λ t. facts_of t.facts.entries ≡ by_name (λ f. f.name) facts.now) }
+    requires { AreDistinct (map (λ f. f.name) facts) }
+    ensures facts { IfOk result (λ t. facts_of t.facts.entries ≡ by_name (λ f. f.name) facts) }
     ensures laid { IfOk result AreLaid }
     ensures unclustered { IfOk result (λ t. t.unclustered.entries ≡ []) }
     ensures missing { IfOk result (λ t. t.missing.entries ≡ []) }
 {
-    let ordered = in_name_order(alloc, facts)?;
+    let ordered = in_order(facts);
     lay_all(alloc, ordered, steps)
 }
 
@@ -169,21 +169,20 @@ fn enter_all<L: Ledger>(
     Ok(())
 }
 
-/// The maps of some facts, of which no two have one name.
+/// The maps of some facts, of which no two have one name. They are moved.
 pub(crate) fn tables_of<L: Ledger>(
     alloc: Global,
-    facts: &[Fact],
+    facts: List<Fact>,
     steps: &mut Steps<L>,
 ) -> Result<Tables, Memory>
-    requires { AreDistinct (map (λ f. f.name) facts.now) }
-    ensures facts { IfOk result (λ t. facts_of t.facts.entries ≡ by_name (λ f. f.name) facts.now) }
+    requires { AreDistinct (map (λ f. f.name) facts) }
+    ensures facts { IfOk result (λ t. facts_of t.facts.entries ≡ by_name (λ f. f.name) facts) }
     ensures kept { IfOk result IsKept }
 {
+    let unclustered = unclustered(alloc, facts.items())?;
+    let missing = missing(alloc, facts.items())?;
     let mut tables = lay_in_order(alloc, facts, steps)?;
-    let members = gather::members(alloc, facts)?;
-    let unclustered = gather::public_without(alloc, facts, &members)?;
     enter_all(&mut tables.unclustered, unclustered.items(), steps)?;
-    let missing = gather::refs_unheld(alloc, facts, &tables.facts, steps)?;
     enter_all(&mut tables.missing, missing.items(), steps)?;
     Ok(tables)
 }

@@ -7,7 +7,7 @@ ghost use Rattle.fsl_cluster.specs.Clusters.{clusters_row};
 ghost use Rattle.fsl_cluster.specs.Clusters as table;
 
 use super::Fact;
-use super::build::tables_of;
+use super::build::{copies, tables_of};
 use super::rows::{put_new, put_over};
 use super::tables::{Logs, Tables, undo_all};
 use fsl_name::Name;
@@ -79,24 +79,32 @@ impl Clusters {
     }
 
     /// The table of some facts, of which no two have one name. It is the same in whatever order they stand:
-    /// that is the law `fsl_order::by_name_in_any_order`. `Memory` is the only error.
+    /// that is the law `fsl_order::by_name_in_any_order`. They are copied. `Memory` is the only error.
     pub fn build(alloc: Global, facts: &[Fact]) -> Result<Clusters, Memory>
         requires { AreDistinct (map (λ f. f.name) facts.now) }
         ensures facts { IfOk result (λ t. t.facts ≡ by_name (λ f. f.name) facts.now) }
     {
-        Clusters::build_counted::<Brand>(alloc, facts, Blank::new(1))
+        Clusters::from_facts(alloc, copies(alloc, facts)?)
     }
 
-    fn build_counted<L: Ledger>(
+    /// The table that `build` makes, of facts that are moved: none is copied. `Memory` is the only error.
+    pub fn from_facts(alloc: Global, facts: List<Fact>) -> Result<Clusters, Memory>
+        requires { AreDistinct (map (λ f. f.name) facts) }
+        ensures facts { IfOk result (λ t. t.facts ≡ by_name (λ f. f.name) facts) }
+    {
+        Clusters::from_counted::<Brand>(alloc, facts, Blank::new(1))
+    }
+
+    fn from_counted<L: Ledger>(
         alloc: Global,
-        facts: &[Fact],
+        facts: List<Fact>,
         blank: Blank,
     ) -> Result<Clusters, Memory>
         requires name { blank.name ≡ L.name }
         requires parts { blank.parts ≡ L.parts }
         requires counts { 0 < L.parts }
-        requires distinct { AreDistinct (map (λ f. f.name) facts.now) }
-        ensures facts { IfOk result (λ t. t.facts ≡ by_name (λ f. f.name) facts.now) }
+        requires distinct { AreDistinct (map (λ f. f.name) facts) }
+        ensures facts { IfOk result (λ t. t.facts ≡ by_name (λ f. f.name) facts) }
     {
         let mut steps: Steps<L> = Steps::new(blank);
         let tables = tables_of(alloc, facts, &mut steps)?;

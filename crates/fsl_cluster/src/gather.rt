@@ -1,23 +1,19 @@
 //! The names that facts have.
-ghost use Rattle.std.specs.Prelude.{◌≡◌, ◌++◌, ◌&&◌, IfOk, OnOk, map, filter, not, is_some};
+ghost use Rattle.std.specs.Prelude.{◌≡◌, ◌++◌, ◌&&◌, IfOk, OnOk, map, filter, not};
 ghost use Rattle.std.specs.List.{flat_map};
-ghost use Rattle.fsl_order.specs.Names.{bytes_cmp, has};
+ghost use Rattle.fsl_order.specs.Names.{has};
 ghost use Rattle.fsl_order.specs.Rows.{ascending};
-ghost use Rattle.fsl_table.specs.Contents.{value_at};
 ghost use Rattle.fsl_cluster.specs.Clusters.{names};
+ghost use Rattle.fsl_cluster.specs.Clusters as table;
 
 use super::Fact;
-use super::entry::Entry;
 use super::name_set::NameSet;
-use super::sets::is_there;
 use fsl_name::Name;
-use fsl_table::Table;
-use fsl_text::{Memory, Steps};
+use fsl_text::{List, Memory};
 use std::alloc::{AllocError, Global};
-use std::sync::ledger::Ledger;
 
 /// The members of the clusters among the facts.
-pub fn members(alloc: Global, facts: &[Fact]) -> Result<NameSet, Memory>
+fn members(alloc: Global, facts: &[Fact]) -> Result<NameSet, Memory>
     ensures { IfOk result (λ set. set ≡ ascending (flat_map (λ f. f.members) facts.now)) }
 {
     let mut names = Vec::new(alloc);
@@ -38,43 +34,50 @@ fn public_names(alloc: Global, facts: &[Fact], members: &NameSet) -> Result<Vec<
         .collect(alloc)
 }
 
-/// The names of the public facts that aren't in a set.
-pub fn public_without(alloc: Global, facts: &[Fact], members: &NameSet) -> Result<NameSet, Memory>
-    ensures { IfOk result (λ set. set ≡ ascending (names (filter (λ f. not f.private && not (has members.now f.name)) facts.now))) }
+/// The public names of some facts that stand in no M card of them, ascending. `Memory` is the only error.
+pub fn unclustered(alloc: Global, facts: &[Fact]) -> Result<List<Name>, Memory>
+    ensures { IfOk result (λ found. found ≡ table.unclustered facts.now) }
 {
-    let names = public_names(alloc, facts, members)?;
-    Ok(NameSet::of(names))
+    let members = members(alloc, facts)?;
+    let names = public_names(alloc, facts, &members)?;
+    Ok(NameSet::of(names).into_list())
 }
 
-/// Puts those of some names at the end that aren't held.
-fn append_unheld<L: Ledger>(
-    names: &mut Vec<Name>,
-    more: &[Name],
-    held: &Table<Name, Entry>,
-    steps: &mut Steps<L>,
-) -> Result<(), Memory>
-    ensures { OnOk result (names.new.items ≡ names.old.items ++ filter (λ name. not (is_some (value_at bytes_cmp name held.now.entries))) more.now) }
+/// The names of some facts.
+fn held_names(alloc: Global, facts: &[Fact]) -> Result<Vec<Name>, AllocError>
+    ensures { IfOk result (λ found. found.items ≡ names facts.now) }
+{
+    facts.iter().map(|fact| fact.name).collect(alloc)
+}
+
+/// Puts those of some names at the end that aren't in a set.
+fn append_unheld(into: &mut Vec<Name>, more: &[Name], held: &NameSet) -> Result<(), Memory>
+    ensures { OnOk result (into.new.items ≡ into.old.items ++ filter (λ name. not (has held.now name)) more.now) }
 {
     for name in more {
-        if !is_there(held, name, steps) {
-            names.push(*name)?;
+        if !held.contains(name) {
+            into.push(*name)?;
         }
     }
     Ok(())
 }
 
-/// The names that the facts refer to and that aren't held.
-pub fn refs_unheld<L: Ledger>(
-    alloc: Global,
-    facts: &[Fact],
-    held: &Table<Name, Entry>,
-    steps: &mut Steps<L>,
-) -> Result<NameSet, Memory>
-    ensures { IfOk result (λ set. set ≡ ascending (filter (λ name. not (is_some (value_at bytes_cmp name held.now.entries))) (flat_map (λ f. f.refs) facts.now))) }
+/// The names that some facts refer to and that aren't in a set.
+fn refs_unheld(alloc: Global, facts: &[Fact], held: &NameSet) -> Result<Vec<Name>, Memory>
+    ensures { IfOk result (λ found. found.items ≡ filter (λ name. not (has held.now name)) (flat_map (λ f. f.refs) facts.now)) }
 {
-    let mut names = Vec::new(alloc);
+    let mut found = Vec::new(alloc);
     for fact in facts {
-        append_unheld(&mut names, fact.refs.items(), held, steps)?;
+        append_unheld(&mut found, fact.refs.items(), held)?;
     }
-    Ok(NameSet::of(names))
+    Ok(found)
+}
+
+/// The names that some facts refer to and that are none of theirs, ascending. `Memory` is the only error.
+pub fn missing(alloc: Global, facts: &[Fact]) -> Result<List<Name>, Memory>
+    ensures { IfOk result (λ found. found ≡ table.missing facts.now) }
+{
+    let held = NameSet::of(held_names(alloc, facts)?);
+    let found = refs_unheld(alloc, facts, &held)?;
+    Ok(NameSet::of(found).into_list())
 }

@@ -18,6 +18,7 @@ mod writing;
 pub use clusters::{Clusters, Undo};
 use fsl_name::Name;
 use fsl_text::List;
+pub use gather::{missing, unclustered};
 pub use writing::make_cluster;
 
 /// What the table sees of a held artifact.

@@ -5,6 +5,7 @@ ghost use Rattle.fsl_order.specs.Names.{bytes_cmp, has};
 ghost use Rattle.fsl_order.specs.Rows.{ascending};
 
 use fsl_name::Name;
+use fsl_text::List;
 use std::marker::Model;
 
 /// A set of names, which contracts see as the ascending list of them.
@@ -52,10 +53,10 @@ impl NameSet {
         self.names.binary_search(name).is_ok()
     }
 
-    /// The names.
-    pub fn items(&self) -> &[Name]
-        ensures { result.now ≡ self.now }
+    /// The names, ascending.
+    pub fn into_list(self) -> List<Name>
+        ensures { result ≡ self }
     {
-        self.names.as_slice()
+        List::from_vec(self.names)
     }
 }

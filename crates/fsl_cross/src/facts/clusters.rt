@@ -10,7 +10,7 @@ use crate::held::Held;
 use crate::items::Items;
 use fsl_artifact::{members, refs};
 use fsl_cluster::{Clusters, Fact};
-use fsl_text::Memory;
+use fsl_text::{List, Memory};
 use std::alloc::Global;
 
 /// The fact that an artifact gives.
@@ -41,5 +41,6 @@ pub(crate) fn table(alloc: Global, items: &Items) -> Result<Clusters, Memory>
     requires { IsStrictlySortedBy bytes_cmp (map (λ i. i.name) items.now) }
     ensures { IfOk result (λ t. t.facts ≡ cluster_facts items.now) }
 {
-    Clusters::build(alloc, &of_items(alloc, items)?)
+    let facts = of_items(alloc, items)?;
+    Clusters::from_facts(alloc, List::from_vec(facts))
 }

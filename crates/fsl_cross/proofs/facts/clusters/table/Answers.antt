@@ -4,11 +4,11 @@ use Rattle.fsl_cross.specs.Tables.{cluster_facts}
 use Rattle.fsl_cross.proofs.TableLemmas.{clusters-by_name, clusters-distinct, held-if}
 use Rattle.fsl_cross.proofs.facts.clusters.table.Goals as goal
 
-pub build-requires : goal.build-requires
-build-requires c = subst (λ l. AreDistinct (map (λ f. f.name) l)) (sym (c.deref.ensures.value ∙ c.in_ok-of_items.ensures)) (clusters-distinct c.args.items.now c.requires)
+pub from_facts-requires : goal.from_facts-requires
+from_facts-requires c = subst (λ l. AreDistinct (map (λ f. f.name) l)) (sym (c.from_vec.ensures ∙ c.in_ok-facts.ensures)) (clusters-distinct c.args.items.now c.requires)
 
 pub returns : goal.returns
 returns c =
-    let same : by_name (λ f. f.name) c.deref.result.now ≡ cluster_facts c.args.items.now
-    = ap (by_name (λ f. f.name)) (c.deref.ensures.value ∙ c.in_ok-of_items.ensures) ∙ clusters-by_name c.args.items.now c.requires in
-    held-if c.build.result (by_name (λ f. f.name) c.deref.result.now) (cluster_facts c.args.items.now) same c.build.ensures.facts
+    let same : by_name (λ f. f.name) c.from_vec.result ≡ cluster_facts c.args.items.now
+    = ap (by_name (λ f. f.name)) (c.from_vec.ensures ∙ c.in_ok-facts.ensures) ∙ clusters-by_name c.args.items.now c.requires in
+    held-if c.from_facts.result (by_name (λ f. f.name) c.from_vec.result) (cluster_facts c.args.items.now) same c.from_facts.ensures.facts
