@@ -89,20 +89,6 @@ pub struct Post {
     pub how: PostKind,
 }
 
-impl Post {
-    /// A post with the same content. `Memory` is the only error.
-    pub fn copied(&self, alloc: Global) -> Result<Post, Memory>
-        ensures { IfOk result (λ post. post ≡ self.now) }
-    {
-        Ok(Post {
-            name: self.name,
-            date: self.date,
-            user: Text::of(alloc, self.user.bytes())?,
-            how: self.how,
-        })
-    }
-}
-
 /// A law and no code: a post without a next post is the end of its own chain, and every other post's chain has the end of its next
 /// post's. A chain that is whole stays as it is when a post comes.
 pub fn end_by_next()
