@@ -7,7 +7,7 @@
 //! where it has or gets an end are they visited, along the pairs.
 #![tactic(auto)]
 
-ghost use Rattle.std.specs.Prelude.{◌≡◌, IfOk};
+ghost use Rattle.std.specs.Prelude.{◌≡◌};
 ghost use Rattle.fsl_forum.specs.Threads.{next, kind, EndByNext, WholeStays, InvalidStays};
 
 mod build;
@@ -21,8 +21,7 @@ mod threads;
 
 use fsl_date::Moment;
 use fsl_name::Name;
-use fsl_text::{Memory, Text};
-use std::alloc::Global;
+use fsl_text::Text;
 pub use threads::{Threads, Undo};
 
 /// A forum post with the names of its G, I and P cards.
