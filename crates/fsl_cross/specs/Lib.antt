@@ -13,3 +13,4 @@ pub mod Fresh
 pub mod Told
 pub mod Gone
 pub mod Kinds
+pub mod Touches
