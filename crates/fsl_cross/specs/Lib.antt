@@ -10,7 +10,6 @@ pub mod Marks
 pub mod Built
 pub mod Back
 pub mod Fresh
-pub mod Told
 pub mod Gone
 pub mod Kinds
 pub mod Touches

@@ -16,4 +16,3 @@ pub(crate) mod rows;
 pub(crate) mod tags;
 pub(crate) mod threads;
 pub(crate) mod tickets;
-pub(crate) mod told;
