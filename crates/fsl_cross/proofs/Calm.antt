@@ -5,7 +5,7 @@ use Rattle.std.specs.List.{AllByRecursion, IsDistinct, list_any, list_all, cons_
 use Rattle.std.specs.Option.{option_map_or}
 use Rattle.std.specs.Str.{bytes_eq}
 use Rattle.std.specs.Cmp.Lexicographic.{bytes_decides, nat_list_eq_equiv}
-use Rattle.std_collections.proofs.SetCounts.{length-le_from_is_member}
+use Rattle.std.proofs.lemmas.Map.Made.{length-le_from_is_member}
 use Rattle.fsl_order.specs.Held.{Held, Change}
 use Rattle.fsl_order.specs.Names.{bytes_cmp, has}
 use Rattle.fsl_order.specs.Rows.{ascending, by_name, named}
@@ -60,20 +60,20 @@ has-append (x ∷ xs) ys q = ap (λ b. bytes_eq q x || b) (has-append xs ys q) �
     assoc true b c = refl
     assoc false b c = refl
 
-and-true : (a b : Bool) → (a && b) ≡ true → (a ≡ true) × (b ≡ true)
+pub and-true : (a b : Bool) → (a && b) ≡ true → (a ≡ true) × (b ≡ true)
 and-true true b e = (refl, e)
 and-true false b e = cc
 
-not-true : (b : Bool) → not b ≡ true → b ≡ false
+pub not-true : (b : Bool) → not b ≡ true → b ≡ false
 not-true true e = cc
 not-true false e = refl
 
-bits-apart : true ≡ false → ⊥
+pub bits-apart : true ≡ false → ⊥
 bits-apart e = cc
 
 -- ---- kinds
 
-manifest-is : (a : Artifact) (m : Manifest) → as_manifest a ≡ Some m → a ≡ kind.Manifest m
+pub manifest-is : (a : Artifact) (m : Manifest) → as_manifest a ≡ Some m → a ≡ kind.Manifest m
 manifest-is (kind.Manifest w) m e = ap kind.Manifest (inside e)
   where
     inside : Some w ≡ Some m → w ≡ m
@@ -104,6 +104,29 @@ calm-kind others name (kind.Forum w) e = cc
 
 -- ---- names that a check-in has
 
+or-right : (a b : Bool) → b ≡ true → (a || b) ≡ true
+or-right true b e = refl
+or-right false b e = e
+
+or-left : (a b : Bool) → a ≡ true → (a || b) ≡ true
+or-left true b e = refl
+or-left false b e = cc
+
+module _ (b f p q t : List (List ℕ)) (n : List ℕ) where
+  five-apart : has (b ++ f ++ p ++ q ++ t) n ≡ false → (has b n ≡ false) × (has p n ≡ false)
+  five-apart whole =
+      let four = or-false (has (b ++ f ++ p ++ q) n) (has t n) (sym (has-append (b ++ f ++ p ++ q) t n) ∙ whole) in
+      let three = or-false (has (b ++ f ++ p) n) (has q n) (sym (has-append (b ++ f ++ p) q n) ∙ four.0) in
+      let two = or-false (has (b ++ f) n) (has p n) (sym (has-append (b ++ f) p n) ∙ three.0) in
+      let one = or-false (has b n) (has f n) (sym (has-append b f n) ∙ two.0) in
+      (one.0, two.1)
+
+  five-among : has p n ≡ true → has (b ++ f ++ p ++ q ++ t) n ≡ true
+  five-among there =
+      has-append (b ++ f ++ p ++ q) t n
+      ∙ or-left (has (b ++ f ++ p ++ q) n) (has t n) (has-append (b ++ f ++ p) q n
+      ∙ or-left (has (b ++ f ++ p) n) (has q n) (has-append (b ++ f) p n ∙ or-right (has (b ++ f) n) (has p n) there))
+
 module _ (n : List ℕ) where
   abbrev IsApart : Item → Type 0
   IsApart item = has (references item.artifact) n ≡ false
@@ -115,10 +138,7 @@ module _ (n : List ℕ) where
   manifest-apart : (x : Item) (m : Manifest) → as_manifest x.artifact ≡ Some m → IsApart x → (has (option_to_list m.baseline) n ≡ false) × (has m.parents n ≡ false)
   manifest-apart x m is apart =
       let whole : has (manifest_names m) n ≡ false = sym (has-ascending (manifest_names m) n) ∙ ap (λ a. has (references a) n) (sym (manifest-is x.artifact m is)) ∙ apart in
-      let first = or-false (has (option_to_list m.baseline) n) _ (sym (has-append (option_to_list m.baseline) _ n) ∙ whole) in
-      let second = or-false (has (flat_map (λ file. option_to_list file.hash) m.files) n) _ (sym (has-append (flat_map (λ file. option_to_list file.hash) m.files) _ n) ∙ first.1) in
-      let third = or-false (has m.parents n) _ (sym (has-append m.parents _ n) ∙ second.1) in
-      (first.0, third.0)
+      five-apart (option_to_list m.baseline) (flat_map (λ file. option_to_list file.hash) m.files) m.parents (flat_map (λ pick. pick.target ∷ option_to_list pick.other) m.picks) (tag_targets m.tags) n whole
 
   -- no check-in has it as a parent
   no-kids : (xs : List Item) → AllByRecursion IsApart xs → filter (λ (f : links.Fact). has f.parents n) (links_facts xs) ≡ []
@@ -208,9 +228,9 @@ module _ (items : List Item) (rise : Rise items) (x : Item) (at : named item_nam
   tags-more childless =
       sym (mixed-end item_name (λ (f : tags.Fact). f.name) (tags_fact old) (tags_fact items) (tags_own old) (tags_own items) items rise (n ∷ [])
       (λ y found out.
-        let apart : bytes_eq y.name n ≡ false = (or-false (bytes_eq y.name n) false out).0 in
-        ap (λ up. option_map (λ cards. let g : tags.Fact = record { name = y.name; checkin = is_some (as_manifest y.artifact); parent = up; tags = assertions y cards } in g) (tag_cards y.artifact))
-        (primary-same items rise x at y.name apart (sym (ap (λ b. not b && is_name (primary (links_facts items) y.name) n) apart) ∙ childless y.name))))
+      let apart : bytes_eq y.name n ≡ false = (or-false (bytes_eq y.name n) false out).0 in
+      ap (λ up. option_map (λ cards. let g : tags.Fact = record { name = y.name; checkin = is_some (as_manifest y.artifact); parent = up; tags = assertions y cards } in g) (tag_cards y.artifact))
+      (primary-same items rise x at y.name apart (sym (ap (λ b. not b && is_name (primary (links_facts items) y.name) n) apart) ∙ childless y.name))))
       ∙ mixed-added item_name (λ (f : tags.Fact). f.name) (tags_fact old) (tags_fact items) (tags_own old) (tags_own items) items rise x at
 
   -- one change of tags whose assertions are all on the new check-in changes no other row
@@ -237,37 +257,27 @@ module _ (items : List Item) (rise : Rise items) (x : Item) (at : named item_nam
 
 -- ---- numbers
 
+all-not : (x : List ℕ) (xs : List (List ℕ)) → list_all (λ y. not (bytes_eq x y)) xs ≡ true → AllByRecursion (λ y. bytes_eq x y ≡ false) xs
+all-not x [] h = tt
+all-not x (y ∷ ys) h = let parts = and-true (not (bytes_eq x y)) _ h in (not-true (bytes_eq x y) parts.0, all-not x ys parts.1)
+
+distinct : (xs : List (List ℕ)) → all_differ xs ≡ true → IsDistinct bytes_eq xs
+unfolding IsDistinct
+distinct [] h = tt
+distinct (x ∷ xs) h = let parts = and-true (list_all (λ y. not (bytes_eq x y)) xs) (all_differ xs) h in (all-not x xs parts.0, distinct xs parts.1)
+
 -- names that differ are no more than the list that has them
 pub differ-within : (xs ys : List (List ℕ)) → all_differ xs ≡ true → ((q : List ℕ) → has xs q ≡ true → has ys q ≡ true) → length xs ≤ length ys
 differ-within xs ys apart among = length-le_from_is_member nat_list_eq_equiv xs ys (distinct xs apart) among
-  where
-    all-not : (x : List ℕ) (xs : List (List ℕ)) → list_all (λ y. not (bytes_eq x y)) xs ≡ true → AllByRecursion (λ y. bytes_eq x y ≡ false) xs
-    all-not x [] h = tt
-    all-not x (y ∷ ys) h = let parts = and-true (not (bytes_eq x y)) _ h in (not-true (bytes_eq x y) parts.0, all-not x ys parts.1)
-
-    distinct : (xs : List (List ℕ)) → all_differ xs ≡ true → IsDistinct bytes_eq xs
-    unfolding IsDistinct
-    distinct [] h = tt
-    distinct (x ∷ xs) h = let parts = and-true (list_all (λ y. not (bytes_eq x y)) xs) (all_differ xs) h in (all-not x xs parts.0, distinct xs parts.1)
 
 -- the parents of a check-in are among its references
 pub parents-within : (text : List ℕ) (m : Manifest) → IsKind text (kind.Manifest m) → length m.parents ≤ length (references (kind.Manifest m))
 parents-within text m is = differ-within m.parents (references (kind.Manifest m)) is.2.parents.differ among
   where
-    or-right : (a b : Bool) → b ≡ true → (a || b) ≡ true
-    or-right true b e = refl
-    or-right false b e = e
-
-    or-left : (a b : Bool) → a ≡ true → (a || b) ≡ true
-    or-left true b e = refl
-    or-left false b e = cc
-
     among : (q : List ℕ) → has m.parents q ≡ true → has (references (kind.Manifest m)) q ≡ true
     among q there =
         has-ascending (manifest_names m) q
-        ∙ has-append (option_to_list m.baseline) _ q
-        ∙ or-right (has (option_to_list m.baseline) q) _ (has-append (flat_map (λ file. option_to_list file.hash) m.files) _ q
-        ∙ or-right (has (flat_map (λ file. option_to_list file.hash) m.files) q) _ (has-append m.parents _ q ∙ or-left (has m.parents q) _ there))
+        ∙ five-among (option_to_list m.baseline) (flat_map (λ file. option_to_list file.hash) m.files) m.parents (flat_map (λ pick. pick.target ∷ option_to_list pick.other) m.picks) (tag_targets m.tags) q there
 
 -- what a check-in counts of another
 pub counted-is : (items : List Item) (o : Option (List ℕ)) → counted (files_facts items) o ≡ option_map_or (file_count items) o 0
@@ -301,82 +311,3 @@ counted-first items rise m = by (slice_get m.parents 0)
           | true ↦ λ e. omega (arith, is)
           | false ↦ λ e. omega (arith, is, none-counted p e)
         ] refl
-
--- ---- what each table takes
-
-calm-by : {P : Type 0} (others : List Item) (name : List ℕ) (a : Artifact) → Calm others name a → (as_manifest a ≡ None → tag_cards a ≡ None → P) → ((m : Manifest) → as_manifest a ≡ Some m → is_unnamed others name ≡ true → has_own_tags a ≡ true → P) → P
-calm-by others name a (inl k) none some = none k.0 k.1
-calm-by others name a (inr k) none some = some k.0 k.1 k.2 k.3
-
-empty-of : {F : Type 0} (test : List ℕ → Bool) (us : List (Change F)) → us ≡ [] → NoneOf test (all_changed us)
-empty-of test us e q listed = absurd (bits-apart (sym listed ∙ ap (λ (l : List (Change _)). has (all_changed l) q) e))
-
-module _ (items : List Item) (rise : Rise items) (x : Item) (at : named item_name items x.name ≡ Some x) (calm : IsCalm items x) where
-  abbrev n : List ℕ
-  n = x.name
-
-  abbrev old : List Item
-  old = without x.name items
-
-  kind_of : Calm old x.name x.artifact
-  kind_of = calm-kind old x.name x.artifact calm
-
-  apart-by : is_unnamed old x.name ≡ true → AllByRecursion (λ (item : Item). has (references item.artifact) x.name ≡ false) old
-  apart-by unnamed = all-apart x.name old (not-true _ unnamed)
-
-  -- parentage
-  pub links-step : (facts : List links.Fact) → facts ≡ links_facts old → (a b : ℕ) (us vs : List (Change links.Fact)) → (as_manifest x.artifact ≡ None → Untouched a b us vs) → (children (links_facts old) n ≡ [] → b ≤ a + parents_most x.artifact) → b ≤ a + parents_most x.artifact
-  links-step facts is a b us vs idle cost =
-      calm-by old x.name x.artifact kind_of (λ none bare. quiet-within a b (parents_most x.artifact) (idle none).0) (λ m is unnamed own. cost (no-children x.name old (apart-by unnamed)))
-
-  pub late-step : (a b : ℕ) (us vs : List (Change links.Fact)) → us ≡ [] → (as_manifest x.artifact ≡ None → Untouched a b us vs) → NoneLate items n vs
-  late-step a b us vs empty idle =
-      calm-by old x.name x.artifact kind_of (λ none bare. empty-of (is_child items n) vs ((idle none).1 ∙ empty)) (λ m is unnamed own. λ q listed. no-child items rise x at (apart-by unnamed) q)
-
-  -- tags
-  pub tags-step : (a b : ℕ) (us vs : List (Change tags.Fact)) → (tag_cards x.artifact ≡ None → Untouched a b us vs) → (has_own_tags x.artifact ≡ true → b ≤ a + tags_most x.artifact) → b ≤ a + tags_most x.artifact
-  tags-step a b us vs idle cost = calm-by old x.name x.artifact kind_of (λ none bare. quiet-within a b (tags_most x.artifact) (idle bare).0) (λ m is unnamed own. cost own)
-
-  pub retagged-step : OthersStay → (a b : ℕ) (us vs : List (Change tags.Fact)) → us ≡ [] → (tag_cards x.artifact ≡ None → Untouched a b us vs) → length vs ≤ 1
-      → (first now : Held tags.Fact) → Leads first vs now → TagsTold vs → first.facts ≡ tags_facts old → now.facts ≡ tags_facts items → NoneRetagged items n vs
-  retagged-step law a b us vs empty idle single first now lead told before after =
-      calm-by old x.name x.artifact kind_of (λ none bare. empty-of (is_other_checkin items n) vs ((idle bare).1 ∙ empty))
-      (λ m is unnamed own.
-        none-retagged items rise x at law (no-child items rise x at (apart-by unnamed)) own (tags_with (links_facts items) x (m.date, m.tags)) (ap (option_map (tags_with (links_facts items) x)) (ap tag_cards (manifest-is x.artifact m is)))
-        first now vs single lead told before after)
-
-  -- leaves
-  pub leaves-step : (facts : List leaves.Fact) → facts ≡ leaves_facts old → (a b : ℕ) → (as_manifest x.artifact ≡ None → b ≡ a) → (IsNoParent facts n → b ≤ a + parents_most x.artifact) → b ≤ a + parents_most x.artifact
-  leaves-step facts is a b idle cost =
-      calm-by old x.name x.artifact kind_of (λ none bare. quiet-within a b (parents_most x.artifact) (idle none))
-      (λ m k unnamed own. cost (ap (list_any (λ (f : leaves.Fact). has f.parents n)) is ∙ no-parent x.name old old (apart-by unnamed)))
-
-  -- files
-  pub files-step : (facts : List files.Fact) → facts ≡ files_facts old → (a b : ℕ) → (as_manifest x.artifact ≡ None → b ≡ a) → (is_followed facts n ≡ false → b ≤ a + files_most facts x) → b ≤ a + files_most (files_facts old) x
-  files-step facts is a b idle cost =
-      calm-by old x.name x.artifact kind_of (λ none bare. quiet-within a b (files_most (files_facts old) x) (idle none))
-      (λ m k unnamed own. subst (λ fs. b ≤ a + files_most fs x) is (cost (ap (λ fs. is_followed fs n) is ∙ no-follower x.name old (apart-by unnamed))))
-
--- pages
-pub pages-step : (others : List Item) (name : List ℕ) (art : Artifact) → is_calm others name art ≡ true → (a b : ℕ) → (pages_fact_of name art ≡ None → b ≡ a) → IfSome (option_and_then as_page (pages_fact_of name art)) (λ _. b ≤ a + 4) → b ≤ a + 4
-pages-step others name kind.Plain calm a b idle cost = quiet-within a b 4 (idle refl)
-pages-step others name (kind.Manifest m) calm a b idle cost = quiet-within a b 4 (idle refl)
-pages-step others name (kind.Wiki w) calm a b idle cost = cost
-pages-step others name (kind.Cluster w) calm a b idle cost = cc
-pages-step others name (kind.Control w) calm a b idle cost = cc
-pages-step others name (kind.Ticket w) calm a b idle cost = cc
-pages-step others name (kind.Attachment w) calm a b idle cost = cc
-pages-step others name (kind.Technote w) calm a b idle cost = cc
-pages-step others name (kind.Forum w) calm a b idle cost = cc
-
--- tickets, posts and what attachments are found by
-pub no-others : (others : List Item) (name : List ℕ) (art : Artifact) → is_calm others name art ≡ true → (ticket_fact_of name art ≡ None) × (forum_fact_of name art ≡ None) × (own_id art ≡ None) × (target_id art ≡ None)
-no-others others name kind.Plain calm = (refl, refl, refl, refl)
-no-others others name (kind.Manifest m) calm = (refl, refl, refl, refl)
-no-others others name (kind.Wiki w) calm = (refl, refl, refl, refl)
-no-others others name (kind.Cluster w) calm = cc
-no-others others name (kind.Control w) calm = cc
-no-others others name (kind.Ticket w) calm = cc
-no-others others name (kind.Attachment w) calm = cc
-no-others others name (kind.Technote w) calm = cc
-no-others others name (kind.Forum w) calm = cc

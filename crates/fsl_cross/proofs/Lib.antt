@@ -24,6 +24,7 @@ pub mod Currency
 pub mod Quiet
 pub mod Unnamed
 pub mod Calm
+pub mod Within
 pub mod ClusterFacts
 pub mod Seeing
 pub mod Undoing
