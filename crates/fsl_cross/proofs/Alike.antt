@@ -1,5 +1,5 @@
 -- Rows and facts that stay when a technote or a post comes.
-use Rattle.std.proofs.Common.{◌≡◌, ℕ, false, cond, List, Option, Some, None, refl, sym, ap, ◌∙◌}
+use Rattle.std.proofs.Common.{◌≡◌, ℕ, false, cond, List, Option, Some, None, refl, ap, ◌∙◌}
 use Rattle.std.specs.Prelude.{filter_map, is_some, option_map, option_and_then, unwrap_or, [], IfSome}
 use Rattle.std.specs.Option.{option_eq}
 use Rattle.std.specs.Str.{bytes_eq}
@@ -15,7 +15,6 @@ use Rattle.fsl_links.specs.Links.{primary}
 use Rattle.fsl_tags.specs.declared.Fact as tags
 use Rattle.fsl_wiki.specs.Pages as pages
 use Rattle.fsl_forum.specs.Threads as threads
-use Rattle.fsl_timeline.specs.declared.Row.{Row}
 use Rattle.fsl_timeline.specs.declared.RowKind.TheVariants as row
 use Rattle.fsl_cross.specs.declared.Item.{Item}
 use Rattle.fsl_cross.specs.Facts.{as_manifest, tag_cards, links_fact, assertions}

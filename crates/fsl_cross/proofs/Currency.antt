@@ -1,20 +1,18 @@
 -- The rows of technotes before and after one more.
 use Rattle.std.proofs.Common.{◌≡◌, ℕ, ◌≤◌, true, false, cond, Bool, List, [], ◌∷◌, length, Option, Some, None, map, refl, sym, ap, ◌∙◌, subst}
-use Rattle.std.specs.Prelude.{◌&&◌, ◌||◌, not, filter_map, is_some, is_none, unwrap_or, option_map, option_and_then, IfSome, if◌then◌else◌}
+use Rattle.std.specs.Prelude.{◌&&◌, ◌||◌, not, filter_map, is_some, unwrap_or, option_map, option_and_then, IfSome, if◌then◌else◌}
 use Rattle.std.specs.List.{AllByRecursion, IsDistinct, cons_option, list_any}
-use Rattle.std.specs.List.Sorted.{IsStrictlySortedBy}
 use Rattle.std.specs.Option.{option_eq, option_map_or}
 use Rattle.std.specs.Str.{bytes_eq}
 use Rattle.std.specs.Cmp.Lexicographic.{bytes_decides, nat_list_eq_equiv}
 use Rattle.fsl_order.specs.Held.{Held, Change}
-use Rattle.fsl_order.specs.Names.{bytes_cmp, has}
+use Rattle.fsl_order.specs.Names.{has}
 use Rattle.fsl_order.specs.Rows.{by_name, named, AreDistinct}
 use Rattle.fsl_name.specs.Name.{IsName}
 use Rattle.fsl_forms.specs.declared.technote.Technote.{Technote}
 use Rattle.fsl_artifact.specs.declared.Artifact.{Artifact}
 use Rattle.fsl_artifact.specs.declared.Artifact.TheVariants as kind
 use Rattle.fsl_tags.specs.declared.Fact as tags
-use Rattle.fsl_tags.specs.Laws.{EffectiveByRow}
 use Rattle.fsl_wiki.specs.declared.Fact.{Fact}
 use Rattle.fsl_wiki.specs.declared.Fact.TheVariants as fact
 use Rattle.fsl_wiki.specs.declared.Page.{Page}
@@ -29,21 +27,19 @@ use Rattle.fsl_timeline.specs.declared.RowKind.TheVariants as row
 use Rattle.fsl_cross.specs.declared.Item.{Item}
 use Rattle.fsl_cross.specs.declared.attached.Attached.{Attached}
 use Rattle.fsl_cross.specs.Built.{IsAttachedOf}
-use Rattle.fsl_cross.specs.Checkins.{tags_facts, checkin}
 use Rattle.fsl_cross.specs.Facts.{as_manifest, pages_fact, pages_fact_of, forum_fact_of}
 use Rattle.fsl_cross.specs.Gone.{is_rowless, is_gone, has_row, AreShown}
 use Rattle.fsl_cross.specs.Kinds.{as_attachment, is_attachment, own_id, own_names}
 use Rattle.fsl_cross.specs.Mixed.{rows_mixed, timeline_row, pushed, is_other_checkin, all_changed, tagged_done}
-use Rattle.fsl_cross.specs.Tables.{pages_facts, forum_facts, attachment_kind, timeline_rows, timeline_row_of, without}
-use Rattle.fsl_cross.specs.Trails.{Leads, TagsTold, PagesTold}
+use Rattle.fsl_cross.specs.Tables.{pages_facts, forum_facts, timeline_row_of, without}
+use Rattle.fsl_cross.specs.Trails.{Leads, PagesTold}
 use Rattle.fsl_cross.proofs.Moved.{item_name}
 use Rattle.fsl_cross.proofs.FactLemmas.{Rise}
 use Rattle.fsl_cross.proofs.TableLemmas.{pages-own}
-use Rattle.fsl_cross.proofs.Mapped.{distinct-rising, distinct-given, rising-given, named-given}
+use Rattle.fsl_cross.proofs.Mapped.{distinct-given, rising-given, named-given}
 use Rattle.fsl_cross.proofs.Sets.{named-out}
 use Rattle.fsl_cross.proofs.Added.{given-added, given-absent, rising-out}
 use Rattle.fsl_cross.proofs.Pushing.{or-false, pushed-before, pushed-out, told-same}
-use Rattle.fsl_cross.proofs.Retagged.{rows-end-more}
 use Rattle.fsl_cross.proofs.Stays.{posts-stay}
 use Rattle.fsl_cross.proofs.Rekinded.{attachment-kept}
 use Rattle.fsl_cross.proofs.Alike.{other-same}

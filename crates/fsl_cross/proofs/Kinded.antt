@@ -1,51 +1,39 @@
 -- Attachments whose kind one artifact more changes.
-use Rattle.std.proofs.Common.{◌≡◌, ℕ, true, false, ◌&&◌, List, [], ◌∷◌, Bool, Option, Some, None, All, cond, map, refl, sym, ap, ◌∙◌, subst, Result}
-use Rattle.std.specs.Prelude.{◌||◌, filter, filter_map, option_map, option_and_then, is_some, IfSome, OnOk}
+use Rattle.std.proofs.Common.{◌≡◌, ℕ, true, false, ◌&&◌, List, [], ◌∷◌, Bool, Option, Some, None, All, cond, map, refl, sym, ap, ◌∙◌, subst}
+use Rattle.std.specs.Prelude.{◌||◌, filter, filter_map, option_map, option_and_then, is_some, IfSome}
 use Rattle.std.specs.List.{list_any, cons_option}
 use Rattle.std.specs.Option.{option_map_or}
 use Rattle.std.specs.Str.{bytes_eq}
 use Rattle.std.specs.Cmp.Lexicographic.{bytes_decides, nat_list_eq_equiv}
-use Rattle.std.specs.List.Sorted.{IsStrictlySortedBy}
-use Rattle.std.specs.Map.{keys_of}
-use Rattle.fsl_order.specs.Names.{bytes_cmp, has}
-use Rattle.fsl_order.specs.Rows.{by_name, named, greater, greatest}
+use Rattle.fsl_order.specs.Names.{has}
+use Rattle.fsl_order.specs.Rows.{named, greater, greatest}
 use Rattle.fsl_order.proofs.RowLemmas.{is_some-named}
 use Rattle.fsl_name.specs.Name.{IsName, name_in, name_text}
-use Rattle.fsl_name.proofs.ReadAgain.{name_again, name_from_text}
-use Rattle.fsl_table.specs.Contents.{value_at, first_of, entries_after}
+use Rattle.fsl_name.proofs.ReadAgain.{name_from_text}
+use Rattle.fsl_table.specs.Contents.{first_of, entries_after}
 use Rattle.fsl_table.specs.Exact.{pair_cmp}
 use Rattle.fsl_table.specs.Pairs.{is_name, second_of, seconds}
 use Rattle.fsl_table.specs.declared.key.Pair.{Pair}
 use Rattle.fsl_table.proofs.Seconds.{next_second, rest_none, has_seconds}
-use Rattle.fsl_forms.specs.declared.attachment.Attachment.{Attachment}
 use Rattle.fsl_artifact.specs.declared.Artifact.{Artifact}
 use Rattle.fsl_artifact.specs.declared.Artifact.TheVariants as kind
-use Rattle.fsl_wiki.specs.declared.Note.{Note}
 use Rattle.fsl_wiki.specs.Pages as pages
-use Rattle.fsl_timeline.specs.declared.Row.{Row}
-use Rattle.fsl_timeline.specs.declared.RowKind.{RowKind}
 use Rattle.fsl_timeline.specs.declared.RowKind.TheVariants as row
 use Rattle.fsl_cross.specs.declared.Item.{Item}
 use Rattle.fsl_cross.specs.declared.attached.Attached.{Attached}
-use Rattle.fsl_cross.specs.Attached.{pair_of, pair_name, is_pair, is_pair_of, target_id, target_pair, change_id, change_pair, ArePairs}
+use Rattle.fsl_cross.specs.Attached.{pair_of, pair_name, is_pair, target_id, change_id, ArePairs}
 use Rattle.fsl_cross.specs.Built.{IsAttachedOf}
 use Rattle.fsl_cross.specs.Facts.{ticket_fact_of}
-use Rattle.fsl_cross.specs.Inside.{is_ticket, is_note, kind_by, attachment_row}
-use Rattle.fsl_cross.specs.Kinds.{as_attachment, attachment, is_attachment, IsOfKind, AreOfKind, KindsGo, own_id, own_kind, own_names, target_kind}
-use Rattle.fsl_cross.specs.Mixed.{mixed, GoesOn, IsMixture, pushed, rows_mixed, timeline_row}
-use Rattle.fsl_cross.specs.Tables.{IsItem, attachment_kind, pages_facts, ticket_facts, timeline_row_of, without}
+use Rattle.fsl_cross.specs.Inside.{is_ticket, is_note, kind_by}
+use Rattle.fsl_cross.specs.Kinds.{own_id, own_kind, own_names, target_kind}
+use Rattle.fsl_cross.specs.Tables.{IsItem, attachment_kind, pages_facts, ticket_facts, without}
 use Rattle.fsl_cross.proofs.Moved.{item_name}
 use Rattle.fsl_cross.proofs.FactLemmas.{Rise}
-use Rattle.fsl_cross.proofs.TableLemmas.{row-own}
 use Rattle.fsl_cross.proofs.Mapped.{named-given, named-has}
-use Rattle.fsl_cross.proofs.Sets.{given-same, mixed-own, mixed-other}
 use Rattle.fsl_cross.proofs.Added.{given-absent}
-use Rattle.fsl_cross.proofs.Gifts.{behind, none_map}
 use Rattle.fsl_cross.proofs.PairsAdded.{any-added, pair-is}
-use Rattle.fsl_cross.proofs.Pushing.{or-false, pushed-before, pushed-out}
-use Rattle.fsl_cross.proofs.Going.{goes-stay, goes-put}
-use Rattle.fsl_cross.proofs.Retagged.{rows-next, rows-there}
-use Rattle.fsl_cross.proofs.Ids.{same-test, any-text, none-text, own-named, tickets-named, notes-named}
+use Rattle.fsl_cross.proofs.Pushing.{or-false}
+use Rattle.fsl_cross.proofs.Ids.{same-test, any-text, none-text, tickets-named, notes-named}
 
 some_is : {X : Type 0} {a b : X} → Some a ≡ Some b → a ≡ b
 some_is e = cc

@@ -1,5 +1,5 @@
 -- Rows of attachments whose kind one artifact more changes.
-use Rattle.std.proofs.Common.{◌≡◌, ℕ, ◌<◌, true, false, List, [], ◌∷◌, length, get_or, Bool, Option, Some, None, map, refl, sym, ap, ◌∙◌, subst, Result}
+use Rattle.std.proofs.Common.{◌≡◌, ℕ, ◌<◌, true, false, List, [], ◌∷◌, length, get_or, Option, Some, None, map, refl, sym, ap, ◌∙◌, subst, Result}
 use Rattle.std.proofs.lemmas.List.Folds.{list_any_at}
 use Rattle.std.specs.Prelude.{option_map, option_and_then, is_some, IfSome, OnOk}
 use Rattle.std.specs.Option.{option_map_or}
@@ -31,7 +31,7 @@ use Rattle.fsl_cross.proofs.TableLemmas.{row-own}
 use Rattle.fsl_cross.proofs.Mapped.{named-has}
 use Rattle.fsl_cross.proofs.Sets.{mixed-same}
 use Rattle.fsl_cross.proofs.Gifts.{behind}
-use Rattle.fsl_cross.proofs.Pushing.{pushed-before, pushed-out}
+use Rattle.fsl_cross.proofs.Pushing.{pushed-out}
 use Rattle.fsl_cross.proofs.Going.{goes-stay, goes-put, goes-all-none}
 use Rattle.fsl_cross.proofs.Retagged.{rows-next, rows-there}
 use Rattle.fsl_cross.proofs.Stays.{row-attachment, row-stays, notes-stay, posts-stay, kind-stays, attachment-stays}

@@ -1,6 +1,6 @@
 -- Rows of technotes and posts that go.
-use Rattle.std.proofs.Common.{◌≡◌, ℕ, zero, suc, ◌<◌, ◌≤◌, true, false, cond, List, [], ◌∷◌, Bool, Option, Some, None, length, take, get_or, map, refl, sym, ap, ◌∙◌, subst, arith, append-nil, Result, Ok, Err}
-use Rattle.std.specs.Prelude.{◌≢◌, ◌||◌, ◌&&◌, not, is_some, is_none, unwrap_or, option_and_then, OnOk}
+use Rattle.std.proofs.Common.{◌≡◌, ℕ, zero, suc, ◌<◌, ◌≤◌, true, false, cond, List, [], ◌∷◌, Bool, Option, Some, None, length, take, get_or, refl, sym, ap, ◌∙◌, subst, arith, append-nil, Result, Ok, Err}
+use Rattle.std.specs.Prelude.{◌≢◌, ◌||◌, ◌&&◌, not, is_some, unwrap_or, option_and_then, OnOk}
 use Rattle.std.specs.Bool.{MatchBool}
 use Rattle.std.specs.List.{AllByRecursion}
 use Rattle.std.specs.List.Sorted.{IsStrictlySortedBy}
@@ -23,7 +23,7 @@ use Rattle.fsl_forum.specs.Threads as threads
 use Rattle.fsl_cross.specs.declared.Item.{Item}
 use Rattle.fsl_cross.specs.Tables.{pages_facts, forum_facts, timeline_row_of, without}
 use Rattle.fsl_cross.specs.Gone.{is_rowless, is_gone, has_row, RowsGone, OthersShown}
-use Rattle.fsl_cross.specs.Mixed.{mixed, rows_mixed, timeline_row, pushed, all_changed}
+use Rattle.fsl_cross.specs.Mixed.{mixed, rows_mixed, timeline_row, all_changed}
 use Rattle.fsl_cross.specs.Trails.{Leads, AreTold}
 use Rattle.fsl_cross.proofs.Moved.{item_name}
 use Rattle.fsl_cross.proofs.FactLemmas.{Rise}
@@ -31,7 +31,6 @@ use Rattle.fsl_cross.proofs.TableLemmas.{row-own}
 use Rattle.fsl_cross.proofs.Mapped.{named-given, named-has}
 use Rattle.fsl_cross.proofs.Sets.{set_at, named-out, mixed-own, mixed-next}
 use Rattle.fsl_cross.proofs.Going.{goes-put}
-use Rattle.fsl_cross.proofs.Pushing.{or-false}
 
 -- ---- names
 

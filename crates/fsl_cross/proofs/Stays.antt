@@ -1,5 +1,5 @@
 -- The facts and rows that an artifact more leaves as they were.
-use Rattle.std.proofs.Common.{◌≡◌, ℕ, true, false, List, [], ◌∷◌, Bool, Option, Some, None, cond, refl, sym, ap, ◌∙◌}
+use Rattle.std.proofs.Common.{◌≡◌, ℕ, true, false, List, [], ◌∷◌, Option, Some, None, cond, refl, sym, ap, ◌∙◌}
 use Rattle.std.specs.Prelude.{◌||◌, filter, filter_map, option_map, option_and_then, unwrap_or, IfSome}
 use Rattle.std.specs.List.{list_any, cons_option}
 use Rattle.std.specs.Option.{option_eq, option_map_or}
@@ -24,8 +24,8 @@ use Rattle.fsl_cross.specs.declared.Item.{Item}
 use Rattle.fsl_cross.specs.Facts.{as_manifest, pages_fact, pages_fact_of, ticket_fact, ticket_fact_of, forum_fact, forum_fact_of}
 use Rattle.fsl_cross.specs.Checkins.{tags_facts}
 use Rattle.fsl_cross.specs.Kinds.{as_attachment, target_kind, own_row, is_alone}
-use Rattle.fsl_cross.specs.Tables.{pages_facts, ticket_facts, forum_facts, attachment_kind, timeline_row_of, without}
-use Rattle.fsl_cross.specs.Inside.{is_ticket, is_note, has_ticket, has_note, kind_by, note_row, attachment_row, post_row}
+use Rattle.fsl_cross.specs.Tables.{pages_facts, forum_facts, attachment_kind, timeline_row_of, without}
+use Rattle.fsl_cross.specs.Inside.{is_ticket, is_note, has_ticket, has_note, kind_by, attachment_row, post_row}
 use Rattle.fsl_cross.specs.Mixed.{OtherRowsStay, timeline_row}
 use Rattle.fsl_cross.proofs.Moved.{item_name}
 use Rattle.fsl_cross.proofs.FactLemmas.{Rise}

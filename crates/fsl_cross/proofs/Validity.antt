@@ -1,5 +1,5 @@
 -- The rows of posts before and after one more.
-use Rattle.std.proofs.Common.{◌≡◌, ℕ, ◌≤◌, true, false, Bool, List, [], ◌∷◌, length, Option, Some, None, map, refl, sym, ap, ◌∙◌, subst}
+use Rattle.std.proofs.Common.{◌≡◌, ℕ, ◌≤◌, true, false, Bool, List, [], ◌∷◌, length, Option, Some, None, refl, sym, ap, ◌∙◌, subst}
 use Rattle.std.specs.Prelude.{◌&&◌, ◌||◌, not, filter_map, is_some, is_none, unwrap_or, option_map, option_and_then, if◌then◌else◌}
 use Rattle.std.specs.List.{cons_option, list_any}
 use Rattle.std.specs.Option.{option_eq, option_map_or}
@@ -33,7 +33,6 @@ use Rattle.fsl_cross.specs.Trails.{Leads, ThreadsTold}
 use Rattle.fsl_cross.proofs.Moved.{item_name}
 use Rattle.fsl_cross.proofs.FactLemmas.{Rise}
 use Rattle.fsl_cross.proofs.TableLemmas.{pages-own, ticket-own, forum-own, row-own}
-use Rattle.fsl_cross.proofs.Gifts.{if_some}
 use Rattle.fsl_cross.proofs.Sets.{mixed-end}
 use Rattle.fsl_cross.proofs.Added.{given-added, given-absent}
 use Rattle.fsl_cross.proofs.Pushing.{or-false, pushed-before, pushed-out, told-same}

@@ -1,8 +1,6 @@
-use Rattle.std.proofs.Common.{◌≡◌, true, false, refl, sym, ap, ◌∙◌, subst}
-use Rattle.std.specs.Prelude.{◌||◌}
+use Rattle.std.proofs.Common.{refl, sym, ◌∙◌, subst}
 use Rattle.std.proofs.lemmas.List.{take_all}
 use Rattle.fsl_forum.proofs.Noting.{has-next}
-use Rattle.fsl_order.specs.Names.{has}
 use Rattle.fsl_cross.specs.Gone.{RowsGone, is_gone}
 use Rattle.fsl_cross.specs.Mixed.{rows_mixed}
 use Rattle.fsl_cross.proofs.Going.{goes-next}

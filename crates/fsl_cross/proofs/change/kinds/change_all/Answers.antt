@@ -1,4 +1,4 @@
-use Rattle.std.proofs.Common.{rules, ◌≡◌, sym, ap, ◌∙◌, subst}
+use Rattle.std.proofs.Common.{rules, ◌≡◌, sym, ◌∙◌, subst}
 use Rattle.fsl_table.proofs.Outcomes.{on_ok_map}
 use Rattle.fsl_cross.specs.Kinds.{AreOfKind, KindsGo}
 use Rattle.fsl_cross.proofs.Rekinded.{kinds-at, kinds-same}

@@ -1,5 +1,5 @@
 use Rattle.std.proofs.Common.{Some, None, sym, ap, ◌∙◌, subst}
-use Rattle.fsl_table.proofs.Outcomes.{on_ok_map, always_ok}
+use Rattle.fsl_table.proofs.Outcomes.{on_ok_map}
 use Rattle.fsl_cross.specs.Kinds.{KindsGo, own_id}
 use Rattle.fsl_cross.specs.Tables.{without}
 use Rattle.fsl_cross.proofs.Kinded.{own-kind-is, own-names-are}

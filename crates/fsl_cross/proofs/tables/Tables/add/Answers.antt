@@ -2,7 +2,6 @@ use Rattle.std.proofs.Common.{◌≡◌, ◌∷◌, false, All, map, refl, sym, 
 use Rattle.std.specs.Prelude.{is_some}
 use Rattle.fsl_order.specs.Names.{has}
 use Rattle.fsl_order.specs.Rows.{by_name, named}
-use Rattle.fsl_cross.specs.declared.Item.{Item}
 use Rattle.fsl_cross.specs.declared.undos.What.TheVariants.{Added}
 use Rattle.fsl_cross.specs.Built.{AreTablesOf}
 use Rattle.fsl_cross.specs.Back.{IsBack, AreAsSeen}
