@@ -112,3 +112,7 @@ history_most a = 2 * parents_most a + tags_most a
 -- .. of those of files, pages, tickets, posts and clusters
 abbrev pub contents_most : List Item → Item → ℕ
 contents_most items item = 6 * (1 + length (members item.artifact) + length (references item.artifact)) + files_most (files_facts (without item.name items)) item + 4
+
+-- .. of all tables
+abbrev pub added_most : List Item → Item → ℕ
+added_most items item = history_most item.artifact + contents_most items item + 6
