@@ -1,5 +1,6 @@
 -- How many touches one artifact more may cost.
-use Rattle.std.specs.Prelude.{◌≡◌, ℕ, ◌+◌, ◌*◌, List, length, Bool, true, false, not, ◌&&◌, if◌then◌else◌, Option, Some, None, is_none, is_some, filter_map, slice_get, option_and_then}
+use Rattle.std.specs.Prelude.{◌≡◌, ℕ, ◌+◌, ◌*◌, List, length, filter_map, slice_get, Bool, true, false, not, ◌&&◌, if◌then◌else◌}
+use Rattle.std.specs.Prelude.{Option, Some, None, is_none, is_some, option_and_then}
 use Rattle.std.specs.List.{list_any, list_all}
 use Rattle.std.specs.Option.{option_map_or}
 use Rattle.fsl_order.specs.Held.{Change}
@@ -82,6 +83,10 @@ NoneLate items n us = NoneOf (is_child items n) (all_changed us)
 abbrev pub IsNoParent : List leaves.Fact → List ℕ → Type 0
 IsNoParent facts name = list_any (λ f. has f.parents name) facts ≡ false
 
+-- neither
+abbrev pub NoneFollow : {F : Type 0} → List leaves.Fact → List Item → List ℕ → List (Change F) → Type 0
+NoneFollow facts items name us = IsNoParent facts name × NoneRetagged items name us
+
 -- the touches and the changes of a table are what they were
 abbrev pub Untouched : {U : Type 0} → ℕ → ℕ → List U → List U → Type 0
 Untouched old new us vs = (new ≡ old) × (vs ≡ us)
@@ -99,8 +104,11 @@ abbrev pub tags_most : Artifact → ℕ
 tags_most a = option_map_or (λ cards. 20 * (1 + length cards.1)) (tag_cards a) 0
 
 -- .. of that of files
+abbrev pub file_most : List files.Fact → files.Fact → ℕ
+file_most facts f = 10 * (1 + length f.files + counted facts f.parent + counted facts f.baseline)
+
 abbrev pub files_most : List files.Fact → Item → ℕ
-files_most facts item = option_map_or (λ f. 10 * (1 + length f.files + counted facts f.parent + counted facts f.baseline)) (files_fact item) 0
+files_most facts item = option_map_or (file_most facts) (files_fact item) 0
 
 abbrev pub IsCalm : List Item → Item → Type 0
 IsCalm items item = is_calm (without item.name items) item.name item.artifact ≡ true
@@ -111,7 +119,8 @@ history_most a = 2 * parents_most a + tags_most a
 
 -- .. of those of files, pages, tickets, posts and clusters
 abbrev pub contents_most : List Item → Item → ℕ
-contents_most items item = 6 * (1 + length (members item.artifact) + length (references item.artifact)) + files_most (files_facts (without item.name items)) item + 4
+contents_most items item =
+    6 * (1 + length (members item.artifact) + length (references item.artifact)) + files_most (files_facts (without item.name items)) item + 4
 
 -- .. of all tables
 abbrev pub added_most : List Item → Item → ℕ

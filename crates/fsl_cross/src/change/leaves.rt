@@ -8,7 +8,7 @@ ghost use Rattle.fsl_cross.specs.Mixed.{IsIn, LeavesGo, IsMixture, IsTagsTrail, 
 ghost use Rattle.fsl_cross.specs.Tables.{leaves_facts, without};
 ghost use Rattle.fsl_cross.specs.Trails.{Led};
 ghost use Rattle.fsl_cross.specs.Facts.{as_manifest};
-ghost use Rattle.fsl_cross.specs.Touches.{NoneOf, NoneRetagged, IsNoParent, Untouched, parents_most};
+ghost use Rattle.fsl_cross.specs.Touches.{NoneOf, NoneRetagged, IsNoParent, NoneFollow, Untouched, parents_most};
 
 use crate::facts::leaves::fact_of;
 use crate::held::Held;
@@ -193,7 +193,7 @@ pub(crate) fn take_in<L: Ledger>(
     ensures facts { OnOk result (leaves.new.facts ≡ leaves_facts items.now) }
     ensures led { Led leaves.old undos.old leaves.new undos.new }
     ensures idle { as_manifest item.now.artifact ≡ None → NoneRetagged items.now item.now.name changes.now → steps.new ≡ steps.old }
-    ensures cost { IsNoParent leaves.old.facts item.now.name → NoneRetagged items.now item.now.name changes.now → steps.new ≤ steps.old + parents_most item.now.artifact }
+    ensures cost { NoneFollow leaves.old.facts items.now item.now.name changes.now → steps.new ≤ steps.old + parents_most item.now.artifact }
 {
     add(alloc, tags, leaves, undos, items, item, steps)?;
     effective_by_row();

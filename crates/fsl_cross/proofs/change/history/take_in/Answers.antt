@@ -70,7 +70,7 @@ returns-clause-cost g c = λ calm.
     let first = c.args.history.now.tags in
     let retagged = retagged-step items rise item there calm c.others_stay.ensures c.add.new.steps c.take_in.new.steps c.args.undos.now.tags c.take_in.new.undos c.requires.no_tags (λ bare. c.take_in.ensures.idle bare late) (c.in_ok-take_in.ensures.single late c.requires.no_tags)
     first c.take_in.new.tags (c.take_in.ensures.led first (subst (λ us. Leads first us first) (sym c.requires.no_tags) (as_before-self first))) (c.in_ok-take_in.ensures.told (subst TagsTold (sym c.requires.no_tags) tt)) c.requires.history.tags c.in_ok-take_in.ensures.facts in
-    let three = leaves-step items rise item there calm c.args.history.now.leaves.facts c.requires.history.leaves c.take_in.new.steps c.take_in-2.new.steps (λ none. c.take_in-2.ensures.idle none retagged) (λ none. c.take_in-2.ensures.cost none retagged) in
+    let three = leaves-step items rise item there calm c.args.history.now.leaves.facts c.requires.history.leaves c.take_in.new.steps c.take_in-2.new.steps (λ none. c.take_in-2.ensures.idle none retagged) (λ none. c.take_in-2.ensures.cost (none, retagged)) in
     omega (arith, one, two, three)
 
 pub returns-clause-calm : goal.returns-clause-calm

@@ -31,9 +31,9 @@ returns-clause-idle g c = λ none quiet.
     idle.0 ∙ (c.add.ensures.idle none).0
 
 pub returns-in_err-add-clause-cost : goal.returns-in_err-add-clause-cost
-returns-in_err-add-clause-cost g c = λ none quiet. c.add.ensures.cost none
+returns-in_err-add-clause-cost g c = λ quiet. c.add.ensures.cost quiet.0
 
 pub returns-clause-cost : goal.returns-clause-cost
-returns-clause-cost g c = λ none quiet.
-    let idle = c.retag_changed.ensures.idle (subst (NoneRetagged c.args.items.now c.args.item.now.name) (sym c.items.ensures) quiet) in
-    within-quiet _ _ _ _ (c.add.ensures.cost none) idle.0
+returns-clause-cost g c = λ quiet.
+    let idle = c.retag_changed.ensures.idle (subst (NoneRetagged c.args.items.now c.args.item.now.name) (sym c.items.ensures) quiet.1) in
+    within-quiet _ _ _ _ (c.add.ensures.cost quiet.0) idle.0
