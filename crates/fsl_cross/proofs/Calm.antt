@@ -37,7 +37,7 @@ use Rattle.fsl_cross.specs.Checkins.{links_facts, tags_fact, tags_facts, checkin
 use Rattle.fsl_cross.specs.Facts.{as_manifest, tag_cards, assertions, links_fact, files_fact, file_row, pages_fact_of, ticket_fact_of, forum_fact_of}
 use Rattle.fsl_cross.specs.Mixed.{tags_mixed, is_child, is_other_checkin, all_changed}
 use Rattle.fsl_cross.specs.Tables.{leaves_fact, leaves_facts, files_facts, without}
-use Rattle.fsl_cross.specs.Touches.{is_unnamed, are_own, has_own_tags, is_calm, file_count, tag_count, first_parent, NoneOf, IsNoParent, NoneRetagged, NoneLate, Untouched, IsCalm, parents_most, tags_most, files_most}
+use Rattle.fsl_cross.specs.Touches.{is_unnamed, are_own, has_own_tags, is_calm, file_count, NoneOf, IsNoParent, NoneRetagged, NoneLate, Untouched, IsCalm, parents_most, tags_most, files_most}
 use Rattle.fsl_cross.specs.Trails.{Leads, TagsTold}
 use Rattle.fsl_cross.proofs.Moved.{item_name}
 use Rattle.fsl_cross.proofs.FactLemmas.{Rise, links-named, tags_own, tags-fit}
@@ -287,27 +287,3 @@ counted-is items (Some b) = by (listing.known (listing.files (files_facts items)
     by : {X : Type 0} (o : Option (List X)) → length (unwrap_or o []) ≡ option_map_or length o 0
     by None = refl
     by (Some l) = refl
-
-pub counted-first : (items : List Item) → Rise items → (m : Manifest) → counted (files_facts items) (slice_get m.parents 0) ≤ option_map_or (λ p. tag_count items p + file_count items p) (first_parent items m) 0
-counted-first items rise m = by (slice_get m.parents 0)
-  where
-    none-counted : (p : List ℕ) → is_some (checkin items p) ≡ false → file_count items p ≡ 0
-    none-counted p none =
-        ap (λ o. option_map_or length (listing.known (option_map_or (listing.listing (files_facts items)) o NotCheckin)) 0) (named-given item_name (λ (f : files.Fact). f.name) files_fact files-own items rise p ∙ gives (named item_name items p) none)
-      where
-        gives-none : (y : Item) (o : Option Manifest) → is_some o ≡ false → option_map (λ m. let f : files.Fact = record { name = y.name; baseline = m.baseline; parent = slice_get m.parents 0; files = map file_row m.files } in f) o ≡ None
-        gives-none y None e = refl
-        gives-none y (Some m) e = cc
-
-        gives : (o : Option Item) → is_some (option_and_then (λ (item : Item). as_manifest item.artifact) o) ≡ false → option_and_then files_fact o ≡ None
-        gives None e = refl
-        gives (Some y) e = gives-none y (as_manifest y.artifact) e
-
-    by : (o : Option (List ℕ)) → counted (files_facts items) o ≤ option_map_or (λ p. tag_count items p + file_count items p) (option_and_then (λ p. cond (is_some (checkin items p)) (Some p) None) o) 0
-    by None = omega arith
-    by (Some p) =
-        let is : counted (files_facts items) (Some p) ≡ file_count items p = counted-is items (Some p) in
-        elim (is_some (checkin items p)) as (λ b. is_some (checkin items p) ≡ b → counted (files_facts items) (Some p) ≤ option_map_or (λ p. tag_count items p + file_count items p) (cond b (Some p) None) 0) [
-          | true ↦ λ e. omega (arith, is)
-          | false ↦ λ e. omega (arith, is, none-counted p e)
-        ] refl

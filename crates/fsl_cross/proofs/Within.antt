@@ -37,7 +37,7 @@ use Rattle.fsl_cross.specs.Checkins.{links_facts, tags_fact, tags_facts, checkin
 use Rattle.fsl_cross.specs.Facts.{as_manifest, tag_cards, assertions, links_fact, files_fact, file_row, pages_fact_of, ticket_fact_of, forum_fact_of}
 use Rattle.fsl_cross.specs.Mixed.{tags_mixed, is_child, is_other_checkin, all_changed}
 use Rattle.fsl_cross.specs.Tables.{IsItem, leaves_fact, leaves_facts, files_facts, without}
-use Rattle.fsl_cross.specs.Touches.{touches_of, add_touches, added_most, is_unnamed, are_own, has_own_tags, is_calm, file_count, tag_count, first_parent, NoneOf, IsNoParent, NoneRetagged, NoneLate, Untouched, IsCalm, parents_most, tags_most, files_most}
+use Rattle.fsl_cross.specs.Touches.{touches_of, add_touches, added_most, is_unnamed, are_own, has_own_tags, is_calm, file_count, NoneOf, IsNoParent, NoneRetagged, NoneLate, Untouched, IsCalm, parents_most, tags_most, files_most}
 use Rattle.fsl_cross.specs.Trails.{Leads, TagsTold}
 use Rattle.fsl_cross.proofs.Moved.{item_name}
 use Rattle.fsl_cross.proofs.FactLemmas.{Rise, links-named, tags_own, tags-fit}
@@ -51,7 +51,7 @@ use Rattle.fsl_cross.proofs.Pushing.{or-false}
 use Rattle.fsl_cross.proofs.Retiring.{told-other}
 use Rattle.fsl_cross.proofs.Unnamed.{tags_with, tags-own_targets}
 use Rattle.fsl_cross.proofs.Quiet.{quiet-within}
-use Rattle.fsl_cross.proofs.Calm.{counted-is, counted-first, parents-within, Calm, calm-kind, manifest-is, all-apart, no-children, no-parent, no-follower, no-child, none-retagged, bits-apart, not-true}
+use Rattle.fsl_cross.proofs.Calm.{counted-is, parents-within, Calm, calm-kind, manifest-is, all-apart, no-children, no-parent, no-follower, no-child, none-retagged, bits-apart, not-true}
 
 calm-by : {P : Type 0} (others : List Item) (name : List ℕ) (a : Artifact) → Calm others name a → (as_manifest a ≡ None → tag_cards a ≡ None → P) → ((m : Manifest) → as_manifest a ≡ Some m → is_unnamed others name ≡ true → has_own_tags a ≡ true → P) → P
 calm-by others name a (inl k) none some = none k.0 k.1
@@ -143,35 +143,33 @@ length-mapped : {X Y : Type 0} (f : X → Y) (xs : List X) → length (map f xs)
 length-mapped f [] = refl
 length-mapped f (x ∷ xs) = ap suc (length-mapped f xs)
 
-sum-checkin : (p t r f g c d up base most : ℕ) → p ≤ r → f ≡ g → c ≤ up → d ≡ base → most ≡ 64 * (1 + r + (t + g + up + base))
+sum-checkin : (p t r f g c d up base most : ℕ) → p ≤ r → f ≡ g → c ≡ up → d ≡ base → most ≡ 64 * (1 + r + (t + g + up + base))
     → 2 * (6 * (1 + p)) + 20 * (1 + t) + (6 * (1 + 0 + r) + 10 * (1 + f + c + d) + 4) + 6 ≤ most
 sum-checkin p t r f g c d up base most pr fg cu db is = omega (arith, pr, fg, cu, db, is)
 
 sum-page : (r most : ℕ) → most ≡ 64 * (1 + r) → 2 * 0 + 0 + (6 * (1 + 0 + r) + 0 + 4) + 6 ≤ most
 sum-page r most is = omega (arith, is)
 
-module _ (items : List Item) (rise : Rise items) (x : Item) where
+module _ (items : List Item) (x : Item) where
   -- where a bound is stated of an artifact, all tables keep it together
   pub touches-within : IsItem x → (most : ℕ) → add_touches (without x.name items) x ≡ Some most → IsCalm items x × (added_most items x ≤ most)
   touches-within is most bound = by x.artifact is bound
     where
+      inside : {a b : ℕ} → Some a ≡ Some b → a ≡ b
+      inside r = cc
+
       by : (a : Artifact) → (bytes : List ℕ) × IsKind bytes a → touches_of (without x.name items) x.name a ≡ Some most
           → (is_calm (without x.name items) x.name a ≡ true) × (added_most items (record x { artifact = a }) ≤ most)
       by kind.Plain k e = (refl, let most_is : 16 ≡ most = inside e in omega (arith, most_is))
-        where
-          inside : {a b : ℕ} → Some a ≡ Some b → a ≡ b
-          inside r = cc
       by (kind.Manifest m) k e =
           let b = if-bounded (is_unnamed (without x.name items) x.name && are_own m.tags) _ most e in (
             b.0,
             sum-checkin (length m.parents) (length m.tags) (length (references (kind.Manifest m))) (length (map file_row m.files)) (length m.files)
                 (counted (files_facts (without x.name items)) (slice_get m.parents 0)) (counted (files_facts (without x.name items)) m.baseline)
-                (option_map_or (λ p. tag_count (without x.name items) p + file_count (without x.name items) p) (first_parent (without x.name items) m) 0) (option_map_or (file_count (without x.name items)) m.baseline 0) most
-                (parents-within k.0 m k.1) (length-mapped file_row m.files) (counted-first (without x.name items) (rising-out item_name x.name items rise) m) (counted-is (without x.name items) m.baseline) b.1,
+                (option_map_or (file_count (without x.name items)) (slice_get m.parents 0) 0) (option_map_or (file_count (without x.name items)) m.baseline 0) most
+                (parents-within k.0 m k.1) (length-mapped file_row m.files) (counted-is (without x.name items) (slice_get m.parents 0)) (counted-is (without x.name items) m.baseline) b.1,
           )
-      by (kind.Wiki w) k e =
-          let b = if-bounded (is_unnamed (without x.name items) x.name) _ most e in
-          (refl, sum-page (length (references (kind.Wiki w))) most b.1)
+      by (kind.Wiki w) k e = (refl, sum-page (length (references (kind.Wiki w))) most (sym (inside e)))
       by (kind.Cluster w) k e = cc
       by (kind.Control w) k e = cc
       by (kind.Ticket w) k e = cc

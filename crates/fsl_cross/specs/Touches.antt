@@ -1,6 +1,6 @@
 -- How many touches one artifact more may cost.
 use Rattle.std.specs.Prelude.{◌≡◌, ℕ, ◌+◌, ◌*◌, List, length, filter_map, slice_get, Bool, true, false, not, ◌&&◌, if◌then◌else◌}
-use Rattle.std.specs.Prelude.{Option, Some, None, is_none, is_some, option_and_then}
+use Rattle.std.specs.Prelude.{Option, Some, None, is_none}
 use Rattle.std.specs.List.{list_any, list_all}
 use Rattle.std.specs.Option.{option_map_or}
 use Rattle.fsl_order.specs.Held.{Change}
@@ -14,10 +14,8 @@ use Rattle.fsl_files.specs.declared.Fact as files
 use Rattle.fsl_files.specs.Files.{files, known}
 use Rattle.fsl_files.specs.Touches.{counted}
 use Rattle.fsl_leaves.specs.declared.Fact as leaves
-use Rattle.fsl_tags.specs.Tags.{tags_row}
 use Rattle.fsl_cross.specs.declared.Item.{Item}
 use Rattle.fsl_cross.specs.Facts.{as_manifest, tag_cards, files_fact}
-use Rattle.fsl_cross.specs.Checkins.{checkin, tags_facts}
 use Rattle.fsl_cross.specs.Tables.{files_facts, without}
 use Rattle.fsl_cross.specs.Mixed.{is_child, is_other_checkin, all_changed}
 
@@ -29,30 +27,21 @@ is_unnamed items name = not (list_any (λ item. has (references item.artifact) n
 abbrev pub are_own : List TagCard → Bool
 are_own cards = list_all (λ card. is_none card.target) cards
 
--- how many files a check-in has, none where they aren't defined
+-- how many files a check-in has, none where there is none or they aren't defined
 abbrev pub file_count : List Item → List ℕ → ℕ
 file_count items name = option_map_or length (known (files (filter_map files_fact items) name)) 0
 
--- how many tags have an effective assertion on it
-abbrev pub tag_count : List Item → List ℕ → ℕ
-tag_count items name = length (tags_row (tags_facts items) name)
-
--- the first parent, where that is a check-in
-abbrev pub first_parent : List Item → Manifest → Option (List ℕ)
-first_parent items m = option_and_then (λ p. if is_some (checkin items p) then Some p else None) (slice_get m.parents 0)
-
--- what the bound of a check-in counts beside its names
+-- what the bound of a check-in counts beside its names: its T and F cards, and the files of its first parent and of its baseline
 abbrev pub checkin_size : List Item → Manifest → ℕ
 checkin_size items m =
-    length m.tags + length m.files + option_map_or (λ p. tag_count items p + file_count items p) (first_parent items m) 0
-    + option_map_or (file_count items) m.baseline 0
+    length m.tags + length m.files + option_map_or (file_count items) (slice_get m.parents 0) 0 + option_map_or (file_count items) m.baseline 0
 
 -- the most touches of the arrival of an artifact in a set, where a bound is stated
 abbrev pub touches_of : List Item → List ℕ → Artifact → Option ℕ
 touches_of items name kind.Plain = Some 16
 touches_of items name (kind.Manifest m) =
     if is_unnamed items name && are_own m.tags then Some (64 * (1 + length (references (kind.Manifest m)) + checkin_size items m)) else None
-touches_of items name (kind.Wiki w) = if is_unnamed items name then Some (64 * (1 + length (references (kind.Wiki w)))) else None
+touches_of items name (kind.Wiki w) = Some (64 * (1 + length (references (kind.Wiki w))))
 touches_of items name _ = None
 
 abbrev pub add_touches : List Item → Item → Option ℕ

@@ -85,10 +85,9 @@ impl Tables {
     }
 
     /// Adds an artifact whose name isn't there, of whatever kind. `Memory` is the only error, and the tables then hold what they held.
-    /// Whatever it answers, a plain artifact takes at most 16 touches, and a wiki page that no artifact names 64, and 64 for each name
-    /// that it has in its cards. A check-in that no artifact names, and whose T cards are all on itself, takes 64, and 64 for each name
-    /// that it has, each T and F card, each file of its first parent and of its baseline, and each tag with an effective assertion on its
-    /// first parent.
+    /// Whatever it answers, a plain artifact takes at most 16 touches, and a wiki page 64, and 64 for each name in its cards. A check-in
+    /// that no artifact names, and whose T cards are all on itself, takes 64, and 64 for each name in its cards, each T and F card, and
+    /// each file of its first parent and of its baseline.
     pub fn add<L: Ledger>(
         &mut self,
         alloc: Global,

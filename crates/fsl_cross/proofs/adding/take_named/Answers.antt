@@ -37,7 +37,7 @@ returns-in-Some-clause-cost g c =
     let found : named item_name items c.args.name ≡ Some item = search rules in
     if-bound (option_and_then (add_touches (without c.args.name items)) (named item_name items c.args.name)) (λ most. c.take_in.new.steps ≤ c.args.steps.now + most)
     (λ most is.
-    let within = touches-within items c.requires.rising item (is-item items c.args.name item found c.requires.items) most
+    let within = touches-within items item (is-item items c.args.name item found c.requires.items) most
     (ap (λ n. add_touches (without n items) item) (name-found items c.args.name item found) ∙ ap (option_and_then (add_touches (without c.args.name items))) (sym found) ∙ is) in
     let cost = c.take_in.ensures.cost within.0 in
     let bound = within.1 in
