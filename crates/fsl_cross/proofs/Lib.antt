@@ -21,6 +21,10 @@ pub mod Ids
 pub mod Kinded
 pub mod Rekinded
 pub mod Currency
+pub mod Quiet
+pub mod Unnamed
+pub mod Calm
+pub mod Within
 pub mod ClusterFacts
 pub mod Seeing
 pub mod Undoing

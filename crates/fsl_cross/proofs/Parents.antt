@@ -159,7 +159,7 @@ module _ (items : List Item) (rise : Rise items) (x : Item) (at : named item_nam
   links-is = given-added item_name (λ (f : links.Fact). f.name) links_fact links_own items rise x at
 
   -- another check-in whose primary parent isn't the new one has the primary parent that it had
-  primary-same : (q : List ℕ) → bytes_eq q n ≡ false → is_name (primary (links_facts items) q) n ≡ false → primary (links_facts items) q ≡ primary (links_facts old) q
+  pub primary-same : (q : List ℕ) → bytes_eq q n ≡ false → is_name (primary (links_facts items) q) n ≡ false → primary (links_facts items) q ≡ primary (links_facts old) q
   primary-same q apart other = by (links_fact x) refl (links_own x)
     where
       by : (o : Option links.Fact) → links_fact x ≡ o → IfSome o (λ f. f.name ≡ x.name) → primary (links_facts items) q ≡ primary (links_facts old) q

@@ -12,3 +12,4 @@ pub mod Back
 pub mod Fresh
 pub mod Gone
 pub mod Kinds
+pub mod Touches

@@ -1,5 +1,5 @@
 //! One artifact more in all tables.
-ghost use Rattle.std.specs.Prelude.{◌≡◌, ◌≤◌, ◌+◌, true, false, All, Some, map, is_some, option_map, OnOk};
+ghost use Rattle.std.specs.Prelude.{◌≡◌, ◌≤◌, ◌+◌, true, false, All, Some, map, is_some, option_map, OnOk, IfSome, option_and_then};
 ghost use Rattle.std.specs.List.Sorted.{IsStrictlySortedBy};
 ghost use Rattle.fsl_order.specs.Names.{bytes_cmp};
 ghost use Rattle.fsl_order.specs.Rows.{named};
@@ -9,6 +9,7 @@ ghost use Rattle.fsl_cross.specs.Built.{AreTablesOf};
 ghost use Rattle.fsl_cross.specs.Fresh.{AreNone};
 ghost use Rattle.fsl_cross.specs.Mixed.{IsIn};
 ghost use Rattle.fsl_cross.specs.Tables.{IsItem, without};
+ghost use Rattle.fsl_cross.specs.Touches.{IsCalm, added_most, add_touches};
 
 use super::change::{attached, clusters, contents, history, kinds, row};
 use super::derived::Derived;
@@ -36,6 +37,7 @@ fn take_in<L: Ledger>(
     requires none { AreNone undos.old }
     ensures tables { OnOk result (AreTablesOf derived.old.contents.tickets.fields items.now derived.new) }
     ensures led { AllLed derived.old undos.old derived.new undos.new }
+    ensures cost { IsCalm items.now item.now → steps.new ≤ steps.old + added_most items.now item.now }
 {
     let before = kinds::own_kind(&derived.attached, &derived.contents.pages, item, steps);
     history::take_in(
@@ -93,6 +95,7 @@ pub(crate) fn take_named<L: Ledger>(
     requires none { AreNone undos.old }
     ensures tables { OnOk result (AreTablesOf derived.old.contents.tickets.fields items.now derived.new) }
     ensures led { AllLed derived.old undos.old derived.new undos.new }
+    ensures cost { IfSome (option_and_then (add_touches (without name items.now)) (named (λ i. i.name) items.now name)) (λ most. steps.new ≤ steps.old + most) }
 {
     match items.get(name) {
         Some(item) => take_in(alloc, derived, undos, items, item, steps),

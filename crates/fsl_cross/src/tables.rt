@@ -1,7 +1,8 @@
 //! All tables of a set of artifacts.
-ghost use Rattle.std.specs.Prelude.{◌≡◌, ◌≤◌, ◌+◌, [], true, false, All, Some, IfOk, OnOk, OnErr, map, option_map};
+ghost use Rattle.std.specs.Prelude.{◌≡◌, ◌≤◌, ◌+◌, [], true, false, All, Some, IfOk, OnOk, OnErr, map, option_map, IfSome};
 ghost use Rattle.fsl_order.specs.Rows.{AreDistinct, named};
 ghost use Rattle.fsl_cross.specs.Checkins as checkins;
+ghost use Rattle.fsl_cross.specs.Touches.{add_touches};
 ghost use Rattle.fsl_cross.specs.Tables.{IsItem, IsAsBefore, item_set, tables, with_item, published, without};
 ghost use Rattle.std.specs.List.Sorted.{IsStrictlySortedBy};
 ghost use Rattle.fsl_order.specs.Names.{bytes_cmp, has};
@@ -84,6 +85,9 @@ impl Tables {
     }
 
     /// Adds an artifact whose name isn't there, of whatever kind. `Memory` is the only error, and the tables then hold what they held.
+    /// Whatever it answers, a plain artifact takes at most 16 touches, and a wiki page 64, and 64 for each name in its cards. A check-in
+    /// that no artifact names, and whose T cards are all on itself, takes 64, and 64 for each name in its cards, each T and F card, and
+    /// each file of its first parent and of its baseline.
     pub fn add<L: Ledger>(
         &mut self,
         alloc: Global,
@@ -97,6 +101,7 @@ impl Tables {
         ensures before { IfOk result (λ back. back.before ≡ self.old) }
         ensures after { IfOk result (λ back. back.after ≡ self.new) }
         ensures err { OnErr result (IsAsBefore self.old self.new) }
+        ensures cost { IfSome (add_touches self.old.items item) (λ most. steps.new ≤ steps.old + most) }
     {
         let before = Snapshot::of(&*self);
         let name = item.name;

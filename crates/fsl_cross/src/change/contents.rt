@@ -1,9 +1,10 @@
 //! One artifact more in the tables of files, pages, tickets, posts and clusters.
-ghost use Rattle.std.specs.Prelude.{◌≡◌, [], OnOk};
+ghost use Rattle.std.specs.Prelude.{◌≡◌, ◌+◌, ◌≤◌, [], OnOk};
 ghost use Rattle.fsl_cross.specs.Back.{AreContentsLed};
 ghost use Rattle.fsl_cross.specs.Built.{AreContentsOf};
 ghost use Rattle.fsl_cross.specs.Mixed.{IsIn, IsPagesTrail, IsThreadsTrail};
 ghost use Rattle.fsl_cross.specs.Tables.{IsItem, without};
+ghost use Rattle.fsl_cross.specs.Touches.{IsCalm, contents_most};
 
 use super::{clusters, files, pages, threads, tickets};
 use crate::contents::Contents;
@@ -32,6 +33,7 @@ pub(crate) fn take_in<L: Ledger>(
     ensures pages { OnOk result (IsPagesTrail items.now item.now.name undos.new.pages contents.new.pages) }
     ensures threads { OnOk result (IsThreadsTrail items.now item.now.name undos.new.threads contents.new.threads) }
     ensures led { AreContentsLed contents.old undos.old contents.new undos.new }
+    ensures cost { IsCalm items.now item.now → steps.new ≤ steps.old + contents_most items.now item.now }
 {
     clusters::add(
         alloc,

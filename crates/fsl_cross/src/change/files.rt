@@ -1,11 +1,14 @@
 //! One artifact more in the table of the files of check-ins.
-ghost use Rattle.std.specs.Prelude.{◌≡◌, ◌∷◌, false, map, OnOk};
+ghost use Rattle.std.specs.Prelude.{◌≡◌, ◌+◌, ◌≤◌, ◌∷◌, false, map, OnOk, None};
 ghost use Rattle.fsl_order.specs.Names.{has};
 ghost use Rattle.fsl_order.specs.Rows.{by_name};
 ghost use Rattle.fsl_files.specs.Conditions.{IsFilesFact};
 ghost use Rattle.fsl_cross.specs.Tables.{IsItem, files_facts, without};
 ghost use Rattle.fsl_cross.specs.Mixed.{IsIn};
 ghost use Rattle.fsl_cross.specs.Trails.{Led};
+ghost use Rattle.fsl_files.specs.Touches.{is_followed};
+ghost use Rattle.fsl_cross.specs.Facts.{as_manifest};
+ghost use Rattle.fsl_cross.specs.Touches.{file_most, files_most};
 
 use crate::facts::files::fact_of;
 use crate::held::Held;
@@ -28,6 +31,7 @@ fn put<L: Ledger>(
     requires fit { IsFilesFact fact }
     ensures facts { OnOk result (files.new.facts ≡ by_name (λ f. f.name) (fact ∷ files.old.facts)) }
     ensures led { Led files.old undos.old files.new undos.new }
+    ensures cost { is_followed files.old.facts fact.name ≡ false → steps.new ≤ steps.old + file_most files.old.facts fact }
 {
     let undo = files.add(alloc, fact, steps)?;
     keep(files, undos, undo)
@@ -47,6 +51,8 @@ pub(crate) fn add<L: Ledger>(
     requires facts { files.old.facts ≡ files_facts (without item.now.name items.now) }
     ensures facts { OnOk result (files.new.facts ≡ files_facts items.now) }
     ensures led { Led files.old undos.old files.new undos.new }
+    ensures cost { is_followed files.old.facts item.now.name ≡ false → steps.new ≤ steps.old + files_most files.old.facts item.now }
+    ensures idle { as_manifest item.now.artifact ≡ None → steps.new ≡ steps.old }
 {
     match fact_of(alloc, item)? {
         Some(fact) => put(alloc, files, undos, fact, steps),

@@ -1,15 +1,17 @@
 //! One artifact more in the tables of parentage, tags and leaves.
-ghost use Rattle.std.specs.Prelude.{◌≡◌, [], OnOk};
+ghost use Rattle.std.specs.Prelude.{◌≡◌, ◌+◌, ◌≤◌, [], OnOk};
 ghost use Rattle.fsl_cross.specs.Built.{IsHistoryOf};
 ghost use Rattle.fsl_cross.specs.Mixed.{IsIn, IsTagsTrail};
 ghost use Rattle.fsl_cross.specs.Tables.{without};
 ghost use Rattle.fsl_cross.specs.Back.{IsHistoryLed};
+ghost use Rattle.fsl_cross.specs.Touches.{IsCalm, NoneRetagged, history_most};
 
 use super::{leaves, links, tags};
 use crate::held::Held;
 use crate::history::History;
 use crate::items::Items;
 use crate::undos::HistoryUndos;
+use fsl_tags::others_stay;
 use fsl_text::{Memory, Steps};
 use std::alloc::Global;
 use std::sync::ledger::Ledger;
@@ -30,6 +32,8 @@ pub(crate) fn take_in<L: Ledger>(
     ensures history { OnOk result (IsHistoryOf items.now history.new) }
     ensures trail { OnOk result (IsTagsTrail items.now item.now.name undos.new.tags history.new.tags) }
     ensures led { IsHistoryLed history.old undos.old history.new undos.new }
+    ensures calm { OnOk result (IsCalm items.now item.now → NoneRetagged items.now item.now.name undos.new.tags) }
+    ensures cost { IsCalm items.now item.now → steps.new ≤ steps.old + history_most item.now.artifact }
 {
     links::add(
         alloc,
@@ -49,6 +53,7 @@ pub(crate) fn take_in<L: Ledger>(
         item,
         steps,
     )?;
+    others_stay();
     leaves::take_in(
         alloc,
         &history.tags,

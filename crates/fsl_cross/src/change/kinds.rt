@@ -1,8 +1,9 @@
 //! The kinds of attachments, and the rows of those whose kind one artifact more changes.
-ghost use Rattle.std.specs.Prelude.{◌≡◌, ◌∷◌, [], All, OnOk, IfOk, option_map};
+ghost use Rattle.std.specs.Prelude.{◌≡◌, ◌∷◌, [], All, OnOk, IfOk, option_map, None};
 ghost use Rattle.std.specs.Option.{option_copied};
 ghost use Rattle.fsl_name.specs.Name.{IsName, name_text};
 ghost use Rattle.fsl_table.specs.Pairs.{seconds as seconds_of};
+ghost use Rattle.fsl_cross.specs.Attached.{target_id};
 ghost use Rattle.fsl_cross.specs.Built.{IsAttachedOf};
 ghost use Rattle.fsl_cross.specs.Inside.{attachment_row};
 ghost use Rattle.fsl_cross.specs.Kinds.{as_attachment, attachment as attachment_of, target_kind as kind_of_target, own_kind as kind_of_own};
@@ -45,7 +46,8 @@ pub(crate) fn target_kind<L: Ledger>(
     artifact: &Artifact,
     steps: &mut Steps<L>,
 ) -> RowKind
-    ensures { OfItems attached.now pages.now (λ items. result ≡ kind_of_target items artifact.now) }
+    ensures kind { OfItems attached.now pages.now (λ items. result ≡ kind_of_target items artifact.now) }
+    ensures idle { target_id artifact.now ≡ None → steps.new ≡ steps.old }
 {
     match target_of(artifact) {
         Some(id) => kind_of(attached, pages, id, steps),
@@ -72,7 +74,8 @@ pub(crate) fn own_kind<L: Ledger>(
     steps: &mut Steps<L>,
 ) -> RowKind
     requires { IsItem item.now }
-    ensures { OfItems attached.now pages.now (λ items. result ≡ kind_of_own items item.now.artifact) }
+    ensures kind { OfItems attached.now pages.now (λ items. result ≡ kind_of_own items item.now.artifact) }
+    ensures idle { own_id item.now.artifact ≡ None → steps.new ≡ steps.old }
 {
     match id_of(item.artifact()) {
         Some(id) => kind_of(attached, pages, id, steps),

@@ -1,12 +1,14 @@
 //! One artifact more in the table of leaves, and check-ins whose tags change.
-ghost use Rattle.std.specs.Prelude.{◌≡◌, ◌∷◌, [], true, false, map, OnOk, IfOk, option_and_then};
+ghost use Rattle.std.specs.Prelude.{◌≡◌, ◌*◌, ◌+◌, ◌≤◌, ◌∷◌, [], true, false, map, OnOk, IfOk, option_and_then, None, length};
 ghost use Rattle.fsl_order.specs.Names.{has};
 ghost use Rattle.fsl_order.specs.Rows.{by_name, named};
 ghost use Rattle.fsl_cross.specs.Checkins.{tags_facts};
 ghost use Rattle.fsl_cross.specs.Inside.{leaves_fact_over};
-ghost use Rattle.fsl_cross.specs.Mixed.{IsIn, LeavesGo, IsMixture, IsTagsTrail, leaves_mixed, all_changed};
+ghost use Rattle.fsl_cross.specs.Mixed.{IsIn, LeavesGo, IsMixture, IsTagsTrail, leaves_mixed, all_changed, is_other_checkin};
 ghost use Rattle.fsl_cross.specs.Tables.{leaves_facts, without};
 ghost use Rattle.fsl_cross.specs.Trails.{Led};
+ghost use Rattle.fsl_cross.specs.Facts.{as_manifest};
+ghost use Rattle.fsl_cross.specs.Touches.{NoneOf, NoneRetagged, IsNoParent, NoneFollow, Untouched, parents_most};
 
 use crate::facts::leaves::fact_of;
 use crate::held::Held;
@@ -31,6 +33,7 @@ fn put<L: Ledger>(
     requires { has (map (λ f. f.name) leaves.old.facts) fact.name ≡ false }
     ensures facts { OnOk result (leaves.new.facts ≡ by_name (λ f. f.name) (fact ∷ leaves.old.facts)) }
     ensures led { Led leaves.old undos.old leaves.new undos.new }
+    ensures cost { IsNoParent leaves.old.facts fact.name → steps.new ≤ steps.old + 6 * (1 + length fact.parents) }
 {
     let undo = leaves.add(alloc, fact, steps)?;
     keep(leaves, undos, undo)
@@ -67,6 +70,8 @@ fn add<L: Ledger>(
     requires facts { leaves.old.facts ≡ leaves_facts (without item.now.name items.now) }
     ensures facts { OnOk result (leaves.new.facts ≡ leaves_mixed items.now item.now.name (item.now.name ∷ [])) }
     ensures led { Led leaves.old undos.old leaves.new undos.new }
+    ensures idle { as_manifest item.now.artifact ≡ None → Untouched steps.old steps.new undos.old undos.new }
+    ensures cost { IsNoParent leaves.old.facts item.now.name → steps.new ≤ steps.old + parents_most item.now.artifact }
 {
     match fact_of(alloc, tags, item)? {
         Some(fact) => put(alloc, leaves, undos, fact, steps),
@@ -100,6 +105,7 @@ fn retag<L: Ledger>(
     requires facts { IsMixture (leaves_mixed items.now item.now.name) leaves.old.facts }
     ensures facts { OnOk result (LeavesGo items.now item.now.name (name ∷ []) leaves.old.facts leaves.new.facts) }
     ensures led { Led leaves.old undos.old leaves.new undos.new }
+    ensures idle { is_other_checkin items.now item.now.name name ≡ false → Untouched steps.old steps.new undos.old undos.new }
 {
     if name == item.name() {
         return Ok(());
@@ -126,6 +132,7 @@ fn retag_each<L: Ledger>(
     requires facts { IsMixture (leaves_mixed items.now item.now.name) leaves.old.facts }
     ensures facts { OnOk result (LeavesGo items.now item.now.name names.now leaves.old.facts leaves.new.facts) }
     ensures led { Led leaves.old undos.old leaves.new undos.new }
+    ensures idle { NoneOf (is_other_checkin items.now item.now.name) names.now → Untouched steps.old steps.new undos.old undos.new }
 {
     for name in names {
         retag(alloc, tags, leaves, undos, items, item, *name, steps)?;
@@ -149,6 +156,7 @@ fn retag_changed<L: Ledger>(
     requires facts { IsMixture (leaves_mixed items.now item.now.name) leaves.old.facts }
     ensures facts { OnOk result (LeavesGo items.now item.now.name (all_changed changes.now) leaves.old.facts leaves.new.facts) }
     ensures led { Led leaves.old undos.old leaves.new undos.new }
+    ensures idle { NoneRetagged items.now item.now.name changes.now → Untouched steps.old steps.new undos.old undos.new }
 {
     for change in changes {
         let names = change.changed();
@@ -184,6 +192,8 @@ pub(crate) fn take_in<L: Ledger>(
     requires facts { leaves.old.facts ≡ leaves_facts (without item.now.name items.now) }
     ensures facts { OnOk result (leaves.new.facts ≡ leaves_facts items.now) }
     ensures led { Led leaves.old undos.old leaves.new undos.new }
+    ensures idle { as_manifest item.now.artifact ≡ None → NoneRetagged items.now item.now.name changes.now → steps.new ≡ steps.old }
+    ensures cost { NoneFollow leaves.old.facts items.now item.now.name changes.now → steps.new ≤ steps.old + parents_most item.now.artifact }
 {
     add(alloc, tags, leaves, undos, items, item, steps)?;
     effective_by_row();

@@ -1,11 +1,14 @@
 //! One artifact more in the table of parentage.
-ghost use Rattle.std.specs.Prelude.{◌≡◌, ◌∷◌, false, map, OnOk};
+ghost use Rattle.std.specs.Prelude.{◌≡◌, ◌*◌, ◌+◌, ◌≤◌, ◌∷◌, false, map, OnOk, None, [], length};
 ghost use Rattle.fsl_order.specs.Names.{has};
 ghost use Rattle.fsl_order.specs.Rows.{by_name};
 ghost use Rattle.fsl_cross.specs.Checkins.{links_facts};
 ghost use Rattle.fsl_cross.specs.Mixed.{IsIn};
 ghost use Rattle.fsl_cross.specs.Tables.{without};
 ghost use Rattle.fsl_cross.specs.Trails.{Led, LinksTold};
+ghost use Rattle.fsl_links.specs.Links.{children};
+ghost use Rattle.fsl_cross.specs.Facts.{as_manifest};
+ghost use Rattle.fsl_cross.specs.Touches.{Untouched, parents_most};
 
 use crate::facts::links::fact_of;
 use crate::held::Held;
@@ -28,6 +31,7 @@ fn put<L: Ledger>(
     ensures facts { OnOk result (links.new.facts ≡ by_name (λ f. f.name) (fact ∷ links.old.facts)) }
     ensures led { Led links.old undos.old links.new undos.new }
     ensures told { OnOk result (LinksTold undos.old → LinksTold undos.new) }
+    ensures cost { children links.old.facts fact.name ≡ [] → steps.new ≤ steps.old + 6 * (1 + length fact.parents) }
 {
     let undo = links.add(alloc, fact, steps)?;
     keep(links, undos, undo)
@@ -47,6 +51,8 @@ pub(crate) fn add<L: Ledger>(
     ensures facts { OnOk result (links.new.facts ≡ links_facts items.now) }
     ensures led { Led links.old undos.old links.new undos.new }
     ensures told { OnOk result (LinksTold undos.old → LinksTold undos.new) }
+    ensures idle { as_manifest item.now.artifact ≡ None → Untouched steps.old steps.new undos.old undos.new }
+    ensures cost { children (links_facts (without item.now.name items.now)) item.now.name ≡ [] → steps.new ≤ steps.old + parents_most item.now.artifact }
 {
     match fact_of(alloc, item)? {
         Some(fact) => put(alloc, links, undos, fact, steps),

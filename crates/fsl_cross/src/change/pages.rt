@@ -1,11 +1,12 @@
 //! One artifact more in the table of wiki pages, technotes and attachments.
-ghost use Rattle.std.specs.Prelude.{◌≡◌, ◌≤◌, ◌∷◌, [], false, map, length, OnOk};
+ghost use Rattle.std.specs.Prelude.{◌≡◌, ◌+◌, ◌≤◌, ◌∷◌, [], false, map, length, OnOk, None, IfSome, option_and_then};
 ghost use Rattle.fsl_order.specs.Names.{has};
 ghost use Rattle.fsl_order.specs.Rows.{by_name};
-ghost use Rattle.fsl_wiki.specs.Pages.{name_of};
+ghost use Rattle.fsl_wiki.specs.Pages.{name_of, as_page};
 ghost use Rattle.fsl_cross.specs.Tables.{pages_facts, without};
 ghost use Rattle.fsl_cross.specs.Mixed.{IsIn};
 ghost use Rattle.fsl_cross.specs.Trails.{Led, PagesTold};
+ghost use Rattle.fsl_cross.specs.Facts.{pages_fact};
 
 use crate::facts::pages::fact_of;
 use crate::held::Held;
@@ -29,6 +30,7 @@ fn put<L: Ledger>(
     ensures led { Led pages.old undos.old pages.new undos.new }
     ensures told { OnOk result (PagesTold undos.old → PagesTold undos.new) }
     ensures single { OnOk result (undos.old ≡ [] → length undos.new ≤ 1) }
+    ensures cost { IfSome (as_page fact) (λ _. steps.new ≤ steps.old + 4) }
 {
     let undo = pages.add(alloc, fact, steps)?;
     keep(pages, undos, undo)
@@ -49,6 +51,8 @@ pub(crate) fn add<L: Ledger>(
     ensures led { Led pages.old undos.old pages.new undos.new }
     ensures told { OnOk result (PagesTold undos.old → PagesTold undos.new) }
     ensures single { OnOk result (undos.old ≡ [] → length undos.new ≤ 1) }
+    ensures idle { pages_fact item.now ≡ None → steps.new ≡ steps.old }
+    ensures cost { IfSome (option_and_then as_page (pages_fact item.now)) (λ _. steps.new ≤ steps.old + 4) }
 {
     match fact_of(alloc, item)? {
         Some(fact) => put(alloc, pages, undos, fact, steps),

@@ -1,5 +1,5 @@
 //! One artifact more in the timeline, by its kind.
-ghost use Rattle.std.specs.Prelude.{◌≡◌, All, true, OnOk, IfOk};
+ghost use Rattle.std.specs.Prelude.{◌≡◌, ◌+◌, ◌≤◌, All, true, OnOk, IfOk, None};
 ghost use Rattle.fsl_artifact.specs.declared.Artifact.TheVariants as artifact;
 ghost use Rattle.fsl_cross.specs.Built.{AreContentsOf, IsAttachedOf};
 ghost use Rattle.fsl_cross.specs.Checkins.{tags_facts};
@@ -7,6 +7,8 @@ ghost use Rattle.fsl_cross.specs.Kinds.{is_alone, own_row, own_kind};
 ghost use Rattle.fsl_cross.specs.Mixed.{IsIn, IsTagsTrail, IsPagesTrail, IsThreadsTrail};
 ghost use Rattle.fsl_cross.specs.Tables.{IsItem, pages_facts, timeline_rows, without};
 ghost use Rattle.fsl_cross.specs.Trails.{Led};
+ghost use Rattle.fsl_cross.specs.Attached.{target_id};
+ghost use Rattle.fsl_cross.specs.Touches.{IsCalm, NoneRetagged};
 
 use super::kinds::{change_kinds, target_kind};
 use super::{notes, posts, rows};
@@ -64,6 +66,7 @@ fn take_alone<L: Ledger>(
     requires facts { timeline.old.facts ≡ timeline_rows (without item.now.name items.now) }
     ensures facts { OnOk result (timeline.new.facts ≡ timeline_rows items.now) }
     ensures led { Led timeline.old undos.old timeline.new undos.new }
+    ensures cost { target_id item.now.artifact ≡ None → NoneRetagged items.now item.now.name changes.now → steps.new ≤ steps.old + 4 }
 {
     let what = target_kind(attached, pages, item.artifact(), steps);
     let row = row_of(alloc, tags, what, item)?;
@@ -147,6 +150,7 @@ pub(crate) fn take_in<L: Ledger>(
     requires facts { timeline.old.facts ≡ timeline_rows (without item.now.name items.now) }
     ensures facts { OnOk result (timeline.new.facts ≡ timeline_rows items.now) }
     ensures led { Led timeline.old undos.old timeline.new undos.new }
+    ensures cost { IsCalm items.now item.now → NoneRetagged items.now item.now.name tag_changes.now → steps.new ≤ steps.old + 4 }
 {
     match item.artifact() {
         Artifact::Technote(note) => notes::take_in(

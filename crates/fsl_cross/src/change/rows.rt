@@ -1,13 +1,15 @@
 //! One artifact more in the timeline, and check-ins whose tags change.
-ghost use Rattle.std.specs.Prelude.{◌≡◌, ◌∷◌, [], true, false, map, OnOk, IfOk, option_map};
+ghost use Rattle.std.specs.Prelude.{◌≡◌, ◌+◌, ◌≤◌, ◌∷◌, [], true, false, map, OnOk, IfOk, option_map};
 ghost use Rattle.fsl_order.specs.Names.{has};
 ghost use Rattle.fsl_order.specs.Rows.{by_name};
 ghost use Rattle.fsl_timeline.specs.Timeline.{retired};
 ghost use Rattle.fsl_cross.specs.Checkins.{tags_facts, checkin};
 ghost use Rattle.fsl_cross.specs.Inside.{checkin_row};
-ghost use Rattle.fsl_cross.specs.Mixed.{IsIn, RowsGo, IsMixture, IsTagsTrail, OtherRowsStay, rows_mixed, timeline_row, all_changed, tagged_done};
+ghost use Rattle.fsl_cross.specs.Mixed.{IsIn, RowsGo, IsMixture, IsTagsTrail, OtherRowsStay};
+ghost use Rattle.fsl_cross.specs.Mixed.{rows_mixed, timeline_row, all_changed, tagged_done, is_other_checkin};
 ghost use Rattle.fsl_cross.specs.Tables.{timeline_rows, without};
 ghost use Rattle.fsl_cross.specs.Trails.{Led};
+ghost use Rattle.fsl_cross.specs.Touches.{NoneOf, NoneRetagged, Untouched};
 
 use crate::checkin::manifest;
 use crate::held::Held;
@@ -33,6 +35,7 @@ fn put<L: Ledger>(
     requires { has (map (λ r. r.name) timeline.old.facts) row.name ≡ false }
     ensures facts { OnOk result (timeline.new.facts ≡ by_name (λ r. r.name) (row ∷ timeline.old.facts)) }
     ensures led { Led timeline.old undos.old timeline.new undos.new }
+    ensures cost { steps.new ≤ steps.old + 4 }
 {
     let undo = timeline.add(alloc, row, steps)?;
     keep(timeline, undos, undo)
@@ -85,6 +88,7 @@ pub(crate) fn add<L: Ledger>(
     requires facts { timeline.old.facts ≡ timeline_rows (without item.now.name items.now) }
     ensures facts { OnOk result (timeline.new.facts ≡ rows_mixed items.now item.now.name (item.now.name ∷ [])) }
     ensures led { Led timeline.old undos.old timeline.new undos.new }
+    ensures cost { steps.new ≤ steps.old + 4 }
 {
     match row {
         Some(row) => put(alloc, timeline, undos, row, steps),
@@ -121,6 +125,7 @@ fn retag<L: Ledger>(
     requires facts { IsMixture (rows_mixed items.now item.now.name) timeline.old.facts }
     ensures facts { OnOk result (RowsGo items.now item.now.name (name ∷ []) timeline.old.facts timeline.new.facts) }
     ensures led { Led timeline.old undos.old timeline.new undos.new }
+    ensures idle { is_other_checkin items.now item.now.name name ≡ false → Untouched steps.old steps.new undos.old undos.new }
 {
     if name == item.name() {
         return Ok(());
@@ -147,6 +152,7 @@ fn retag_each<L: Ledger>(
     requires facts { IsMixture (rows_mixed items.now item.now.name) timeline.old.facts }
     ensures facts { OnOk result (RowsGo items.now item.now.name names.now timeline.old.facts timeline.new.facts) }
     ensures led { Led timeline.old undos.old timeline.new undos.new }
+    ensures idle { NoneOf (is_other_checkin items.now item.now.name) names.now → Untouched steps.old steps.new undos.old undos.new }
 {
     for name in names {
         retag(alloc, tags, timeline, undos, items, item, *name, steps)?;
@@ -170,6 +176,7 @@ pub(crate) fn retag_changed<L: Ledger>(
     requires facts { IsMixture (rows_mixed items.now item.now.name) timeline.old.facts }
     ensures facts { OnOk result (RowsGo items.now item.now.name (all_changed changes.now) timeline.old.facts timeline.new.facts) }
     ensures led { Led timeline.old undos.old timeline.new undos.new }
+    ensures idle { NoneRetagged items.now item.now.name changes.now → Untouched steps.old steps.new undos.old undos.new }
 {
     for change in changes {
         let names = change.changed();
@@ -206,6 +213,7 @@ pub(crate) fn start<L: Ledger>(
     requires facts { timeline.old.facts ≡ timeline_rows (without item.now.name items.now) }
     ensures facts { OnOk result (timeline.new.facts ≡ rows_mixed items.now item.now.name (tagged_done items.now item.now.name changes.now)) }
     ensures led { Led timeline.old undos.old timeline.new undos.new }
+    ensures cost { NoneRetagged items.now item.now.name changes.now → steps.new ≤ steps.old + 4 }
 {
     add(alloc, timeline, undos, items, item, row, steps)?;
     retag_changed(
@@ -241,6 +249,7 @@ pub(crate) fn take_in<L: Ledger>(
     requires facts { timeline.old.facts ≡ timeline_rows (without item.now.name items.now) }
     ensures facts { OnOk result (timeline.new.facts ≡ timeline_rows items.now) }
     ensures led { Led timeline.old undos.old timeline.new undos.new }
+    ensures cost { NoneRetagged items.now item.now.name changes.now → steps.new ≤ steps.old + 4 }
 {
     effective_by_row();
     start(

@@ -1,5 +1,5 @@
 //! One artifact more in the table of tags, and check-ins whose primary parent comes late.
-ghost use Rattle.std.specs.Prelude.{◌≡◌, ◌∷◌, [], ◌&&◌, not, false, map, OnOk, IfOk, option_and_then};
+ghost use Rattle.std.specs.Prelude.{◌≡◌, ◌*◌, ◌+◌, ◌≤◌, ◌∷◌, [], ◌&&◌, not, false, map, OnOk, IfOk, option_and_then, None, true, length};
 ghost use Rattle.std.specs.Str.{bytes_eq};
 ghost use Rattle.std.specs.List.Sorted.{IsStrictlySortedBy};
 ghost use Rattle.fsl_order.specs.Names.{bytes_cmp, has};
@@ -10,9 +10,12 @@ ghost use Rattle.fsl_tags.specs.Conditions.{IsParentChange};
 ghost use Rattle.fsl_tags.specs.Tags.{IsTagFact};
 ghost use Rattle.fsl_cross.specs.Checkins.{links_facts, tags_facts};
 ghost use Rattle.fsl_cross.specs.Inside.{tags_fact_over};
-ghost use Rattle.fsl_cross.specs.Mixed.{IsIn, TagsGo, IsMixture, IsLinksTrail, tags_mixed, all_changed};
+ghost use Rattle.fsl_cross.specs.Mixed.{IsIn, TagsGo, IsMixture, IsLinksTrail, tags_mixed, all_changed, is_child};
 ghost use Rattle.fsl_cross.specs.Tables.{without};
 ghost use Rattle.fsl_cross.specs.Trails.{Led, TagsTold};
+ghost use Rattle.std.specs.List.{AllByRecursion};
+ghost use Rattle.fsl_cross.specs.Facts.{tag_cards};
+ghost use Rattle.fsl_cross.specs.Touches.{NoneOf, NoneLate, Untouched, has_own_tags, tags_most};
 
 use crate::facts::tags::fact_of;
 use crate::held::Held;
@@ -39,6 +42,8 @@ fn put<L: Ledger>(
     ensures facts { OnOk result (tags.new.facts ≡ by_name (λ f. f.name) (fact ∷ tags.old.facts)) }
     ensures led { Led tags.old undos.old tags.new undos.new }
     ensures told { OnOk result (TagsTold undos.old → TagsTold undos.new) }
+    ensures single { OnOk result (undos.old ≡ [] → length undos.new ≤ 1) }
+    ensures cost { AllByRecursion (λ a. a.target ≡ fact.name) fact.tags → steps.new ≤ steps.old + 20 * (1 + length fact.tags) }
 {
     let undo = tags.add(alloc, fact, steps)?;
     keep(tags, undos, undo)
@@ -78,6 +83,9 @@ fn add<L: Ledger>(
     ensures facts { OnOk result (tags.new.facts ≡ tags_mixed items.now item.now.name (item.now.name ∷ [])) }
     ensures led { Led tags.old undos.old tags.new undos.new }
     ensures told { OnOk result (TagsTold undos.old → TagsTold undos.new) }
+    ensures idle { tag_cards item.now.artifact ≡ None → Untouched steps.old steps.new undos.old undos.new }
+    ensures single { OnOk result (undos.old ≡ [] → length undos.new ≤ 1) }
+    ensures cost { has_own_tags item.now.artifact ≡ true → steps.new ≤ steps.old + tags_most item.now.artifact }
 {
     match fact_of(alloc, links, item)? {
         Some(fact) => put(alloc, tags, undos, fact, steps),
@@ -125,6 +133,7 @@ fn give_parent<L: Ledger>(
     ensures facts { OnOk result (TagsGo items.now item.now.name (child ∷ []) tags.old.facts tags.new.facts) }
     ensures led { Led tags.old undos.old tags.new undos.new }
     ensures told { OnOk result (TagsTold undos.old → TagsTold undos.new) }
+    ensures idle { is_child items.now item.now.name child ≡ false → Untouched steps.old steps.new undos.old undos.new }
 {
     if !has_parent(links, child, item.name()) {
         return Ok(());
@@ -152,6 +161,7 @@ fn give_parents<L: Ledger>(
     ensures facts { OnOk result (TagsGo items.now item.now.name children.now tags.old.facts tags.new.facts) }
     ensures led { Led tags.old undos.old tags.new undos.new }
     ensures told { OnOk result (TagsTold undos.old → TagsTold undos.new) }
+    ensures idle { NoneOf (is_child items.now item.now.name) children.now → Untouched steps.old steps.new undos.old undos.new }
 {
     for child in children {
         give_parent(alloc, links, tags, undos, items, item, *child, steps)?;
@@ -177,6 +187,7 @@ fn give_late<L: Ledger>(
     ensures facts { OnOk result (TagsGo items.now item.now.name (all_changed changes.now) tags.old.facts tags.new.facts) }
     ensures led { Led tags.old undos.old tags.new undos.new }
     ensures told { OnOk result (TagsTold undos.old → TagsTold undos.new) }
+    ensures idle { NoneLate items.now item.now.name changes.now → Untouched steps.old steps.new undos.old undos.new }
 {
     for change in changes {
         let names = change.changed();
@@ -204,6 +215,9 @@ pub(crate) fn take_in<L: Ledger>(
     ensures facts { OnOk result (tags.new.facts ≡ tags_facts items.now) }
     ensures led { Led tags.old undos.old tags.new undos.new }
     ensures told { OnOk result (TagsTold undos.old → TagsTold undos.new) }
+    ensures idle { tag_cards item.now.artifact ≡ None → NoneLate items.now item.now.name changes.now → Untouched steps.old steps.new undos.old undos.new }
+    ensures single { OnOk result (NoneLate items.now item.now.name changes.now → undos.old ≡ [] → length undos.new ≤ 1) }
+    ensures cost { has_own_tags item.now.artifact ≡ true → NoneLate items.now item.now.name changes.now → steps.new ≤ steps.old + tags_most item.now.artifact }
 {
     add(alloc, links, tags, undos, items, item, steps)?;
     give_late(

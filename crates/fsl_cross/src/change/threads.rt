@@ -1,10 +1,11 @@
 //! One artifact more in the table of forum posts.
-ghost use Rattle.std.specs.Prelude.{◌≡◌, ◌≤◌, ◌∷◌, [], false, map, length, OnOk};
+ghost use Rattle.std.specs.Prelude.{◌≡◌, ◌≤◌, ◌∷◌, [], false, map, length, OnOk, None};
 ghost use Rattle.fsl_order.specs.Names.{has};
 ghost use Rattle.fsl_order.specs.Rows.{by_name};
 ghost use Rattle.fsl_cross.specs.Tables.{forum_facts, without};
 ghost use Rattle.fsl_cross.specs.Mixed.{IsIn};
 ghost use Rattle.fsl_cross.specs.Trails.{Led, ThreadsTold};
+ghost use Rattle.fsl_cross.specs.Facts.{forum_fact};
 
 use crate::facts::forum::fact_of;
 use crate::held::Held;
@@ -48,6 +49,7 @@ pub(crate) fn add<L: Ledger>(
     ensures led { Led threads.old undos.old threads.new undos.new }
     ensures told { OnOk result (ThreadsTold undos.old → ThreadsTold undos.new) }
     ensures single { OnOk result (undos.old ≡ [] → length undos.new ≤ 1) }
+    ensures idle { forum_fact item.now ≡ None → steps.new ≡ steps.old }
 {
     match fact_of(alloc, item)? {
         Some(fact) => put(alloc, threads, undos, fact, steps),

@@ -1,10 +1,11 @@
 //! One artifact more in the table of tickets.
-ghost use Rattle.std.specs.Prelude.{◌≡◌, ◌∷◌, false, map, OnOk};
+ghost use Rattle.std.specs.Prelude.{◌≡◌, ◌∷◌, false, map, OnOk, None};
 ghost use Rattle.fsl_order.specs.Names.{has};
 ghost use Rattle.fsl_order.specs.Rows.{by_name};
 ghost use Rattle.fsl_cross.specs.Tables.{ticket_facts, without};
 ghost use Rattle.fsl_cross.specs.Mixed.{IsIn};
 ghost use Rattle.fsl_cross.specs.Trails.{TicketsLed};
+ghost use Rattle.fsl_cross.specs.Facts.{ticket_fact};
 
 use crate::facts::tickets::fact_of;
 use crate::held::Held;
@@ -46,6 +47,7 @@ pub(crate) fn add<L: Ledger>(
     ensures fields { OnOk result (tickets.new.fields ≡ tickets.old.fields) }
     ensures facts { OnOk result (tickets.new.facts ≡ ticket_facts items.now) }
     ensures led { TicketsLed tickets.old undos.old tickets.new undos.new }
+    ensures idle { ticket_fact item.now ≡ None → steps.new ≡ steps.old }
 {
     match fact_of(alloc, item)? {
         Some(fact) => put(alloc, tickets, undos, fact, steps),

@@ -1,10 +1,12 @@
-use Rattle.std.proofs.Common.{rules, ◌≡◌, true, false, Some, None, sym, ap, ◌∙◌, subst}
-use Rattle.std.specs.Prelude.{is_some}
+use Rattle.std.proofs.Common.{rules, ◌≡◌, true, false, Some, None, sym, ap, ◌∙◌, subst, ◌≤◌, ◌+◌, arith}
+use Rattle.std.specs.Prelude.{is_some, option_and_then}
 use Rattle.fsl_order.specs.Rows.{named}
 use Rattle.fsl_cross.specs.Built.{AreTablesOf}
 use Rattle.fsl_cross.specs.Tables.{without}
 use Rattle.fsl_cross.proofs.Moved.{item_name}
 use Rattle.fsl_cross.proofs.Among.{name-found, is-in, is-item}
+use Rattle.fsl_cross.specs.Touches.{add_touches}
+use Rattle.fsl_cross.proofs.Within.{if-bound, touches-within}
 use Rattle.fsl_cross.proofs.adding.take_named.Goals as goal
 
 pub take_in-requires-clause-new : goal.take_in-requires-clause-new
@@ -27,3 +29,19 @@ returns-in-None-clause-tables g c =
     let none : named item_name c.args.items.now c.args.name ≡ None = search rules in
     let no : false ≡ true = sym (ap is_some none) ∙ c.requires.there in
     cc
+
+pub returns-in-Some-clause-cost : goal.returns-in-Some-clause-cost
+returns-in-Some-clause-cost g c =
+    let items = c.args.items.now in
+    let item = c.in-Some.item.now in
+    let found : named item_name items c.args.name ≡ Some item = search rules in
+    if-bound (option_and_then (add_touches (without c.args.name items)) (named item_name items c.args.name)) (λ most. c.take_in.new.steps ≤ c.args.steps.now + most)
+    (λ most is.
+    let within = touches-within items item (is-item items c.args.name item found c.requires.items) most
+    (ap (λ n. add_touches (without n items) item) (name-found items c.args.name item found) ∙ ap (option_and_then (add_touches (without c.args.name items))) (sym found) ∙ is) in
+    let cost = c.take_in.ensures.cost within.0 in
+    let bound = within.1 in
+    omega (arith, cost, bound))
+
+pub returns-in-None-clause-cost : goal.returns-in-None-clause-cost
+returns-in-None-clause-cost g c = if-bound _ (λ most. c.args.steps.now ≤ c.args.steps.now + most) (λ most is. omega arith)

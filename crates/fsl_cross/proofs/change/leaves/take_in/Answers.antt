@@ -1,7 +1,9 @@
-use Rattle.std.proofs.Common.{◌∷◌, [], ap, ◌∙◌}
+use Rattle.std.proofs.Common.{◌∷◌, [], ap, ◌∙◌, sym, subst}
 use Rattle.fsl_cross.specs.Mixed.{leaves_mixed, pushed, is_other_checkin, all_changed}
 use Rattle.fsl_table.proofs.Outcomes.{on_ok_map}
 use Rattle.fsl_cross.proofs.Retagged.{leaves-end}
+use Rattle.fsl_cross.proofs.Quiet.{within-quiet}
+use Rattle.fsl_cross.specs.Touches.{NoneRetagged}
 use Rattle.fsl_cross.proofs.change.leaves.take_in.Goals as goal
 
 pub retag_changed-requires-clause-facts : goal.retag_changed-requires-clause-facts
@@ -19,3 +21,19 @@ returns-clause-facts g c =
 
 pub returns-clause-led : goal.returns-clause-led
 returns-clause-led g c = λ first h. c.retag_changed.ensures.led first (c.add.ensures.led first h)
+
+pub returns-in_err-add-clause-idle : goal.returns-in_err-add-clause-idle
+returns-in_err-add-clause-idle g c = λ none quiet. (c.add.ensures.idle none).0
+
+pub returns-clause-idle : goal.returns-clause-idle
+returns-clause-idle g c = λ none quiet.
+    let idle = c.retag_changed.ensures.idle (subst (NoneRetagged c.args.items.now c.args.item.now.name) (sym c.items.ensures) quiet) in
+    idle.0 ∙ (c.add.ensures.idle none).0
+
+pub returns-in_err-add-clause-cost : goal.returns-in_err-add-clause-cost
+returns-in_err-add-clause-cost g c = λ quiet. c.add.ensures.cost quiet.0
+
+pub returns-clause-cost : goal.returns-clause-cost
+returns-clause-cost g c = λ quiet.
+    let idle = c.retag_changed.ensures.idle (subst (NoneRetagged c.args.items.now c.args.item.now.name) (sym c.items.ensures) quiet.1) in
+    within-quiet _ _ _ _ (c.add.ensures.cost quiet.0) idle.0

@@ -1,6 +1,7 @@
-use Rattle.std.proofs.Common.{ap, ◌∙◌}
+use Rattle.std.proofs.Common.{ap, ◌∙◌, arith}
 use Rattle.fsl_cross.specs.Kinds.{own_row, target_kind}
 use Rattle.fsl_cross.proofs.Stays.{row-own_kind, alone-stay}
+use Rattle.fsl_cross.specs.Attached.{target_id}
 use Rattle.fsl_cross.proofs.change.row.take_alone.Goals as goal
 
 pub take_in-requires-clause-row : goal.take_in-requires-clause-row
@@ -8,7 +9,13 @@ take_in-requires-clause-row g c =
     let item = c.args.item.now in
     let items = c.args.items.now in
     c.in_ok-row.ensures ∙ ap (λ ts. own_row ts c.target_kind-what.result item.name item.artifact) c.requires.tags
-    ∙ row-own_kind items c.target_kind-what.result item.name item.artifact c.requires.alone (c.target_kind-what.ensures items c.requires.kinds c.requires.attached c.requires.pages ∙ ap (target_kind items) c.artifact.ensures)
+    ∙ row-own_kind items c.target_kind-what.result item.name item.artifact c.requires.alone (c.target_kind-what.ensures.kind items c.requires.kinds c.requires.attached c.requires.pages ∙ ap (target_kind items) c.artifact.ensures)
 
 pub take_in-requires-clause-others : goal.take_in-requires-clause-others
 take_in-requires-clause-others g c = alone-stay c.args.items.now c.requires.new.rising c.args.item.now c.requires.new.there c.requires.alone
+
+pub returns-in_err-row-clause-cost : goal.returns-in_err-row-clause-cost
+returns-in_err-row-clause-cost g c = λ none quiet. let same = c.target_kind-what.ensures.idle (ap target_id c.artifact.ensures ∙ none) in omega (arith, same)
+
+pub returns-clause-cost : goal.returns-clause-cost
+returns-clause-cost g c = λ none quiet. let same = c.target_kind-what.ensures.idle (ap target_id c.artifact.ensures ∙ none) in let more = c.take_in.ensures.cost quiet in omega (arith, same, more)

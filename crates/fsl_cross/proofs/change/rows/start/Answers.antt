@@ -1,6 +1,8 @@
-use Rattle.std.proofs.Common.{◌∷◌, [], ap, ◌∙◌}
+use Rattle.std.proofs.Common.{◌∷◌, [], ap, ◌∙◌, sym, subst}
 use Rattle.fsl_table.proofs.Outcomes.{on_ok_map}
-use Rattle.fsl_cross.specs.Mixed.{rows_mixed, tagged_done}
+use Rattle.fsl_cross.specs.Mixed.{rows_mixed, tagged_done, is_other_checkin, all_changed}
+use Rattle.fsl_cross.proofs.Quiet.{within-quiet}
+use Rattle.fsl_cross.specs.Touches.{NoneRetagged}
 use Rattle.fsl_cross.proofs.change.rows.start.Goals as goal
 
 pub retag_changed-requires-clause-facts : goal.retag_changed-requires-clause-facts
@@ -15,3 +17,8 @@ returns-clause-facts g c =
 
 pub returns-clause-led : goal.returns-clause-led
 returns-clause-led g c = λ first h. c.retag_changed.ensures.led first (c.add.ensures.led first h)
+
+pub returns-clause-cost : goal.returns-clause-cost
+returns-clause-cost g c = λ none.
+    let idle = c.retag_changed.ensures.idle (subst (NoneRetagged c.args.items.now c.args.item.now.name) (sym c.items.ensures) none) in
+    within-quiet _ _ _ 4 c.add.ensures.cost idle.0

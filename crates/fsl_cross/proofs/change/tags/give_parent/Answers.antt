@@ -9,6 +9,7 @@ use Rattle.fsl_cross.specs.Mixed.{tags_mixed, is_child}
 use Rattle.fsl_cross.proofs.Moved.{item_name}
 use Rattle.fsl_cross.proofs.Going.{goes-stay}
 use Rattle.fsl_cross.proofs.Parents.{tags-change-at, tags-fit-at, tags-goes, tags-goes-none}
+use Rattle.fsl_cross.proofs.Quiet.{true-not}
 use Rattle.fsl_cross.proofs.change.tags.give_parent.Goals as goal
 
 pub change-requires-clause-change : goal.change-requires-clause-change
@@ -45,3 +46,11 @@ returns-in-None-clause-facts g c =
     let items = c.args.items.now in
     tags-goes-none items c.requires.new.rising c.args.item.now c.requires.new.there (is_child items c.args.item.now.name) c.args.child c.args.tags.now.facts
     (ap (λ ls. option_and_then (tags_fact_over ls) (named item_name items c.args.child)) (sym c.requires.links) ∙ sym c.in_ok-fact.ensures ∙ c.in-None.is)
+
+pub returns-in-Some-clause-idle : goal.returns-in-Some-clause-idle
+returns-in-Some-clause-idle g c = λ out.
+    let items = c.args.items.now in
+    let item = c.args.item.now in
+    let is : c.has_parent.result ≡ true = search rules in
+    let same : c.has_parent.result ≡ is_child items item.name c.args.child = c.has_parent.ensures ∙ (λ i. not (bytes_eq c.args.child (c.name.ensures i)) && is_name (primary (c.requires.links i) c.args.child) (c.name.ensures i)) in
+    absurd (true-not (is_child items item.name c.args.child) (sym same ∙ is) out)

@@ -6,6 +6,7 @@ use Rattle.fsl_cross.proofs.TableLemmas.{forum-own}
 use Rattle.fsl_cross.proofs.Gifts.{if_some}
 use Rattle.fsl_cross.proofs.Added.{some-absent, some-added, none-added}
 use Rattle.fsl_cross.proofs.Trailing.{none-single}
+use Rattle.fsl_cross.proofs.Quiet.{some-not}
 use Rattle.fsl_cross.proofs.change.threads.add.Goals as goal
 
 pub put-requires : goal.put-requires
@@ -25,3 +26,6 @@ returns-in-None-clause-facts g c =
 
 pub returns-in-None-clause-single : goal.returns-in-None-clause-single
 returns-in-None-clause-single g c = none-single c.args.undos.now
+
+pub returns-in-Some-clause-idle : goal.returns-in-Some-clause-idle
+returns-in-Some-clause-idle g c = λ none. absurd (some-not (forum_fact c.args.item.now) c.in-Some.fact (sym c.in_ok-fact.ensures ∙ c.in-Some.is) none)

@@ -1,5 +1,5 @@
-use Rattle.std.proofs.Common.{◌≡◌, ◌∷◌, false, All, map, refl, sym, ap, ◌∙◌, subst}
-use Rattle.std.specs.Prelude.{is_some}
+use Rattle.std.proofs.Common.{◌≡◌, ◌∷◌, false, All, map, refl, sym, ap, ◌∙◌, subst, Some, ◌≤◌, ◌+◌, arith}
+use Rattle.std.specs.Prelude.{is_some, IfSome, option_and_then}
 use Rattle.fsl_order.specs.Names.{has}
 use Rattle.fsl_order.specs.Rows.{by_name, named}
 use Rattle.fsl_cross.specs.declared.undos.What.TheVariants.{Added}
@@ -11,6 +11,8 @@ use Rattle.fsl_cross.proofs.Added.{back-out, back-found}
 use Rattle.fsl_cross.proofs.PairsAdded.{kinds-with}
 use Rattle.fsl_cross.proofs.Making.{always_err, is-back, can-fail, went-failed}
 use Rattle.fsl_cross.proofs.Seeing.{seen_of, seen-itself, seen-same, seen-tables, seen-before, whole-seen}
+use Rattle.fsl_cross.specs.Touches.{add_touches}
+use Rattle.fsl_cross.proofs.Within.{if-bound}
 use Rattle.fsl_cross.proofs.tables.Tables.add.Goals as goal
 
 pub returns-in_err-held-clause-err : goal.returns-in_err-held-clause-err
@@ -85,3 +87,31 @@ returns-in-Err-clause-err g c =
     let was : AreAsSeen (seen_of s.fields s.items s.derived) c.take_back.new.derived = went-failed s.fields s.items s.derived c.take_named.new.derived c.new-undos.result c.take_named.new.undos c.self.invariant c.new-undos.ensures c.take_named.ensures.led c.take_back.new.derived c.take_back.ensures in
     subst (λ x. IsAsBefore x (seen_of s.fields c.take.new.self c.take_back.new.derived)) c.self.view_is
     (seen-before (seen_of s.fields s.items s.derived) s.fields c.take.new.self c.take_back.new.derived (whole-seen s.fields s.items s.derived) was refl (c.take.ensures ∙ out))
+
+pub returns-in_err-held-clause-cost : goal.returns-in_err-held-clause-cost
+returns-in_err-held-clause-cost g c = if-bound (add_touches c.args.self.now.items c.args.item) (λ most. c.args.steps.now ≤ c.args.steps.now + most) (λ most is. omega arith)
+
+pub returns-in_err-put-clause-cost : goal.returns-in_err-put-clause-cost
+returns-in_err-put-clause-cost g c = if-bound (add_touches c.args.self.now.items c.args.item) (λ most. c.args.steps.now ≤ c.args.steps.now + most) (λ most is. omega arith)
+
+pub returns-in-Ok-clause-cost : goal.returns-in-Ok-clause-cost
+returns-in-Ok-clause-cost g c =
+    let s = c.self.inside in
+    let item = c.args.item in
+    let absent : has (map item_name s.items) item.name ≡ false = ap (λ (x : Seen). has (map item_name x.items) item.name) c.self.view_is ∙ c.requires.absent in
+    let is : c.put.new.self ≡ by_name item_name (item ∷ s.items) = c.in_ok-put.ensures.items ∙ ap (λ i. by_name item_name (i ∷ s.items)) c.in_ok-held.ensures in
+    let out : without item.name c.put.new.self ≡ s.items = ap (without item.name) is ∙ back-out item_name s.items c.self.invariant.rising item absent in
+    let found : named item_name c.put.new.self item.name ≡ Some item = ap (λ l. named item_name l item.name) is ∙ back-found item_name s.items item in
+    subst (λ o. IfSome o (λ most. c.take_named.new.steps ≤ c.args.steps.now + most))
+    (ap (option_and_then (add_touches (without item.name c.put.new.self))) found ∙ ap (λ l. add_touches l item) (out ∙ ap (λ (x : Seen). x.items) c.self.view_is)) c.take_named.ensures.cost
+
+pub returns-in-Err-clause-cost : goal.returns-in-Err-clause-cost
+returns-in-Err-clause-cost g c =
+    let s = c.self.inside in
+    let item = c.args.item in
+    let absent : has (map item_name s.items) item.name ≡ false = ap (λ (x : Seen). has (map item_name x.items) item.name) c.self.view_is ∙ c.requires.absent in
+    let is : c.put.new.self ≡ by_name item_name (item ∷ s.items) = c.in_ok-put.ensures.items ∙ ap (λ i. by_name item_name (i ∷ s.items)) c.in_ok-held.ensures in
+    let out : without item.name c.put.new.self ≡ s.items = ap (without item.name) is ∙ back-out item_name s.items c.self.invariant.rising item absent in
+    let found : named item_name c.put.new.self item.name ≡ Some item = ap (λ l. named item_name l item.name) is ∙ back-found item_name s.items item in
+    subst (λ o. IfSome o (λ most. c.take_named.new.steps ≤ c.args.steps.now + most))
+    (ap (option_and_then (add_touches (without item.name c.put.new.self))) found ∙ ap (λ l. add_touches l item) (out ∙ ap (λ (x : Seen). x.items) c.self.view_is)) c.take_named.ensures.cost
