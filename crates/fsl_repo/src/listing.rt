@@ -17,6 +17,7 @@ use fsl_journal::Journal;
 use fsl_name::Name;
 use fsl_record::Record;
 use fsl_text::Memory;
+use std::mem::replace;
 
 impl<D: Disk> Repo<D> {
     /// Shuns a name: its artifact isn't held any more, nor ever again.
@@ -70,8 +71,9 @@ impl<D: Disk> Repo<D> {
     }
 }
 
-/// Adds a record to the journal and to what its records leave, and exchanges the tables for others; or does none of it. It is
-/// a function of its own since it lets tables go.
+/// Adds a record to the journal and to what its records leave, and exchanges the tables for others; or does none of it.
+///
+/// Tables are let go by a call: there is so much of them that it would fill each place that does so itself.
 fn exchange(
     journal: &mut Journal,
     blobs: &mut Blobs,
@@ -91,7 +93,14 @@ fn exchange(
     ensures blobs_err { OnErr result (blobs.new ≡ blobs.old) }
     ensures tables_err { OnErr result (tables.new ≡ tables.old) }
 {
-    keep(journal, blobs, entry)?;
-    *tables = next;
-    Ok(())
+    match keep(journal, blobs, entry) {
+        Ok(()) => {
+            drop(replace(tables, next));
+            Ok(())
+        }
+        Err(Memory) => {
+            drop(next);
+            Err(Memory)
+        }
+    }
 }
