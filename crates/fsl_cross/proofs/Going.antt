@@ -1,8 +1,11 @@
 -- A mixture that goes on: a name more, a slice of names, and the names of several changes.
 use Rattle.std.proofs.Common.{◌≡◌, ℕ, ◌+◌, ◌<◌, true, false, cond, List, [], ◌∷◌, ◌++◌, length, take, get_or, Bool, refl, sym, ap, ◌∙◌, Result, Ok, Err}
-use Rattle.std.specs.Prelude.{OnOk}
+use Rattle.std.specs.Prelude.{◌||◌, OnOk}
+use Rattle.std.specs.Str.{bytes_eq}
+use Rattle.std.specs.Cmp.Lexicographic.{bytes_decides}
 use Rattle.std.proofs.lemmas.List.{take_more, append_assoc}
 use Rattle.fsl_order.specs.Held.{Change}
+use Rattle.fsl_order.specs.Names.{has}
 use Rattle.fsl_cross.specs.Mixed.{pushed, IsMixture, GoesOn, all_changed}
 use Rattle.fsl_cross.proofs.Pushing.{pushed-append, pushed-next}
 
@@ -26,6 +29,17 @@ module _ {F : Type 0} (mixture : List (List ℕ) → List F) (test : List ℕ �
   -- a name at which nothing is given
   pub goes-none : (q : List ℕ) (fs : List F) → ((done : List (List ℕ)) → mixture (q ∷ done) ≡ mixture done) → GoesOn mixture (pushed test (q ∷ [])) fs fs
   goes-none q fs none done e = e ∙ elim (test q) as (λ b. mixture done ≡ mixture (cond b (q ∷ done) done)) [ true ↦ sym (none done) | false ↦ refl ]
+
+  -- names at which nothing new is given
+  pub goes-all-none : (names : List (List ℕ)) (fs : List F) → ((q : List ℕ) → has names q ≡ true → test q ≡ true → (done : List (List ℕ)) → mixture (q ∷ done) ≡ mixture done) → GoesOn mixture (pushed test names) fs fs
+  goes-all-none [] fs none done e = e
+  goes-all-none (q ∷ names) fs none done e =
+      goes-all-none names fs (λ p there. none p (ap (λ b. bytes_eq p q || b) there ∙ or-true (bytes_eq p q))) (cond (test q) (q ∷ done) done)
+      (e ∙ elim (test q) as (λ b. test q ≡ b → mixture done ≡ mixture (cond b (q ∷ done) done)) [ true ↦ λ t. sym (none q (ap (λ b. b || has names q) ((bytes_decides q q).1 refl)) t done) | false ↦ λ _. refl ] refl)
+    where
+      or-true : (b : Bool) → (b || true) ≡ true
+      or-true true = refl
+      or-true false = refl
 
   -- a name that passes it, whose new fact is put
   pub goes-put : {X E : Type 0} (r : Result X E) (put : List F → List F) (q : List ℕ) (old new : List F) → test q ≡ true → ((done : List (List ℕ)) → mixture (q ∷ done) ≡ put (mixture done)) → OnOk r (new ≡ put old)

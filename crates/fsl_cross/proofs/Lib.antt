@@ -14,6 +14,13 @@ pub mod PairsAdded
 pub mod Marking
 pub mod AddedItems
 pub mod Stays
+pub mod Retiring
+pub mod Alike
+pub mod Validity
+pub mod Ids
+pub mod Kinded
+pub mod Rekinded
+pub mod Currency
 pub mod ClusterFacts
 pub mod Seeing
 pub mod Undoing

@@ -2,6 +2,7 @@
 use Rattle.std.proofs.Common.{◌≡◌, ℕ, true, false, ◌&&◌, List, [], ◌∷◌, Bool, Option, Some, None, All, map, refl, sym, ap, ◌∙◌}
 use Rattle.std.specs.Prelude.{◌||◌, filter_map, option_map, is_some, IfSome}
 use Rattle.std.specs.List.{list_any, cons_option, AllByRecursion, IsDistinct}
+use Rattle.std.specs.Option.{option_map_or}
 use Rattle.std.specs.Str.{bytes_eq}
 use Rattle.std.specs.Cmp.Lexicographic.{nat_list_eq_equiv}
 use Rattle.std.proofs.lemmas.List.Sorted.{list_any-IsPermutation, All-permutation}
@@ -40,6 +41,23 @@ any-by_name : {F : Type 0} (name : F → List ℕ) (p : F → Bool) (f : F) (fs 
 unfolding IsDistinct
 any-by_name name p f fs d absent = sym (list_any-IsPermutation p (f ∷ fs) (by_name name (f ∷ fs)) (IsPermutation-by_name name (f ∷ fs) (all-apart (name f) (map name fs) absent, d)))
 
+-- a test over what items give, with one more
+pub any-with : {F : Type 0} (fact_name : F → List ℕ) (give : Item → Option F) → ((item : Item) → IfSome (give item) (λ f. fact_name f ≡ item.name)) → (p : F → Bool) (items : List Item) → Rise items
+    → (x : Item) → named item_name items x.name ≡ Some x → list_any p (filter_map give items) ≡ (option_map_or p (give x) false || list_any p (filter_map give (without x.name items)))
+any-with {F = F} fact_name give own p items rise x at =
+    ap (list_any p) (given-added item_name fact_name give own items rise x at) ∙ by (give x) refl (own x)
+  where
+    by : (o : Option F) → give x ≡ o → IfSome o (λ f. fact_name f ≡ x.name) → list_any p (by_name fact_name (cons_option (give x) (filter_map give (without x.name items)))) ≡ (option_map_or p (give x) false || list_any p (filter_map give (without x.name items)))
+    by None e named =
+        ap (λ o. list_any p (by_name fact_name (cons_option o (filter_map give (without x.name items))))) e
+        ∙ ap (list_any p) (by_name-given item_name fact_name give own (without x.name items) (rising-out item_name x.name items rise))
+        ∙ sym (ap (λ o. option_map_or p o false || list_any p (filter_map give (without x.name items))) e)
+    by (Some f) e named =
+        ap (λ o. list_any p (by_name fact_name (cons_option o (filter_map give (without x.name items))))) e
+        ∙ any-by_name fact_name p f (filter_map give (without x.name items)) (distinct-given item_name fact_name give own (without x.name items) (rising-out item_name x.name items rise))
+        (ap (has (map fact_name (filter_map give (without x.name items)))) named ∙ given-absent item_name fact_name give own items rise x.name)
+        ∙ sym (ap (λ o. option_map_or p o false || list_any p (filter_map give (without x.name items))) e)
+
 module _ (items : List Item) (rise : Rise items) (x : Item) (at : named item_name items x.name ≡ Some x) (id_of : Item → Option (List ℕ)) where
   abbrev give : Item → Option Pair
   give item = option_map (pair_of item.name) (id_of item)
@@ -50,7 +68,8 @@ module _ (items : List Item) (rise : Rise items) (x : Item) (at : named item_nam
   abbrev old : List Pair
   old = filter_map give (without x.name items)
 
-  any-added : (k : Pair) → list_any (is_pair k) (filter_map give items) ≡ (is_pair_of k (id_of x) x.name || list_any (is_pair k) old)
+  -- whether a pair is there, with the new item
+  pub any-added : (k : Pair) → list_any (is_pair k) (filter_map give items) ≡ (is_pair_of k (id_of x) x.name || list_any (is_pair k) old)
   any-added k = ap (list_any (is_pair k)) (given-added item_name pair_name give own items rise x at) ∙ by (id_of x) refl
     where
       by : (o : Option (List ℕ)) → id_of x ≡ o → list_any (is_pair k) (by_name pair_name (cons_option (give x) old)) ≡ (is_pair_of k o x.name || list_any (is_pair k) old)

@@ -131,14 +131,19 @@ module _ (items : List Item) (rise : Rise items) (x : Item) (at : named item_nam
           | Some m ↦ λ e. leaf-same law (tags_facts items) (tags_facts old) y.name (row-kept y m found e out) y refl
         ] refl)
 
-    -- where no other row than those of check-ins depends on the new item
-    pub rows-end : ((y : Item) → named item_name items y.name ≡ Some y → has done y.name ≡ false → as_manifest y.artifact ≡ None → timeline_row items y ≡ timeline_row old y) → rows_mixed items n done ≡ timeline_rows items
-    rows-end others =
-        mixed-end item_name (λ (r : Row). r.name) (timeline_row old) (timeline_row items) (row-own old) (row-own items) items rise done
+    -- where these names are done, and maybe others, and no other row than those of check-ins depends on the new item
+    pub rows-end-more : (d : List (List ℕ)) → ((q : List ℕ) → has d q ≡ false → has done q ≡ false)
+        → ((y : Item) → named item_name items y.name ≡ Some y → has d y.name ≡ false → as_manifest y.artifact ≡ None → timeline_row items y ≡ timeline_row old y) → rows_mixed items n d ≡ timeline_rows items
+    rows-end-more d more others =
+        mixed-end item_name (λ (r : Row). r.name) (timeline_row old) (timeline_row items) (row-own old) (row-own items) items rise d
         (λ y found out. elim (as_manifest y.artifact) as (λ o. as_manifest y.artifact ≡ o → timeline_row items y ≡ timeline_row old y) [
           | None ↦ λ e. others y found out e
-          | Some m ↦ λ e. row-checkin items y.name y.artifact m e ∙ ap Some (checkin_row-same law (tags_facts items) (tags_facts old) y.name (row-kept y m found e out) m) ∙ sym (row-checkin old y.name y.artifact m e)
+          | Some m ↦ λ e. row-checkin items y.name y.artifact m e ∙ ap Some (checkin_row-same law (tags_facts items) (tags_facts old) y.name (row-kept y m found e (more y.name out)) m) ∙ sym (row-checkin old y.name y.artifact m e)
         ] refl)
+
+    -- where no others are
+    pub rows-end : ((y : Item) → named item_name items y.name ≡ Some y → has done y.name ≡ false → as_manifest y.artifact ≡ None → timeline_row items y ≡ timeline_row old y) → rows_mixed items n done ≡ timeline_rows items
+    rows-end others = rows-end-more done (λ q out. out) others
 
   -- ---- by the name of a check-in
 

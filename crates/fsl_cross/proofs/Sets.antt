@@ -157,6 +157,20 @@ module _ {X F : Type 0} (name : X → List ℕ) (fact_name : F → List ℕ) (ol
       given-at name fact_name (mixed name old new done) (mixed-own done) (mixed name old new (name x ∷ done)) (mixed-own (name x ∷ done)) xs h x at (mixed-other done x)
       ∙ ap (λ o. set_at fact_name (name x) o (filter_map (mixed name old new done) xs)) (mixed-at done x)
 
+  -- at an item that gives the same in both ways
+  pub mixed-same : (xs : List X) → IsStrictlySortedBy bytes_cmp (map name xs) → (done : List (List ℕ)) (x : X) → named name xs (name x) ≡ Some x → new x ≡ old x
+      → filter_map (mixed name old new (name x ∷ done)) xs ≡ filter_map (mixed name old new done) xs
+  mixed-same xs h done x at same =
+      given-same name fact_name (mixed name old new done) (mixed-own done) (mixed name old new (name x ∷ done)) (mixed-own (name x ∷ done)) xs h
+      (λ y e. elim (bytes_eq (name y) (name x)) as (λ b. bytes_eq (name y) (name x) ≡ b → mixed name old new (name x ∷ done) y ≡ mixed name old new done y) [
+        | true ↦ λ t. let is : y ≡ x = inside (sym e ∙ ap (named name xs) ((bytes_decides (name y) (name x)).0 t) ∙ at) in
+            subst (λ z. mixed name old new (name x ∷ done) z ≡ mixed name old new done z) (sym is) (mixed-at done x ∙ elim (has done (name x)) as (λ b. new x ≡ cond b (new x) (old x)) [ true ↦ refl | false ↦ same ])
+        | false ↦ λ t. mixed-other done x y t
+      ] refl)
+    where
+      inside : {x y : X} → Some x ≡ Some y → x ≡ y
+      inside e = cc
+
   -- at the end of the loop
   pub mixed-end : (xs : List X) → IsStrictlySortedBy bytes_cmp (map name xs) → (done : List (List ℕ)) → ((y : X) → named name xs (name y) ≡ Some y → has done (name y) ≡ false → new y ≡ old y)
       → filter_map (mixed name old new done) xs ≡ filter_map new xs

@@ -1,5 +1,5 @@
 -- A change more at the end of a trail, the last one taken back, and what a call leaves of a trail.
-use Rattle.std.proofs.Common.{◌≡◌, ℕ, List, [], ◌∷◌, ◌++◌, refl, sym, ap, ◌∙◌, subst, Result, Ok, Err}
+use Rattle.std.proofs.Common.{◌≡◌, ℕ, ◌≤◌, List, [], ◌∷◌, ◌++◌, length, refl, sym, ap, ◌∙◌, subst, arith, Result, Ok, Err}
 use Rattle.std.specs.Prelude.{OnOk, OnErr}
 use Rattle.fsl_order.specs.Held.{Held, Change, IsAsBefore}
 use Rattle.fsl_order.specs.Rows.{ListsChanged}
@@ -69,6 +69,14 @@ kept-told row (Err e) us vs u old new before after lists push = tt
 pub kept-facts : {F X E : Type 0} (r : Result X E) (t1 t2 : Held F) (fs : List F) → t1.facts ≡ fs → OnOk r (t2 ≡ t1) → OnOk r (t2.facts ≡ fs)
 kept-facts (Ok x) t1 t2 fs facts same = ap (λ (t : Held _). t.facts) same ∙ facts
 kept-facts (Err e) t1 t2 fs facts same = tt
+
+-- .. and is the only one, where there was none
+pub kept-single : {U X E : Type 0} (r : Result X E) (us vs : List U) (u : U) → OnOk r (vs ≡ us ++ u ∷ []) → OnOk r (us ≡ [] → length vs ≤ 1)
+kept-single (Ok x) us vs u push = λ none. let one : length vs ≡ 1 = ap length (push ∙ ap (λ l. l ++ u ∷ []) none) in omega (arith, one)
+kept-single (Err e) us vs u push = tt
+
+pub none-single : {U : Type 0} (us : List U) → us ≡ [] → length us ≤ 1
+none-single us none = let no : length us ≡ 0 = ap length none in omega (arith, no)
 
 -- ---- of the table of tickets
 

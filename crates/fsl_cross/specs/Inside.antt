@@ -8,6 +8,8 @@ use Rattle.fsl_name.specs.Name.{name_text}
 use Rattle.fsl_date.specs.Moment.{date_in}
 use Rattle.fsl_manifest.specs.declared.Manifest.{Manifest}
 use Rattle.fsl_forms.specs.declared.control.Control.{Control}
+use Rattle.fsl_forms.specs.declared.wiki.Wiki.{Wiki}
+use Rattle.fsl_forms.specs.declared.ticket.Ticket.{Ticket}
 use Rattle.fsl_forms.specs.declared.attachment.Attachment.{Attachment}
 use Rattle.fsl_forms.specs.declared.technote.Technote.{Technote}
 use Rattle.fsl_forms.specs.declared.forum.Forum.{Forum}
@@ -106,6 +108,14 @@ checkin_row facts name m =
       text = text_over facts name (codes "comment") m.comment;
     }
 
+-- a version's of a wiki page
+abbrev pub page_row : List ℕ → Wiki → Row
+page_row name w = record { time = w.date; name = name; kind = row.Wiki; user = w.user; text = w.title }
+
+-- a ticket change's
+abbrev pub ticket_row : List ℕ → Ticket → Row
+ticket_row name t = record { time = t.date; name = name; kind = row.Ticket; user = t.user; text = name_text t.id }
+
 -- a technote's by facts of technotes, where it is the current one
 abbrev pub note_row : List wiki.Fact → List ℕ → Technote → Option Row
 note_row facts name t =
@@ -131,8 +141,8 @@ control_row name c = record { time = c.date; name = name; kind = row.Tag; user =
 -- the row of an artifact by facts of tags, technotes and posts, and by tests of the ids of tickets and technotes
 abbrev pub row_over : List tags.Fact → List wiki.Fact → List forum.Fact → (List ℕ → Bool) → (List ℕ → Bool) → List ℕ → Artifact → Option Row
 row_over ts ps fs on_ticket on_note name (kind.Manifest m) = Some (checkin_row ts name m)
-row_over ts ps fs on_ticket on_note name (kind.Wiki w) = Some (record { time = w.date; name = name; kind = row.Wiki; user = w.user; text = w.title })
-row_over ts ps fs on_ticket on_note name (kind.Ticket t) = Some (record { time = t.date; name = name; kind = row.Ticket; user = t.user; text = name_text t.id })
+row_over ts ps fs on_ticket on_note name (kind.Wiki w) = Some (page_row name w)
+row_over ts ps fs on_ticket on_note name (kind.Ticket t) = Some (ticket_row name t)
 row_over ts ps fs on_ticket on_note name (kind.Technote t) = note_row ps name t
 row_over ts ps fs on_ticket on_note name (kind.Attachment a) = Some (attachment_row (kind_by (on_ticket a.target) (on_note a.target)) name a)
 row_over ts ps fs on_ticket on_note name (kind.Forum f) = post_row fs name f

@@ -10,4 +10,5 @@ pub mod Marks
 pub mod Built
 pub mod Back
 pub mod Fresh
-pub mod Told
+pub mod Gone
+pub mod Kinds

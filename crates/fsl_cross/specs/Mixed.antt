@@ -1,5 +1,5 @@
 -- What items give while a table is changed, one name after another.
-use Rattle.std.specs.Prelude.{◌≡◌, ℕ, List, [], ◌∷◌, Bool, not, ◌&&◌, if◌then◌else◌, cond, Option, Some, None, false, is_some, map, filter_map, flat_map}
+use Rattle.std.specs.Prelude.{◌≡◌, ℕ, ◌≤◌, List, [], ◌∷◌, Bool, not, ◌&&◌, if◌then◌else◌, cond, Option, Some, None, false, is_some, map, filter_map, flat_map, length}
 use Rattle.std.specs.Str.{bytes_eq}
 use Rattle.std.specs.List.Sorted.{IsStrictlySortedBy}
 use Rattle.fsl_order.specs.Names.{bytes_cmp, has}
@@ -10,12 +10,14 @@ use Rattle.fsl_links.specs.declared.Fact as links
 use Rattle.fsl_links.specs.Links.{primary}
 use Rattle.fsl_tags.specs.declared.Fact as tags
 use Rattle.fsl_leaves.specs.declared.Fact as leaves
+use Rattle.fsl_wiki.specs.declared.Fact as wiki
+use Rattle.fsl_forum.specs.declared.Fact as forum
 use Rattle.fsl_timeline.specs.declared.Row.{Row}
 use Rattle.fsl_cross.specs.declared.Item.{Item}
 use Rattle.fsl_cross.specs.Facts.{as_manifest}
 use Rattle.fsl_cross.specs.Checkins.{links_facts, tags_fact, tags_facts, checkin}
-use Rattle.fsl_cross.specs.Trails.{Leads, LinksTold, TagsTold}
-use Rattle.fsl_cross.specs.Tables.{leaves_fact, timeline_row_of, without}
+use Rattle.fsl_cross.specs.Trails.{Leads, LinksTold, TagsTold, PagesTold, ThreadsTold}
+use Rattle.fsl_cross.specs.Tables.{leaves_fact, pages_facts, forum_facts, timeline_row_of, without}
 
 -- the new gift at the names that are done, the old one elsewhere
 abbrev pub mixed : {X F : Type 0} → (X → List ℕ) → (X → Option F) → (X → Option F) → List (List ℕ) → X → Option F
@@ -70,6 +72,10 @@ RowsGo items n names before now = GoesOn (rows_mixed items n) (pushed (is_other_
 abbrev pub all_changed : {F : Type 0} → List (Change F) → List (List ℕ)
 all_changed us = flat_map (λ u. u.changed) us
 
+-- the name of a new artifact, and those of other check-ins whose rows some changes changed
+abbrev pub tagged_done : {F : Type 0} → List Item → List ℕ → List (Change F) → List (List ℕ)
+tagged_done items n us = pushed (is_other_checkin items n) (all_changed us) (n ∷ [])
+
 -- the items rise by name, and this is one of them
 pub record IsIn (items : List Item) (item : Item) : Type 0 where
   pub rising : IsStrictlySortedBy bytes_cmp (map (λ i. i.name) items)
@@ -88,6 +94,22 @@ pub record IsTagsTrail (items : List Item) (n : List ℕ) (us : List (Change tag
   pub before : first.facts ≡ tags_facts (without n items)
   pub leads : Leads first us now
   pub told : TagsTold us
+
+-- so did the change of the table of pages, where there is one
+pub record IsPagesTrail (items : List Item) (n : List ℕ) (us : List (Change wiki.Fact)) (now : Held wiki.Fact) : Type 0 where
+  pub first : Held wiki.Fact
+  pub before : first.facts ≡ pages_facts (without n items)
+  pub leads : Leads first us now
+  pub told : PagesTold us
+  pub single : length us ≤ 1
+
+-- so did that of the table of posts
+pub record IsThreadsTrail (items : List Item) (n : List ℕ) (us : List (Change forum.Fact)) (now : Held forum.Fact) : Type 0 where
+  pub first : Held forum.Fact
+  pub before : first.facts ≡ forum_facts (without n items)
+  pub leads : Leads first us now
+  pub told : ThreadsTold us
+  pub single : length us ≤ 1
 
 -- the row of each other artifact that is no check-in is the same with and without the one of this name
 abbrev pub OtherRowsStay : List Item → List ℕ → Type 0

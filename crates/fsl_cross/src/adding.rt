@@ -1,5 +1,5 @@
 //! One artifact more in all tables.
-ghost use Rattle.std.specs.Prelude.{◌≡◌, ◌≤◌, ◌+◌, true, false, All, Some, map, option_map, OnOk};
+ghost use Rattle.std.specs.Prelude.{◌≡◌, ◌≤◌, ◌+◌, true, false, All, Some, map, is_some, option_map, OnOk};
 ghost use Rattle.std.specs.List.Sorted.{IsStrictlySortedBy};
 ghost use Rattle.fsl_order.specs.Names.{bytes_cmp};
 ghost use Rattle.fsl_order.specs.Rows.{named};
@@ -9,9 +9,8 @@ ghost use Rattle.fsl_cross.specs.Built.{AreTablesOf};
 ghost use Rattle.fsl_cross.specs.Fresh.{AreNone};
 ghost use Rattle.fsl_cross.specs.Mixed.{IsIn};
 ghost use Rattle.fsl_cross.specs.Tables.{IsItem, without};
-ghost use Rattle.fsl_cross.specs.Told.{has_contents};
 
-use super::change::{attached, clusters, contents, history, told};
+use super::change::{attached, clusters, contents, history, kinds, row};
 use super::derived::Derived;
 use super::held::Held;
 use super::items::Items;
@@ -21,7 +20,7 @@ use fsl_text::{Memory, Steps};
 use std::alloc::Global;
 use std::sync::ledger::Ledger;
 
-/// Takes a check-in, a control artifact, a cluster or a plain artifact in that is new in a set. `Memory` is the only error.
+/// Takes an artifact in that is new in a set. `Memory` is the only error.
 fn take_in<L: Ledger>(
     alloc: Global,
     derived: &mut Derived,
@@ -33,12 +32,12 @@ fn take_in<L: Ledger>(
     requires new { IsIn items.now item.now }
     requires items { All IsItem items.now }
     requires is_item { IsItem item.now }
-    requires kind { has_contents item.now.artifact ≡ false }
     requires tables { AreTablesOf derived.old.contents.tickets.fields (without item.now.name items.now) derived.old }
     requires none { AreNone undos.old }
     ensures tables { OnOk result (AreTablesOf derived.old.contents.tickets.fields items.now derived.new) }
     ensures led { AllLed derived.old undos.old derived.new undos.new }
 {
+    let before = kinds::own_kind(&derived.attached, &derived.contents.pages, item, steps);
     history::take_in(
         alloc,
         &mut derived.history,
@@ -62,10 +61,14 @@ fn take_in<L: Ledger>(
         item,
         steps,
     )?;
-    told::take_in(
+    row::take_in(
         alloc,
         &derived.history.tags,
         &undos.history.tags,
+        &derived.contents,
+        &undos.contents,
+        &derived.attached,
+        before,
         &mut derived.timeline,
         &mut undos.timeline,
         items,
@@ -85,7 +88,7 @@ pub(crate) fn take_named<L: Ledger>(
 ) -> Result<(), Memory>
     requires rising { IsStrictlySortedBy bytes_cmp (map (λ i. i.name) items.now) }
     requires items { All IsItem items.now }
-    requires kind { option_map (λ i. has_contents i.artifact) (named (λ i. i.name) items.now name) ≡ Some false }
+    requires there { is_some (named (λ i. i.name) items.now name) ≡ true }
     requires tables { AreTablesOf derived.old.contents.tickets.fields (without name items.now) derived.old }
     requires none { AreNone undos.old }
     ensures tables { OnOk result (AreTablesOf derived.old.contents.tickets.fields items.now derived.new) }

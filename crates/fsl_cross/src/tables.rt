@@ -3,7 +3,6 @@ ghost use Rattle.std.specs.Prelude.{◌≡◌, ◌≤◌, ◌+◌, [], true, fal
 ghost use Rattle.fsl_order.specs.Rows.{AreDistinct, named};
 ghost use Rattle.fsl_cross.specs.Checkins as checkins;
 ghost use Rattle.fsl_cross.specs.Tables.{IsItem, IsAsBefore, item_set, tables, with_item, published, without};
-ghost use Rattle.fsl_cross.specs.Told.{has_contents};
 ghost use Rattle.std.specs.List.Sorted.{IsStrictlySortedBy};
 ghost use Rattle.fsl_order.specs.Names.{bytes_cmp, has};
 
@@ -84,8 +83,7 @@ impl Tables {
         Tables::of_set(alloc, fields, Items::new(alloc))
     }
 
-    /// Adds an artifact whose name isn't there: a check-in, a control artifact, a cluster or a plain one. `Memory` is the only error, and
-    /// the tables then hold what they held.
+    /// Adds an artifact whose name isn't there, of whatever kind. `Memory` is the only error, and the tables then hold what they held.
     pub fn add<L: Ledger>(
         &mut self,
         alloc: Global,
@@ -94,7 +92,6 @@ impl Tables {
     ) -> Result<Back, Memory>
         requires absent { has (map (λ i. i.name) self.old.items) item.name ≡ false }
         requires kind { IsItem item }
-        requires told { has_contents item.artifact ≡ false }
         ensures items { OnOk result (self.new.items ≡ with_item item self.old.items) }
         ensures fields { OnOk result (self.new.fields ≡ self.old.fields) }
         ensures before { IfOk result (λ back. back.before ≡ self.old) }

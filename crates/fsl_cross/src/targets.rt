@@ -89,12 +89,19 @@ impl Targets {
     pub(crate) fn kind(&self, target: &Text) -> RowKind
         ensures { result ≡ kind_by (in_set self.now.tickets target.now) (in_set self.now.notes target.now) }
     {
-        if self.tickets.contains(target) {
-            RowKind::Ticket
-        } else if self.notes.contains(target) {
-            RowKind::Note
-        } else {
-            RowKind::Wiki
-        }
+        kind_where(self.tickets.contains(target), self.notes.contains(target))
+    }
+}
+
+/// The kind of what belongs to a ticket, or else to a technote, or else to the wiki.
+pub(crate) fn kind_where(on_ticket: bool, on_note: bool) -> RowKind
+    ensures { result ≡ kind_by on_ticket on_note }
+{
+    if on_ticket {
+        RowKind::Ticket
+    } else if on_note {
+        RowKind::Note
+    } else {
+        RowKind::Wiki
     }
 }

@@ -8,7 +8,7 @@ ghost use Rattle.fsl_wiki.specs.Pages as wiki;
 ghost use Rattle.fsl_tags.specs.Gathered.{in_set};
 ghost use Rattle.fsl_cross.specs.Checkins.{tags_facts};
 ghost use Rattle.fsl_cross.specs.Tables.{sign, tag_text, pages_facts, forum_facts, timeline_rows};
-ghost use Rattle.fsl_cross.specs.Inside.{checkin_row, note_row, attachment_row, post_row, control_row, item_row_over};
+ghost use Rattle.fsl_cross.specs.Inside.{checkin_row, page_row, ticket_row, note_row, attachment_row, post_row, control_row, item_row_over};
 
 use crate::checkin::{date, text};
 use crate::facts::{append, given};
@@ -17,7 +17,7 @@ use crate::items::Items;
 use crate::targets::Targets;
 use fsl_artifact::Artifact;
 use fsl_date::Moment;
-use fsl_forms::{Attachment, Control, Forum, Technote};
+use fsl_forms::{Attachment, Control, Forum, Technote, Ticket, Wiki};
 use fsl_forum::Threads;
 use fsl_grammar::{Prefix, TagCard};
 use fsl_manifest::Manifest;
@@ -63,8 +63,36 @@ pub(crate) fn checkin(
     row(alloc, time, name, RowKind::Checkin, user, comment)
 }
 
+/// The row of a version of a wiki page.
+pub(crate) fn page(alloc: Global, name: Name, version: &Wiki) -> Result<Row, Memory>
+    ensures { IfOk result (λ r. r ≡ page_row name version.now) }
+{
+    row(
+        alloc,
+        version.date,
+        name,
+        RowKind::Wiki,
+        version.user.bytes(),
+        version.title.bytes(),
+    )
+}
+
+/// The row of a ticket change.
+pub(crate) fn ticket(alloc: Global, name: Name, change: &Ticket) -> Result<Row, Memory>
+    ensures { IfOk result (λ r. r ≡ ticket_row name change.now) }
+{
+    row(
+        alloc,
+        change.date,
+        name,
+        RowKind::Ticket,
+        change.user.bytes(),
+        &change.id.text(),
+    )
+}
+
 /// Whether a technote is the current one of its id.
-fn is_current(pages: &Pages, id: Name, name: Name) -> bool
+pub(crate) fn is_current(pages: &Pages, id: Name, name: Name) -> bool
     ensures { result ≡ option_eq bytes_eq (wiki.note pages.now.facts id) (Some name) }
 {
     match pages.note(id) {
@@ -74,7 +102,7 @@ fn is_current(pages: &Pages, id: Name, name: Name) -> bool
 }
 
 /// The row of a technote at the time that it is about, where it is the current one of its id.
-fn technote(
+pub(crate) fn technote(
     alloc: Global,
     pages: &Pages,
     name: Name,
@@ -91,7 +119,12 @@ fn technote(
 }
 
 /// The row of an attachment.
-fn attachment(alloc: Global, kind: RowKind, name: Name, file: &Attachment) -> Result<Row, Memory>
+pub(crate) fn attachment(
+    alloc: Global,
+    kind: RowKind,
+    name: Name,
+    file: &Attachment,
+) -> Result<Row, Memory>
     ensures { IfOk result (λ r. r ≡ attachment_row kind name file.now) }
 {
     row(
@@ -105,7 +138,12 @@ fn attachment(alloc: Global, kind: RowKind, name: Name, file: &Attachment) -> Re
 }
 
 /// The row of a post, where it is valid.
-fn post(alloc: Global, threads: &Threads, name: Name, post: &Forum) -> Result<Option<Row>, Memory>
+pub(crate) fn post(
+    alloc: Global,
+    threads: &Threads,
+    name: Name,
+    post: &Forum,
+) -> Result<Option<Row>, Memory>
     ensures { IfOk result (λ r. r ≡ post_row threads.now.facts name post.now) }
 {
     match threads.place(name) {
@@ -175,22 +213,8 @@ fn row_of(
     let name = item.name();
     let found = match item.artifact() {
         Artifact::Manifest(manifest) => checkin(alloc, tags, name, manifest)?,
-        Artifact::Wiki(page) => row(
-            alloc,
-            page.date,
-            name,
-            RowKind::Wiki,
-            page.user.bytes(),
-            page.title.bytes(),
-        )?,
-        Artifact::Ticket(change) => row(
-            alloc,
-            change.date,
-            name,
-            RowKind::Ticket,
-            change.user.bytes(),
-            &change.id.text(),
-        )?,
+        Artifact::Wiki(version) => page(alloc, name, version)?,
+        Artifact::Ticket(change) => ticket(alloc, name, change)?,
         Artifact::Attachment(file) => { attachment(alloc, targets.kind(&file.target), name, file)? }
         Artifact::Control(tagging) => control(alloc, name, tagging)?,
         Artifact::Technote(note) => return technote(alloc, pages, name, note),

@@ -143,6 +143,7 @@ impl<D: Disk> Repo<D> {
             self.tables.undo(back);
             return Err(ArriveFault::Memory);
         }
+        // By a call: what takes a change back has many parts.
         drop(back);
         self.blobs.announced_are_new();
         Ok(Arrival::Published)
@@ -176,11 +177,6 @@ impl<D: Disk> Repo<D> {
             private,
             artifact,
         };
-        let entry = Record::Blob {
-            private,
-            name,
-            bytes: text,
-        };
         let back = match self.tables.add(self.alloc, item, steps) {
             Ok(back) => back,
             Err(_) => return Err(ArriveFault::Memory),
@@ -189,10 +185,16 @@ impl<D: Disk> Repo<D> {
             self.tables.undo(back);
             return Err(fault);
         }
+        let entry = Record::Blob {
+            private,
+            name,
+            bytes: text,
+        };
         if let Err(_) = keep(&mut self.journal, &mut self.blobs, entry) {
             self.tables.undo(back);
             return Err(ArriveFault::Memory);
         }
+        // By a call: what takes a change back has many parts.
         drop(back);
         self.blobs.announced_are_new();
         let _ = self.journal.count();

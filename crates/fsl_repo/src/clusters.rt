@@ -32,10 +32,7 @@ impl<D: Disk> Repo<D> {
     /// public artifact.
     ///
     /// Errors: those of `arrive`.
-    pub fn cluster<L: Ledger>(
-        &mut self,
-        steps: &mut Steps<L>,
-    ) -> Result<Clustering, ArriveFault>
+    pub fn cluster<L: Ledger>(&mut self, steps: &mut Steps<L>) -> Result<Clustering, ArriveFault>
         ensures step { ClusterStep self.old.seen.state result self.new.seen.state }
         ensures loaded { self.new.seen.loaded ≡ self.old.seen.loaded }
         ensures disk { self.new.disk ≡ self.old.disk }

@@ -1,8 +1,8 @@
 //! One artifact more in the tables of files, pages, tickets, posts and clusters.
-ghost use Rattle.std.specs.Prelude.{OnOk};
+ghost use Rattle.std.specs.Prelude.{◌≡◌, [], OnOk};
 ghost use Rattle.fsl_cross.specs.Back.{AreContentsLed};
 ghost use Rattle.fsl_cross.specs.Built.{AreContentsOf};
-ghost use Rattle.fsl_cross.specs.Mixed.{IsIn};
+ghost use Rattle.fsl_cross.specs.Mixed.{IsIn, IsPagesTrail, IsThreadsTrail};
 ghost use Rattle.fsl_cross.specs.Tables.{IsItem, without};
 
 use super::{clusters, files, pages, threads, tickets};
@@ -26,7 +26,11 @@ pub(crate) fn take_in<L: Ledger>(
     requires new { IsIn items.now item.now }
     requires kind { IsItem item.now }
     requires contents { AreContentsOf contents.old.tickets.fields (without item.now.name items.now) contents.old }
+    requires no_pages { undos.old.pages ≡ [] }
+    requires no_threads { undos.old.threads ≡ [] }
     ensures contents { OnOk result (AreContentsOf contents.old.tickets.fields items.now contents.new) }
+    ensures pages { OnOk result (IsPagesTrail items.now item.now.name undos.new.pages contents.new.pages) }
+    ensures threads { OnOk result (IsThreadsTrail items.now item.now.name undos.new.threads contents.new.threads) }
     ensures led { AreContentsLed contents.old undos.old contents.new undos.new }
 {
     clusters::add(

@@ -1,5 +1,5 @@
 //! One artifact more in the table of wiki pages, technotes and attachments.
-ghost use Rattle.std.specs.Prelude.{◌≡◌, ◌∷◌, false, map, OnOk};
+ghost use Rattle.std.specs.Prelude.{◌≡◌, ◌≤◌, ◌∷◌, [], false, map, length, OnOk};
 ghost use Rattle.fsl_order.specs.Names.{has};
 ghost use Rattle.fsl_order.specs.Rows.{by_name};
 ghost use Rattle.fsl_wiki.specs.Pages.{name_of};
@@ -28,6 +28,7 @@ fn put<L: Ledger>(
     ensures facts { OnOk result (pages.new.facts ≡ by_name name_of (fact ∷ pages.old.facts)) }
     ensures led { Led pages.old undos.old pages.new undos.new }
     ensures told { OnOk result (PagesTold undos.old → PagesTold undos.new) }
+    ensures single { OnOk result (undos.old ≡ [] → length undos.new ≤ 1) }
 {
     let undo = pages.add(alloc, fact, steps)?;
     keep(pages, undos, undo)
@@ -47,6 +48,7 @@ pub(crate) fn add<L: Ledger>(
     ensures facts { OnOk result (pages.new.facts ≡ pages_facts items.now) }
     ensures led { Led pages.old undos.old pages.new undos.new }
     ensures told { OnOk result (PagesTold undos.old → PagesTold undos.new) }
+    ensures single { OnOk result (undos.old ≡ [] → length undos.new ≤ 1) }
 {
     match fact_of(alloc, item)? {
         Some(fact) => put(alloc, pages, undos, fact, steps),

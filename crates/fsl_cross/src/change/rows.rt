@@ -5,7 +5,7 @@ ghost use Rattle.fsl_order.specs.Rows.{by_name};
 ghost use Rattle.fsl_timeline.specs.Timeline.{retired};
 ghost use Rattle.fsl_cross.specs.Checkins.{tags_facts, checkin};
 ghost use Rattle.fsl_cross.specs.Inside.{checkin_row};
-ghost use Rattle.fsl_cross.specs.Mixed.{IsIn, RowsGo, IsMixture, IsTagsTrail, OtherRowsStay, rows_mixed, timeline_row, all_changed};
+ghost use Rattle.fsl_cross.specs.Mixed.{IsIn, RowsGo, IsMixture, IsTagsTrail, OtherRowsStay, rows_mixed, timeline_row, all_changed, tagged_done};
 ghost use Rattle.fsl_cross.specs.Tables.{timeline_rows, without};
 ghost use Rattle.fsl_cross.specs.Trails.{Led};
 
@@ -187,6 +187,39 @@ pub(crate) fn retag_changed<L: Ledger>(
     Ok(())
 }
 
+/// Takes the row of an artifact in that is new in a set, where it has one, and works the rows of those check-ins out anew whose tags
+/// changed. `Memory` is the only error.
+pub(crate) fn start<L: Ledger>(
+    alloc: Global,
+    tags: &Tags,
+    changes: &List<tagging::Undo>,
+    timeline: &mut Timeline,
+    undos: &mut List<Undo>,
+    items: &Items,
+    item: &Held,
+    row: Option<Row>,
+    steps: &mut Steps<L>,
+) -> Result<(), Memory>
+    requires new { IsIn items.now item.now }
+    requires row { row ≡ timeline_row items.now item.now }
+    requires tags { tags.now.facts ≡ tags_facts items.now }
+    requires facts { timeline.old.facts ≡ timeline_rows (without item.now.name items.now) }
+    ensures facts { OnOk result (timeline.new.facts ≡ rows_mixed items.now item.now.name (tagged_done items.now item.now.name changes.now)) }
+    ensures led { Led timeline.old undos.old timeline.new undos.new }
+{
+    add(alloc, timeline, undos, items, item, row, steps)?;
+    retag_changed(
+        alloc,
+        tags,
+        timeline,
+        undos,
+        items,
+        item,
+        changes.items(),
+        steps,
+    )
+}
+
 /// Takes the row of an artifact in that is new in a set, and works the rows of those check-ins out anew whose tags changed. No other row
 /// depends on the artifact. The table of tags has it already, by some changes. `Memory` is the only error.
 pub(crate) fn take_in<L: Ledger>(
@@ -209,16 +242,8 @@ pub(crate) fn take_in<L: Ledger>(
     ensures facts { OnOk result (timeline.new.facts ≡ timeline_rows items.now) }
     ensures led { Led timeline.old undos.old timeline.new undos.new }
 {
-    add(alloc, timeline, undos, items, item, row, steps)?;
     effective_by_row();
-    retag_changed(
-        alloc,
-        tags,
-        timeline,
-        undos,
-        items,
-        item,
-        changes.items(),
-        steps,
+    start(
+        alloc, tags, changes, timeline, undos, items, item, row, steps,
     )
 }

@@ -1,5 +1,5 @@
 //! One artifact more in the table of forum posts.
-ghost use Rattle.std.specs.Prelude.{◌≡◌, ◌∷◌, false, map, OnOk};
+ghost use Rattle.std.specs.Prelude.{◌≡◌, ◌≤◌, ◌∷◌, [], false, map, length, OnOk};
 ghost use Rattle.fsl_order.specs.Names.{has};
 ghost use Rattle.fsl_order.specs.Rows.{by_name};
 ghost use Rattle.fsl_cross.specs.Tables.{forum_facts, without};
@@ -27,6 +27,7 @@ fn put<L: Ledger>(
     ensures facts { OnOk result (threads.new.facts ≡ by_name (λ f. f.name) (fact ∷ threads.old.facts)) }
     ensures led { Led threads.old undos.old threads.new undos.new }
     ensures told { OnOk result (ThreadsTold undos.old → ThreadsTold undos.new) }
+    ensures single { OnOk result (undos.old ≡ [] → length undos.new ≤ 1) }
 {
     let undo = threads.add(alloc, fact, steps)?;
     keep(threads, undos, undo)
@@ -46,6 +47,7 @@ pub(crate) fn add<L: Ledger>(
     ensures facts { OnOk result (threads.new.facts ≡ forum_facts items.now) }
     ensures led { Led threads.old undos.old threads.new undos.new }
     ensures told { OnOk result (ThreadsTold undos.old → ThreadsTold undos.new) }
+    ensures single { OnOk result (undos.old ≡ [] → length undos.new ≤ 1) }
 {
     match fact_of(alloc, item)? {
         Some(fact) => put(alloc, threads, undos, fact, steps),

@@ -1,11 +1,10 @@
-use Rattle.std.proofs.Common.{rules, ◌≡◌, Some, None, sym, subst}
+use Rattle.std.proofs.Common.{rules, ◌≡◌, true, false, Some, None, sym, ap, ◌∙◌, subst}
+use Rattle.std.specs.Prelude.{is_some}
 use Rattle.fsl_order.specs.Rows.{named}
-use Rattle.fsl_cross.specs.declared.Item.{Item}
 use Rattle.fsl_cross.specs.Built.{AreTablesOf}
 use Rattle.fsl_cross.specs.Tables.{without}
-use Rattle.fsl_cross.specs.Told.{has_contents}
 use Rattle.fsl_cross.proofs.Moved.{item_name}
-use Rattle.fsl_cross.proofs.Among.{name-found, is-in, is-item, said, not-none}
+use Rattle.fsl_cross.proofs.Among.{name-found, is-in, is-item}
 use Rattle.fsl_cross.proofs.adding.take_named.Goals as goal
 
 pub take_in-requires-clause-new : goal.take_in-requires-clause-new
@@ -18,11 +17,6 @@ take_in-requires-clause-is_item g c =
     let found : named item_name c.args.items.now c.args.name ≡ Some c.in-Some.item.now = search rules in
     is-item c.args.items.now c.args.name c.in-Some.item.now found c.requires.items
 
-pub take_in-requires-clause-kind : goal.take_in-requires-clause-kind
-take_in-requires-clause-kind g c =
-    let found : named item_name c.args.items.now c.args.name ≡ Some c.in-Some.item.now = search rules in
-    said c.args.items.now c.args.name c.in-Some.item.now found (λ (i : Item). has_contents i.artifact) _ c.requires.kind
-
 pub take_in-requires-clause-tables : goal.take_in-requires-clause-tables
 take_in-requires-clause-tables g c =
     let found : named item_name c.args.items.now c.args.name ≡ Some c.in-Some.item.now = search rules in
@@ -31,4 +25,5 @@ take_in-requires-clause-tables g c =
 pub returns-in-None-clause-tables : goal.returns-in-None-clause-tables
 returns-in-None-clause-tables g c =
     let none : named item_name c.args.items.now c.args.name ≡ None = search rules in
-    absurd (not-none (λ (i : Item). has_contents i.artifact) c.args.items.now c.args.name _ none c.requires.kind)
+    let no : false ≡ true = sym (ap is_some none) ∙ c.requires.there in
+    cc

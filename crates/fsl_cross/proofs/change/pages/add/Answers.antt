@@ -6,6 +6,7 @@ use Rattle.fsl_cross.proofs.Moved.{item_name}
 use Rattle.fsl_cross.proofs.TableLemmas.{pages-own}
 use Rattle.fsl_cross.proofs.Gifts.{if_some}
 use Rattle.fsl_cross.proofs.Added.{some-absent, some-added, none-added}
+use Rattle.fsl_cross.proofs.Trailing.{none-single}
 use Rattle.fsl_cross.proofs.change.pages.add.Goals as goal
 
 pub put-requires : goal.put-requires
@@ -22,3 +23,6 @@ returns-in-Some-clause-facts g c =
 pub returns-in-None-clause-facts : goal.returns-in-None-clause-facts
 returns-in-None-clause-facts g c =
     none-added item_name name_of pages_fact pages-own c.args.items.now c.requires.new.rising c.args.item.now c.requires.new.there c.args.pages.now.facts c.requires.facts (sym c.in_ok-fact.ensures ∙ c.in-None.is)
+
+pub returns-in-None-clause-single : goal.returns-in-None-clause-single
+returns-in-None-clause-single g c = none-single c.args.undos.now

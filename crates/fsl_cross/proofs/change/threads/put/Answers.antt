@@ -1,4 +1,4 @@
-use Rattle.fsl_cross.proofs.Trailing.{as_before-is, failed-led, kept-led, kept-facts}
+use Rattle.fsl_cross.proofs.Trailing.{as_before-is, failed-led, kept-led, kept-facts, kept-single}
 use Rattle.fsl_cross.proofs.change.threads.put.Goals as goal
 
 pub keep-requires : goal.keep-requires
@@ -14,3 +14,6 @@ pub returns-clause-led : goal.returns-clause-led
 returns-clause-led g c =
     kept-led c.keep.result c.args.threads.now c.add.new.self c.keep.new.table c.args.undos.now c.keep.new.undos c.in_ok-undo.undo c.in_ok-undo.ensures.before c.in_ok-undo.ensures.after
     c.keep.ensures.table c.keep.ensures.undos c.keep.ensures.same c.keep.ensures.back
+
+pub returns-clause-single : goal.returns-clause-single
+returns-clause-single g c = kept-single c.keep.result c.args.undos.now c.keep.new.undos c.in_ok-undo.undo c.keep.ensures.undos

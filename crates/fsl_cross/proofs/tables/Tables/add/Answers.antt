@@ -1,13 +1,11 @@
-use Rattle.std.proofs.Common.{◌≡◌, ◌∷◌, false, Some, All, map, refl, sym, ap, ◌∙◌, subst}
-use Rattle.std.specs.Prelude.{option_map}
+use Rattle.std.proofs.Common.{◌≡◌, ◌∷◌, false, All, map, refl, sym, ap, ◌∙◌, subst}
+use Rattle.std.specs.Prelude.{is_some}
 use Rattle.fsl_order.specs.Names.{has}
 use Rattle.fsl_order.specs.Rows.{by_name, named}
-use Rattle.fsl_cross.specs.declared.Item.{Item}
 use Rattle.fsl_cross.specs.declared.undos.What.TheVariants.{Added}
 use Rattle.fsl_cross.specs.Built.{AreTablesOf}
 use Rattle.fsl_cross.specs.Back.{IsBack, AreAsSeen}
 use Rattle.fsl_cross.specs.Tables.{Seen, IsItem, IsAsBefore, without}
-use Rattle.fsl_cross.specs.Told.{has_contents}
 use Rattle.fsl_cross.proofs.Moved.{item_name}
 use Rattle.fsl_cross.proofs.Added.{back-out, back-found}
 use Rattle.fsl_cross.proofs.PairsAdded.{kinds-with}
@@ -34,12 +32,12 @@ take_named-requires-clause-items g c =
     let is : c.put.new.self ≡ by_name item_name (item ∷ s.items) = c.in_ok-put.ensures.items ∙ ap (λ i. by_name item_name (i ∷ s.items)) c.in_ok-held.ensures in
     subst (All IsItem) (sym is) (kinds-with item s.items c.self.invariant.rising absent c.requires.kind c.self.invariant.kinds)
 
-pub take_named-requires-clause-kind : goal.take_named-requires-clause-kind
-take_named-requires-clause-kind g c =
+pub take_named-requires-clause-there : goal.take_named-requires-clause-there
+take_named-requires-clause-there g c =
     let s = c.self.inside in
     let item = c.args.item in
     let is : c.put.new.self ≡ by_name item_name (item ∷ s.items) = c.in_ok-put.ensures.items ∙ ap (λ i. by_name item_name (i ∷ s.items)) c.in_ok-held.ensures in
-    ap (option_map (λ (i : Item). has_contents i.artifact)) (ap (λ l. named item_name l item.name) is ∙ back-found item_name s.items item) ∙ ap Some c.requires.told
+    ap is_some (ap (λ l. named item_name l item.name) is ∙ back-found item_name s.items item)
 
 pub take_named-requires-clause-tables : goal.take_named-requires-clause-tables
 take_named-requires-clause-tables g c =
