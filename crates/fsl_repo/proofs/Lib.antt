@@ -15,3 +15,4 @@ pub mod Keeps
 pub mod Loops
 pub mod Sendings
 pub mod Builds
+pub mod Undoing

@@ -1,19 +1,16 @@
 -- What every step keeps, and which repository is later than another. An impl's laws stand on it, so it is no proof file.
-use Rattle.std.proofs.Common.{◌≡◌, inl, inr, ℕ, ◌+◌, ◌≤◌, Bool, true, false, not, cond, List, [], ◌∷◌, ◌++◌, length, drop, Option, Some, None, Result, Ok, Err, refl, sym, ap, subst, ◌∙◌, arith, append_assoc}
-use Rattle.std.specs.Prelude.{count_by, nat_lt, nat_le, if◌then◌else◌, IsTrue, MatchBool, MatchOption}
+use Rattle.std.proofs.Common.{◌≡◌, inl, inr, ℕ, ◌+◌, ◌≤◌, Bool, true, false, cond, List, [], ◌∷◌, ◌++◌, length, drop, Option, Some, None, Result, Ok, Err, refl, sym, ap, subst, ◌∙◌, arith, append_assoc}
+use Rattle.std.specs.Prelude.{nat_le, MatchBool, MatchOption}
 use Rattle.std.proofs.lemmas.List.{append-nil, drop-append-le}
 use Rattle.std.proofs.lemmas.List.Sums.{sum_by-append}
-use Rattle.fsl_text.specs.declared.memory.Memory.{Memory}
 use Rattle.fsl_record.specs.declared.Record.{Record}
 use Rattle.fsl_record.specs.declared.Record.TheVariants as record_of
 use Rattle.fsl_journal.specs.declared.CommitFault.{CommitFault}
 use Rattle.fsl_blobs.specs.declared.Known.{Known}
 use Rattle.fsl_blobs.specs.declared.Known.TheVariants as known
 use Rattle.fsl_disk.proofs.Moments.{keeps_on}
-use Rattle.fsl_disk.specs.Disk.{DiskState, Keeps}
-use Rattle.fsl_cluster.specs.Clusters as clusters
+use Rattle.fsl_disk.specs.Disk.{DiskState}
 use Rattle.fsl_cross.specs.declared.Item.{Item}
-use Rattle.fsl_repo.specs.declared.Ask.{Ask}
 use Rattle.fsl_repo.specs.declared.Arrival.{Arrival}
 use Rattle.fsl_repo.specs.declared.Arrival.TheVariants as arrival
 use Rattle.fsl_repo.specs.declared.ArriveFault.{ArriveFault}
@@ -23,13 +20,12 @@ use Rattle.fsl_repo.specs.declared.ShunFault.{ShunFault}
 use Rattle.fsl_repo.specs.declared.Clustering.{Clustering}
 use Rattle.fsl_repo.specs.declared.Clustering.TheVariants as clustering
 use Rattle.fsl_repo.specs.declared.ArriveFault.TheVariants as arrive_fault
-use Rattle.fsl_repo.specs.declared.BuildFault.{BuildFault}
 use Rattle.fsl_repo.specs.declared.Event.{Event}
 use Rattle.fsl_repo.specs.declared.Event.TheVariants as event
 use Rattle.fsl_repo.specs.declared.Answer.{Answer}
 use Rattle.fsl_repo.specs.declared.Answer.TheVariants as answer
-use Rattle.fsl_repo.specs.Machine.{State, IsDueOrMemory, Leaves, now, AreItems, arrived, announced, announce, shun, shunned, shun_wants, IsArrival, IsClusterArrival, IsClusteringOf, IsClustering, IsCommit, ArriveStep, AnnounceStep, ShunStep, ClusterStep, unclustered_names, due_cluster, as_clustering}
-use Rattle.fsl_repo.specs.Replies.{BuildStep, IsBuilt}
+use Rattle.fsl_repo.specs.Machine.{State, IsDueOrMemory, Leaves, now, AreItems, arrived, announced, announce, shun, shunned, IsArrival, IsClusterArrival, IsClusteringOf, IsClustering, IsCommit, unclustered_names, due_cluster}
+use Rattle.fsl_repo.specs.Replies.{IsBuilt}
 use Rattle.fsl_repo.specs.Whole.{Seen, Whole, IsLater, is_blob, blobs, stored}
 use Rattle.fsl_repo.specs.Onward.{Step, MayStep, IsLaterOn, StepsGoOn}
 use Rattle.fsl_name.specs.Name.{name_of}

@@ -1,5 +1,5 @@
 -- The steps of a repository as those of a machine, and what each of them keeps: the records go on, and the state after it is later.
-use Rattle.std.specs.Prelude.{◌≡◌, ℕ, ◌≤◌, List, ◌++◌, length}
+use Rattle.std.specs.Prelude.{◌≡◌, ◌≤◌, List, ◌++◌, length}
 use Rattle.fsl_disk.specs.Disk.{DiskState, Keeps}
 use Rattle.fsl_record.specs.declared.Record.{Record}
 use Rattle.fsl_repo.specs.declared.Event.{Event}

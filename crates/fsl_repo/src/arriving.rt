@@ -13,7 +13,6 @@ ghost use Rattle.fsl_repo.specs.Machine.{ArriveStep, IsDueOrMemory, IsStoring, r
 ghost use Rattle.fsl_repo.specs.Arriving.{as_stored, is_private, IsPublishing};
 ghost use Rattle.fsl_repo.specs.declared.ArriveFault.TheVariants as arrive_fault;
 
-use crate::below::Below;
 use crate::wanting::wanted;
 use crate::{Arrival, ArriveFault, Repo};
 use fsl_artifact::parse;
@@ -91,9 +90,8 @@ impl<D: Disk> Repo<D> {
     /// Errors, the first of these: `Stopped` where a commit has failed; `TooLarge` above 16,777,216 bytes; `NameWrong` where
     /// the bytes have another name; `Full` where with it a limit is passed. `Memory` comes in place of `Published`, `Full`
     /// or `Stored` alone.
-    pub fn arrive<L: Ledger, B: Below>(
+    pub fn arrive<L: Ledger>(
         &mut self,
-        below: &B,
         name: Name,
         bytes: &[u8],
         private: bool,
@@ -119,15 +117,14 @@ impl<D: Disk> Repo<D> {
             BlobState::Shunned => Ok(Arrival::Shunned),
             BlobState::Public { .. } => Ok(Arrival::Present),
             BlobState::Private { .. } if private => Ok(Arrival::Present),
-            BlobState::Private { .. } => self.publish(below, name, steps),
-            BlobState::Absent => self.store(below, name, bytes, private, steps),
+            BlobState::Private { .. } => self.publish(name, steps),
+            BlobState::Absent => self.store(name, bytes, private, steps),
         }
     }
 
     /// Publishes an artifact that is held as private.
-    fn publish<L: Ledger, B: Below>(
+    fn publish<L: Ledger>(
         &mut self,
-        below: &B,
         name: Name,
         steps: &mut Steps<L>,
     ) -> Result<Arrival, ArriveFault>
@@ -137,23 +134,24 @@ impl<D: Disk> Repo<D> {
         ensures loaded { self.new.seen.loaded ≡ self.old.seen.loaded }
         ensures disk { self.new.disk ≡ self.old.disk }
     {
-        let back = match below.publish(self.alloc, &mut self.tables, name, steps) {
+        let back = match self.tables.publish(self.alloc, name, steps) {
             Ok(back) => back,
             Err(_) => return Err(ArriveFault::Memory),
         };
         let entry = Record::Publish { name };
         if let Err(_) = keep(&mut self.journal, &mut self.blobs, entry) {
-            below.undo(&mut self.tables, back);
+            self.tables.undo(back);
             return Err(ArriveFault::Memory);
         }
+        // By a call: what takes a change back has many parts.
+        drop(back);
         self.blobs.announced_are_new();
         Ok(Arrival::Published)
     }
 
     /// Stores an artifact whose name is neither held nor shunned, where there is room.
-    fn store<L: Ledger, B: Below>(
+    fn store<L: Ledger>(
         &mut self,
-        below: &B,
         name: Name,
         bytes: &[u8],
         private: bool,
@@ -179,23 +177,25 @@ impl<D: Disk> Repo<D> {
             private,
             artifact,
         };
+        let back = match self.tables.add(self.alloc, item, steps) {
+            Ok(back) => back,
+            Err(_) => return Err(ArriveFault::Memory),
+        };
+        if let Err(fault) = room(self.alloc, &self.blobs, &self.tables, size) {
+            self.tables.undo(back);
+            return Err(fault);
+        }
         let entry = Record::Blob {
             private,
             name,
             bytes: text,
         };
-        let back = match below.add(self.alloc, &mut self.tables, item, steps) {
-            Ok(back) => back,
-            Err(_) => return Err(ArriveFault::Memory),
-        };
-        if let Err(fault) = room(self.alloc, &self.blobs, &self.tables, size) {
-            below.undo(&mut self.tables, back);
-            return Err(fault);
-        }
         if let Err(_) = keep(&mut self.journal, &mut self.blobs, entry) {
-            below.undo(&mut self.tables, back);
+            self.tables.undo(back);
             return Err(ArriveFault::Memory);
         }
+        // By a call: what takes a change back has many parts.
+        drop(back);
         self.blobs.announced_are_new();
         let _ = self.journal.count();
         self.stored += 1;

@@ -3,7 +3,6 @@ ghost use Rattle.std.specs.Prelude.{◌≡◌, take};
 ghost use Rattle.fsl_cluster.specs.Clusters.{AreMembers};
 ghost use Rattle.fsl_repo.specs.Machine.{ClusterStep};
 
-use crate::below::Below;
 use crate::{ArriveFault, Clustering, Repo};
 use fsl_cluster::make_cluster;
 use fsl_disk::Disk;
@@ -33,11 +32,7 @@ impl<D: Disk> Repo<D> {
     /// public artifact.
     ///
     /// Errors: those of `arrive`.
-    pub fn cluster<L: Ledger, B: Below>(
-        &mut self,
-        below: &B,
-        steps: &mut Steps<L>,
-    ) -> Result<Clustering, ArriveFault>
+    pub fn cluster<L: Ledger>(&mut self, steps: &mut Steps<L>) -> Result<Clustering, ArriveFault>
         ensures step { ClusterStep self.old.seen.state result self.new.seen.state }
         ensures loaded { self.new.seen.loaded ≡ self.old.seen.loaded }
         ensures disk { self.new.disk ≡ self.old.disk }
@@ -56,7 +51,7 @@ impl<D: Disk> Repo<D> {
             return Err(ArriveFault::Memory);
         };
         let name = Name::of(text.bytes());
-        match self.arrive(below, name, text.bytes(), false, steps) {
+        match self.arrive(name, text.bytes(), false, steps) {
             Ok(arrival) => Ok(Clustering::Arrived { name, arrival }),
             Err(fault) => Err(fault),
         }

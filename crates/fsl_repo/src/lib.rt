@@ -6,7 +6,6 @@ ghost use Rattle.std.specs.Prelude.{◌≡◌};
 
 mod arriving;
 mod asking;
-mod below;
 mod building;
 mod clusters;
 mod commits;
@@ -22,7 +21,6 @@ mod repo;
 mod sending;
 mod wanting;
 
-pub use below::Below;
 use fsl_blobs::Known;
 use fsl_journal::CommitFault;
 use fsl_name::Name;

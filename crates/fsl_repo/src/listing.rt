@@ -8,7 +8,6 @@ ghost use Rattle.fsl_blobs.specs.Held.{still_new};
 ghost use Rattle.fsl_repo.specs.Machine.{ShunStep};
 
 use crate::arriving::keep;
-use crate::below::Below;
 use crate::{Repo, ShunFault, Shunning};
 use fsl_blobs::{BlobState, Blobs, shunned_are_not_held};
 use fsl_cross::Tables;
@@ -17,12 +16,13 @@ use fsl_journal::Journal;
 use fsl_name::Name;
 use fsl_record::Record;
 use fsl_text::Memory;
+use std::mem::replace;
 
 impl<D: Disk> Repo<D> {
     /// Shuns a name: its artifact isn't held any more, nor ever again.
     ///
     /// Errors: `Stopped` where a commit has failed; `Memory` in place of `Removed` or `Listed` alone. Then nothing changes.
-    pub fn shun<B: Below>(&mut self, below: &B, name: Name) -> Result<Shunning, ShunFault>
+    pub fn shun(&mut self, name: Name) -> Result<Shunning, ShunFault>
         ensures step { ShunStep self.old.seen.state name result self.new.seen.state }
         ensures loaded { self.new.seen.loaded ≡ self.old.seen.loaded }
         ensures disk { self.new.disk ≡ self.old.disk }
@@ -33,15 +33,15 @@ impl<D: Disk> Repo<D> {
         shunned_are_not_held();
         match self.blobs.state(name) {
             BlobState::Shunned => Ok(Shunning::Already),
-            BlobState::Absent => match self.list_name(below, name) {
+            BlobState::Absent => match self.list_name(name) {
                 Ok(()) => Ok(Shunning::Listed),
                 Err(_) => Err(ShunFault::Memory),
             },
-            BlobState::Public { .. } => match self.list_name(below, name) {
+            BlobState::Public { .. } => match self.list_name(name) {
                 Ok(()) => Ok(Shunning::Removed),
                 Err(_) => Err(ShunFault::Memory),
             },
-            BlobState::Private { .. } => match self.list_name(below, name) {
+            BlobState::Private { .. } => match self.list_name(name) {
                 Ok(()) => Ok(Shunning::Removed),
                 Err(_) => Err(ShunFault::Memory),
             },
@@ -49,14 +49,14 @@ impl<D: Disk> Repo<D> {
     }
 
     /// Takes a name out of the held ones, and lists it as shunned.
-    fn list_name<B: Below>(&mut self, below: &B, name: Name) -> Result<(), Memory>
+    fn list_name(&mut self, name: Name) -> Result<(), Memory>
         requires runs { self.old.seen.state.stopped ≡ None }
         ensures ok { OnOk result (self.new.seen.state ≡ record self.old.seen.state { records = self.old.seen.state.records ++ record_of.Shun name ∷ []; announced = set.remove self.old.seen.state.announced name }) }
         ensures err { OnErr result (self.new.seen.state ≡ self.old.seen.state) }
         ensures loaded { self.new.seen.loaded ≡ self.old.seen.loaded }
         ensures disk { self.new.disk ≡ self.old.disk }
     {
-        let next = below.without(self.alloc, &self.tables, name)?;
+        let next = self.tables.without(self.alloc, name)?;
         let entry = Record::Shun { name };
         exchange(
             &mut self.journal,
@@ -70,8 +70,9 @@ impl<D: Disk> Repo<D> {
     }
 }
 
-/// Adds a record to the journal and to what its records leave, and exchanges the tables for others; or does none of it. It is
-/// a function of its own since it lets tables go.
+/// Adds a record to the journal and to what its records leave, and exchanges the tables for others; or does none of it.
+///
+/// Tables are let go by a call: there is so much of them that it would fill each place that does so itself.
 fn exchange(
     journal: &mut Journal,
     blobs: &mut Blobs,
@@ -91,7 +92,14 @@ fn exchange(
     ensures blobs_err { OnErr result (blobs.new ≡ blobs.old) }
     ensures tables_err { OnErr result (tables.new ≡ tables.old) }
 {
-    keep(journal, blobs, entry)?;
-    *tables = next;
-    Ok(())
+    match keep(journal, blobs, entry) {
+        Ok(()) => {
+            drop(replace(tables, next));
+            Ok(())
+        }
+        Err(Memory) => {
+            drop(next);
+            Err(Memory)
+        }
+    }
 }

@@ -54,6 +54,18 @@ impl<D: Disk> Repo<D> {
     pub fn close(self) -> D
         ensures { result ≡ self.disk }
     {
-        self.disk
+        let Repo {
+            alloc: _,
+            disk,
+            journal,
+            blobs,
+            tables,
+            loaded: _,
+            stored: _,
+        } = self;
+        drop(journal);
+        drop(blobs);
+        drop(tables);
+        disk
     }
 }

@@ -1,6 +1,5 @@
-use Rattle.std.proofs.Common.{◌≡◌, List, ℕ, sym, ◌∙◌, subst}
+use Rattle.std.proofs.Common.{List, ℕ, sym, subst}
 use Rattle.fsl_repo.specs.declared.Event.{Event}
-use Rattle.fsl_repo.specs.declared.Event.TheVariants as event
 use Rattle.fsl_repo.specs.declared.Answer.TheVariants as answer
 use Rattle.fsl_repo.specs.Machine.{ArriveStep}
 use Rattle.fsl_repo.specs.Onward.{Step}

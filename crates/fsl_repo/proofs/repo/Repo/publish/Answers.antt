@@ -8,6 +8,7 @@ use Rattle.fsl_repo.specs.Keeping as keeping
 use Rattle.fsl_repo.specs.Machine.{IsDueOrMemory}
 use Rattle.fsl_repo.specs.Arriving.{IsPublishing, is_private}
 use Rattle.fsl_repo.proofs.Publishing.{published_kept, published_step, private_item}
+use Rattle.fsl_repo.proofs.Undoing.{as_before}
 use Rattle.fsl_repo.proofs.repo.Repo.publish.Goals as goal
 
 pub invariant_of-self-2 : goal.invariant_of-self-2
@@ -17,7 +18,7 @@ invariant_of-self-2 g c =
     let private : is_private (state_of (contents r.journal.records) c.args.name) ≡ true = ap (λ v. is_private (state_of (contents v.seen.state.records) c.args.name)) c.self.view_is ∙ c.requires.private in
     let runs : r.journal.stopped ≡ None = ap (λ v. v.seen.state.stopped) c.self.view_is ∙ c.requires.runs in
     published_kept r.journal r.blobs r.tables r.loaded r.stored disk c.self.invariant c.args.name private
-    c.keep.new.journal c.keep.new.blobs c.publish.new.tables runs c.in_default.ensures.journal c.in_default.ensures.blobs c.in_default.ensures.fit c.in-Ok.ensures.items c.in-Ok.ensures.fields c.announced_are_new.ensures
+    c.keep.new.journal c.keep.new.blobs c.publish.new.self runs c.in_default.ensures.journal c.in_default.ensures.blobs c.in_default.ensures.fit c.in-Ok.ensures.items c.in-Ok.ensures.fields c.announced_are_new.ensures
 
 pub returns-clause-step : goal.returns-clause-step
 returns-clause-step g c =
@@ -27,10 +28,13 @@ returns-clause-step g c =
     let runs : r.journal.stopped ≡ None = ap (λ v. v.seen.state.stopped) c.self.view_is ∙ c.requires.runs in
     subst (λ v. IsDueOrMemory v.seen.state (IsPublishing v.seen.state c.args.name) (Err arrive_fault.Memory) ⊤ (Ok arrival.Published) (keeping.state_of c.keep.new.journal c.keep.new.blobs disk.faults)) c.self.view_is
     (published_step r.journal r.blobs r.tables r.loaded r.stored disk c.self.invariant c.args.name private
-    c.keep.new.journal c.keep.new.blobs c.publish.new.tables runs c.in_default.ensures.journal c.in_default.ensures.blobs)
+    c.keep.new.journal c.keep.new.blobs c.publish.new.self runs c.in_default.ensures.journal c.in_default.ensures.blobs)
 
 pub publish-requires : goal.publish-requires
 publish-requires g c =
     let r = c.self.inside in
     let private : is_private (state_of (contents r.journal.records) c.args.name) ≡ true = ap (λ v. is_private (state_of (contents v.seen.state.records) c.args.name)) c.self.view_is ∙ c.requires.private in
     private_item (contents r.journal.records) r.tables.items c.args.name c.self.invariant.items private
+
+pub undo-requires : goal.undo-requires
+undo-requires g c = as_before _ _ c.in-Ok.ensures.after
