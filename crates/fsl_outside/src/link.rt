@@ -36,7 +36,7 @@ pub trait Link {
 /// A link that begins connections.
 pub trait Dial: Link {
     /// Begins a new connection. The one that was there joins the earlier ones as it stands. A call that failed changes
-    /// neither.
+    /// neither, where they are told: a dial over sockets lets the present one go before it tries, and has none then.
     fn connect(&mut self) -> Result<(), Failed>
         ensures begins { OnOk result (Begins (Self.state self.old) (Self.state self.new)) }
         ensures accepts { (Self.state self.new).standing.accept_faults ≡ (Self.state self.old).standing.accept_faults }
@@ -66,11 +66,16 @@ pub trait Door: Link {
         ensures { result ≡ (Self.state self.now).standing.closings };
 
     /// Takes the next connection. The one that was there joins the earlier ones as it stands. A call that failed, or that
-    /// finds the door closed, changes neither.
+    /// finds the door closed, changes neither, where they are told: a door over sockets lets the present one go before it
+    /// waits, and has none then.
     fn accept(&mut self) -> Result<Accepted, Failed>
         ensures lists { IfOk result (AcceptLists (Self.state self.old) (Self.state self.new)) }
         ensures counts { AcceptCounts result (Self.state self.old).standing (Self.state self.new).standing }
         ensures kept { OnErr result ((Self.state self.new).present ≡ (Self.state self.old).present) }
         ensures earlier { OnErr result ((Self.state self.new).standing.earlier ≡ (Self.state self.old).standing.earlier) }
         ensures same { (Self.state self.new).faults ≡ (Self.state self.old).faults };
+
+    /// Is done with the present connection, so that its peer waits for no end of it. What the door tells stays.
+    fn leave(&mut self)
+        ensures same { Self.state self.new ≡ Self.state self.old };
 }

@@ -1,7 +1,8 @@
 //! Dials over sockets.
-ghost use Rattle.std.specs.Prelude.{◌≡◌, ◌≤◌, ◌<◌, true, false, length, IfOk, None};
+ghost use Rattle.std.specs.Prelude.{◌≡◌, ◌≤◌, ◌<◌, true, false, length, IsErr, IfOk, OnOk, OnErr, None};
 ghost use Rattle.std.specs.Io.{ReadsAtMost, WritesAtMost};
-ghost use Rattle.fsl_order.specs.Causes.{Rose, HasCause};
+ghost use Rattle.fsl_order.specs.Causes.{HasCause};
+ghost use Rattle.fsl_outside.specs.Memory.{next};
 ghost use Rattle.fsl_outside.specs.Sockets.{NeverDials};
 
 use super::link::{Dial, Link};
@@ -13,9 +14,10 @@ use std::marker::Model;
 use std::net::{Net, SocketAddr, TcpStream, ToSocketAddrs};
 use std::time::{Clock, Duration};
 
-/// A dial over sockets to one address, or one whose every call fails. What comes and goes is untold. A connection must be made
-/// within 60 seconds, and be done within 60 seconds more and one for each megabyte that moved; a call beyond that is a failed
-/// one, as is one that waits so long.
+/// A dial over sockets to one address, or one whose every call fails. What comes and goes is untold. Each address of the host is
+/// tried for 60 seconds; how long its name is looked up is the system's. From the first write on a connection has 60 seconds, and
+/// one second more for each megabyte (2^20 bytes) that moved since, as it has before that write; a read or a write beyond that is
+/// a failed call, as is one that waits so long.
 #[derive(Drop)]
 pub struct TcpDial<R: Net + Clock> {
     peer: Option<Peer<R>>,
@@ -88,9 +90,8 @@ impl<R: Net + Clock> TcpDial<R> {
 
     /// Counts a call that failed.
     fn fail(&mut self) -> Failed
-        ensures rose { Rose self.old.faults self.new.faults }
+        ensures counted { self.new ≡ record self.old { faults = next self.old.faults } }
         ensures later { self.old.faults ≤ self.new.faults }
-        ensures only { self.new ≡ record self.old { faults = self.new.faults } }
     {
         self.faults = self.faults.saturating_add(1);
         Failed
@@ -119,7 +120,9 @@ impl<R: Net + Clock> Link for TcpDial<R> {
     fn read(&mut self, into: &mut [u8]) -> Result<usize, Failed>
         ensures bound { ReadsAtMost result into.new }
         ensures cause { HasCause self.old.faults self.new.faults result }
+        ensures counted { OnErr result (self.new.faults ≡ next self.old.faults) }
         ensures only { self.new ≡ record self.old { faults = self.new.faults } }
+        ensures none { self.old.present ≡ false → IsErr result }
     {
         if let (Some(peer), Some(stream)) = (&self.peer, &mut self.stream) {
             if let Ok(count) = stream.read(&peer.rt, into) {
@@ -133,7 +136,9 @@ impl<R: Net + Clock> Link for TcpDial<R> {
         ensures bound { WritesAtMost result piece.now }
         ensures some { IfOk result (λ n. 0 < length piece.now → 0 < n) }
         ensures cause { HasCause self.old.faults self.new.faults result }
+        ensures counted { OnErr result (self.new.faults ≡ next self.old.faults) }
         ensures only { self.new ≡ record self.old { faults = self.new.faults } }
+        ensures none { self.old.present ≡ false → IsErr result }
     {
         if let (Some(peer), Some(stream)) = (&self.peer, &mut self.stream) {
             if let Ok(count) = stream.write(&peer.rt, piece) {
@@ -148,6 +153,10 @@ impl<R: Net + Clock> Dial for TcpDial<R> {
     /// Lets the connection go that was there, and begins a new one.
     fn connect(&mut self) -> Result<(), Failed>
         ensures none { NeverDials self.old self.new result }
+        ensures there { OnOk result (self.new.present ≡ true) }
+        ensures gone { OnErr result (self.new.present ≡ false) }
+        ensures stays { self.new.serves ≡ self.old.serves }
+        ensures counted { OnErr result (self.new.faults ≡ next self.old.faults) }
         ensures cause { HasCause self.old.faults self.new.faults result }
     {
         self.stream = None;

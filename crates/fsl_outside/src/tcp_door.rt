@@ -1,8 +1,9 @@
 //! Doors over a listening socket.
-ghost use Rattle.std.specs.Prelude.{◌≡◌, ◌≤◌, ◌<◌, true, false, length, IfOk, None};
+ghost use Rattle.std.specs.Prelude.{◌≡◌, ◌≤◌, ◌<◌, true, false, length, IsErr, IfOk, OnOk, OnErr, None};
 ghost use Rattle.std.specs.Io.{ReadsAtMost, WritesAtMost};
-ghost use Rattle.fsl_order.specs.Causes.{Rose, HasCause};
+ghost use Rattle.fsl_order.specs.Causes.{HasCause};
 ghost use Rattle.fsl_outside.specs.Accepts.{AcceptLists, AcceptCounts};
+ghost use Rattle.fsl_outside.specs.Memory.{next};
 ghost use Rattle.fsl_outside.specs.Sockets.{NeverOpens, door_state};
 
 use super::link::{Accepted, Door, Link};
@@ -17,8 +18,8 @@ use std::sync::Arc;
 use std::time::Clock;
 
 /// A door over a listening socket, which it may share with others, or one whose every call fails. What comes and goes is untold.
-/// A connection must be done within 60 seconds, and one second more for each megabyte that moved; a read or a write beyond that
-/// is a failed call, as is one that waits so long.
+/// A connection has 60 seconds before its first write and 60 seconds from there on, and of each part one second more for each
+/// megabyte (2^20 bytes) that moved in it; a read or a write beyond that is a failed call, as is one that waits so long.
 #[derive(Drop)]
 pub struct TcpDoor<R: Net + Clock> {
     entrance: Option<Entrance<R>>,
@@ -35,18 +36,67 @@ struct Entrance<R: Net + Clock> {
 }
 
 impl<R: Net + Clock> Entrance<R> {
-    /// The next connection. One that its peer gave up before it was taken is passed over.
-    fn next(&self) -> io::Result<Timed<R::Stream>> {
-        for _ in 0..u64::MAX {
+    /// The next connection, or `None` where the socket gives no more. One that broke off before it was taken is passed over,
+    /// and so is one that can't be timed: a peer isn't to end what serves the others. Between two of them it waits, and a fault
+    /// that stays ends it.
+    fn next(&self) -> Option<Timed<R::Stream>> {
+        for _ in 0..PASSED_OVER {
             match self.listener.accept() {
-                Ok((stream, _)) => return Timed::begin(&self.rt, stream),
-                Err(fault) => match fault.kind() {
-                    ErrorKind::Interrupted | ErrorKind::ConnectionAborted => {}
-                    _ => return Err(fault),
-                },
+                Ok((stream, _)) => {
+                    if let Ok(timed) = Timed::begin(&self.rt, stream) {
+                        return Some(timed);
+                    }
+                }
+                Err(fault) => {
+                    if !is_of_connection(&fault) {
+                        return None;
+                    }
+                }
             }
         }
-        Err(io::Error::from(ErrorKind::Interrupted))
+        None
+    }
+}
+
+/// How many connections one `accept` passes over before it fails.
+const PASSED_OVER: u32 = 1 << 20;
+
+/// Protocol errors of the system's `accept` that have no kind of their own, by Linux's numbers.
+const NOT_ON_NETWORK: i32 = 64;
+
+const PROTOCOL: i32 = 71;
+
+const NO_PROTOCOL_OPTION: i32 = 92;
+
+const NOT_SUPPORTED: i32 = 95;
+
+const HOST_DOWN: i32 = 112;
+
+/// Whether a fault of the system's `accept` belongs to the connection that would have come: Linux hands on what the network
+/// reported of it. All others are faults of the listening socket.
+fn is_of_connection(fault: &io::Error) -> bool {
+    match fault.kind() {
+        ErrorKind::Interrupted
+        | ErrorKind::ConnectionAborted
+        | ErrorKind::ConnectionReset
+        | ErrorKind::NetworkDown
+        | ErrorKind::NetworkUnreachable
+        | ErrorKind::HostUnreachable => true,
+        _ => has_protocol_number(fault),
+    }
+}
+
+/// Whether it is one of the protocol errors above.
+fn has_protocol_number(fault: &io::Error) -> bool {
+    match fault.raw_os_error() {
+        Some(code) => {
+            code == NOT_ON_NETWORK
+                || code == PROTOCOL
+                || code == NO_PROTOCOL_OPTION
+                || code == NOT_SUPPORTED
+                || code == HOST_DOWN
+        }
+        None => false,
     }
 }
 
@@ -86,9 +136,8 @@ impl<R: Net + Clock> TcpDoor<R> {
 
     /// Counts a read or a write that failed.
     fn fail(&mut self) -> Failed
-        ensures rose { Rose self.old.faults self.new.faults }
+        ensures counted { self.new ≡ record self.old { faults = next self.old.faults } }
         ensures later { self.old.faults ≤ self.new.faults }
-        ensures only { self.new ≡ record self.old { faults = self.new.faults } }
     {
         self.faults = self.faults.saturating_add(1);
         Failed
@@ -99,7 +148,7 @@ impl<R: Net + Clock> TcpDoor<R> {
         ensures { self.now.serves ≡ false → result ≡ None }
     {
         match &self.entrance {
-            Some(entrance) => entrance.next().ok(),
+            Some(entrance) => entrance.next(),
             None => None,
         }
     }
@@ -117,7 +166,9 @@ impl<R: Net + Clock> Link for TcpDoor<R> {
     fn read(&mut self, into: &mut [u8]) -> Result<usize, Failed>
         ensures bound { ReadsAtMost result into.new }
         ensures cause { HasCause self.old.faults self.new.faults result }
+        ensures counted { OnErr result (self.new.faults ≡ next self.old.faults) }
         ensures only { self.new ≡ record self.old { faults = self.new.faults } }
+        ensures none { self.old.present ≡ false → IsErr result }
     {
         if let (Some(entrance), Some(stream)) = (&self.entrance, &mut self.stream) {
             if let Ok(count) = stream.read(&entrance.rt, into) {
@@ -131,7 +182,9 @@ impl<R: Net + Clock> Link for TcpDoor<R> {
         ensures bound { WritesAtMost result piece.now }
         ensures some { IfOk result (λ n. 0 < length piece.now → 0 < n) }
         ensures cause { HasCause self.old.faults self.new.faults result }
+        ensures counted { OnErr result (self.new.faults ≡ next self.old.faults) }
         ensures only { self.new ≡ record self.old { faults = self.new.faults } }
+        ensures none { self.old.present ≡ false → IsErr result }
     {
         if let (Some(entrance), Some(stream)) = (&self.entrance, &mut self.stream) {
             if let Ok(count) = stream.write(&entrance.rt, piece) {
@@ -156,6 +209,10 @@ impl<R: Net + Clock> Door for TcpDoor<R> {
         ensures lists { IfOk result (AcceptLists (door_state self.old) (door_state self.new)) }
         ensures counts { AcceptCounts result (door_state self.old).standing (door_state self.new).standing }
         ensures none { NeverOpens self.old self.new result }
+        ensures there { OnOk result (self.new.present ≡ true) }
+        ensures gone { OnErr result (self.new.present ≡ false) }
+        ensures stays { self.new.serves ≡ self.old.serves }
+        ensures counted { OnErr result (self.new.accept_faults ≡ next self.old.accept_faults) }
         ensures same { self.new.faults ≡ self.old.faults }
     {
         self.stream = None;
@@ -165,5 +222,13 @@ impl<R: Net + Clock> Door for TcpDoor<R> {
         }
         self.accept_faults = self.accept_faults.saturating_add(1);
         Err(Failed)
+    }
+
+    /// Lets the present connection go: its peer sees the end. Where there is none, nothing happens.
+    fn leave(&mut self)
+        ensures same { door_state self.new ≡ door_state self.old }
+        ensures gone { self.new ≡ record self.old { present = false } }
+    {
+        self.stream = None;
     }
 }

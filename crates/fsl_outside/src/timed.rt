@@ -7,10 +7,10 @@ use std::io::{ErrorKind, Read, Write};
 use std::net::OpenStream;
 use std::time::{Clock, Duration, Instant};
 
-/// The time that every connection has, in seconds.
+/// The time that every connection has, in seconds: once until its first write, and once more from there on.
 pub(crate) const GRACE_SECONDS: u64 = 60;
 
-/// For each so many bytes that moved, in either direction, a connection has a second more.
+/// For each so many bytes that moved in that time, in either direction, a connection has a second more: a megabyte.
 pub(crate) const BYTES_A_SECOND: u64 = 1 << 20;
 
 /// A connection over a socket with a time to be done by, so that neither a silent peer nor one that drips can hold it up for ever.
@@ -19,6 +19,7 @@ pub(crate) struct Timed<S> {
     stream: S,
     begun: Instant,
     moved: u64,
+    has_written: bool,
 }
 
 impl<S: Read + Write + OpenStream + Drop> Timed<S> {
@@ -30,7 +31,18 @@ impl<S: Read + Write + OpenStream + Drop> Timed<S> {
             stream,
             begun,
             moved: 0,
+            has_written: false,
         })
+    }
+
+    /// At the first write the time begins anew: what was done between the last read and it isn't the peer's to answer for.
+    fn begin_writing<C: Clock>(&mut self, clock: &C) -> io::Result<()> {
+        if !self.has_written {
+            self.begun = Instant::now(clock)?;
+            self.moved = 0;
+            self.has_written = true;
+        }
+        Ok(())
     }
 
     /// The time that is left, or `TimedOut` where none is.
@@ -74,6 +86,7 @@ impl<S: Read + Write + OpenStream + Drop> Timed<S> {
         ensures bound { WritesAtMost result piece.now }
         ensures some { IfOk result (λ n. 0 < length piece.now → 0 < n) }
     {
+        self.begin_writing(clock)?;
         for _ in 0..u64::MAX {
             let left = self.left(clock)?;
             self.stream.set_write_timeout(Some(left))?;

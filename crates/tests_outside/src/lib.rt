@@ -5,3 +5,7 @@
 mod disk;
 #[cfg(test)]
 mod outside;
+#[cfg(test)]
+mod sockets;
+#[cfg(test)]
+mod staged;
