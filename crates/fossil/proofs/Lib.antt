@@ -9,6 +9,7 @@ pub mod InputLemmas
 pub mod FileLemmas
 pub mod PrintedLemmas
 pub mod LoadLemmas
+pub mod RepoLemmas
 pub mod ActLemmas
 pub mod HeldLemmas
 pub mod TakingLemmas

@@ -30,7 +30,7 @@ same_between old records between =
     more.1 ∙ ap (λ (rs : List Record). old ++ rs) none ∙ append-nil old
 
 -- what `load` says of each moment
-abbrev KeepsBetween : DiskState → DiskState → Type 0
+abbrev pub KeepsBetween : DiskState → DiskState → Type 0
 KeepsBetween file left =
     IsModelled file → (low high : List Record) → ((c : List ℕ) → file.images c → StandsBetween low high c) → LeavesOnly file left (StandsBetween low high)
 
@@ -72,7 +72,7 @@ module _ (file left : DiskState) (log : Log) (records : List Record) (loaded : I
 
 -- ---- a file that wasn't
 
-same_contents : (file left : DiskState) → left.contents ≡ file.contents → KeepsContents file left
+pub same_contents : (file left : DiskState) → left.contents ≡ file.contents → KeepsContents file left
 same_contents file left same bytes told old are held left_told =
     subst (λ (b : List ℕ). IsFileOf b old) (some_same (sym told ∙ sym same ∙ left_told)) are
 

@@ -19,6 +19,7 @@ mod input;
 mod load;
 mod message;
 mod put;
+mod ran;
 mod refused;
 mod report;
 mod reporting;
@@ -29,5 +30,6 @@ mod status;
 mod taking;
 mod top;
 
+pub use ran::Ran;
 pub use status::NO_MEMORY;
-pub use top::{Ran, one_outcome, run, some_outcome};
+pub use top::{one_outcome, run, some_outcome};

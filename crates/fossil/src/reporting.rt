@@ -13,13 +13,12 @@ ghost use Rattle.fossil.specs.Acts.{Acts};
 
 use super::answer::{Answer, refusal};
 use super::fault::Fault;
-use super::load::{load, not_loaded};
+use super::load::not_loaded;
 use super::say::made;
 use super::status::DONE;
-use fsl_blobs::Blobs;
 use fsl_disk::Disk;
 use fsl_query::{QueryFault, Refused, answer, refusal_text};
-use fsl_repo::tables_of;
+use fsl_repo::Repo;
 use fsl_text::{Memory, Text};
 use fsl_words::Question;
 use std::alloc::Global;
@@ -43,20 +42,29 @@ fn answer_of(alloc: Global, found: Result<Text, QueryFault>) -> Result<Answer, M
     }
 }
 
-/// The report on a question, or the reason why there is none.
-fn report_on(alloc: Global, blobs: &Blobs, question: &Question) -> Result<Answer, Memory>
-    ensures { IfOk result (λ a. IsAnswered question.now blobs.now.records (without_commit a)) }
+/// The report on a question, or the reason why there is none. The repository stays.
+fn report_on<D: Disk>(
+    alloc: Global,
+    repo: &mut Repo<D>,
+    question: &Question,
+) -> Result<Answer, Memory>
+    ensures answered { IfOk result (λ a. IsAnswered question.now repo.old.seen.state.records (without_commit a)) }
+    ensures same { repo.new ≡ repo.old }
 {
-    let tables = tables_of(alloc, blobs)?;
-    answer_of(alloc, answer(alloc, blobs, &tables, question))
+    let found = answer(alloc, repo, question);
+    answer_of(alloc, found)
 }
 
-/// Loads the repository, and answers with the report on a question.
-pub fn report<D: Disk>(alloc: Global, question: &Question, disk: &mut D) -> Result<Answer, Fault>
-    ensures { (input : SourceState) → Acts (command_of.Ask question.now) (input, input) (D.state disk.old, D.state disk.new) result }
+/// Opens the repository, and answers with the report on a question, and the disk.
+pub fn report<D: Disk>(alloc: Global, question: &Question, disk: D) -> (Result<Answer, Fault>, D)
+    ensures { (input : SourceState) → Acts (command_of.Ask question.now) (input, input) (D.state disk, D.state result.1) result.0 }
 {
-    match load(alloc, disk) {
-        Ok(loaded) => made(report_on(alloc, &loaded.blobs, question)),
-        Err(fault) => not_loaded(alloc, fault),
+    match Repo::load(alloc, disk) {
+        Ok(mut repo) => {
+            repo.is_whole();
+            let answer = made(report_on(alloc, &mut repo, question));
+            (answer, repo.close())
+        }
+        Err((disk, fault)) => (not_loaded(alloc, fault), disk),
     }
 }

@@ -10,6 +10,7 @@ use super::fault::Fault;
 use super::ingest::ingest;
 use super::init::init;
 use super::put::put;
+use super::ran::Ran;
 use super::say::{print, say_usage};
 use super::shun::shun;
 use fsl_disk::Disk;
@@ -18,26 +19,20 @@ use fsl_record::Config;
 use fsl_words::{Command, WordsFault, read};
 use std::alloc::Global;
 
-/// What a run ends with: the status, and the disk that it was handed.
-#[derive(Drop)]
-pub struct Ran<D> {
-    pub status: u8,
-    pub repo: D,
-}
-
-/// Does what a command says, prints what it comes to, and gives the status.
+/// Does what a command says, prints what it comes to, and gives the status and the disk.
 fn obey<S: Source, K: Sink, D: Disk>(
     alloc: Global,
     command: Command,
     input: &mut S,
     out: &mut K,
-    disk: &mut D,
-) -> u8
+    repo: D,
+) -> Ran<D>
     requires { IsObeyable command }
-    ensures runs { RunsCommand command (S.state input.old, S.state input.new) (K.state out.old, K.state out.new) (D.state disk.old, D.state disk.new) result }
+    ensures runs { RunsCommand command (S.state input.old, S.state input.new) (K.state out.old, K.state out.new) (D.state repo, D.state result.repo) result.status }
     ensures unread { command_reads command ≡ false → input.new ≡ input.old }
-    ensures untouched { command_opens command ≡ false → disk.new ≡ disk.old }
+    ensures untouched { command_opens command ≡ false → result.repo ≡ repo }
 {
+    let mut repo = repo;
     match command {
         Command::Init {
             project,
@@ -49,12 +44,22 @@ fn obey<S: Source, K: Sink, D: Disk>(
                 server,
                 fields,
             };
-            print(out, init(alloc, &config, disk))
+            let status = print(out, init(alloc, &config, &mut repo));
+            Ran { status, repo }
         }
-        Command::Ingest => print(out, ingest(alloc, input)),
-        Command::Put => print(out, put(alloc, input, disk)),
-        Command::Shun { name } => print(out, shun(alloc, name, disk)),
-        Command::Ask(question) => ask(alloc, &question, out, disk),
+        Command::Ingest => {
+            let status = print(out, ingest(alloc, input));
+            Ran { status, repo }
+        }
+        Command::Put => {
+            let status = print(out, put(alloc, input, &mut repo));
+            Ran { status, repo }
+        }
+        Command::Shun { name } => {
+            let status = print(out, shun(alloc, name, &mut repo));
+            Ran { status, repo }
+        }
+        Command::Ask(question) => ask(alloc, &question, out, repo),
     }
 }
 
@@ -64,16 +69,22 @@ fn run_words<S: Source, K: Sink, D: Disk>(
     words: &[String],
     input: &mut S,
     out: &mut K,
-    disk: &mut D,
-) -> u8
-    ensures runs { Runs (map string_bytes words.now) (S.state input.old, S.state input.new) (K.state out.old, K.state out.new) (D.state disk.old, D.state disk.new) result }
+    repo: D,
+) -> Ran<D>
+    ensures runs { Runs (map string_bytes words.now) (S.state input.old, S.state input.new) (K.state out.old, K.state out.new) (D.state repo, D.state result.repo) result.status }
     ensures unread { reads_input (map string_bytes words.now) ≡ false → input.new ≡ input.old }
-    ensures untouched { opens_file (map string_bytes words.now) ≡ false → disk.new ≡ disk.old }
+    ensures untouched { opens_file (map string_bytes words.now) ≡ false → result.repo ≡ repo }
 {
     match read(alloc, words) {
-        Ok(words) => obey(alloc, words.command, input, out, disk),
-        Err(WordsFault::Usage) => say_usage(out),
-        Err(WordsFault::Memory) => print(out, Err(Fault::Memory)),
+        Ok(words) => obey(alloc, words.command, input, out, repo),
+        Err(WordsFault::Usage) => {
+            let status = say_usage(out);
+            Ran { status, repo }
+        }
+        Err(WordsFault::Memory) => {
+            let status = print(out, Err(Fault::Memory));
+            Ran { status, repo }
+        }
     }
 }
 
@@ -99,9 +110,7 @@ pub fn run<S: Source, K: Sink, D: Disk>(
     ensures unread { reads_input (map string_bytes words.now) ≡ false → input.new ≡ input.old }
     ensures untouched { opens_file (map string_bytes words.now) ≡ false → result.repo ≡ repo }
 {
-    let mut repo = repo;
-    let status = run_words(alloc, words, input, out, &mut repo);
-    Ran { status, repo }
+    run_words(alloc, words, input, out, repo)
 }
 
 /// A law and no code: words, an input and a file have one outcome at most.

@@ -2,7 +2,6 @@
 use Rattle.std.specs.Prelude.{◌≡◌, ℕ, List, [], ◌∷◌, ◌++◌, filter, flat_map, zip, is_some, Result, Ok, Err}
 use Rattle.std.specs.Option.{option_map_or}
 use Rattle.std.specs.FinMap as map_of
-use Rattle.std.specs.FinSet as set
 use Rattle.fsl_name.specs.Name.{name_text}
 use Rattle.fsl_tags.specs.Tags.{in_force}
 use Rattle.fsl_leaves.specs.Leaves.{leaves}
@@ -13,7 +12,6 @@ use Rattle.fsl_timeline.specs.Timeline.{latest}
 use Rattle.fsl_wiki.specs.Pages.{history, attached}
 use Rattle.fsl_ticket.specs.Tickets.{fields}
 use Rattle.fsl_forum.specs.Threads.{thread}
-use Rattle.fsl_cluster.specs.Clusters.{wants}
 use Rattle.fsl_cross.specs.declared.Item.{Item}
 use Rattle.fsl_cross.specs.Checkins.{branch, tip}
 use Rattle.fsl_cross.specs.Tables.{TableFacts, tables}
@@ -21,7 +19,7 @@ use Rattle.fsl_blobs.specs.Fold.{Contents}
 use Rattle.fsl_blobs.specs.declared.Found.{Found}
 use Rattle.fsl_blobs.specs.declared.Found.TheVariants as found_as
 use Rattle.fsl_blobs.specs.Held.{matching, found}
-use Rattle.fsl_repo.specs.Machine.{AreItems, configured}
+use Rattle.fsl_repo.specs.Machine.{AreItems, configured, wants}
 use Rattle.fsl_words.specs.declared.Question.{Question}
 use Rattle.fsl_words.specs.declared.Question.TheVariants.{Cat, Timeline, Leaves, Tags, Tip, Files, Wiki, Ticket, Thread, Phantoms}
 use Rattle.fsl_query.specs.declared.Refused.{Refused}
@@ -102,8 +100,8 @@ abbrev pub thread_report : TableFacts → List ℕ → Result (List ℕ) Refused
 thread_report t name = let posts = thread t.threads name in unless_none posts (refused.NoThread name) (flat_map post_line posts)
 
 -- the names that held artifacts refer to and that are neither held nor shunned, ascending
-abbrev pub phantoms_report : Contents → TableFacts → List ℕ
-phantoms_report c t = flat_map wanted_line (wants t.clusters (set.items c.shunned))
+abbrev pub phantoms_report : Contents → List Item → List ℕ
+phantoms_report c items = flat_map wanted_line (wants c items)
 
 -- ---- reports
 
@@ -118,7 +116,7 @@ report c items (Files prefix) = of_prefix c prefix (files_report (tables_now c i
 report c items (Wiki title) = wiki_report (tables_now c items) title
 report c items (Ticket id) = ticket_report (tables_now c items) id
 report c items (Thread name) = thread_report (tables_now c items) name
-report c items Phantoms = Ok (phantoms_report c (tables_now c items))
+report c items Phantoms = Ok (phantoms_report c items)
 
 -- the report by the items that the held artifacts are; of a content alone they don't matter
 abbrev pub IsReport : Contents → Question → Result (List ℕ) Refused → Type 0

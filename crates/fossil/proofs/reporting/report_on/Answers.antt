@@ -1,4 +1,4 @@
 use Rattle.fossil.proofs.reporting.report_on.Goals as goal
 
-pub returns : goal.returns
-returns c = c.answer_of.ensures c.args.question.now c.args.blobs.now.records (c.answer.ensures.means c.in_ok-tables.ensures.items)
+pub returns-clause-answered : goal.returns-clause-answered
+returns-clause-answered g c = c.answer_of.ensures c.args.question.now c.args.repo.now.seen.state.records c.answer-found.ensures.means

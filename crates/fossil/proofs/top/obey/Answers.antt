@@ -14,40 +14,40 @@ init-requires g c = subst IsObeyable c.in-Init.is c.requires
 pub returns-in-Init-clause-runs : goal.returns-in-Init-clause-runs
 returns-in-Init-clause-runs g c =
     let input : SourceState × SourceState = (g.S.Source.state c.args.input.now, g.S.Source.state c.args.input.now) in
-    let out : SinkState × SinkState = (g.K.Sink.state c.args.out.now, g.K.Sink.state c.print.new.out) in
-    let file : DiskState × DiskState = (g.D.Disk.state c.args.disk.now, g.D.Disk.state c.init.new.disk) in
-    subst (λ (x : Command). RunsCommand x input out file c.print.result) (sym c.in-Init.is)
-    (written (Some (command_of.Init c.in-Init.project c.in-Init.server c.in-Init.fields)) (input_of input) (file_of file) c.init.result (output_of out) c.print.result
-    (c.init.ensures (g.S.Source.state c.args.input.now)) c.print.ensures)
+    let out : SinkState × SinkState = (g.K.Sink.state c.args.out.now, g.K.Sink.state c.print-status.new.out) in
+    let file : DiskState × DiskState = (g.D.Disk.state c.args.repo, g.D.Disk.state c.init.new.disk) in
+    subst (λ (x : Command). RunsCommand x input out file c.print-status.result) (sym c.in-Init.is)
+    (written (Some (command_of.Init c.in-Init.project c.in-Init.server c.in-Init.fields)) (input_of input) (file_of file) c.init.result (output_of out) c.print-status.result
+    (c.init.ensures (g.S.Source.state c.args.input.now)) c.print-status.ensures)
 
 pub returns-in-Ingest-clause-runs : goal.returns-in-Ingest-clause-runs
 returns-in-Ingest-clause-runs g c =
     let input : SourceState × SourceState = (g.S.Source.state c.args.input.now, g.S.Source.state c.ingest.new.input) in
-    let out : SinkState × SinkState = (g.K.Sink.state c.args.out.now, g.K.Sink.state c.print-in-Ingest.new.out) in
-    let file : DiskState × DiskState = (g.D.Disk.state c.args.disk.now, g.D.Disk.state c.args.disk.now) in
-    subst (λ (x : Command). RunsCommand x input out file c.print-in-Ingest.result) (sym c.in-Ingest.is)
-    (written (Some command_of.Ingest) (input_of input) (file_of file) c.ingest.result (output_of out) c.print-in-Ingest.result
-    (ingest_acted (input_of input) (g.D.Disk.state c.args.disk.now) (λ model f left. g.met.D.Disk.only_now c.args.disk.now f model left) c.ingest.result c.ingest.ensures.ok c.ingest.ensures.err) c.print-in-Ingest.ensures)
+    let out : SinkState × SinkState = (g.K.Sink.state c.args.out.now, g.K.Sink.state c.print-status-in-Ingest.new.out) in
+    let file : DiskState × DiskState = (g.D.Disk.state c.args.repo, g.D.Disk.state c.args.repo) in
+    subst (λ (x : Command). RunsCommand x input out file c.print-status-in-Ingest.result) (sym c.in-Ingest.is)
+    (written (Some command_of.Ingest) (input_of input) (file_of file) c.ingest.result (output_of out) c.print-status-in-Ingest.result
+    (ingest_acted (input_of input) (g.D.Disk.state c.args.repo) (λ model f left. g.met.D.Disk.only_now c.args.repo f model left) c.ingest.result c.ingest.ensures.ok c.ingest.ensures.err) c.print-status-in-Ingest.ensures)
 
 pub returns-in-Put-clause-runs : goal.returns-in-Put-clause-runs
 returns-in-Put-clause-runs g c =
     let input : SourceState × SourceState = (g.S.Source.state c.args.input.now, g.S.Source.state c.put.new.input) in
-    let out : SinkState × SinkState = (g.K.Sink.state c.args.out.now, g.K.Sink.state c.print-in-Put.new.out) in
-    let file : DiskState × DiskState = (g.D.Disk.state c.args.disk.now, g.D.Disk.state c.put.new.disk) in
-    subst (λ (x : Command). RunsCommand x input out file c.print-in-Put.result) (sym c.in-Put.is)
-    (written (Some command_of.Put) (input_of input) (file_of file) c.put.result (output_of out) c.print-in-Put.result c.put.ensures c.print-in-Put.ensures)
+    let out : SinkState × SinkState = (g.K.Sink.state c.args.out.now, g.K.Sink.state c.print-status-in-Put.new.out) in
+    let file : DiskState × DiskState = (g.D.Disk.state c.args.repo, g.D.Disk.state c.put.new.disk) in
+    subst (λ (x : Command). RunsCommand x input out file c.print-status-in-Put.result) (sym c.in-Put.is)
+    (written (Some command_of.Put) (input_of input) (file_of file) c.put.result (output_of out) c.print-status-in-Put.result c.put.ensures c.print-status-in-Put.ensures)
 
 pub returns-in-Shun-clause-runs : goal.returns-in-Shun-clause-runs
 returns-in-Shun-clause-runs g c =
     let input : SourceState × SourceState = (g.S.Source.state c.args.input.now, g.S.Source.state c.args.input.now) in
-    let out : SinkState × SinkState = (g.K.Sink.state c.args.out.now, g.K.Sink.state c.print-in-Shun.new.out) in
-    let file : DiskState × DiskState = (g.D.Disk.state c.args.disk.now, g.D.Disk.state c.shun.new.disk) in
-    subst (λ (x : Command). RunsCommand x input out file c.print-in-Shun.result) (sym c.in-Shun.is)
-    (written (Some (command_of.Shun c.in-Shun.name)) (input_of input) (file_of file) c.shun.result (output_of out) c.print-in-Shun.result (c.shun.ensures (g.S.Source.state c.args.input.now)) c.print-in-Shun.ensures)
+    let out : SinkState × SinkState = (g.K.Sink.state c.args.out.now, g.K.Sink.state c.print-status-in-Shun.new.out) in
+    let file : DiskState × DiskState = (g.D.Disk.state c.args.repo, g.D.Disk.state c.shun.new.disk) in
+    subst (λ (x : Command). RunsCommand x input out file c.print-status-in-Shun.result) (sym c.in-Shun.is)
+    (written (Some (command_of.Shun c.in-Shun.name)) (input_of input) (file_of file) c.shun.result (output_of out) c.print-status-in-Shun.result (c.shun.ensures (g.S.Source.state c.args.input.now)) c.print-status-in-Shun.ensures)
 
 pub returns-in-Ask-clause-runs : goal.returns-in-Ask-clause-runs
 returns-in-Ask-clause-runs g c =
     let input : SourceState × SourceState = (g.S.Source.state c.args.input.now, g.S.Source.state c.args.input.now) in
     let out : SinkState × SinkState = (g.K.Sink.state c.args.out.now, g.K.Sink.state c.ask.new.out) in
-    let file : DiskState × DiskState = (g.D.Disk.state c.args.disk.now, g.D.Disk.state c.ask.new.disk) in
-    subst (λ (x : Command). RunsCommand x input out file c.ask.result) (sym c.in-Ask.is) (c.ask.ensures (g.S.Source.state c.args.input.now))
+    let file : DiskState × DiskState = (g.D.Disk.state c.args.repo, g.D.Disk.state c.ask.result.repo) in
+    subst (λ (x : Command). RunsCommand x input out file c.ask.result.status) (sym c.in-Ask.is) (c.ask.ensures (g.S.Source.state c.args.input.now))

@@ -17,9 +17,9 @@ returns-in-Ok g c =
     let e = said_is (map string_bytes c.args.words.now) c.in-Ok.words c.in-Ok.ensures.ok in
     let input = input_of (g.S.Source.state c.args.input.now, g.S.Source.state c.obey.new.input) in
     let out = output_of (g.K.Sink.state c.args.out.now, g.K.Sink.state c.obey.new.out) in
-    let file = file_of (g.D.Disk.state c.args.disk.now, g.D.Disk.state c.obey.new.disk) in
+    let file = file_of (g.D.Disk.state c.args.repo, g.D.Disk.state c.obey.result.repo) in
     record {
-      runs = subst (λ (o : Option Command). HasRun o input out file c.obey.result) (sym e) c.obey.ensures.runs;
+      runs = subst (λ (o : Option Command). HasRun o input out file c.obey.result.status) (sym e) c.obey.ensures.runs;
       unread = λ h. c.obey.ensures.unread (sym (ap reads e) ∙ h);
       untouched = λ h. c.obey.ensures.untouched (sym (ap opens e) ∙ h);
     }
@@ -29,12 +29,12 @@ returns-in-Err-Usage g c =
     let words = map string_bytes c.args.words.now in
     let none = none_said words (c.read.ensures.usage (c.in-Err-Usage.is ∙ ap Err c.in-Err-Usage.field-0-is)) in
     let input = input_of (g.S.Source.state c.args.input.now, g.S.Source.state c.args.input.now) in
-    let out = output_of (g.K.Sink.state c.args.out.now, g.K.Sink.state c.say_usage.new.out) in
-    let file = file_of (g.D.Disk.state c.args.disk.now, g.D.Disk.state c.args.disk.now) in
+    let out = output_of (g.K.Sink.state c.args.out.now, g.K.Sink.state c.say_usage-status.new.out) in
+    let file = file_of (g.D.Disk.state c.args.repo, g.D.Disk.state c.args.repo) in
     record {
       runs =
-          subst (λ (o : Option Command). HasRun o input out file c.say_usage.result) (sym none)
-          (usage_run input (g.D.Disk.state c.args.disk.now) (λ model f left. g.met.D.Disk.only_now c.args.disk.now f model left) out c.say_usage.result c.say_usage.ensures.status c.say_usage.ensures.said);
+          subst (λ (o : Option Command). HasRun o input out file c.say_usage-status.result) (sym none)
+          (usage_run input (g.D.Disk.state c.args.repo) (λ model f left. g.met.D.Disk.only_now c.args.repo f model left) out c.say_usage-status.result c.say_usage-status.ensures.status c.say_usage-status.ensures.said);
       unread = λ h. refl;
       untouched = λ h. refl;
     }
@@ -43,12 +43,12 @@ pub returns-in-Err-Memory : goal.returns-in-Err-Memory
 returns-in-Err-Memory g c =
     let words = map string_bytes c.args.words.now in
     let input = input_of (g.S.Source.state c.args.input.now, g.S.Source.state c.args.input.now) in
-    let out = output_of (g.K.Sink.state c.args.out.now, g.K.Sink.state c.print.new.out) in
-    let file = file_of (g.D.Disk.state c.args.disk.now, g.D.Disk.state c.args.disk.now) in
+    let out = output_of (g.K.Sink.state c.args.out.now, g.K.Sink.state c.print-status.new.out) in
+    let file = file_of (g.D.Disk.state c.args.repo, g.D.Disk.state c.args.repo) in
     record {
       runs =
-          written (said words) input file (Err fault_is.Memory) out c.print.result
-          (idle_memory (said words) input (g.D.Disk.state c.args.disk.now) (λ model f left. g.met.D.Disk.only_now c.args.disk.now f model left)) c.print.ensures;
+          written (said words) input file (Err fault_is.Memory) out c.print-status.result
+          (idle_memory (said words) input (g.D.Disk.state c.args.repo) (λ model f left. g.met.D.Disk.only_now c.args.repo f model left)) c.print-status.ensures;
       unread = λ h. refl;
       untouched = λ h. refl;
     }

@@ -1,0 +1,47 @@
+-- What a file stands for after a repository was opened over it, or wasn't.
+use Rattle.std.proofs.Common.{◌≡◌, ◌⊎◌, inl, inr, ◌≢◌, ℕ, ◌+◌, List, take, Some, refl, ap, subst}
+use Rattle.fsl_record.specs.declared.Record.{Record}
+use Rattle.fsl_disk.specs.Disk.{DiskState, Told, Keeps}
+use Rattle.fsl_journal.specs.File.{IsFileOf}
+use Rattle.fsl_journal.specs.Journal.{OfBytes}
+use Rattle.fsl_journal.specs.declared.LoadFault.{LoadFault}
+use Rattle.fsl_journal.specs.declared.LoadFault.TheVariants as load_fault
+use Rattle.fsl_journal.proofs.Unique.{one_file}
+use Rattle.fsl_repo.specs.Whole.{Whole, log_of, IsWholeOn}
+use Rattle.fsl_repo.specs.Opening as opening
+use Rattle.fossil.specs.declared.load.Loaded.{Loaded}
+use Rattle.fossil.specs.Acts.{KeepsContents, KeepsUnreadable, IsOpened, IsNotLoaded, IsUnopened}
+use Rattle.fossil.proofs.LoadLemmas.{KeepsBetween, opened, images_kept, same_contents}
+
+-- a repository as the journal and the artifacts of a file that was loaded
+abbrev pub loaded_of : {D : Type 0} → Whole D → Loaded
+loaded_of r = record { journal = log_of r; blobs = record { records = r.seen.state.records; announced = r.seen.state.announced } }
+
+pub repo_opened : {D : Type 0} (file left : DiskState) (r : Whole D) → opening.IsOpened file left r → IsWholeOn left r → KeepsBetween file left → Keeps file left → IsOpened file left (loaded_of r)
+repo_opened file left r is whole between keeps =
+    opened file left (log_of r) r.seen.state.records
+    (record { records = refl; stable = ap (λ s. s.committed) is.state; runs = ap (λ s. s.stopped) is.state; fit = whole.seen.records })
+    is.stands whole.belongs (loaded_of r) refl refl between keeps is.faults
+
+-- ---- a file over which none was opened
+
+-- it was left as it was, or was cut where it is closed
+abbrev CutAtMost : DiskState → DiskState → Type 0
+CutAtMost file left = (left.contents ≡ file.contents) ⊎ ((records : List Record) × (place : ℕ) × OfBytes file (λ bytes. IsFileOf bytes records)
+    × Told file (λ held. left.contents ≡ Some (take (place + 1) held)) × Told left (λ held. IsFileOf held records))
+
+cut_contents : (file left : DiskState) → CutAtMost file left → KeepsContents file left
+cut_contents file left (inl same) = same_contents file left same
+cut_contents file left (inr cut) = λ bytes told old are held left_told.
+    let same : cut.0 ≡ old = one_file bytes cut.0 old (subst (λ (b : List ℕ). IsFileOf b cut.0) (cut.2.1 bytes told) cut.2.2) are in
+    subst (λ (rs : List Record). IsFileOf held rs) same (cut.4 held left_told)
+
+why : (file left : DiskState) (fault : LoadFault) → opening.OpenFailed fault file left → IsNotLoaded fault file left × (fault ≢ load_fault.Disk → KeepsContents file left)
+why file left load_fault.Disk failed = (failed, λ other. absurd (other refl))
+why file left (load_fault.NotRepository at) failed = (failed.2, λ other. same_contents file left failed.0.contents)
+why file left load_fault.Memory failed = (tt, λ other. cut_contents file left failed.contents)
+
+pub repo_unopened : (file left : DiskState) (fault : LoadFault) → opening.OpenFailed fault file left → KeepsUnreadable file left → KeepsBetween file left → Keeps file left → IsUnopened file left fault
+repo_unopened file left fault failed unreadable between keeps =
+    let is = why file left fault failed in
+    record { cause = is.0; contents = is.1; unreadable = unreadable; any_moment = images_kept file left between; keeps = keeps }
