@@ -1,13 +1,13 @@
 -- A check-in that no artifact names leaves the rows of others as they were.
-use Rattle.std.proofs.Common.{◌≡◌, ◌≤◌, ◌+◌, ◌*◌, ◌<◌, ℕ, zero, suc, true, false, cond, List, [], ◌∷◌, ◌++◌, Bool, length, Option, Some, None, map, refl, sym, ap, ◌∙◌, subst, arith, inl, inr, ◌⊎◌}
-use Rattle.std.specs.Prelude.{◌&&◌, ◌||◌, not, is_some, is_none, filter, filter_map, option_map, option_and_then, option_to_list, slice_get, unwrap_or, flat_map, IfSome}
+use Rattle.std.proofs.Common.{◌≡◌, ◌≤◌, ℕ, true, false, cond, List, [], ◌∷◌, ◌++◌, Bool, length, Option, Some, None, map, refl, sym, ap, ◌∙◌, inl, inr, ◌⊎◌}
+use Rattle.std.specs.Prelude.{◌&&◌, ◌||◌, not, is_some, filter, filter_map, option_map, option_and_then, option_to_list, slice_get, unwrap_or, flat_map}
 use Rattle.std.specs.List.{AllByRecursion, IsDistinct, list_any, list_all, cons_option}
 use Rattle.std.specs.Option.{option_map_or}
 use Rattle.std.specs.Str.{bytes_eq}
-use Rattle.std.specs.Cmp.Lexicographic.{bytes_decides, nat_list_eq_equiv}
+use Rattle.std.specs.Cmp.Lexicographic.{nat_list_eq_equiv}
 use Rattle.std.proofs.lemmas.Map.Made.{length-le_from_is_member}
 use Rattle.fsl_order.specs.Held.{Held, Change}
-use Rattle.fsl_order.specs.Names.{bytes_cmp, has}
+use Rattle.fsl_order.specs.Names.{has}
 use Rattle.fsl_order.specs.Rows.{ascending, by_name, named}
 use Rattle.fsl_order.proofs.AscendingLemmas.{has-ascending}
 use Rattle.fsl_order.proofs.RowLemmas.{named-All}
@@ -27,30 +27,24 @@ use Rattle.fsl_tags.specs.Laws.{OthersStay}
 use Rattle.fsl_tags.specs.Tags.{tags_row}
 use Rattle.fsl_files.specs.declared.Fact as files
 use Rattle.fsl_files.specs.Files as listing
-use Rattle.fsl_files.specs.declared.Listing.TheVariants.{NotCheckin}
 use Rattle.fsl_files.specs.Touches.{is_followed, counted}
-use Rattle.fsl_wiki.specs.Pages.{as_page}
 use Rattle.fsl_cross.specs.declared.Item.{Item}
-use Rattle.fsl_cross.specs.Attached.{target_id}
-use Rattle.fsl_cross.specs.Kinds.{own_id}
 use Rattle.fsl_cross.specs.Checkins.{links_facts, tags_fact, tags_facts, checkin, branch}
-use Rattle.fsl_cross.specs.Facts.{as_manifest, tag_cards, assertions, links_fact, files_fact, file_row, pages_fact_of, ticket_fact_of, forum_fact_of}
-use Rattle.fsl_cross.specs.Mixed.{tags_mixed, is_child, is_other_checkin, all_changed}
-use Rattle.fsl_cross.specs.Tables.{leaves_fact, leaves_facts, files_facts, without}
-use Rattle.fsl_cross.specs.Touches.{is_unnamed, are_own, has_own_tags, is_calm, file_count, NoneOf, IsNoParent, NoneRetagged, NoneLate, Untouched, IsCalm, parents_most, tags_most, files_most}
+use Rattle.fsl_cross.specs.Facts.{as_manifest, tag_cards, assertions, links_fact, file_row}
+use Rattle.fsl_cross.specs.Mixed.{is_child}
+use Rattle.fsl_cross.specs.Tables.{leaves_fact, files_facts, without}
+use Rattle.fsl_cross.specs.Touches.{is_unnamed, are_own, has_own_tags, is_calm, file_count, NoneRetagged}
 use Rattle.fsl_cross.specs.Trails.{Leads, TagsTold}
 use Rattle.fsl_cross.proofs.Moved.{item_name}
 use Rattle.fsl_cross.proofs.FactLemmas.{Rise, links-named, tags_own, tags-fit}
-use Rattle.fsl_cross.proofs.TableLemmas.{files-own}
-use Rattle.fsl_cross.proofs.Mapped.{named-given, named-has, rising-given}
+use Rattle.fsl_cross.proofs.Mapped.{named-has, rising-given}
 use Rattle.fsl_cross.proofs.Sets.{named-out, mixed-end}
 use Rattle.fsl_cross.proofs.Added.{given-absent, mixed-added, rising-out}
 use Rattle.fsl_cross.proofs.Parents.{primary-same, tags-fit-added}
 use Rattle.fsl_cross.proofs.Gifts.{if_some}
 use Rattle.fsl_cross.proofs.Pushing.{or-false}
 use Rattle.fsl_cross.proofs.Retiring.{told-other}
-use Rattle.fsl_cross.proofs.Unnamed.{tags_with, tags-own_targets}
-use Rattle.fsl_cross.proofs.Quiet.{quiet-within}
+use Rattle.fsl_cross.proofs.Unnamed.{tags-own_targets}
 
 has-append : (xs ys : List (List ℕ)) (q : List ℕ) → has (xs ++ ys) q ≡ (has xs q || has ys q)
 has-append [] ys q = refl

@@ -1,5 +1,5 @@
 -- Loops over names at which nothing is to be done, and artifacts that give a table nothing.
-use Rattle.std.proofs.Common.{◌≡◌, ◌≤◌, ◌<◌, ◌+◌, ◌*◌, ℕ, zero, suc, true, false, List, [], ◌∷◌, ◌++◌, Bool, length, get_or, Option, Some, None, refl, sym, ap, ◌∙◌, subst, arith}
+use Rattle.std.proofs.Common.{◌≡◌, ◌≤◌, ◌<◌, ◌+◌, ℕ, zero, suc, true, false, List, [], ◌∷◌, ◌++◌, Bool, length, get_or, Option, Some, None, refl, sym, ap, ◌∙◌, arith}
 use Rattle.std.specs.Prelude.{◌||◌, ◌&&◌, not, is_some, option_map, option_and_then, IfSome}
 use Rattle.std.specs.Option.{option_map_or}
 use Rattle.std.specs.Str.{bytes_eq}
@@ -7,7 +7,6 @@ use Rattle.fsl_order.specs.Held.{Change}
 use Rattle.fsl_order.specs.Names.{has}
 use Rattle.fsl_order.specs.Rows.{named}
 use Rattle.fsl_manifest.specs.declared.Manifest.{Manifest}
-use Rattle.fsl_links.specs.declared.Fact as links
 use Rattle.fsl_leaves.specs.declared.Fact as leaves
 use Rattle.fsl_timeline.specs.declared.Row.{Row}
 use Rattle.fsl_cross.specs.declared.Item.{Item}

@@ -1,7 +1,7 @@
 -- What an artifact that no other names takes of touches.
-use Rattle.std.proofs.Common.{◌≡◌, ◌≤◌, ◌+◌, ◌*◌, ℕ, suc, true, false, List, [], ◌∷◌, Bool, length, Option, Some, None, map, refl, sym, ap, ◌∙◌, subst, arith}
+use Rattle.std.proofs.Common.{◌≡◌, ◌+◌, ◌*◌, ℕ, suc, true, false, List, [], ◌∷◌, Bool, length, Option, Some, None, map, refl, ap, subst}
 use Rattle.std.specs.Prelude.{◌&&◌, is_some, is_none, option_map, slice_get, unwrap_or}
-use Rattle.std.specs.List.{AllByRecursion, list_all, enumerate_from}
+use Rattle.std.specs.List.{AllByRecursion, enumerate_from}
 use Rattle.std.specs.Option.{option_map_or}
 use Rattle.fsl_grammar.specs.declared.TagCard.{TagCard}
 use Rattle.fsl_manifest.specs.declared.Manifest.{Manifest}

@@ -1,4 +1,4 @@
-use Rattle.std.proofs.Common.{◌≡◌, sym, ap, ◌∙◌, ◌+◌, ◌*◌, length, Some, refl}
+use Rattle.std.proofs.Common.{◌≡◌, sym, ap, ◌∙◌, ◌+◌, ◌*◌, length, refl}
 use Rattle.fsl_leaves.specs.declared.Fact.{Fact}
 use Rattle.fsl_cross.specs.Inside.{leaves_fact_over, branch_over}
 use Rattle.fsl_cross.specs.Tables.{leaves_fact, without}

@@ -1,6 +1,6 @@
 use Rattle.std.proofs.Common.{◌∷◌, [], ap, ◌∙◌, sym, subst}
 use Rattle.fsl_table.proofs.Outcomes.{on_ok_map}
-use Rattle.fsl_cross.specs.Mixed.{rows_mixed, tagged_done, is_other_checkin, all_changed}
+use Rattle.fsl_cross.specs.Mixed.{rows_mixed, tagged_done}
 use Rattle.fsl_cross.proofs.Quiet.{within-quiet}
 use Rattle.fsl_cross.specs.Touches.{NoneRetagged}
 use Rattle.fsl_cross.proofs.change.rows.start.Goals as goal
