@@ -3,3 +3,5 @@
 
 #[cfg(test)]
 mod repo;
+#[cfg(test)]
+mod steps;

@@ -10,14 +10,14 @@ use std::alloc::Global;
 use std::test::Fail;
 
 // A file with a Config without fields and a blob `abc`, 110 bytes.
-const ONE_BLOB: &[u8] =
+pub(crate) const ONE_BLOB: &[u8] =
     b"fossil-blobs-1\nO\0\0\0\0\0\0\0\x2BCabcdefghijklmnopqrstABCDEFGHIJKLMNOPQRST\0\0O\0\0\0\0\0\0\0\x21B\0\xA9\x99>6G\x06\x81j\xBA>%qxP\xC2l\x9C\xD0\xD8\x9D\0\0\0\0\0\0\0\x03abcC";
 
 // What a clone of it gets.
 const CLONE_OF_ABC: &[u8] =
     b"push 4142434445464748494a4b4c4d4e4f5051525354 6162636465666768696a6b6c6d6e6f7071727374\nfile a9993e364706816aba3e25717850c26c9cd0d89d 3\nabc\nclone_seqno 0\n";
 
-fn disk_of(alloc: Global, bytes: &[u8]) -> Result<MemoryDisk, Memory> {
+pub(crate) fn disk_of(alloc: Global, bytes: &[u8]) -> Result<MemoryDisk, Memory> {
     Ok(MemoryDisk::new(alloc, bytes.to_vec(alloc)?, Vec::new(alloc)))
 }
 
@@ -82,7 +82,10 @@ fn look(alloc: Global, disk: MemoryDisk) -> Option<MemoryDisk> {
             let disk = repo.close();
             if good { Some(disk) } else { None }
         }
-        Err(_) => None,
+        Err((disk, _)) => {
+            drop(disk);
+            None
+        }
     }
 }
 
@@ -98,14 +101,27 @@ fn loads_again(rt: HostRuntime) -> Result<(), Fail> {
     Ok(())
 }
 
+/// The place at which a file fails to be a repository.
+fn place_of_fault(alloc: Global, disk: MemoryDisk) -> Option<u64> {
+    match Repo::load(alloc, disk) {
+        Ok(repo) => {
+            drop(repo.close());
+            None
+        }
+        Err((disk, fault)) => {
+            drop(disk);
+            match fault {
+                LoadFault::NotRepository { at } => Some(at),
+                _ => None,
+            }
+        }
+    }
+}
+
 /// A file that is no repository comes back, with the place at which it fails.
 #[test]
 fn gives_the_disk_back(rt: HostRuntime) -> Result<(), Fail> {
     let disk = disk_of(rt.alloc(), b"fossil-blobs-2\n")?;
-    let at = match Repo::load(rt.alloc(), disk) {
-        Err((_, LoadFault::NotRepository { at })) => Some(at),
-        _ => None,
-    };
-    assert_eq!(rt; at, Some(0));
+    assert_eq!(rt; place_of_fault(rt.alloc(), disk), Some(0));
     Ok(())
 }
