@@ -29,7 +29,7 @@ use std::alloc::Global;
 use std::sync::ledger::Ledger;
 
 /// The kind of the attachments that have an id as their target: that of a ticket where a change of one has the id, that of a technote
-/// where one has it, else that of the wiki. It takes one touch.
+/// where one has it, else that of the wiki.
 fn kind_of<L: Ledger>(attached: &Attached, pages: &Pages, id: Name, steps: &mut Steps<L>) -> RowKind
     requires { IsName id }
     ensures { OfItems attached.now pages.now (λ items. result ≡ attachment_kind items (name_text id)) }
