@@ -7,7 +7,7 @@ use Rattle.fsl_record.specs.declared.Record.{Record}
 use Rattle.fsl_disk.specs.Disk.{DiskState, IsModelled, Told, Keeps, LeavesOnly}
 use Rattle.fsl_disk.proofs.Moments.{weaker, and_then, keeps_on, modelled_after, told_contents}
 use Rattle.fsl_journal.specs.File.{IsFileOf}
-use Rattle.fsl_journal.specs.Log.{Log, committed, BeforeOrAll}
+use Rattle.fsl_journal.specs.Log.{committed, BeforeOrAll}
 use Rattle.fsl_journal.proofs.Unique.{one_file}
 use Rattle.fsl_words.specs.declared.Command.{Command}
 use Rattle.fossil.specs.declared.fault.Fault.{Fault}
@@ -37,7 +37,8 @@ pub record IsAppended (command : Option Command) (input : Input) (bytes : List �
   pub told : Agrees input.before.left read
   pub outcome : IsFileOf bytes before.journal.records → IsSaidOutcome command read bytes (with_commit answer appended)
   pub plain : IsPlain answer appended
-  pub journal : after.journal ≡ record before.journal { records = before.journal.records ++ appended }
+  pub records : after.journal.records ≡ before.journal.records ++ appended
+  pub stable : after.journal.stable ≡ before.journal.stable
   pub end : answer.status ≡ 0 → IsTrue (reads command) → IsAtEnd input.after.left
 
 module _ (command : Option Command) (loads : Loads command) (input : Input) (file mid : DiskState) (l : Loaded) (opened : IsOpened file mid l) where
@@ -88,25 +89,22 @@ module _ (command : Option Command) (loads : Loads command) (input : Input) (fil
     small : answer.status ≤ 3
     small = ⊎_elim (λ z. omega (arith, z)) (λ three. let t = three.0 in omega (arith, t)) run.plain
 
-    appended_is : after.journal.records ≡ l.journal.records ++ run.appended
-    appended_is = ap (λ (j : Log). j.records) run.journal
-
     committed_is : committed after.journal ≡ l.journal.records
     committed_is =
-        ap (λ (j : Log). committed j) run.journal ∙ ap (λ (n : ℕ). take n (l.journal.records ++ run.appended)) opened.is_open.stable
+        (λ i. take ((run.stable ∙ opened.is_open.stable) i) (run.records i))
         ∙ take_at l.journal.records run.appended (length l.journal.records) refl
 
     -- where something was due, the outcome has a commit
     has_commit : after.journal.stable < length after.journal.records → outcome.commits ≢ []
     has_commit due none =
-        let stable : after.journal.stable ≡ length l.journal.records = ap (λ (j : Log). j.stable) run.journal ∙ opened.is_open.stable in
-        omega (arith, due, stable, ap length appended_is, length-append l.journal.records run.appended, ap length (no_commit run.appended none))
+        let stable : after.journal.stable ≡ length l.journal.records = run.stable ∙ opened.is_open.stable in
+        omega (arith, due, stable, ap length run.records, length-append l.journal.records run.appended, ap length (no_commit run.appended none))
 
     -- bytes that stand for all that was appended
     all_stand : (old : List Record) (held : List ℕ) → l.journal.records ≡ old → IsFileOf held after.journal.records → StandsForAll old outcome.commits held
     all_stand old held same is =
         one_is_all old run.appended outcome.commits held refl
-        (stands (old ++ run.appended) held (subst (λ (rs : List Record). IsFileOf held rs) (appended_is ∙ ap (λ (rs : List Record). rs ++ run.appended) same) is))
+        (stands (old ++ run.appended) held (subst (λ (rs : List Record). IsFileOf held rs) (run.records ∙ ap (λ (rs : List Record). rs ++ run.appended) same) is))
 
     some_stand : (old : List Record) (held : List ℕ) → l.journal.records ≡ old → BeforeOrAll after.journal held → StandsForSome old outcome.commits held
     some_stand old held same (inl is) = none_committed old outcome.commits held (stands old held (subst (λ (rs : List Record). IsFileOf held rs) (committed_is ∙ same) is))

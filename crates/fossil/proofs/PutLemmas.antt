@@ -2,6 +2,7 @@
 use Rattle.std.proofs.Common.{◌≡◌, inl, inr, ℕ, Bool, true, false, List, [], length, Some, refl, ap}
 use Rattle.std.specs.Prelude.{◌^◌, nat_lt, MatchBool}
 use Rattle.fsl_record.specs.declared.Record.{Record}
+use Rattle.fsl_journal.specs.Log.{Log}
 use Rattle.fsl_words.specs.declared.Command.TheVariants as command_of
 use Rattle.fossil.specs.declared.load.Loaded.{Loaded}
 use Rattle.fossil.specs.Printed.{Printed}
@@ -28,6 +29,7 @@ put_appended input bytes before after answer run = record {
   told = run.told;
   outcome = λ is. inr (before.journal.records, is, (answer, run.appended, run.put, refl));
   plain = plain_put run.read before.journal.records answer run.appended (nat_lt (2 ^ 27) (length run.read)) run.put;
-  journal = run.journal;
+  records = ap (λ (j : Log). j.records) run.journal;
+  stable = ap (λ (j : Log). j.stable) run.journal;
   end = λ z reads. run.end z;
 }

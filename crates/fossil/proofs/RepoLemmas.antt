@@ -9,13 +9,8 @@ use Rattle.fsl_journal.specs.declared.LoadFault.TheVariants as load_fault
 use Rattle.fsl_journal.proofs.Unique.{one_file}
 use Rattle.fsl_repo.specs.Whole.{Whole, log_of, IsWholeOn}
 use Rattle.fsl_repo.specs.Opening as opening
-use Rattle.fossil.specs.declared.load.Loaded.{Loaded}
-use Rattle.fossil.specs.Acts.{KeepsContents, KeepsUnreadable, IsOpened, IsNotLoaded, IsUnopened}
+use Rattle.fossil.specs.Acts.{loaded_of, KeepsContents, KeepsUnreadable, IsOpened, IsNotLoaded, IsUnopened}
 use Rattle.fossil.proofs.LoadLemmas.{KeepsBetween, opened, images_kept, same_contents}
-
--- a repository as the journal and the artifacts of a file that was loaded
-abbrev pub loaded_of : {D : Type 0} → Whole D → Loaded
-loaded_of r = record { journal = log_of r; blobs = record { records = r.seen.state.records; announced = r.seen.state.announced } }
 
 pub repo_opened : {D : Type 0} (file left : DiskState) (r : Whole D) → opening.IsOpened file left r → IsWholeOn left r → KeepsBetween file left → Keeps file left → IsOpened file left (loaded_of r)
 repo_opened file left r is whole between keeps =

@@ -1,88 +1,146 @@
--- What `shun` appended.
-use Rattle.std.proofs.Common.{◌≡◌, ◌⊎◌, inl, inr, ℕ, Bool, true, false, cond, List, [], ◌∷◌, length, Option, Some, None, is_some, refl, sym, ap, subst, ◌∙◌, codes}
+-- What `shun` appended and committed.
+use Rattle.std.proofs.Common.{◌≡◌, ◌⊎◌, inl, inr, ℕ, ◌<◌, ◌≤◌, Bool, true, false, cond, List, [], ◌∷◌, ◌++◌, length, Option, Some, None, Result, Ok, Err, refl, sym, ap, subst, ◌∙◌, codes}
 use Rattle.std.specs.Option.{option_map_or}
 use Rattle.std.specs.FinMap as map_of
 use Rattle.std.specs.FinSet as set
+use Rattle.std.proofs.Math.Nat.{eq-or-lt_of_le}
+use Rattle.std.proofs.lemmas.List.{append-nil}
+use Rattle.fsl_order.specs.Causes.{Rose}
 use Rattle.fsl_outside.specs.Streams.{SourceState}
 use Rattle.fsl_record.specs.declared.Record.{Record}
 use Rattle.fsl_record.specs.declared.Record.TheVariants as record_of
-use Rattle.fsl_blobs.specs.Fold.{Held, contents}
-use Rattle.fsl_blobs.specs.Held.{state_of}
-use Rattle.fsl_blobs.specs.declared.BlobState.{BlobState}
-use Rattle.fsl_blobs.specs.declared.BlobState.TheVariants as blob
+use Rattle.fsl_disk.specs.Disk.{DiskState, Told}
+use Rattle.fsl_journal.specs.File.{IsFileOf}
+use Rattle.fsl_journal.specs.declared.CommitFault.{CommitFault}
 use Rattle.fsl_words.specs.declared.Command.TheVariants as command_of
-use Rattle.fossil.specs.declared.load.Loaded.{Loaded}
+use Rattle.fsl_repo.specs.declared.Shunning.{Shunning}
+use Rattle.fsl_repo.specs.declared.Shunning.TheVariants as became
+use Rattle.fsl_repo.specs.declared.ShunFault.{ShunFault}
+use Rattle.fsl_repo.specs.declared.ShunFault.TheVariants as shun_fault
+use Rattle.fsl_repo.specs.Machine.{State, now, shun, shunned, ShunStep, IsCommit}
+use Rattle.fsl_repo.specs.Whole.{Whole, log_of, IsWholeOn}
 use Rattle.fossil.specs.Sets.{name_line}
 use Rattle.fossil.specs.Printed.{Printed}
 use Rattle.fossil.specs.Put.{TextAndRecords}
 use Rattle.fossil.specs.Outcome.{with_commit}
-use Rattle.fossil.specs.Shun.{shunning, IsDoneAs, IsShunned}
+use Rattle.fossil.specs.Shun.{shunning, word_of}
+use Rattle.fossil.specs.Acts.{loaded_of}
 use Rattle.fossil.proofs.InputLemmas.{some_bytes}
-use Rattle.fsl_blobs.proofs.ShunnedNames.{shunned_are_not_held}
-use Rattle.fossil.proofs.TakingLemmas.{none_appended}
+use Rattle.fossil.proofs.CommitLemmas.{idle_contents}
 use Rattle.fossil.proofs.AppendLemmas.{IsAppended}
 
--- ---- what a name is
+-- ---- what is appended
 
-abbrev pub removed : List ℕ → TextAndRecords
-removed name = record { text = name_line (codes "removed") name; records = record_of.Shun name ∷ [] }
+-- what is printed and appended, by what became of the name
+abbrev done_as : Shunning → List ℕ → TextAndRecords
+done_as became.Already name = record { text = name_line (codes "already") name; records = [] }
+done_as became.Removed name = record { text = name_line (codes "removed") name; records = record_of.Shun name ∷ [] }
+done_as became.Listed name = record { text = name_line (codes "listed") name; records = record_of.Shun name ∷ [] }
 
-abbrev pub listed : List ℕ → TextAndRecords
-listed name = record { text = name_line (codes "listed") name; records = record_of.Shun name ∷ [] }
+done_text : (done : Shunning) (name : List ℕ) → name_line (word_of done) name ≡ (done_as done name).text
+done_text became.Already name = refl
+done_text became.Removed name = refl
+done_text became.Listed name = refl
 
-abbrev pub already : List ℕ → TextAndRecords
-already name = record { text = name_line (codes "already") name; records = [] }
+-- by whether the name is shunned, and whether it is held
+abbrev answered : Bool → Bool → Result Shunning ShunFault
+answered shunned held = cond shunned (Ok became.Already) (cond held (Ok became.Removed) (Ok became.Listed))
 
--- what is printed and appended, by what the name is
-abbrev shunned_as : BlobState → List ℕ → TextAndRecords
-shunned_as (blob.Public size) name = removed name
-shunned_as (blob.Private size) name = removed name
-shunned_as blob.Shunned name = already name
-shunned_as blob.Absent name = listed name
+done_by : (shunned held : Bool) (name : List ℕ) (done : Shunning) → answered shunned held ≡ Ok done
+    → cond shunned (done_as became.Already name) (cond held (done_as became.Removed name) (done_as became.Listed name)) ≡ done_as done name
+done_by true held name done e = let same : became.Already ≡ done = cc in ap (λ (d : Shunning). done_as d name) same
+done_by false true name done e = let same : became.Removed ≡ done = cc in ap (λ (d : Shunning). done_as d name) same
+done_by false false name done e = let same : became.Listed ≡ done = cc in ap (λ (d : Shunning). done_as d name) same
 
-shunned_by : (name : List ℕ) (shunned : Bool) (o : Option Held) → (shunned ≡ true → o ≡ None)
-    → cond shunned (already name) (cond (is_some o) (removed name) (listed name))
-    ≡ shunned_as (option_map_or (λ a. cond a.private (blob.Private (length a.bytes)) (blob.Public (length a.bytes))) o (cond shunned blob.Shunned blob.Absent)) name
-shunned_by name true None h = refl
-shunned_by name true (Some a) h = absurd (let e = h refl in cc)
-shunned_by name false None h = refl
-shunned_by name false (Some a) h =
-    elim a.private as (λ p. removed name ≡ shunned_as (cond p (blob.Private (length a.bytes)) (blob.Public (length a.bytes))) name) [ true ↦ refl | false ↦ refl ]
+due_is : (s : State) (name : List ℕ) → s.stopped ≡ None → shun s name ≡ answered (set.contains (now s).shunned name) (map_of.contains_key (now s).held name)
+due_is s name runs =
+    ap (λ (o : Option ℕ). option_map_or (λ faults. Err (shun_fault.Stopped faults)) o (answered (set.contains (now s).shunned name) (map_of.contains_key (now s).held name))) runs
 
-shunned_is : (records : List Record) (name : List ℕ) → shunning (contents records) name ≡ shunned_as (state_of (contents records) name) name
-shunned_is records name = shunned_by name (set.contains (contents records).shunned name) (map_of.get (contents records).held name) (shunned_are_not_held records name)
+records_after : (s : State) (name : List ℕ) (done : Shunning) → (shunned s name (Ok done)).records ≡ s.records ++ (done_as done name).records
+records_after s name became.Already = sym (append-nil s.records)
+records_after s name became.Removed = refl
+records_after s name became.Listed = refl
 
-module _ (name : List ℕ) (before after : Loaded) (answer : Printed) (was : BlobState) (is : was ≡ state_of (contents before.blobs.records) name) (same : before.blobs.records ≡ before.journal.records) where
-  -- the name was shunned by what it was
-  by_state : (t : TextAndRecords) → shunned_as was name ≡ t → IsDoneAs t before after answer → IsShunned name before after answer
-  by_state t e done =
-      subst (λ (u : TextAndRecords). IsDoneAs u before after answer)
-      (sym e ∙ ap (λ (s : BlobState). shunned_as s name) (is ∙ ap (λ (rs : List Record). state_of (contents rs) name) same) ∙ sym (shunned_is before.journal.records name)) done
+committed_after : (s : State) (name : List ℕ) (done : Shunning) → (shunned s name (Ok done)).committed ≡ s.committed
+committed_after s name became.Already = refl
+committed_after s name became.Removed = refl
+committed_after s name became.Listed = refl
 
-  pub shunned_held : ((size : ℕ) × (was ≡ blob.Public size)) ⊎ ((size : ℕ) × (was ≡ blob.Private size)) → IsDoneAs (removed name) before after answer → IsShunned name before after answer
-  shunned_held (inl there) done = by_state (removed name) (ap (λ (s : BlobState). shunned_as s name) there.1) done
-  shunned_held (inr there) done = by_state (removed name) (ap (λ (s : BlobState). shunned_as s name) there.1) done
+stopped_after : (s : State) (name : List ℕ) (done : Shunning) → (shunned s name (Ok done)).stopped ≡ s.stopped
+stopped_after s name became.Already = refl
+stopped_after s name became.Removed = refl
+stopped_after s name became.Listed = refl
 
-  pub shunned_absent : was ≡ blob.Absent → IsDoneAs (listed name) before after answer → IsShunned name before after answer
-  shunned_absent there done = by_state (listed name) (ap (λ (s : BlobState). shunned_as s name) there) done
+-- a name was shunned: what is told and appended is what is due
+pub record HasShunned (old new : State) (name : List ℕ) (done : Shunning) : Type 0 where
+  pub text : name_line (word_of done) name ≡ (shunning (now old) name).text
+  pub records : new.records ≡ old.records ++ (shunning (now old) name).records
+  pub committed : new.committed ≡ old.committed
+  pub runs : new.stopped ≡ None
 
-  -- a name that is shunned already appends nothing
-  pub shunned_already : was ≡ blob.Shunned → after.journal ≡ before.journal → answer ≡ record { status = 0; text = name_line (codes "already") name } → IsShunned name before after answer
-  shunned_already there journal line = by_state (already name) (ap (λ (s : BlobState). shunned_as s name) there) (line, journal ∙ none_appended before.journal)
+pub has_shunned : (old new : State) (name : List ℕ) (done : Shunning) → old.stopped ≡ None → ShunStep old name (Ok done) new → HasShunned old new name done
+has_shunned old new name done runs (inr want) = absurd (let e = want.0 in cc)
+has_shunned old new name done runs (inl due) =
+    let same : shunning (now old) name ≡ done_as done name =
+    done_by (set.contains (now old).shunned name) (map_of.contains_key (now old).held name) name done (sym (due_is old name runs) ∙ sym due.1.0) in
+    let state : due.0 ≡ shunned old name (Ok done) = due.1.1 in
+    record {
+      text = done_text done name ∙ ap (λ (t : TextAndRecords). t.text) (sym same);
+      records =
+          ap (λ (s : State). s.records) due.2.state ∙ ap (λ (s : State). s.records) state ∙ records_after old name done
+          ∙ ap (λ (t : TextAndRecords). old.records ++ t.records) (sym same);
+      committed = ap (λ (s : State). s.committed) due.2.state ∙ ap (λ (s : State). s.committed) state ∙ committed_after old name done;
+      runs = ap (λ (s : State). s.stopped) due.2.state ∙ ap (λ (s : State). s.stopped) state ∙ stopped_after old name done ∙ runs;
+    }
 
--- ---- the run
-
-pub shun_appended : (name : List ℕ) (source : SourceState) (bytes : List ℕ) (before after : Loaded) (answer : Printed) → IsShunned name before after answer
-    → IsAppended (Some (command_of.Shun name)) (record { before = source; after = source }) bytes before after answer
-shun_appended name source bytes before after answer done =
+pub shun_appended : {D : Type 0} (name : List ℕ) (source : SourceState) (bytes : List ℕ) (before after : Whole D) (done : Shunning) (answer : Printed)
+    → answer ≡ record { status = 0; text = name_line (word_of done) name } → HasShunned before.seen.state after.seen.state name done
+    → IsAppended (Some (command_of.Shun name)) (record { before = source; after = source }) bytes (loaded_of before) (loaded_of after) answer
+shun_appended name source bytes before after done answer line has =
     let read = some_bytes source.left in
-    let t = shunning (contents before.journal.records) name in
+    let t = shunning (now before.seen.state) name in
+    let is : answer ≡ record { status = 0; text = t.text } = line ∙ ap (λ (text : List ℕ). record { status = 0; text = text }) has.text in
     record {
       read = read.0;
       appended = t.records;
       told = read.1;
-      outcome = λ is. inr (before.journal.records, is, ap (λ (a : Printed). with_commit a t.records) done.0);
-      plain = inl (ap (λ (a : Printed). a.status) done.0);
-      journal = done.1;
+      outcome = λ file. inr (before.seen.state.records, file, ap (λ (a : Printed). with_commit a t.records) is);
+      plain = inl (ap (λ (a : Printed). a.status) line);
+      records = has.records;
+      stable = has.committed;
       end = λ z reads. absurd (cc);
     }
+
+-- ---- what is committed
+
+runs_on : (s new : State) (result : Result ℕ CommitFault) → s.stopped ≡ None → IsCommit s.stopped s result new → IsCommit None s result new
+runs_on s new result runs step = subst (λ (o : Option ℕ). IsCommit o s result new) runs step
+
+failed : (s new : State) (fault : CommitFault) → IsCommit None s (Err fault) new → Rose s.faults new.faults
+failed s new fault (inl h) = h.1
+failed s new fault (inr h) = absurd (let e = h.0 in cc)
+
+done_all : (s new : State) (count : ℕ) → IsCommit None s (Ok count) new → new ≡ record s { committed = length s.records }
+done_all s new count (inl h) = absurd (let e = h.0 in cc)
+done_all s new count (inr h) = h.1
+
+-- a commit that fails had something to write
+pub was_due : (s : State) (fault : CommitFault) (result : Result ℕ CommitFault) → result ≡ Err fault → s.stopped ≡ None → s.committed ≤ length s.records
+    → (s.stopped ≡ None → s.committed ≡ length s.records → result ≡ Ok (length s.records)) → s.committed < length s.records
+was_due s fault result is runs most nothing = due (eq-or-lt_of_le most) where
+  due : (s.committed ≡ length s.records) ⊎ (s.committed < length s.records) → s.committed < length s.records
+  due (inl all) = absurd (let e = nothing runs all in cc)
+  due (inr less) = less
+
+module _ {D : Type 0} (before after : Whole D) (mid left : DiskState) (was : IsWholeOn mid before) (is : IsWholeOn left after) (runs : before.seen.state.stopped ≡ None) where
+  pub commit_rose : (fault : CommitFault) → IsCommit before.seen.state.stopped before.seen.state (Err fault) after.seen.state → Rose mid.faults left.faults
+  commit_rose fault step =
+      let rose = failed before.seen.state after.seen.state fault (runs_on before.seen.state after.seen.state (Err fault) runs step) in
+      subst (λ (n : ℕ). Rose n left.faults) was.faults (subst (λ (n : ℕ). Rose before.seen.state.faults n) is.faults rose)
+
+  pub commit_contents : (count : ℕ) → IsCommit before.seen.state.stopped before.seen.state (Ok count) after.seen.state → Told left (λ held. IsFileOf held before.seen.state.records)
+  commit_contents count step =
+      let all = done_all before.seen.state after.seen.state count (runs_on before.seen.state after.seen.state (Ok count) runs step) in
+      let records : after.seen.state.records ≡ before.seen.state.records = ap (λ (s : State). s.records) all in
+      subst (λ (rs : List Record). Told left (λ held. IsFileOf held rs)) records
+      (idle_contents (log_of after) left is.belongs (ap (λ (s : State). s.stopped) all ∙ runs) (ap (λ (s : State). s.committed) all ∙ ap length (sym records)))

@@ -11,6 +11,7 @@ use Rattle.fsl_journal.specs.File.{IsFileOf, FailsAt}
 use Rattle.fsl_journal.specs.Journal.{Belongs, OfBytes}
 use Rattle.fsl_journal.specs.declared.LoadFault.{LoadFault}
 use Rattle.fsl_journal.specs.declared.LoadFault.TheVariants as load_fault
+use Rattle.fsl_repo.specs.Whole.{Whole, log_of}
 use Rattle.fsl_words.specs.declared.Question.{Question}
 use Rattle.fsl_words.specs.declared.Command.{Command}
 use Rattle.fsl_words.specs.declared.Command.TheVariants.{Init, Ingest, Put, Shun, Ask}
@@ -80,6 +81,10 @@ KeepsImages file left =
 -- contents that stand for no records stay, at each moment
 abbrev pub KeepsUnreadable : DiskState → DiskState → Type 0
 KeepsUnreadable file left = Told file (λ bytes. (at : ℕ) → FailsAt bytes at → Quiet file left)
+
+-- a repository as the journal and the artifacts of a file that was loaded
+abbrev pub loaded_of : {D : Type 0} → Whole D → Loaded
+loaded_of r = record { journal = log_of r; blobs = record { records = r.seen.state.records; announced = r.seen.state.announced } }
 
 -- a journal that runs, with all its records committed, and the artifacts that they leave
 pub record IsOpen (l : Loaded) : Type 0 where

@@ -56,7 +56,8 @@ fn obey<S: Source, K: Sink, D: Disk>(
             Ran { status, repo }
         }
         Command::Shun { name } => {
-            let status = print(out, shun(alloc, name, &mut repo));
+            let (answer, repo) = shun(alloc, name, repo);
+            let status = print(out, answer);
             Ran { status, repo }
         }
         Command::Ask(question) => ask(alloc, &question, out, repo),

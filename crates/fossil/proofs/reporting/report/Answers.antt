@@ -1,10 +1,10 @@
 use Rattle.std.proofs.Common.{◌≡◌, Some, sym, subst, ◌∙◌}
 use Rattle.fsl_disk.specs.Disk.{DiskState}
 use Rattle.fsl_words.specs.declared.Command.TheVariants as command_of
-use Rattle.fossil.specs.Acts.{Acts}
+use Rattle.fossil.specs.Acts.{loaded_of, Acts}
 use Rattle.fossil.proofs.ActLemmas.{ask_loads, not_loaded_acted}
 use Rattle.fossil.proofs.QuestionLemmas.{report_acted}
-use Rattle.fossil.proofs.RepoLemmas.{loaded_of, repo_opened, repo_unopened}
+use Rattle.fossil.proofs.RepoLemmas.{repo_opened, repo_unopened}
 use Rattle.fossil.proofs.reporting.report.Goals as goal
 
 pub returns-in-Ok : goal.returns-in-Ok

@@ -41,9 +41,9 @@ pub returns-in-Shun-clause-runs : goal.returns-in-Shun-clause-runs
 returns-in-Shun-clause-runs g c =
     let input : SourceState × SourceState = (g.S.Source.state c.args.input.now, g.S.Source.state c.args.input.now) in
     let out : SinkState × SinkState = (g.K.Sink.state c.args.out.now, g.K.Sink.state c.print-status-in-Shun.new.out) in
-    let file : DiskState × DiskState = (g.D.Disk.state c.args.repo, g.D.Disk.state c.shun.new.disk) in
+    let file : DiskState × DiskState = (g.D.Disk.state c.args.repo, g.D.Disk.state c.shun-answer.result.1) in
     subst (λ (x : Command). RunsCommand x input out file c.print-status-in-Shun.result) (sym c.in-Shun.is)
-    (written (Some (command_of.Shun c.in-Shun.name)) (input_of input) (file_of file) c.shun.result (output_of out) c.print-status-in-Shun.result (c.shun.ensures (g.S.Source.state c.args.input.now)) c.print-status-in-Shun.ensures)
+    (written (Some (command_of.Shun c.in-Shun.name)) (input_of input) (file_of file) c.shun-answer.result.0 (output_of out) c.print-status-in-Shun.result (c.shun-answer.ensures (g.S.Source.state c.args.input.now)) c.print-status-in-Shun.ensures)
 
 pub returns-in-Ask-clause-runs : goal.returns-in-Ask-clause-runs
 returns-in-Ask-clause-runs g c =

@@ -35,8 +35,8 @@ returns-in-Err-Usage g c =
       runs =
           subst (λ (o : Option Command). HasRun o input out file c.say_usage-status.result) (sym none)
           (usage_run input (g.D.Disk.state c.args.repo) (λ model f left. g.met.D.Disk.only_now c.args.repo f model left) out c.say_usage-status.result c.say_usage-status.ensures.status c.say_usage-status.ensures.said);
-      unread = λ h. refl;
-      untouched = λ h. refl;
+      unread = λ h. refl {a = c.args.input.now};
+      untouched = λ h. refl {a = c.args.repo};
     }
 
 pub returns-in-Err-Memory : goal.returns-in-Err-Memory
@@ -49,6 +49,6 @@ returns-in-Err-Memory g c =
       runs =
           written (said words) input file (Err fault_is.Memory) out c.print-status.result
           (idle_memory (said words) input (g.D.Disk.state c.args.repo) (λ model f left. g.met.D.Disk.only_now c.args.repo f model left)) c.print-status.ensures;
-      unread = λ h. refl;
-      untouched = λ h. refl;
+      unread = λ h. refl {a = c.args.input.now};
+      untouched = λ h. refl {a = c.args.repo};
     }
