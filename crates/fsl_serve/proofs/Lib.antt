@@ -1,0 +1,7 @@
+pub mod Telling
+pub mod Phases
+pub mod Runs
+pub mod Answering
+pub mod Working
+pub mod Staffing
+pub mod Sent

@@ -1,0 +1,91 @@
+-- The connections of a worker, one after another.
+use Rattle.std.proofs.Common.{◌≡◌, ℕ, ◌+◌, List, [], ◌∷◌, ◌++◌, length, map, Some, None, refl, ap, sym, ◌∙◌, subst, append_assoc, length-append}
+use Rattle.std.specs.Prelude.{Option}
+use Rattle.std.proofs.lemmas.List.{append-nil, map-append}
+use Rattle.fsl_outside.specs.Connections.{Connection, Standing, Between, listed, HasBegun, IsTold}
+use Rattle.fsl_login.specs.declared.User.{User}
+use Rattle.fsl_serve.specs.declared.said.SessionEnd.{SessionEnd}
+use Rattle.fsl_serve.specs.Calls.{Call, Gains}
+use Rattle.fsl_serve.specs.Sessions.{IsSession}
+use Rattle.fsl_serve.specs.Sessions.IsSession.{closed, broken, replied, unread}
+use Rattle.fsl_serve.specs.Workers.{Served, IsServed, AllServed, calls_of, Lists}
+use Rattle.fsl_serve.proofs.Telling.{gains_none, gains_more}
+
+-- what was served so far
+pub record IsServing (users : List User) (project : List ℕ) (n : ℕ) (p : Option Connection) (s : Standing) (q : Option Connection) (t : Standing) (told told' : Option (List Call)) : Type 0 where
+  pub served : List Served
+  pub count : length served ≡ n
+  pub each : AllServed users project served
+  pub lists : Lists (listed s.earlier p) (listed t.earlier q) served
+  pub calls : Gains told told' (λ made. made ≡ calls_of served)
+  pub faults : t.accept_faults ≡ s.accept_faults
+  pub closings : t.closings ≡ s.closings
+
+all_more : (users : List User) (project : List ℕ) (xs : List Served) (s : Served) → AllServed users project xs → IsServed users project s → AllServed users project (xs ++ s ∷ [])
+all_more users project [] s p q = (q, tt)
+all_more users project (x ∷ xs) s p q = (p.0, all_more users project xs s p.1 q)
+
+calls_more : (xs : List Served) (s : Served) → calls_of (xs ++ s ∷ []) ≡ calls_of xs ++ s.made
+calls_more [] s = append-nil s.made
+calls_more (x ∷ xs) s = ap (λ w. x.made ++ w) (calls_more xs s) ∙ sym (append_assoc x.made (calls_of xs) s.made)
+
+lists_none : (o : Option (List Connection)) → Lists o o []
+lists_none None = tt
+lists_none (Some cs) = ([], ap Some (sym (append-nil cs)), refl)
+
+pub serving_none : (users : List User) (project : List ℕ) (p : Option Connection) (s : Standing) (told : Option (List Call)) → IsServing users project 0 p s p s told told
+serving_none users project p s told = record {
+  served = [];
+  count = refl;
+  each = tt;
+  lists = lists_none (listed s.earlier p);
+  calls = gains_none told (λ made. made ≡ []) refl;
+  faults = refl;
+  closings = refl;
+}
+
+-- a told connection stays told in a session
+between_some : (c : Connection) (d : Option Connection) (P : Connection → Connection → Type 0) → Between (Some c) d P → (e : Connection) × (d ≡ Some e)
+between_some c None P b = absurd b
+between_some c (Some e) P b = (e, refl)
+
+stays_told : (users : List User) (project : List ℕ) (c : Connection) (d : Option Connection) (made : List Call) (end : SessionEnd) → IsSession users project (Some c) d made end → (e : Connection) × (d ≡ Some e)
+stays_told users project c d made end (closed b m e) = between_some c d _ b
+stays_told users project c d made end (broken b m e) = between_some c d _ b
+stays_told users project c d made end (replied request reply r b e) = between_some c d _ b
+stays_told users project c d made end (unread m b e) = between_some c d _ b
+
+-- the list of a door, after one more connection and its session
+lists_one : (users : List User) (project : List ℕ) (before : Option (List Connection)) (earlier : Option (List Connection)) (begun after : Option Connection) (xs : List Served) (made : List Call) (end : SessionEnd)
+    → Lists before earlier xs → IsTold earlier begun → IsSession users project begun after made end → Lists before (listed earlier after) (xs ++ record { connection = after; made = made; end = end } ∷ [])
+lists_one users project None earlier begun after xs made end l t s = tt
+lists_one users project (Some cs) earlier begun after xs made end l t s = more begun (subst (λ e. IsTold e begun) l.1 t) s
+  where
+    one : (c : Connection) → after ≡ Some c → (ds : List Connection) × (listed earlier after ≡ Some (cs ++ ds)) × (map Some ds ≡ map (λ s. s.connection) (xs ++ record { connection = after; made = made; end = end } ∷ []))
+    one c p = (
+      l.0 ++ c ∷ [],
+      (let F : Option (List Connection) → Type 0 = λ e. listed e after ≡ Some (cs ++ (l.0 ++ c ∷ [])) in
+          subst F (sym l.1) (let G : Option Connection → Type 0 = λ a. listed (Some (cs ++ l.0)) a ≡ Some (cs ++ (l.0 ++ c ∷ [])) in subst G (sym p) (ap Some (append_assoc cs l.0 (c ∷ []))))),
+      map-append Some l.0 (c ∷ []) ∙ ap (λ w. w ++ Some c ∷ []) l.2 ∙ (let H : Option Connection → Type 0 = λ a. map (λ (s : Served). s.connection) xs ++ Some c ∷ [] ≡ map (λ (s : Served). s.connection) xs ++ a ∷ [] in subst H (sym p) refl) ∙ sym (map-append (λ (s : Served). s.connection) xs (record { connection = after; made = made; end = end } ∷ [])),
+    )
+
+    more : (b : Option Connection) → IsTold (Some (cs ++ l.0)) b → IsSession users project b after made end → (ds : List Connection) × (listed earlier after ≡ Some (cs ++ ds)) × (map Some ds ≡ map (λ s. s.connection) (xs ++ record { connection = after; made = made; end = end } ∷ []))
+    more None u v = absurd u
+    more (Some c) u v = let w = stays_told users project c after made end v in one w.0 w.1
+
+pub serving_more : (users : List User) (project : List ℕ) (n : ℕ) (p : Option Connection) (s : Standing) (q : Option Connection) (t : Standing) (b : Option Connection) (u : Standing) (r : Option Connection) (v : Standing) (o o' o'' : Option (List Call)) (end : SessionEnd)
+    → IsServing users project n p s q t o o' → HasBegun b → IsTold u.earlier b → u.earlier ≡ listed t.earlier q → u.accept_faults ≡ t.accept_faults → u.closings ≡ t.closings → v ≡ u
+    → Gains o' o'' (λ made. IsSession users project b r made end) → IsServing users project (n + 1) p s r v o o''
+serving_more users project n p s q t b u r v o o' o'' end w begun told earlier faults closings same k =
+    let one : Served = record { connection = r; made = k.0; end = end } in
+    let lists : Lists (listed s.earlier p) (listed u.earlier r) (w.served ++ one ∷ []) =
+    lists_one users project (listed s.earlier p) u.earlier b r w.served k.0 end (subst (λ e. Lists (listed s.earlier p) e w.served) (sym earlier) w.lists) told k.3 in
+    record {
+      served = w.served ++ one ∷ [];
+      count = length-append w.served (one ∷ []) ∙ ap (λ m. m + 1) w.count;
+      each = all_more users project w.served one w.each (b, begun, k.3);
+      lists = subst (λ (z : Standing). Lists (listed s.earlier p) (listed z.earlier r) (w.served ++ one ∷ [])) (sym same) lists;
+      calls = gains_more o o' o'' (λ made. made ≡ calls_of w.served) (λ made. made ≡ k.0) (λ made. made ≡ calls_of (w.served ++ one ∷ [])) w.calls (k.0, k.1, k.2, refl) (λ xs ys e f. rw (e, f) (sym (calls_more w.served one)));
+      faults = ap (λ (z : Standing). z.accept_faults) same ∙ faults ∙ w.faults;
+      closings = ap (λ (z : Standing). z.closings) same ∙ closings ∙ w.closings;
+    }

@@ -1,0 +1,47 @@
+-- What a worker did with the connections of its door.
+use Rattle.std.specs.Prelude.{◌≡◌, ⊤, ℕ, ◌<◌, ◌≤◌, true, false, List, [], ◌∷◌, ◌++◌, length, map, Option, Some, IfSome}
+use Rattle.fsl_outside.specs.Connections.{Connection, Standing, listed, HasBegun}
+use Rattle.fsl_outside.specs.Memory.{next}
+use Rattle.fsl_login.specs.declared.User.{User}
+use Rattle.fsl_serve.specs.declared.said.SessionEnd.{SessionEnd}
+use Rattle.fsl_serve.specs.declared.work.Work.{Work}
+use Rattle.fsl_serve.specs.Calls.{Call, Gains}
+use Rattle.fsl_serve.specs.Sessions.{IsSession}
+
+-- one connection as its session left it, the session's calls and its end
+pub record Served : Type 0 where
+  pub connection : Option Connection
+  pub made : List Call
+  pub end : SessionEnd
+
+-- from the moment when it had just begun, the connection had its one session
+abbrev pub IsServed : List User → List ℕ → Served → Type 0
+IsServed users project s = (begun : Option Connection) × HasBegun begun × IsSession users project begun s.connection s.made s.end
+
+abbrev pub AllServed : List User → List ℕ → List Served → Type 0
+AllServed users project [] = ⊤
+AllServed users project (s ∷ more) = IsServed users project s × AllServed users project more
+
+-- all their calls, in order
+abbrev pub calls_of : List Served → List Call
+calls_of [] = []
+calls_of (s ∷ more) = s.made ++ calls_of more
+
+-- a door that lists its connections lists these behind the others
+abbrev pub Lists : Option (List Connection) → Option (List Connection) → List Served → Type 0
+Lists before after served = IfSome before (λ cs. (ds : List Connection) × (after ≡ Some (cs ++ ds)) × (map Some ds ≡ map (λ s. s.connection) served))
+
+-- so many connections came, each had its session, and the door has its counts for an early end
+pub record IsWorked (users : List User) (project : List ℕ) (requests : ℕ) (p : Option Connection) (s : Standing) (q : Option Connection) (t : Standing) (told told' : Option (List Call)) (work : Work) : Type 0 where
+  pub served : List Served
+  pub count : length served ≡ work.sessions
+  pub within : work.sessions ≤ requests
+  pub each : AllServed users project served
+  pub lists : Lists (listed s.earlier p) (listed t.earlier q) served
+  pub calls : Gains told told' (λ made. made ≡ calls_of served)
+  pub failed : work.failed ≡ true → t.accept_faults ≡ next s.accept_faults
+  pub kept : work.failed ≡ true → t.closings ≡ s.closings
+  pub not_failed : work.failed ≡ false → t.accept_faults ≡ s.accept_faults
+  pub early : work.failed ≡ true → work.sessions < requests
+  pub closed : work.failed ≡ false → work.sessions < requests → t.closings ≡ next s.closings
+  pub not_closed : work.sessions ≡ requests → t.closings ≡ s.closings

@@ -1,0 +1,173 @@
+//! The arrivals of a message.
+ghost use Rattle.std.specs.Prelude.{◌≡◌, ℕ, List as Items, [], ◌∷◌, ◌++◌, Bool, false, IfOk, OnOk, option_to_list};
+ghost use Rattle.std.specs.Result.{result_err};
+ghost use Rattle.fsl_name.specs.Name.{name_text};
+ghost use Rattle.fsl_repo.specs.declared.Event.TheVariants as event;
+ghost use Rattle.fsl_serve.specs.Calls.{Gains, Phase, asked, told};
+ghost use Rattle.fsl_serve.specs.Session.{arrival_of, arrivals, mark_after, notice, notices};
+
+use crate::calls::{call, heed};
+use crate::said::Halt;
+use fsl_disk::Disk;
+use fsl_name::Name;
+use fsl_repo::{Answer, ArriveFault, Event, Repo};
+use fsl_text::{List, Memory, Text};
+use fsl_turn::Turns;
+use fsl_wire::WireCard;
+use std::alloc::Global;
+use std::mem;
+use std::sync::Wait;
+
+/// These words, and a name.
+fn words_and_name(alloc: Global, words: &[u8], name: Name) -> Result<Text, Memory>
+    ensures { IfOk result (λ text. text ≡ words.now ++ name_text name) }
+{
+    let mut text = Text::of(alloc, words)?;
+    text.append(&name.text())?;
+    Ok(text)
+}
+
+/// What the answer of an arrival adds to the reply.
+fn noticed(alloc: Global, name: Name, answer: &Answer) -> Result<Option<Text>, Memory>
+    ensures { IfOk result (λ n. (bytes : Items ℕ) (private : Bool) → n ≡ notice (event.Arrive name bytes private) answer.now) }
+{
+    match answer {
+        Answer::Arrive(Err(ArriveFault::TooLarge { .. })) => Ok(Some(words_and_name(
+            alloc,
+            b"too large ",
+            name,
+        )?)),
+        Answer::Arrive(Err(ArriveFault::NameWrong { .. })) => Ok(Some(words_and_name(
+            alloc,
+            b"wrong name ",
+            name,
+        )?)),
+        Answer::Arrive(Err(ArriveFault::Full { .. })) => Ok(Some(words_and_name(
+            alloc, b"full ", name,
+        )?)),
+        _ => Ok(None),
+    }
+}
+
+/// Puts the notice of an arrival, where it has one, behind the others.
+fn note(alloc: Global, name: Name, answer: &Answer, notices: &mut List<Text>) -> Result<(), Memory>
+    ensures { OnOk result ((bytes : Items ℕ) (private : Bool) → notices.new ≡ notices.old ++ option_to_list (notice (event.Arrive name bytes private) answer.now)) }
+{
+    match noticed(alloc, name, answer) {
+        Ok(Some(text)) => match notices.push(text) {
+            Ok(()) => Ok(()),
+            Err(_) => Err(Memory),
+        },
+        Ok(None) => Ok(()),
+        Err(memory) => Err(memory),
+    }
+}
+
+/// The event of an arrival, whose bytes are moved into it.
+fn arrival(alloc: Global, name: Name, bytes: &mut Text, private: bool) -> Event
+    ensures { result ≡ event.Arrive name bytes.old private }
+{
+    let taken = mem::replace(bytes, Text::empty(alloc));
+    Event::Arrive {
+        name,
+        bytes: taken,
+        private,
+    }
+}
+
+/// Moves the bytes of an arrival back to where they came from.
+fn give_back(made: Event, bytes: &mut Text)
+    ensures { (name : Items ℕ) (held : Items ℕ) (private : Bool) → made ≡ event.Arrive name held private → bytes.new ≡ held }
+{
+    if let Event::Arrive { bytes: held, .. } = made {
+        *bytes = held;
+    }
+}
+
+/// One arrival. The bytes are moved into its event and back out of it.
+fn arrive<T: Turns<Repo<D>>, D: Disk, R: Wait>(
+    turns: &T,
+    rt: &R,
+    alloc: Global,
+    pass: &mut T::Pass,
+    name: Name,
+    bytes: &mut Text,
+    private: bool,
+    texts: &mut List<Text>,
+) -> Result<(), Halt>
+    ensures grown { T.grows pass.old pass.new }
+    ensures made { Gains (T.calls pass.old) (T.calls pass.new) (λ made. Phase (event.Arrive name bytes.old private ∷ []) made (result_err result) × OnOk result (texts.new ≡ texts.old ++ notices (asked made) (told made))) }
+    ensures kept { bytes.new ≡ bytes.old }
+{
+    let made = arrival(alloc, name, bytes, private);
+    let answer = call(turns, rt, pass, &made);
+    give_back(made, bytes);
+    match heed(&answer) {
+        Ok(()) => {}
+        Err(halt) => return Err(halt),
+    }
+    match note(alloc, name, &answer, texts) {
+        Ok(()) => Ok(()),
+        Err(_) => Err(Halt::Memory),
+    }
+}
+
+/// The arrival of a card, where it has one.
+fn arrive_card<T: Turns<Repo<D>>, D: Disk, R: Wait>(
+    turns: &T,
+    rt: &R,
+    alloc: Global,
+    pass: &mut T::Pass,
+    card: &mut WireCard,
+    marked: bool,
+    texts: &mut List<Text>,
+) -> Result<(), Halt>
+    ensures grown { T.grows pass.old pass.new }
+    ensures made { Gains (T.calls pass.old) (T.calls pass.new) (λ made. Phase (option_to_list (arrival_of marked card.old)) made (result_err result) × OnOk result (texts.new ≡ texts.old ++ notices (asked made) (told made))) }
+    ensures kept { card.new ≡ card.old }
+{
+    match card {
+        WireCard::File { name, bytes } => arrive(
+            turns, rt, alloc, pass, *name, bytes, marked, texts,
+        ),
+        _ => Ok(()),
+    }
+}
+
+/// Whether the next file card is marked as private, after this card.
+fn marks(card: &WireCard, marked: bool) -> bool
+    ensures { result ≡ mark_after marked card.now }
+{
+    match card {
+        WireCard::File { .. } => false,
+        WireCard::Private => true,
+        _ => marked,
+    }
+}
+
+/// The arrivals of a message, and the notices that they add to its reply. The message is as before.
+pub(crate) fn arrive_all<T: Turns<Repo<D>>, D: Disk, R: Wait>(
+    turns: &T,
+    rt: &R,
+    alloc: Global,
+    pass: &mut T::Pass,
+    cards: &mut [WireCard],
+) -> Result<List<Text>, Halt>
+    ensures grown { T.grows pass.old pass.new }
+    ensures made { Gains (T.calls pass.old) (T.calls pass.new) (λ made. Phase (arrivals false cards.old) made (result_err result) × IfOk result (λ texts. texts ≡ notices (asked made) (told made))) }
+    ensures kept { OnOk result (cards.new ≡ cards.old) }
+{
+    let mut marked = false;
+    let mut texts = List::new(alloc);
+    let mut at = 0;
+    while at < cards.len() {
+        let next = marks(&cards[at], marked);
+        match arrive_card(turns, rt, alloc, pass, &mut cards[at], marked, &mut texts) {
+            Ok(()) => {}
+            Err(halt) => return Err(halt),
+        }
+        marked = next;
+        at += 1;
+    }
+    Ok(texts)
+}

@@ -1,0 +1,38 @@
+//! Events one by one, and whether a session goes on after each.
+ghost use Rattle.std.specs.Prelude.{◌≡◌, [], ◌∷◌};
+ghost use Rattle.std.specs.Result.{result_err};
+ghost use Rattle.fsl_serve.specs.Calls.{Gains, May, halt_of};
+
+use crate::said::Halt;
+use fsl_disk::Disk;
+use fsl_repo::{Answer, ArriveFault, Event, Repo};
+use fsl_turn::Turns;
+use std::sync::Wait;
+
+/// One event, under the lock for that time alone.
+pub(crate) fn call<T: Turns<Repo<D>>, D: Disk, R: Wait>(
+    turns: &T,
+    rt: &R,
+    pass: &mut T::Pass,
+    event: &Event,
+) -> Answer
+    ensures grown { T.grows pass.old pass.new }
+    ensures may { May event.now result }
+    ensures made { Gains (T.calls pass.old) (T.calls pass.new) (λ made. made ≡ (event.now, result) ∷ []) }
+{
+    turns.turn(rt, pass, event)
+}
+
+/// Whether a session goes on after this answer, and if not, why.
+pub(crate) fn heed(answer: &Answer) -> Result<(), Halt>
+    ensures { result_err result ≡ halt_of answer.now }
+{
+    match answer {
+        Answer::Arrive(Err(ArriveFault::Stopped { .. }))
+        | Answer::Cluster(Err(ArriveFault::Stopped { .. })) => Err(Halt::Stopped),
+        Answer::Arrive(Err(ArriveFault::Memory))
+        | Answer::Cluster(Err(ArriveFault::Memory))
+        | Answer::Announce(Err(_)) => Err(Halt::Memory),
+        _ => Ok(()),
+    }
+}

@@ -1,0 +1,168 @@
+//! Workers in threads.
+ghost use Rattle.std.specs.Prelude.{◌≡◌, ◌<◌, ◌≤◌, ◌+◌, slice_index_or, vec_len, ℕ, Some, IfOk, IfErr};
+ghost use Rattle.fsl_repo.specs.Onward.{IsLaterOn};
+ghost use Rattle.fsl_repo.specs.Whole.{stored};
+ghost use Rattle.fsl_serve.specs.Workers.{IsWorked};
+ghost use Rattle.fsl_serve.specs.Crews.{AllWorked};
+
+use crate::staff::{dismissed, staffed};
+use crate::work::{Crew, Work, worker};
+use fsl_disk::Disk;
+use fsl_login::Users;
+use fsl_name::Name;
+use fsl_outside::{Door, Gate};
+use fsl_repo::Repo;
+use fsl_turn::{Locked, Origin, Turns};
+use std::alloc::Global;
+use std::marker::Brand;
+use std::sync::Wait;
+use std::sync::ledger::Blank;
+use std::thread::{Threads, for_each_mut};
+
+/// A worker's crew and pass, and what it did.
+pub(crate) struct Job<A, G, P> {
+    pub(crate) crew: Crew<A, G>,
+    pub(crate) pass: P,
+    pub(crate) work: Work,
+}
+
+/// One worker.
+fn run_one<T: Turns<Repo<D>>, D: Disk, A: Door, G: Gate, R: Wait>(
+    turns: &T,
+    rt: &R,
+    alloc: Global,
+    users: &Users,
+    project: Name,
+    job: &mut Job<A, G, T::Pass>,
+    requests: u64,
+)
+    ensures grown { T.grows job.old.pass job.new.pass }
+    ensures worked { IsWorked users.now project requests ((A.state job.old.crew.door).present) ((A.state job.old.crew.door).standing) ((A.state job.new.crew.door).present) ((A.state job.new.crew.door).standing) (T.calls job.old.pass) (T.calls job.new.pass) job.new.work }
+{
+    job.work = worker(
+        turns,
+        rt,
+        alloc,
+        &mut job.pass,
+        users,
+        project,
+        &mut job.crew,
+        requests,
+    );
+}
+
+/// Runs all jobs, each in a thread of its own but for one, which runs in the caller's.
+pub(crate) fn run_all<
+    T: Turns<Repo<D>> + Sync,
+    D: Disk + Send,
+    A: Door + Send,
+    G: Gate + Send,
+    R: Threads + Wait + Sync,
+>(
+    turns: &T,
+    rt: &R,
+    alloc: Global,
+    users: &Users,
+    project: Name,
+    jobs: &mut Vec<Job<A, G, T::Pass>>,
+    requests: u64,
+)
+where
+    T::Pass: Send,
+    requires { 0 < vec_len jobs.old }
+    ensures len { vec_len jobs.new ≡ vec_len jobs.old }
+    ensures each { (i : ℕ) (d : _) → i < vec_len jobs.old → let before = slice_index_or jobs.old.items i d in let after = slice_index_or jobs.new.items i d in IsWorked users.now project requests ((A.state before.crew.door).present) ((A.state before.crew.door).standing) ((A.state after.crew.door).present) ((A.state after.crew.door).standing) (T.calls before.pass) (T.calls after.pass) after.work × T.grows before.pass after.pass }
+{
+    let threads = jobs.len();
+    for_each_mut(
+        rt,
+        jobs.as_mut_slice(),
+        threads,
+        &|_, job| run_one(turns, rt, alloc, users, project, job, requests),
+    );
+}
+
+/// What the crews left: the repository, the crews in their order, what each did, and how many artifacts were stored.
+pub struct Served<D: Disk, A, G> {
+    /// The repository, later than the one that came.
+    pub repo: Repo<D>,
+    /// The crews, in their order.
+    pub crews: Vec<Crew<A, G>>,
+    /// What each did.
+    pub works: Vec<Work>,
+    /// How many artifacts were stored.
+    pub stored: u64,
+}
+
+/// Runs a worker for each crew over the repository, under one lock. All comes back as it was where memory ran out.
+pub fn serve_crews<D: Disk + Send, A: Door + Send, G: Gate + Send, R: Threads + Wait + Sync>(
+    rt: &R,
+    alloc: Global,
+    users: &Users,
+    project: Name,
+    repo: Repo<D>,
+    crews: Vec<Crew<A, G>>,
+    requests: u64,
+) -> Result<Served<D, A, G>, (Repo<D>, Vec<Crew<A, G>>)>
+    requires crews { (0 < vec_len crews) × (vec_len crews ≤ 16) }
+    ensures later { IfOk result (λ s. IsLaterOn (D.state repo.disk) (D.state s.repo.disk) repo s.repo) }
+    ensures stored { IfOk result (λ s. stored s.repo.seen ≡ stored repo.seen + s.stored) }
+    ensures worked { IfOk result (λ s. AllWorked (λ c. (A.state c.door).present) (λ c. (A.state c.door).standing) users.now project requests s.works.items crews.items s.crews.items) }
+    ensures refused { IfErr result (λ r. (r.0 ≡ repo) × (r.1.items ≡ crews.items)) }
+{
+    let blank = Blank::new(crews.len() as u64);
+    serve_locked::<Brand, D, A, G, R>(rt, alloc, users, project, repo, crews, requests, blank)
+}
+
+/// The same, with the ledger of the shares.
+fn serve_locked<
+    L: Origin<Repo<D>> + Send + Sync,
+    D: Disk + Send,
+    A: Door + Send,
+    G: Gate + Send,
+    R: Threads + Wait + Sync,
+>(
+    rt: &R,
+    alloc: Global,
+    users: &Users,
+    project: Name,
+    repo: Repo<D>,
+    mut crews: Vec<Crew<A, G>>,
+    requests: u64,
+    blank: Blank,
+) -> Result<Served<D, A, G>, (Repo<D>, Vec<Crew<A, G>>)>
+    requires name { blank.name ≡ L.name }
+    requires parts { (blank.parts ≡ L.parts) × (vec_len crews ≡ L.parts) }
+    requires first { L.first ≡ Some repo }
+    requires crews { (0 < vec_len crews) × (vec_len crews ≤ 16) }
+    ensures later { IfOk result (λ s. IsLaterOn (D.state repo.disk) (D.state s.repo.disk) repo s.repo) }
+    ensures stored { IfOk result (λ s. stored s.repo.seen ≡ stored repo.seen + s.stored) }
+    ensures worked { IfOk result (λ s. AllWorked (λ c. (A.state c.door).present) (λ c. (A.state c.door).standing) users.now project requests s.works.items crews.items s.crews.items) }
+    ensures refused { IfErr result (λ r. (r.0 ≡ repo) × (r.1.items ≡ crews.items)) }
+{
+    let count = crews.len() as u64;
+    let Ok(jobs) = Vec::with_capacity(alloc, crews.len()) else {
+        return Err((repo, crews));
+    };
+    let Ok(works) = Vec::with_capacity(alloc, crews.len()) else {
+        jobs.destroy_empty();
+        return Err((repo, crews));
+    };
+    let (locked, mut passes) = match Locked::<Repo<D>, L>::make(alloc, repo, count, blank) {
+        Ok(made) => made,
+        Err(repo) => {
+            jobs.destroy_empty();
+            return Err((repo, crews));
+        }
+    };
+    let mut jobs = staffed(jobs, &mut crews, &mut passes);
+    run_all(&locked, rt, alloc, users, project, &mut jobs, requests);
+    let works = dismissed(jobs, &mut crews, &mut passes, works);
+    let (repo, stored) = locked.finish(passes);
+    Ok(Served {
+        repo,
+        crews,
+        works,
+        stored,
+    })
+}

@@ -1,0 +1,245 @@
+//! The events of a message, and what they say.
+ghost use Rattle.std.specs.Prelude.{◌≡◌, [], ◌∷◌, ◌++◌, true, false, IfOk, OnOk, filter_map, option_to_list, option_map};
+ghost use Rattle.std.specs.Result.{result_err};
+ghost use Rattle.std.specs.List.{list_any};
+ghost use Rattle.fsl_answer.specs.Refusals.{is_push};
+ghost use Rattle.fsl_answer.specs.Contents.{is_pull};
+ghost use Rattle.fsl_repo.specs.declared.Event.TheVariants as event;
+ghost use Rattle.fsl_serve.specs.Calls.{Gains, Phase, asked, told};
+ghost use Rattle.fsl_serve.specs.Session.{announcement, first_events, notices, where_so, arrivals};
+ghost use Rattle.fsl_serve.specs.Sessions.{IsRun, IsConcluded, sent_of, concluded};
+
+use crate::arrivals::arrive_all;
+use crate::calls::{call, heed};
+use crate::said::{Halt, Said};
+use fsl_disk::Disk;
+use fsl_name::Name;
+use fsl_outside::{Gate, Point};
+use fsl_repo::{Answer, Ask, Event, Repo};
+use fsl_text::{List, Text};
+use fsl_turn::Turns;
+use fsl_wire::{Caps, Message, WireCard};
+use std::alloc::Global;
+use std::sync::Wait;
+
+/// One announcement.
+fn announce<T: Turns<Repo<D>>, D: Disk, R: Wait>(
+    turns: &T,
+    rt: &R,
+    pass: &mut T::Pass,
+    name: Name,
+) -> Result<(), Halt>
+    ensures grown { T.grows pass.old pass.new }
+    ensures made { Gains (T.calls pass.old) (T.calls pass.new) (λ made. Phase (event.Announce name ∷ []) made (result_err result)) }
+{
+    heed(&call(turns, rt, pass, &Event::Announce { name }))
+}
+
+/// The announcement of a card, where it has one.
+fn announce_card<T: Turns<Repo<D>>, D: Disk, R: Wait>(
+    turns: &T,
+    rt: &R,
+    pass: &mut T::Pass,
+    card: &WireCard,
+    caps: Caps,
+) -> Result<(), Halt>
+    ensures grown { T.grows pass.old pass.new }
+    ensures made { Gains (T.calls pass.old) (T.calls pass.new) (λ made. Phase (option_to_list (announcement caps card.now)) made (result_err result)) }
+{
+    match announced(card, caps) {
+        Some(name) => announce(turns, rt, pass, name),
+        None => Ok(()),
+    }
+}
+
+/// The name that a card announces.
+fn announced(card: &WireCard, caps: Caps) -> Option<Name>
+    ensures { announcement caps card.now ≡ option_map event.Announce result }
+{
+    match card {
+        WireCard::Igot { name, private } if !*private || caps.private => Some(*name),
+        _ => None,
+    }
+}
+
+/// An announcement for each card that may have one.
+fn announce_all<T: Turns<Repo<D>>, D: Disk, R: Wait>(
+    turns: &T,
+    rt: &R,
+    pass: &mut T::Pass,
+    cards: &[WireCard],
+    caps: Caps,
+) -> Result<(), Halt>
+    ensures grown { T.grows pass.old pass.new }
+    ensures made { Gains (T.calls pass.old) (T.calls pass.new) (λ made. Phase (filter_map (announcement caps) cards.now) made (result_err result)) }
+{
+    for card in cards {
+        match announce_card(turns, rt, pass, card, caps) {
+            Ok(()) => {}
+            Err(halt) => return Err(halt),
+        }
+    }
+    Ok(())
+}
+
+/// A cluster.
+fn cluster<T: Turns<Repo<D>>, D: Disk, R: Wait>(
+    turns: &T,
+    rt: &R,
+    pass: &mut T::Pass,
+) -> Result<(), Halt>
+    ensures grown { T.grows pass.old pass.new }
+    ensures made { Gains (T.calls pass.old) (T.calls pass.new) (λ made. Phase (event.Cluster ∷ []) made (result_err result)) }
+{
+    heed(&call(turns, rt, pass, &Event::Cluster))
+}
+
+/// Whether a push card stands.
+fn has_push(cards: &[WireCard]) -> bool
+    ensures { result ≡ list_any is_push cards.now }
+{
+    cards
+        .iter()
+        .any(|card| matches!(card, WireCard::Push { .. }))
+}
+
+/// Whether a pull card stands.
+fn has_pull(cards: &[WireCard]) -> bool
+    ensures { result ≡ list_any is_pull cards.now }
+{
+    cards
+        .iter()
+        .any(|card| matches!(card, WireCard::Pull { .. }))
+}
+
+/// The announcements, where a push card stands.
+fn announce_where_pushed<T: Turns<Repo<D>>, D: Disk, R: Wait>(
+    turns: &T,
+    rt: &R,
+    pass: &mut T::Pass,
+    cards: &[WireCard],
+    caps: Caps,
+) -> Result<(), Halt>
+    ensures grown { T.grows pass.old pass.new }
+    ensures made { Gains (T.calls pass.old) (T.calls pass.new) (λ made. Phase (where_so (list_any is_push cards.now) (filter_map (announcement caps) cards.now)) made (result_err result)) }
+{
+    if has_push(cards) {
+        announce_all(turns, rt, pass, cards, caps)
+    } else {
+        Ok(())
+    }
+}
+
+/// The cluster, where a pull card stands.
+fn cluster_where_pulled<T: Turns<Repo<D>>, D: Disk, R: Wait>(
+    turns: &T,
+    rt: &R,
+    pass: &mut T::Pass,
+    cards: &[WireCard],
+) -> Result<(), Halt>
+    ensures grown { T.grows pass.old pass.new }
+    ensures made { Gains (T.calls pass.old) (T.calls pass.new) (λ made. Phase (where_so (list_any is_pull cards.now) (event.Cluster ∷ [])) made (result_err result)) }
+{
+    if has_pull(cards) {
+        cluster(turns, rt, pass)
+    } else {
+        Ok(())
+    }
+}
+
+/// All events before the build, and the notices for the reply.
+fn before_build<T: Turns<Repo<D>>, D: Disk, G: Gate, R: Wait>(
+    turns: &T,
+    rt: &R,
+    alloc: Global,
+    pass: &mut T::Pass,
+    gate: &mut G,
+    number: u64,
+    cards: &mut [WireCard],
+    caps: Caps,
+) -> Result<List<Text>, Halt>
+    ensures grown { T.grows pass.old pass.new }
+    ensures made { Gains (T.calls pass.old) (T.calls pass.new) (λ made. Phase (first_events cards.old caps) made (result_err result) × IfOk result (λ texts. texts ≡ notices (arrivals false cards.old) (told made))) }
+    ensures kept { OnOk result (cards.new ≡ cards.old) }
+{
+    let notices = match arrive_all(turns, rt, alloc, pass, cards) {
+        Ok(notices) => notices,
+        Err(halt) => return Err(halt),
+    };
+    match announce_where_pushed(turns, rt, pass, cards, caps) {
+        Ok(()) => {}
+        Err(halt) => return Err(halt),
+    }
+    gate.pass(number, Point::Arrived);
+    match cluster_where_pulled(turns, rt, pass, cards) {
+        Ok(()) => {}
+        Err(halt) => return Err(halt),
+    }
+    Ok(notices)
+}
+
+/// What is said after the answers of the build and of the commit.
+fn conclusion(built: Answer, committed: Answer) -> Said
+    ensures { sent_of result ≡ concluded built committed }
+{
+    match (built, committed) {
+        (_, Answer::Commit(Err(_))) => Said::Halted(Halt::Stopped),
+        (Answer::Build(Ok(reply)), Answer::Commit(Ok(_))) => Said::Built(reply),
+        _ => Said::Halted(Halt::Memory),
+    }
+}
+
+/// The build and the commit.
+fn conclude<T: Turns<Repo<D>>, D: Disk, R: Wait>(
+    turns: &T,
+    rt: &R,
+    pass: &mut T::Pass,
+    ask: Ask,
+) -> Said
+    ensures grown { T.grows pass.old pass.new }
+    ensures made { Gains (T.calls pass.old) (T.calls pass.new) (λ made. IsConcluded ask made (sent_of result)) }
+{
+    let built = call(turns, rt, pass, &Event::Build { ask });
+    let committed = call(turns, rt, pass, &Event::Commit);
+    conclusion(built, committed)
+}
+
+/// The events of a message that nothing refuses, and what they say.
+pub(crate) fn run<T: Turns<Repo<D>>, D: Disk, G: Gate, R: Wait>(
+    turns: &T,
+    rt: &R,
+    alloc: Global,
+    pass: &mut T::Pass,
+    gate: &mut G,
+    number: u64,
+    message: Message,
+    caps: Caps,
+) -> Said
+    ensures grown { T.grows pass.old pass.new }
+    ensures made { Gains (T.calls pass.old) (T.calls pass.new) (λ made. IsRun message caps made (sent_of result)) }
+{
+    let mut cards = message.into_cards().into_vec();
+    let before = before_build(
+        turns,
+        rt,
+        alloc,
+        pass,
+        gate,
+        number,
+        cards.as_mut_slice(),
+        caps,
+    );
+    match before {
+        Ok(notices) => conclude(
+            turns,
+            rt,
+            pass,
+            Ask {
+                caps,
+                message: Message::of(List::from_vec(cards)),
+                notices,
+            },
+        ),
+        Err(halt) => Said::Halted(halt),
+    }
+}

@@ -1,0 +1,23 @@
+//! Sessions over one repository: one request, its events one by one, each under the lock for that time alone, and its reply.
+//!
+//! [`session`] serves one connection, [`worker`] those of one door, and [`serve_crews`] runs a worker for each crew in a thread of its
+//! own. All are generic over the way in which the repository is shared.
+#![tactic(auto)]
+
+mod alone;
+mod arrivals;
+mod bodies;
+mod calls;
+mod crews;
+mod events;
+mod said;
+mod sending;
+mod serving;
+mod staff;
+mod work;
+
+pub use alone::session_alone;
+pub use crews::{Served, serve_crews};
+pub use said::SessionEnd;
+pub use serving::session;
+pub use work::{Crew, Work, worker};

@@ -1,0 +1,81 @@
+//! Workers.
+ghost use Rattle.fsl_serve.specs.Workers.{IsWorked};
+
+use crate::serving::session;
+use fsl_disk::Disk;
+use fsl_login::Users;
+use fsl_name::Name;
+use fsl_outside::{Accepted, Door, Gate};
+use fsl_repo::Repo;
+use fsl_turn::Turns;
+use std::alloc::Global;
+use std::sync::Wait;
+
+/// What a worker works with.
+#[derive(Drop)]
+pub struct Crew<A, G> {
+    /// Where its connections come in.
+    pub door: A,
+    /// What its sessions pass.
+    pub gate: G,
+}
+
+/// What a worker did.
+#[derive(Clone, Copy, Debug, PartialEq, Eq)]
+pub struct Work {
+    /// The connections that it served.
+    pub sessions: u64,
+    /// Whether its door failed.
+    pub failed: bool,
+}
+
+/// Serves as many connections as are asked for, or up to where the door fails or is closed. Each connection is let go once its session
+/// ended.
+pub fn worker<T: Turns<Repo<D>>, D: Disk, A: Door, G: Gate, R: Wait>(
+    turns: &T,
+    rt: &R,
+    alloc: Global,
+    pass: &mut T::Pass,
+    users: &Users,
+    project: Name,
+    crew: &mut Crew<A, G>,
+    requests: u64,
+) -> Work
+    ensures grown { T.grows pass.old pass.new }
+    ensures worked { IsWorked users.now project requests ((A.state crew.old.door).present) ((A.state crew.old.door).standing) ((A.state crew.new.door).present) ((A.state crew.new.door).standing) (T.calls pass.old) (T.calls pass.new) result }
+{
+    for number in 0..requests {
+        match crew.door.accept() {
+            Ok(Accepted::Connection) => {
+                session(
+                    turns,
+                    rt,
+                    alloc,
+                    pass,
+                    users,
+                    project,
+                    &mut crew.door,
+                    &mut crew.gate,
+                    number,
+                );
+                crew.door.leave();
+            }
+            Ok(Accepted::Closed) => {
+                return Work {
+                    sessions: number,
+                    failed: false,
+                };
+            }
+            Err(_) => {
+                return Work {
+                    sessions: number,
+                    failed: true,
+                };
+            }
+        }
+    }
+    Work {
+        sessions: requests,
+        failed: false,
+    }
+}
