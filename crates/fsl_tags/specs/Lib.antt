@@ -13,3 +13,4 @@ pub mod Held
 pub mod Quick
 pub mod Laying
 pub mod Laws
+pub mod Kids

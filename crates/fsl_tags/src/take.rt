@@ -2,7 +2,7 @@
 ghost use Rattle.std.specs.List.Sorted.{IsStrictlySortedBy};
 ghost use Rattle.std.specs.List.{AllByRecursion};
 ghost use Rattle.std.specs.Map.{keys_of};
-ghost use Rattle.std.specs.Prelude.{◌≡◌, ◌⊎◌, ◌&&◌, List, ℕ, Some, None, OnOk, cond, ◌+◌, ◌*◌, ◌≤◌, length, []};
+ghost use Rattle.std.specs.Prelude.{◌≡◌, ◌⊎◌, List, ℕ, None, OnOk, cond, ◌+◌, ◌*◌, ◌≤◌, length, []};
 ghost use Rattle.std.specs.Str.{bytes_eq};
 ghost use Rattle.fsl_order.specs.Names.{bytes_cmp};
 ghost use Rattle.fsl_order.specs.Rows.{named, greater};
@@ -11,16 +11,17 @@ ghost use Rattle.fsl_table.specs.Exact.{pair_cmp};
 ghost use Rattle.fsl_table.specs.Pairs.{seconds};
 ghost use Rattle.fsl_table.specs.Undo.{Undoes};
 ghost use Rattle.fsl_table.specs.declared.key.Pair as pair;
-ghost use Rattle.fsl_tags.specs.Kept.{newest_on};
+ghost use Rattle.fsl_tags.specs.Kept.{newest_on, newest_of};
+ghost use Rattle.fsl_tags.specs.Kids.{AreKidless};
 ghost use Rattle.fsl_tags.specs.Laid.{row_in, AreNoted, AreRight, parent_in};
 ghost use Rattle.fsl_tags.specs.Tags as table;
 ghost use Rattle.fsl_tags.specs.declared.Assertion as made;
 ghost use Rattle.fsl_tags.specs.declared.node.Node as given;
 
-use super::Assertion;
-use super::find::{find, with_assertion};
+use super::blend::folded;
+use super::changed::pop;
+use super::group::grouped;
 use super::node::Node;
-use super::order::is_newer;
 use super::renew::renew;
 use super::rows::{row_of, set};
 use super::shared::{Shared, again};
@@ -46,8 +47,8 @@ pub(crate) fn parent_of<L: Ledger>(
     }
 }
 
-/// Takes an assertion in: its target's row and those of the descendants follow, where it is newer than what the target has of its tag.
-pub(crate) fn take_assertion<L: Ledger>(
+/// Takes the assertions of a group in, which are all on one name: its row and those of its descendants follow, each put once.
+fn take_group<L: Ledger>(
     alloc: Global,
     facts: &Table<Name, Node>,
     children: &Table<Pair, ()>,
@@ -56,40 +57,71 @@ pub(crate) fn take_assertion<L: Ledger>(
     rows: &mut Table<Name, List<Shared>>,
     rows_log: &mut Log<Name, List<Shared>>,
     noted: &mut BTreeMap<Name, List<Shared>>,
-    assertion: &Assertion,
-    shared: &Shared,
+    target: Name,
+    group: &[Shared],
     steps: &mut Steps<L>,
 ) -> Result<(), Memory>
-    requires shared { shared.now ≡ assertion.now }
     requires right { AreRight facts.now.entries children.now.entries own.old.entries rows.old.entries }
     ensures right { OnOk result (AreRight facts.now.entries children.now.entries own.new.entries rows.new.entries) }
-    ensures own { OnOk result ((x tag : List ℕ) → named (λ a. a.tag) (row_in own.new.entries x) tag ≡ cond (bytes_eq assertion.now.target x && bytes_eq assertion.now.tag tag) (greater table.newer_cmp (named (λ a. a.tag) (row_in own.old.entries x) tag) (Some assertion.now)) (named (λ a. a.tag) (row_in own.old.entries x) tag)) }
+    ensures own { OnOk result ((x tag : List ℕ) → named (λ a. a.tag) (row_in own.new.entries x) tag ≡ cond (bytes_eq x target) (greater table.newer_cmp (named (λ a. a.tag) (row_in own.old.entries x) tag) (newest_of tag group.now)) (named (λ a. a.tag) (row_in own.old.entries x) tag)) }
     ensures noted { OnOk result ((before : List ℕ → List made.Assertion) → AreNoted before noted.old.entries rows.old.entries → AreNoted before noted.new.entries rows.new.entries) }
     ensures undoes_own { (before : Contents (List ℕ) (List made.Assertion)) → Undoes bytes_cmp own_log.old own.old before → Undoes bytes_cmp own_log.new own.new before }
     ensures undoes_rows { (before : Contents (List ℕ) (List made.Assertion)) → Undoes bytes_cmp rows_log.old rows.old before → Undoes bytes_cmp rows_log.new rows.new before }
-    ensures more { seconds assertion.now.target children.now.entries ≡ [] → length noted.new.entries ≤ length noted.old.entries + 1 }
-    ensures touches { seconds assertion.now.target children.now.entries ≡ [] → steps.new ≤ steps.old + 11 }
-    ensures logged { seconds assertion.now.target children.now.entries ≡ [] → length own_log.new + length rows_log.new ≤ length own_log.old + length rows_log.old + 2 }
+    ensures more { seconds target children.now.entries ≡ [] → length noted.new.entries ≤ length noted.old.entries + 1 }
+    ensures touches { seconds target children.now.entries ≡ [] → steps.new ≤ steps.old + 11 }
+    ensures logged { seconds target children.now.entries ≡ [] → length own_log.new + length rows_log.new ≤ length own_log.old + length rows_log.old + 2 }
 {
-    let near = row_of(own, assertion.target, steps);
-    if !is_newer(assertion, find(near, assertion.tag.bytes())) {
-        return Ok(());
-    }
-    let row = with_assertion(alloc, near, shared)?;
-    set(own, own_log, assertion.target, row, steps)?;
-    let up = parent_of(facts, assertion.target, steps);
+    let near = row_of(own, target, steps);
+    let row = folded(alloc, near, group)?;
+    set(own, own_log, target, row, steps)?;
+    let up = parent_of(facts, target, steps);
     renew(
-        alloc,
-        facts,
-        children,
-        own,
-        rows,
-        rows_log,
-        noted,
-        assertion.target,
-        up,
-        steps,
+        alloc, facts, children, own, rows, rows_log, noted, target, up, steps,
     )
+}
+
+/// Takes groups of assertions in, each on its name.
+fn take_groups<L: Ledger>(
+    alloc: Global,
+    facts: &Table<Name, Node>,
+    children: &Table<Pair, ()>,
+    own: &mut Table<Name, List<Shared>>,
+    own_log: &mut Log<Name, List<Shared>>,
+    rows: &mut Table<Name, List<Shared>>,
+    rows_log: &mut Log<Name, List<Shared>>,
+    noted: &mut BTreeMap<Name, List<Shared>>,
+    groups: BTreeMap<Name, List<Shared>>,
+    steps: &mut Steps<L>,
+) -> Result<(), Memory>
+    requires right { AreRight facts.now.entries children.now.entries own.old.entries rows.old.entries }
+    requires ordered { IsStrictlySortedBy bytes_cmp (keys_of groups.entries) }
+    ensures right { OnOk result (AreRight facts.now.entries children.now.entries own.new.entries rows.new.entries) }
+    ensures own { OnOk result ((x tag : List ℕ) → named (λ a. a.tag) (row_in own.new.entries x) tag ≡ greater table.newer_cmp (named (λ a. a.tag) (row_in own.old.entries x) tag) (newest_of tag (row_in groups.entries x))) }
+    ensures noted { OnOk result ((before : List ℕ → List made.Assertion) → AreNoted before noted.old.entries rows.old.entries → AreNoted before noted.new.entries rows.new.entries) }
+    ensures undoes_own { (before : Contents (List ℕ) (List made.Assertion)) → Undoes bytes_cmp own_log.old own.old before → Undoes bytes_cmp own_log.new own.new before }
+    ensures undoes_rows { (before : Contents (List ℕ) (List made.Assertion)) → Undoes bytes_cmp rows_log.old rows.old before → Undoes bytes_cmp rows_log.new rows.new before }
+    ensures more { AreKidless children.now.entries groups.entries → length noted.new.entries ≤ length noted.old.entries + length groups.entries }
+    ensures touches { AreKidless children.now.entries groups.entries → steps.new ≤ steps.old + 11 * length groups.entries }
+    ensures logged { AreKidless children.now.entries groups.entries → length own_log.new + length rows_log.new ≤ length own_log.old + length rows_log.old + 2 * length groups.entries }
+{
+    let mut left = groups;
+    while let Some(entry) = pop(&mut left) {
+        let (target, group) = entry;
+        take_group(
+            alloc,
+            facts,
+            children,
+            own,
+            own_log,
+            rows,
+            rows_log,
+            noted,
+            target,
+            group.items(),
+            steps,
+        )?;
+    }
+    Ok(())
 }
 
 /// Puts a fact that isn't there, or that is there without a parent or with this one: its row and those of its descendants follow.
@@ -131,7 +163,7 @@ pub(crate) fn set_node<L: Ledger>(
     )
 }
 
-/// Takes some assertions in.
+/// Takes some assertions in, those on one name at once: what they cost isn't by the square of how many are on a name.
 pub(crate) fn take_all<L: Ledger>(
     alloc: Global,
     facts: &Table<Name, Node>,
@@ -154,22 +186,10 @@ pub(crate) fn take_all<L: Ledger>(
     ensures touches { AllByRecursion (λ a. seconds a.target children.now.entries ≡ []) assertions.now → steps.new ≤ steps.old + 11 * length assertions.now }
     ensures logged { AllByRecursion (λ a. seconds a.target children.now.entries ≡ []) assertions.now → length own_log.new + length rows_log.new ≤ length own_log.old + length rows_log.old + 2 * length assertions.now }
 {
-    for assertion in assertions {
-        take_assertion(
-            alloc,
-            facts,
-            children,
-            own,
-            own_log,
-            rows,
-            rows_log,
-            noted,
-            assertion.get(),
-            assertion,
-            steps,
-        )?;
-    }
-    Ok(())
+    let groups = grouped(alloc, assertions)?;
+    take_groups(
+        alloc, facts, children, own, own_log, rows, rows_log, noted, groups, steps,
+    )
 }
 
 /// Takes the primary parent of a fact out, where it has one.
