@@ -1,26 +1,20 @@
 -- Assertions in groups by their targets, and a row with those of one group.
-use Rattle.std.specs.Prelude.{◌≡◌, ℕ, ◌+◌, ◌≤◌, length, List, [], ◌∷◌, ◌++◌, Bool, true, false, ◌&&◌, cond, Option, Some, None, filter, unwrap_or}
-use Rattle.std.proofs.Common.{refl, sym, ap, ◌∙◌, subst, arith}
+use Rattle.std.specs.Prelude.{◌≡◌, ℕ, List, [], ◌∷◌, ◌++◌, true, false, ◌&&◌, cond, Option, Some, None, filter, unwrap_or}
+use Rattle.std.proofs.Common.{refl, sym, ap, ◌∙◌, subst}
 use Rattle.std.proofs.lemmas.List.{append-nil}
 use Rattle.std.specs.Str.{bytes_eq}
-use Rattle.std.specs.Ordering.{match_ordering}
 use Rattle.std.specs.List.Sorted.{IsStrictlySortedBy}
 use Rattle.std.specs.Map.{keys_of}
-use Rattle.std.specs.BTreeMap.{is_at}
 use Rattle.std.specs.Cmp.Lexicographic.{texts_ties, bytes_decides, nat_list_eq_equiv}
-use Rattle.std.specs.declared.cmp.Ordering.TheVariants.{Less, Equal, Greater}
 use Rattle.fsl_order.specs.Names.{bytes_cmp}
 use Rattle.fsl_order.specs.Rows.{greater, greatest}
 use Rattle.fsl_order.proofs.Orders.{bytes_cmp-IsTotalOrder}
-use Rattle.fsl_table.specs.declared.key.Pair.{Pair}
-use Rattle.fsl_table.specs.Contents.{value_at, with_entry, without_key}
-use Rattle.fsl_table.specs.Pairs.{seconds}
+use Rattle.fsl_table.specs.Contents.{value_at}
 use Rattle.fsl_table.proofs.Entries.{none_above}
 use Rattle.fsl_tags.specs.declared.Assertion.{Assertion}
 use Rattle.fsl_tags.specs.Laying.{AreElsewhere}
 use Rattle.fsl_tags.specs.Tags.{newer_cmp}
 use Rattle.fsl_tags.specs.Kept.{newest_on, newest_of, on_target}
-use Rattle.fsl_tags.specs.Kids.{AreKidless}
 use Rattle.fsl_tags.specs.Laid.{Rises, row_in}
 use Rattle.fsl_tags.proofs.RowsOf.{of_tag}
 use Rattle.fsl_tags.proofs.Newest.{greater-none}
@@ -51,39 +45,10 @@ group-step x [] a rest =
     ∙ elim (bytes_eq a.target x) as (λ b. cond b (a ∷ []) [] ++ on_target x rest ≡ cond b (a ∷ on_target x rest) (on_target x rest)) [ true ↦ refl | false ↦ refl ]
 group-step x (g ∷ group) a rest = ap (λ l. g ∷ l) (group-step x group a rest)
 
-module _ (kids : List (Pair × Unit {0})) where
-  pub kidless-without : (k : List ℕ) (es : List (List ℕ × List Assertion)) → AreKidless kids es → AreKidless kids (without_key bytes_cmp k es)
-  kidless-without k [] all = tt
-  kidless-without k (e ∷ es) all =
-      elim (is_at (bytes_cmp k) e.0) as (λ b. AreKidless kids (cond b es (e ∷ without_key bytes_cmp k es))) [
-        | true ↦ all.1
-        | false ↦ (all.0, kidless-without k es all.1)
-      ]
-
-  pub kidless-with : (k : List ℕ) (row : List Assertion) (es : List (List ℕ × List Assertion)) → seconds k kids ≡ [] → AreKidless kids es → AreKidless kids (with_entry bytes_cmp k row es)
-  kidless-with k row [] free all = (free, tt)
-  kidless-with k row (e ∷ es) free all =
-      elim (bytes_cmp k e.0) as (λ o. AreKidless kids (match_ordering o ((k, row) ∷ e ∷ es) ((e.0, row) ∷ es) (e ∷ with_entry bytes_cmp k row es))) [
-        | Less ↦ (free, all)
-        | Equal ↦ (all.0, all.1)
-        | Greater ↦ (all.0, kidless-with k row es free all.1)
-      ]
-
-pub length-without : (k : List ℕ) (es : List (List ℕ × List Assertion)) → length (without_key bytes_cmp k es) ≤ length es
-length-without k [] = omega arith
-length-without k (e ∷ es) =
-    let h = length-without k es in
-    elim (is_at (bytes_cmp k) e.0) as (λ b. length (cond b es (e ∷ without_key bytes_cmp k es)) ≤ length (e ∷ es)) [ true ↦ omega arith | false ↦ omega (arith, h) ]
-
-pub length-with : (k : List ℕ) (row : List Assertion) (es : List (List ℕ × List Assertion)) → length (with_entry bytes_cmp k row es) ≤ length es + 1
-length-with k row [] = omega arith
-length-with k row (e ∷ es) =
-    let h = length-with k row es in
-    elim (bytes_cmp k e.0) as (λ o. length (match_ordering o ((k, row) ∷ e ∷ es) ((e.0, row) ∷ es) (e ∷ with_entry bytes_cmp k row es)) ≤ length (e ∷ es) + 1) [
-      | Less ↦ omega arith
-      | Equal ↦ omega arith
-      | Greater ↦ omega (arith, h)
-    ]
+-- a name that no assertion is on
+pub elsewhere_more : (x : List ℕ) (as_ : List Assertion) (a : Assertion) → AreElsewhere x as_ → bytes_eq x a.target ≡ false → AreElsewhere x (as_ ++ a ∷ [])
+elsewhere_more x [] a all one = (one, tt)
+elsewhere_more x (b ∷ as_) a all one = (all.0, elsewhere_more x as_ a all.1 one)
 
 -- ---- the newest of a group
 
@@ -151,3 +116,35 @@ group-next left rest own now e cut sorted x t step =
     ] refl
     ∙ ap (λ b. greater newer_cmp found (newest_of t (unwrap_or (cond b (Some e.1) (value_at bytes_cmp x rest)) []))) (texts_ties x e.0)
     ∙ ap (λ es. greater newer_cmp found (newest_of t (row_in es x))) (sym cut)
+
+-- the group of a name that is taken out is taken in
+pub left-next : (target : List ℕ) (left then own now : List (List ℕ × List Assertion)) → ((x : List ℕ) → row_in then x ≡ cond (bytes_eq x target) [] (row_in left x)) → (x t : List ℕ)
+    → of_tag (row_in now x) t ≡ cond (bytes_eq x target) (greater newer_cmp (of_tag (row_in own x) t) (newest_of t (row_in left target))) (of_tag (row_in own x) t)
+    → greater newer_cmp (of_tag (row_in now x) t) (newest_of t (row_in then x)) ≡ greater newer_cmp (of_tag (row_in own x) t) (newest_of t (row_in left x))
+left-next target left then own now gone x t step =
+    let found = of_tag (row_in own x) t in
+    (λ i. greater newer_cmp (step i) (newest_of t (gone x i)))
+    ∙ elim (bytes_eq x target) as (λ b. bytes_eq x target ≡ b → greater newer_cmp (cond b (greater newer_cmp found (newest_of t (row_in left target))) found) (newest_of t (cond b [] (row_in left x))) ≡ greater newer_cmp found (newest_of t (row_in left x))) [
+      | true ↦ λ h. greater-none newer_cmp newer_cmp-IsTotalOrder (greater newer_cmp found (newest_of t (row_in left target))) ∙ ap (λ q. greater newer_cmp found (newest_of t (row_in left q))) (sym ((bytes_decides x target).0 h))
+      | false ↦ λ _. refl
+    ] refl
+
+-- what is left of the groups has no assertion on a name that none of the rest is on
+pub gone-next : (target : List ℕ) (left then : List (List ℕ × List Assertion)) (as_ more : List Assertion) (a : Assertion) → a.target ≡ target → more ≡ as_ ++ a ∷ []
+    → ((x : List ℕ) → row_in then x ≡ cond (bytes_eq x target) [] (row_in left x)) → ((x : List ℕ) → AreElsewhere x more → row_in left x ≡ []) → (x : List ℕ) → AreElsewhere x as_ → row_in then x ≡ []
+gone-next target left then as_ more a is cut gone before x all =
+    gone x
+    ∙ elim (bytes_eq x target) as (λ b. bytes_eq x target ≡ b → cond b [] (row_in left x) ≡ []) [
+      | true ↦ λ _. refl
+      | false ↦ λ h. before x (subst (AreElsewhere x) (sym cut) (elsewhere_more x as_ a all (ap (bytes_eq x) is ∙ h)))
+    ] refl
+
+-- an empty group changes nothing
+pub none_in : (target : List ℕ) (own left : List (List ℕ × List Assertion)) → row_in left target ≡ [] → (x t : List ℕ)
+    → of_tag (row_in own x) t ≡ cond (bytes_eq x target) (greater newer_cmp (of_tag (row_in own x) t) (newest_of t (row_in left target))) (of_tag (row_in own x) t)
+none_in target own left none x t =
+    let found = of_tag (row_in own x) t in
+    elim (bytes_eq x target) as (λ b. found ≡ cond b (greater newer_cmp found (newest_of t (row_in left target))) found) [
+      | true ↦ sym (ap (λ l. greater newer_cmp found (newest_of t l)) none ∙ greater-none newer_cmp newer_cmp-IsTotalOrder found)
+      | false ↦ refl
+    ]

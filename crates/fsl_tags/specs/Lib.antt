@@ -13,4 +13,3 @@ pub mod Held
 pub mod Quick
 pub mod Laying
 pub mod Laws
-pub mod Kids

@@ -12,15 +12,13 @@ ghost use Rattle.fsl_table.specs.Pairs.{seconds};
 ghost use Rattle.fsl_table.specs.Undo.{Undoes};
 ghost use Rattle.fsl_table.specs.declared.key.Pair as pair;
 ghost use Rattle.fsl_tags.specs.Kept.{newest_on, newest_of};
-ghost use Rattle.fsl_tags.specs.Kids.{AreKidless};
-ghost use Rattle.fsl_tags.specs.Laid.{row_in, AreNoted, AreRight, parent_in};
+ghost use Rattle.fsl_tags.specs.Laid.{row_in, AreFull, AreNoted, AreRight, parent_in};
 ghost use Rattle.fsl_tags.specs.Tags as table;
 ghost use Rattle.fsl_tags.specs.declared.Assertion as made;
 ghost use Rattle.fsl_tags.specs.declared.node.Node as given;
 
 use super::blend::folded;
-use super::changed::pop;
-use super::group::grouped;
+use super::group::{grouped, take_out};
 use super::node::Node;
 use super::renew::renew;
 use super::rows::{row_of, set};
@@ -80,8 +78,8 @@ fn take_group<L: Ledger>(
     )
 }
 
-/// Takes groups of assertions in, each on its name.
-fn take_groups<L: Ledger>(
+/// Takes the group of a name in, where there is one, and out of the groups.
+fn take_left<L: Ledger>(
     alloc: Global,
     facts: &Table<Name, Node>,
     children: &Table<Pair, ()>,
@@ -90,38 +88,40 @@ fn take_groups<L: Ledger>(
     rows: &mut Table<Name, List<Shared>>,
     rows_log: &mut Log<Name, List<Shared>>,
     noted: &mut BTreeMap<Name, List<Shared>>,
-    groups: BTreeMap<Name, List<Shared>>,
+    groups: &mut BTreeMap<Name, List<Shared>>,
+    target: Name,
     steps: &mut Steps<L>,
 ) -> Result<(), Memory>
     requires right { AreRight facts.now.entries children.now.entries own.old.entries rows.old.entries }
-    requires ordered { IsStrictlySortedBy bytes_cmp (keys_of groups.entries) }
+    requires full { AreFull groups.old.entries }
     ensures right { OnOk result (AreRight facts.now.entries children.now.entries own.new.entries rows.new.entries) }
-    ensures own { OnOk result ((x tag : List ℕ) → named (λ a. a.tag) (row_in own.new.entries x) tag ≡ greater table.newer_cmp (named (λ a. a.tag) (row_in own.old.entries x) tag) (newest_of tag (row_in groups.entries x))) }
+    ensures full { AreFull groups.new.entries }
+    ensures groups { (x : List ℕ) → row_in groups.new.entries x ≡ cond (bytes_eq x target) [] (row_in groups.old.entries x) }
+    ensures own { OnOk result ((x tag : List ℕ) → named (λ a. a.tag) (row_in own.new.entries x) tag ≡ cond (bytes_eq x target) (greater table.newer_cmp (named (λ a. a.tag) (row_in own.old.entries x) tag) (newest_of tag (row_in groups.old.entries target))) (named (λ a. a.tag) (row_in own.old.entries x) tag)) }
     ensures noted { OnOk result ((before : List ℕ → List made.Assertion) → AreNoted before noted.old.entries rows.old.entries → AreNoted before noted.new.entries rows.new.entries) }
     ensures undoes_own { (before : Contents (List ℕ) (List made.Assertion)) → Undoes bytes_cmp own_log.old own.old before → Undoes bytes_cmp own_log.new own.new before }
     ensures undoes_rows { (before : Contents (List ℕ) (List made.Assertion)) → Undoes bytes_cmp rows_log.old rows.old before → Undoes bytes_cmp rows_log.new rows.new before }
-    ensures more { AreKidless children.now.entries groups.entries → length noted.new.entries ≤ length noted.old.entries + length groups.entries }
-    ensures touches { AreKidless children.now.entries groups.entries → steps.new ≤ steps.old + 11 * length groups.entries }
-    ensures logged { AreKidless children.now.entries groups.entries → length own_log.new + length rows_log.new ≤ length own_log.old + length rows_log.old + 2 * length groups.entries }
+    ensures more { seconds target children.now.entries ≡ [] → length noted.new.entries ≤ length noted.old.entries + 1 }
+    ensures touches { seconds target children.now.entries ≡ [] → steps.new ≤ steps.old + 11 }
+    ensures logged { seconds target children.now.entries ≡ [] → length own_log.new + length rows_log.new ≤ length own_log.old + length rows_log.old + 2 }
 {
-    let mut left = groups;
-    while let Some(entry) = pop(&mut left) {
-        let (target, group) = entry;
-        take_group(
-            alloc,
-            facts,
-            children,
-            own,
-            own_log,
-            rows,
-            rows_log,
-            noted,
-            target,
-            group.items(),
-            steps,
-        )?;
+    let group = take_out(alloc, groups, target);
+    if group.items().is_empty() {
+        return Ok(());
     }
-    Ok(())
+    take_group(
+        alloc,
+        facts,
+        children,
+        own,
+        own_log,
+        rows,
+        rows_log,
+        noted,
+        target,
+        group.items(),
+        steps,
+    )
 }
 
 /// Puts a fact that isn't there, or that is there without a parent or with this one: its row and those of its descendants follow.
@@ -163,7 +163,8 @@ pub(crate) fn set_node<L: Ledger>(
     )
 }
 
-/// Takes some assertions in, those on one name at once: what they cost isn't by the square of how many are on a name.
+/// Takes some assertions in, those on one name at once, so that its row is put once. The names come from the last assertion to the first:
+/// where those of one tag are on a line of check-ins, the newest goes down first, and stops the others.
 pub(crate) fn take_all<L: Ledger>(
     alloc: Global,
     facts: &Table<Name, Node>,
@@ -186,10 +187,25 @@ pub(crate) fn take_all<L: Ledger>(
     ensures touches { AllByRecursion (λ a. seconds a.target children.now.entries ≡ []) assertions.now → steps.new ≤ steps.old + 11 * length assertions.now }
     ensures logged { AllByRecursion (λ a. seconds a.target children.now.entries ≡ []) assertions.now → length own_log.new + length rows_log.new ≤ length own_log.old + length rows_log.old + 2 * length assertions.now }
 {
-    let groups = grouped(alloc, assertions)?;
-    take_groups(
-        alloc, facts, children, own, own_log, rows, rows_log, noted, groups, steps,
-    )
+    let mut groups = grouped(alloc, assertions)?;
+    let mut at = assertions.len();
+    while at > 0 {
+        at -= 1;
+        take_left(
+            alloc,
+            facts,
+            children,
+            own,
+            own_log,
+            rows,
+            rows_log,
+            noted,
+            &mut groups,
+            assertions[at].get().target,
+            steps,
+        )?;
+    }
+    Ok(())
 }
 
 /// Takes the primary parent of a fact out, where it has one.

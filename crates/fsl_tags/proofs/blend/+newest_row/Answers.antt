@@ -1,4 +1,4 @@
-use Rattle.std.proofs.Common.{◌≡◌, ◌∙◌, ◌++◌, ◌/◌, ◌≤◌, drop, take, length, ap, sym, arith}
+use Rattle.std.proofs.Common.{◌∙◌, ◌/◌, drop, take, length, ap, sym, arith}
 use Rattle.std.proofs.lemmas.List.{take-append-drop, take_rest}
 use Rattle.fsl_order.specs.Rows.{greater}
 use Rattle.fsl_table.proofs.Outcomes.{if_ok_map}

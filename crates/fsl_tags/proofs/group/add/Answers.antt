@@ -1,9 +1,8 @@
-use Rattle.std.proofs.Common.{◌∙◌, ◌+◌, ◌≤◌, cond, length, ap, sym, subst, arith}
+use Rattle.std.proofs.Common.{◌∙◌, cond, ap, sym, subst}
 use Rattle.std.specs.Str.{bytes_eq}
 use Rattle.fsl_tags.specs.Laid.{row_in, AreFull}
-use Rattle.fsl_tags.specs.Kids.{AreKidless}
 use Rattle.fsl_tags.proofs.Full.{row-with, full-put}
-use Rattle.fsl_tags.proofs.Grouping.{group_more, joined_some, length-with, kidless-with}
+use Rattle.fsl_tags.proofs.Grouping.{group_more, joined_some}
 use Rattle.fsl_tags.proofs.group.add.Goals as goal
 
 pub returns-in-Ok-clause-full : goal.returns-in-Ok-clause-full
@@ -16,13 +15,3 @@ returns-in-Ok-clause-groups c =
     let mid = c.take_out-group.new.groups.entries in
     group_more c.args.assertion.now c.args.target c.args.groups.now.entries mid c.insert.new.self.entries c.take_out-group.result c.take_out-group.ensures.group c.take_out-group.ensures.others
     (λ x. ap (λ es. row_in es x) c.in-Ok.ensures.entries ∙ row-with c.args.target c.push.new.row mid x ∙ ap (λ r. cond (bytes_eq x c.args.target) r (row_in mid x)) c.in_ok-push.ensures)
-
-pub returns-in-Ok-clause-most : goal.returns-in-Ok-clause-most
-returns-in-Ok-clause-most c =
-    let mid = c.take_out-group.new.groups.entries in
-    let h = subst (λ es. length es ≤ length mid + 1) (sym c.in-Ok.ensures.entries) (length-with c.args.target c.push.new.row mid) in
-    omega (arith, h, c.take_out-group.ensures.most)
-
-pub returns-in-Ok-clause-kidless : goal.returns-in-Ok-clause-kidless
-returns-in-Ok-clause-kidless c = λ kids free all.
-    subst (AreKidless kids) (sym c.in-Ok.ensures.entries) (kidless-with kids c.args.target c.push.new.row c.take_out-group.new.groups.entries free (c.take_out-group.ensures.kidless kids all))

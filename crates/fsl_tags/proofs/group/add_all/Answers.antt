@@ -1,11 +1,9 @@
 use Rattle.std.proofs.lemmas.List.{append-nil, drop_more}
 use Rattle.std.proofs.Common.{◌≡◌, ◌∙◌, ◌+◌, ◌++◌, ◌∷◌, [], cond, drop, sym, ap, arith}
 use Rattle.std.specs.Str.{bytes_eq}
-use Rattle.fsl_table.specs.Pairs.{seconds}
 use Rattle.fsl_tags.specs.Kept.{on_target}
 use Rattle.fsl_tags.specs.Laid.{row_in}
 use Rattle.fsl_tags.proofs.Merging.{no_more}
-use Rattle.fsl_tags.proofs.Dropped.{at_place}
 use Rattle.fsl_tags.proofs.Grouping.{group-step}
 use Rattle.fsl_tags.proofs.group.add_all.Goals as goal
 
@@ -21,16 +19,9 @@ loop-assertion-preserved c =
       groups = λ x.
           ap (λ l. l ++ on_target x rest) (c.in_ok-add.ensures.groups x ∙ (λ j. row_in old x ++ cond (bytes_eq x (c.get.ensures j).target) (a ∷ []) []))
           ∙ group-step x (row_in old x) a rest ∙ ap (λ l. row_in old x ++ on_target x l) (sym cut) ∙ c.loop-assertion.invariant.groups x;
-      most = omega (arith, c.in_ok-add.ensures.most, c.loop-assertion.invariant.most);
-      kidless = λ kids all old.
-          c.in_ok-add.ensures.kidless kids (ap (λ b. seconds b.target kids) c.get.ensures ∙ at_place (λ b. seconds b.target kids ≡ []) i c.args.assertions.now a rest all cut) (c.loop-assertion.invariant.kidless kids all old);
-      within = omega (arith, c.loop-assertion-test.true);
     }
 
 pub returns-clause-groups : goal.returns-clause-groups
 returns-clause-groups c = λ x.
     let row = row_in c.loop-assertion.groups.entries x in
     sym (append-nil row) ∙ ap (λ l. row ++ on_target x l) (sym (no_more c.loop-assertion.assertion-index c.args.assertions.now (omega (arith, c.loop-assertion-test.false)))) ∙ c.loop-assertion.invariant.groups x
-
-pub returns-clause-most : goal.returns-clause-most
-returns-clause-most c = omega (arith, c.loop-assertion.invariant.most, c.loop-assertion.invariant.within)

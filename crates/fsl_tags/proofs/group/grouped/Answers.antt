@@ -1,6 +1,5 @@
-use Rattle.std.proofs.Common.{◌≡◌, ◌∙◌, ◌++◌, length, sym, ap, subst, arith}
+use Rattle.std.proofs.Common.{◌∙◌, ◌++◌, ap}
 use Rattle.fsl_tags.specs.Kept.{on_target}
-use Rattle.fsl_tags.specs.Kids.{AreKidless}
 use Rattle.fsl_tags.specs.Laid.{row_in}
 use Rattle.fsl_tags.proofs.Filling.{full_none}
 use Rattle.fsl_tags.proofs.group.grouped.Goals as goal
@@ -10,11 +9,3 @@ add_all-requires c = full_none c.new-groups.result.entries c.new-groups.ensures.
 
 pub returns-clause-groups : goal.returns-clause-groups
 returns-clause-groups c = λ x. c.in_ok-add_all.ensures.groups x ∙ ap (λ es. row_in es x ++ on_target x c.args.assertions.now) c.new-groups.ensures.empty
-
-pub returns-clause-most : goal.returns-clause-most
-returns-clause-most c =
-    let n : length c.new-groups.result.entries ≡ 0 = ap length c.new-groups.ensures.empty in
-    omega (arith, n, c.in_ok-add_all.ensures.most)
-
-pub returns-clause-kidless : goal.returns-clause-kidless
-returns-clause-kidless c = λ kids all. c.in_ok-add_all.ensures.kidless kids all (subst (AreKidless kids) (sym c.new-groups.ensures.empty) tt)

@@ -1,4 +1,4 @@
-use Rattle.std.proofs.Common.{◌≡◌, ◌∙◌, ap}
+use Rattle.std.proofs.Common.{◌∙◌, ap}
 use Rattle.fsl_table.proofs.Outcomes.{both_ok, always_ok, on_ok_map}
 use Rattle.fsl_tags.specs.Kept.{newest_of}
 use Rattle.fsl_tags.specs.Laid.{row_in}

@@ -1,4 +1,4 @@
-use Rattle.std.proofs.Common.{◌≡◌, ◌∙◌, ◌∷◌, [], List, ℕ, cond, sym, ap, subst}
+use Rattle.std.proofs.Common.{◌≡◌, ◌∙◌, ◌∷◌, [], List, ℕ, cond, sym, ap}
 use Rattle.std.specs.Str.{bytes_eq}
 use Rattle.fsl_order.specs.Rows.{greater}
 use Rattle.fsl_tags.specs.declared.Assertion.{Assertion}

@@ -1,5 +1,4 @@
-use Rattle.std.proofs.Common.{◌≡◌, ◌∙◌, List, ℕ, cond, ap, subst, sym}
-use Rattle.std.specs.Str.{bytes_eq}
+use Rattle.std.proofs.Common.{◌≡◌, ◌∙◌, List, ℕ, ap, subst, sym}
 use Rattle.fsl_order.specs.Rows.{greater}
 use Rattle.fsl_table.proofs.Outcomes.{both_ok, on_ok_map}
 use Rattle.fsl_tags.specs.Kept.{newest_of}
