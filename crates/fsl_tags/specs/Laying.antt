@@ -1,12 +1,12 @@
 -- How the tables are filled from facts.
-use Rattle.std.specs.Prelude.{◌≡◌, ℕ, zero, suc, List, [], ◌∷◌, Bool, true, false, All, IfSome, is_some, Option, option_and_then}
+use Rattle.std.specs.Prelude.{◌≡◌, ℕ, zero, suc, List, [], ◌∷◌, Bool, true, false, All, IfSome, is_some, Option, option_and_then, cond}
 use Rattle.std.specs.Str.{bytes_eq}
 use Rattle.std.specs.List.{AllByRecursion}
 use Rattle.std.specs.List.Sorted.{IsStrictlySortedBy}
 use Rattle.std.specs.Map.{keys_of}
 use Rattle.std.specs.Option.{option_map_or}
 use Rattle.fsl_order.specs.Names.{bytes_cmp}
-use Rattle.fsl_order.specs.Rows.{named}
+use Rattle.fsl_order.specs.Rows.{named, greater}
 use Rattle.fsl_table.specs.declared.key.Pair.{Pair}
 use Rattle.fsl_table.specs.Contents.{value_at}
 use Rattle.fsl_table.specs.Exact.{pair_cmp}
@@ -16,10 +16,20 @@ use Rattle.fsl_tags.specs.declared.Assertion.{Assertion}
 use Rattle.fsl_tags.specs.declared.node.Node.{Node}
 use Rattle.fsl_tags.specs.Gathered.{is_shown}
 use Rattle.fsl_tags.specs.Joined.{joined}
-use Rattle.fsl_tags.specs.Tags.{direct}
+use Rattle.fsl_tags.specs.Tags.{direct, newer_cmp}
 use Rattle.fsl_tags.specs.Held.{facts_of}
 use Rattle.fsl_tags.specs.Kept.{newest_of}
 use Rattle.fsl_tags.specs.Laid.{Rises, row_in, parent_in, settled, AreFull, AreLaid}
+
+-- a row has of each tag the newer of what another row has and of what is found
+abbrev pub HasNewer : List Assertion → (List ℕ → Option Assertion) → List Assertion → Type 0
+HasNewer other found row = (tag : List ℕ) → named (λ a. a.tag) row tag ≡ greater newer_cmp (named (λ a. a.tag) other tag) (found tag)
+
+-- the own row of a name has got the newest of a group, and the others are what they were
+abbrev pub HasTaken : List ℕ → List Assertion → List (List ℕ × List Assertion) → List (List ℕ × List Assertion) → Type 0
+HasTaken name group own now =
+    (x tag : List ℕ) → named (λ a. a.tag) (row_in now x) tag
+    ≡ cond (bytes_eq x name) (greater newer_cmp (named (λ a. a.tag) (row_in own x) tag) (newest_of tag group)) (named (λ a. a.tag) (row_in own x) tag)
 
 -- own rows in order, none of them empty, each by rising tag
 pub record AreOwn (own : List (List ℕ × List Assertion)) : Type 0 where

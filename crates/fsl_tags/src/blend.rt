@@ -1,9 +1,9 @@
 //! Rows by rising tag, each with the newest assertion of each tag.
 ghost use Rattle.std.specs.Prelude.{◌≡◌, List, ℕ, IfOk};
-ghost use Rattle.fsl_order.specs.Rows.{named, greater};
+ghost use Rattle.fsl_order.specs.Rows.{named};
 ghost use Rattle.fsl_tags.specs.Kept.{newer, newest_of};
 ghost use Rattle.fsl_tags.specs.Laid.{Rises};
-ghost use Rattle.fsl_tags.specs.Tags as table;
+ghost use Rattle.fsl_tags.specs.Laying.{HasNewer};
 
 use super::merge::{push, push_all};
 use super::order::is_newer;
@@ -28,7 +28,7 @@ fn blended(alloc: Global, first: &[Shared], second: &[Shared]) -> Result<List<Sh
     requires first { Rises first.now }
     requires second { Rises second.now }
     ensures rises { IfOk result (λ row. Rises row) }
-    ensures newest { IfOk result (λ row. (tag : List ℕ) → named (λ a. a.tag) row tag ≡ greater table.newer_cmp (named (λ a. a.tag) first.now tag) (named (λ a. a.tag) second.now tag)) }
+    ensures newest { IfOk result (λ row. HasNewer first.now (λ tag. named (λ a. a.tag) second.now tag) row) }
 {
     let mut row = List::new(alloc);
     let mut near = 0;
@@ -70,7 +70,7 @@ pub(crate) fn folded(
 ) -> Result<List<Shared>, Memory>
     requires { Rises row.now }
     ensures rises { IfOk result (λ list. Rises list) }
-    ensures newest { IfOk result (λ list. (tag : List ℕ) → named (λ a. a.tag) list tag ≡ greater table.newer_cmp (named (λ a. a.tag) row.now tag) (newest_of tag group.now)) }
+    ensures newest { IfOk result (λ list. HasNewer row.now (λ tag. newest_of tag group.now) list) }
 {
     let newest = newest_row(alloc, group)?;
     blended(alloc, row, newest.items())

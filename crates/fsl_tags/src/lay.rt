@@ -4,12 +4,12 @@ ghost use Rattle.std.specs.Map.{keys_of};
 ghost use Rattle.std.specs.Prelude.{◌≡◌, ◌∷◌, [], List, ℕ, None, All, OnOk, cond};
 ghost use Rattle.std.specs.Str.{bytes_eq};
 ghost use Rattle.fsl_order.specs.Names.{bytes_cmp};
-ghost use Rattle.fsl_order.specs.Rows.{by_name, named, greater};
+ghost use Rattle.fsl_order.specs.Rows.{by_name, named};
 ghost use Rattle.fsl_table.specs.Contents.{value_at};
 ghost use Rattle.fsl_tags.specs.Held.{facts_of};
 ghost use Rattle.fsl_tags.specs.Kept.{newest_of};
 ghost use Rattle.fsl_tags.specs.Laid.{row_in, AreFull};
-ghost use Rattle.fsl_tags.specs.Laying.{AreOwn, IsGrouped, IsLaying, AreElsewhere, AreAllElsewhere};
+ghost use Rattle.fsl_tags.specs.Laying.{AreOwn, HasTaken, IsGrouped, IsLaying, AreElsewhere, AreAllElsewhere};
 ghost use Rattle.fsl_tags.specs.Tags as table;
 
 use super::Fact;
@@ -52,7 +52,7 @@ fn put_newest<L: Ledger>(
 ) -> Result<(), Memory>
     requires { AreOwn own.old.entries }
     ensures kept { OnOk result (AreOwn own.new.entries) }
-    ensures own { OnOk result ((x tag : List ℕ) → named (λ a. a.tag) (row_in own.new.entries x) tag ≡ cond (bytes_eq x target) (greater table.newer_cmp (named (λ a. a.tag) (row_in own.old.entries x) tag) (newest_of tag group.now)) (named (λ a. a.tag) (row_in own.old.entries x) tag)) }
+    ensures own { OnOk result (HasTaken target group.now own.old.entries own.new.entries) }
 {
     let near = row_of(own, target, steps);
     let row = folded(alloc, near, group)?;

@@ -1,4 +1,4 @@
-//! An assertion more, and a fact with another parent or a fact more.
+//! Assertions more, and a fact with another parent or a fact more.
 ghost use Rattle.std.specs.List.Sorted.{IsStrictlySortedBy};
 ghost use Rattle.std.specs.List.{AllByRecursion};
 ghost use Rattle.std.specs.Map.{keys_of};
@@ -11,8 +11,9 @@ ghost use Rattle.fsl_table.specs.Exact.{pair_cmp};
 ghost use Rattle.fsl_table.specs.Pairs.{seconds};
 ghost use Rattle.fsl_table.specs.Undo.{Undoes};
 ghost use Rattle.fsl_table.specs.declared.key.Pair as pair;
-ghost use Rattle.fsl_tags.specs.Kept.{newest_on, newest_of};
+ghost use Rattle.fsl_tags.specs.Kept.{newest_on};
 ghost use Rattle.fsl_tags.specs.Laid.{row_in, AreFull, AreNoted, AreRight, parent_in};
+ghost use Rattle.fsl_tags.specs.Laying.{HasTaken};
 ghost use Rattle.fsl_tags.specs.Tags as table;
 ghost use Rattle.fsl_tags.specs.declared.Assertion as made;
 ghost use Rattle.fsl_tags.specs.declared.node.Node as given;
@@ -61,7 +62,7 @@ fn take_group<L: Ledger>(
 ) -> Result<(), Memory>
     requires right { AreRight facts.now.entries children.now.entries own.old.entries rows.old.entries }
     ensures right { OnOk result (AreRight facts.now.entries children.now.entries own.new.entries rows.new.entries) }
-    ensures own { OnOk result ((x tag : List ℕ) → named (λ a. a.tag) (row_in own.new.entries x) tag ≡ cond (bytes_eq x target) (greater table.newer_cmp (named (λ a. a.tag) (row_in own.old.entries x) tag) (newest_of tag group.now)) (named (λ a. a.tag) (row_in own.old.entries x) tag)) }
+    ensures own { OnOk result (HasTaken target group.now own.old.entries own.new.entries) }
     ensures noted { OnOk result ((before : List ℕ → List made.Assertion) → AreNoted before noted.old.entries rows.old.entries → AreNoted before noted.new.entries rows.new.entries) }
     ensures undoes_own { (before : Contents (List ℕ) (List made.Assertion)) → Undoes bytes_cmp own_log.old own.old before → Undoes bytes_cmp own_log.new own.new before }
     ensures undoes_rows { (before : Contents (List ℕ) (List made.Assertion)) → Undoes bytes_cmp rows_log.old rows.old before → Undoes bytes_cmp rows_log.new rows.new before }
@@ -97,7 +98,7 @@ fn take_left<L: Ledger>(
     ensures right { OnOk result (AreRight facts.now.entries children.now.entries own.new.entries rows.new.entries) }
     ensures full { AreFull groups.new.entries }
     ensures groups { (x : List ℕ) → row_in groups.new.entries x ≡ cond (bytes_eq x target) [] (row_in groups.old.entries x) }
-    ensures own { OnOk result ((x tag : List ℕ) → named (λ a. a.tag) (row_in own.new.entries x) tag ≡ cond (bytes_eq x target) (greater table.newer_cmp (named (λ a. a.tag) (row_in own.old.entries x) tag) (newest_of tag (row_in groups.old.entries target))) (named (λ a. a.tag) (row_in own.old.entries x) tag)) }
+    ensures own { OnOk result (HasTaken target (row_in groups.old.entries target) own.old.entries own.new.entries) }
     ensures noted { OnOk result ((before : List ℕ → List made.Assertion) → AreNoted before noted.old.entries rows.old.entries → AreNoted before noted.new.entries rows.new.entries) }
     ensures undoes_own { (before : Contents (List ℕ) (List made.Assertion)) → Undoes bytes_cmp own_log.old own.old before → Undoes bytes_cmp own_log.new own.new before }
     ensures undoes_rows { (before : Contents (List ℕ) (List made.Assertion)) → Undoes bytes_cmp rows_log.old rows.old before → Undoes bytes_cmp rows_log.new rows.new before }
