@@ -23,10 +23,11 @@ use Rattle.fsl_tags.specs.declared.Assertion.{Assertion}
 use Rattle.fsl_tags.specs.declared.node.Node.{Node}
 use Rattle.fsl_tags.specs.Joined.{joined}
 use Rattle.fsl_tags.specs.Climbed.{climbed, row_up}
-use Rattle.fsl_tags.specs.Tags.{parent, AreTagFacts}
+use Rattle.fsl_tags.specs.Kept.{newest_of}
+use Rattle.fsl_tags.specs.Tags.{parent, direct, AreTagFacts}
 use Rattle.fsl_tags.specs.Held.{Rows, IsKept, fact_of, facts_of}
 use Rattle.fsl_tags.specs.Laid.{Rises, row_in, parent_in, settled, AreFull, AreLaid}
-use Rattle.fsl_tags.specs.Laying.{IsLaying, AreElsewhere, AreAllElsewhere, AreSettled, IsKnown, AreKnown, line, down}
+use Rattle.fsl_tags.specs.Laying.{IsGrouped, IsLaying, AreElsewhere, AreAllElsewhere, AreSettled, IsKnown, AreKnown, line, down}
 use Rattle.fsl_tags.proofs.Settled.{settled-law}
 use Rattle.fsl_tags.proofs.Effective.{parent-is}
 
@@ -50,6 +51,18 @@ laying_none facts children own f c o =
     alone : (s : Option (List ℕ)) (p : List ℕ) → false ≡ is_name (option_and_then (parent_in []) s) p
     alone None p = refl
     alone (Some c) p = refl
+
+pub grouped_none : (facts : List (List ℕ × Node)) (children : List (Pair × Unit {0})) (groups : List (List ℕ × List Assertion)) → facts ≡ [] → children ≡ [] → groups ≡ [] → IsGrouped facts children groups
+grouped_none facts children groups f c g =
+    let laying = laying_none facts children groups f c g in
+    record {
+      ordered = laying.ordered;
+      sourced = laying.sourced;
+      newest = λ x t. ap (λ es. newest_of t (row_in es x)) g ∙ ap (λ es. direct (facts_of es) x t) (sym f);
+      children_ordered = laying.laid.ordered;
+      pairs = laying.laid.pairs;
+      full = laying.full;
+    }
 
 pub kept_none : (r : Rows) → r.facts.entries ≡ [] → r.children.entries ≡ [] → r.own.entries ≡ [] → r.rows.entries ≡ [] → IsKept r
 unfolding IsStrictlySortedBy IsDistinct

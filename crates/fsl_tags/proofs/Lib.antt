@@ -10,7 +10,6 @@ pub mod Climbs
 pub mod Full
 pub mod Settled
 pub mod Searching
-pub mod WithTag
 pub mod Renewal
 pub mod Linked
 pub mod Scans
@@ -27,4 +26,5 @@ pub mod Dropped
 pub mod Filling
 pub mod Holding
 pub mod Others
-pub mod Folding
+pub mod Grouping
+pub mod Blending

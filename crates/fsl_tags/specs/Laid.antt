@@ -1,6 +1,5 @@
 -- How the tables hold facts and rows.
 use Rattle.std.specs.Prelude.{◌≡◌, ℕ, List, [], ◌∷◌, Option, Some, None, map, is_some, option_and_then, unwrap_or, length}
-use Rattle.std.specs.Ordering.{match_ordering}
 use Rattle.std.specs.List.Sorted.{IsStrictlySortedBy}
 use Rattle.std.specs.Map.{keys_of, lookup}
 use Rattle.std.specs.BTreeMap.{is_at}
@@ -52,11 +51,6 @@ IsNote before now (Some row) = row ≡ before
 
 abbrev pub AreNoted : (List ℕ → List Assertion) → List (List ℕ × List Assertion) → List (List ℕ × List Assertion) → Type 0
 AreNoted before noted rows = (x : List ℕ) → IsNote (before x) (row_in rows x) (lookup (is_at (bytes_cmp x)) noted)
-
--- a row by rising tag with an assertion in the place of the one of its tag
-abbrev pub with_tag : Assertion → List Assertion → List Assertion
-with_tag a [] = a ∷ []
-with_tag a (x ∷ xs) = match_ordering (bytes_cmp a.tag x.tag) (a ∷ x ∷ xs) (a ∷ xs) (x ∷ with_tag a xs)
 
 -- all tables are as the facts and the own rows say
 pub record AreRight (facts : List (List ℕ × Node)) (children : List (Pair × Unit {0})) (own rows : List (List ℕ × List Assertion)) : Type 0 where

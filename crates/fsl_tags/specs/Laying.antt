@@ -1,22 +1,35 @@
 -- How the tables are filled from facts.
-use Rattle.std.specs.Prelude.{◌≡◌, ℕ, zero, suc, List, [], ◌∷◌, Bool, true, false, All, IfSome, is_some, Option}
+use Rattle.std.specs.Prelude.{◌≡◌, ℕ, zero, suc, List, [], ◌∷◌, Bool, true, false, All, IfSome, is_some, Option, option_and_then, cond}
 use Rattle.std.specs.Str.{bytes_eq}
 use Rattle.std.specs.List.{AllByRecursion}
 use Rattle.std.specs.List.Sorted.{IsStrictlySortedBy}
 use Rattle.std.specs.Map.{keys_of}
 use Rattle.std.specs.Option.{option_map_or}
 use Rattle.fsl_order.specs.Names.{bytes_cmp}
-use Rattle.fsl_order.specs.Rows.{named}
+use Rattle.fsl_order.specs.Rows.{named, greater}
 use Rattle.fsl_table.specs.declared.key.Pair.{Pair}
 use Rattle.fsl_table.specs.Contents.{value_at}
+use Rattle.fsl_table.specs.Exact.{pair_cmp}
+use Rattle.fsl_table.specs.Pairs.{is_name}
 use Rattle.fsl_tags.specs.declared.Fact.{Fact}
 use Rattle.fsl_tags.specs.declared.Assertion.{Assertion}
 use Rattle.fsl_tags.specs.declared.node.Node.{Node}
 use Rattle.fsl_tags.specs.Gathered.{is_shown}
 use Rattle.fsl_tags.specs.Joined.{joined}
-use Rattle.fsl_tags.specs.Tags.{direct}
+use Rattle.fsl_tags.specs.Tags.{direct, newer_cmp}
 use Rattle.fsl_tags.specs.Held.{facts_of}
-use Rattle.fsl_tags.specs.Laid.{Rises, row_in, settled, AreFull, AreLaid}
+use Rattle.fsl_tags.specs.Kept.{newest_of}
+use Rattle.fsl_tags.specs.Laid.{Rises, row_in, parent_in, settled, AreFull, AreLaid}
+
+-- a row has of each tag the newer of what another row has and of what is found
+abbrev pub HasNewer : List Assertion → (List ℕ → Option Assertion) → List Assertion → Type 0
+HasNewer other found row = (tag : List ℕ) → named (λ a. a.tag) row tag ≡ greater newer_cmp (named (λ a. a.tag) other tag) (found tag)
+
+-- the own row of a name has got the newest of a group, and the others are what they were
+abbrev pub HasTaken : List ℕ → List Assertion → List (List ℕ × List Assertion) → List (List ℕ × List Assertion) → Type 0
+HasTaken name group own now =
+    (x tag : List ℕ) → named (λ a. a.tag) (row_in now x) tag
+    ≡ cond (bytes_eq x name) (greater newer_cmp (named (λ a. a.tag) (row_in own x) tag) (newest_of tag group)) (named (λ a. a.tag) (row_in own x) tag)
 
 -- own rows in order, none of them empty, each by rising tag
 pub record AreOwn (own : List (List ℕ × List Assertion)) : Type 0 where
@@ -26,6 +39,15 @@ pub record AreOwn (own : List (List ℕ × List Assertion)) : Type 0 where
 -- the assertions of each fact come from it
 abbrev pub AreSourced : List Fact → Type 0
 AreSourced facts = AllByRecursion (λ f. All (λ a. a.source ≡ f.name) f.tags) facts
+
+-- each group has the assertions of the facts on its name, as far as the newest go, and there is a pair for each child
+pub record IsGrouped (facts : List (List ℕ × Node)) (children : List (Pair × Unit {0})) (groups : List (List ℕ × List Assertion)) : Type 0 where
+  pub ordered : IsStrictlySortedBy bytes_cmp (keys_of facts)
+  pub sourced : AreSourced (facts_of facts)
+  pub newest : (x tag : List ℕ) → newest_of tag (row_in groups x) ≡ direct (facts_of facts) x tag
+  pub children_ordered : IsStrictlySortedBy pair_cmp (keys_of children)
+  pub pairs : (k : Pair) → is_some (value_at pair_cmp k children) ≡ is_name (option_and_then (parent_in facts) k.second) k.first
+  pub full : AreFull groups
 
 -- the own rows are the newest assertions of the facts, and there is a pair for each child
 pub record IsLaying (facts : List (List ℕ × Node)) (children : List (Pair × Unit {0})) (own : List (List ℕ × List Assertion)) : Type 0 where

@@ -16,10 +16,12 @@ ghost use Rattle.fsl_tags.specs.Laws.{EffectiveByRow, OthersStay};
 ghost use Rattle.fsl_tags.specs.Tags.{EffectiveByParent};
 
 mod arrive;
+mod blend;
 mod build;
 mod changed;
 mod find;
 mod gathered;
+mod group;
 mod lay;
 mod merge;
 mod node;

@@ -1,8 +1,8 @@
-//! An assertion more, and a fact with another parent or a fact more.
+//! Assertions more, and a fact with another parent or a fact more.
 ghost use Rattle.std.specs.List.Sorted.{IsStrictlySortedBy};
 ghost use Rattle.std.specs.List.{AllByRecursion};
 ghost use Rattle.std.specs.Map.{keys_of};
-ghost use Rattle.std.specs.Prelude.{◌≡◌, ◌⊎◌, ◌&&◌, List, ℕ, Some, None, OnOk, cond, ◌+◌, ◌*◌, ◌≤◌, length, []};
+ghost use Rattle.std.specs.Prelude.{◌≡◌, ◌⊎◌, List, ℕ, None, OnOk, cond, ◌+◌, ◌*◌, ◌≤◌, length, []};
 ghost use Rattle.std.specs.Str.{bytes_eq};
 ghost use Rattle.fsl_order.specs.Names.{bytes_cmp};
 ghost use Rattle.fsl_order.specs.Rows.{named, greater};
@@ -12,15 +12,15 @@ ghost use Rattle.fsl_table.specs.Pairs.{seconds};
 ghost use Rattle.fsl_table.specs.Undo.{Undoes};
 ghost use Rattle.fsl_table.specs.declared.key.Pair as pair;
 ghost use Rattle.fsl_tags.specs.Kept.{newest_on};
-ghost use Rattle.fsl_tags.specs.Laid.{row_in, AreNoted, AreRight, parent_in};
+ghost use Rattle.fsl_tags.specs.Laid.{row_in, AreFull, AreNoted, AreRight, parent_in};
+ghost use Rattle.fsl_tags.specs.Laying.{HasTaken};
 ghost use Rattle.fsl_tags.specs.Tags as table;
 ghost use Rattle.fsl_tags.specs.declared.Assertion as made;
 ghost use Rattle.fsl_tags.specs.declared.node.Node as given;
 
-use super::Assertion;
-use super::find::{find, with_assertion};
+use super::blend::folded;
+use super::group::{grouped, take_out};
 use super::node::Node;
-use super::order::is_newer;
 use super::renew::renew;
 use super::rows::{row_of, set};
 use super::shared::{Shared, again};
@@ -46,8 +46,8 @@ pub(crate) fn parent_of<L: Ledger>(
     }
 }
 
-/// Takes an assertion in: its target's row and those of the descendants follow, where it is newer than what the target has of its tag.
-pub(crate) fn take_assertion<L: Ledger>(
+/// Takes the assertions of a group in, which are all on one name: its row and those of its descendants follow, each put once.
+fn take_group<L: Ledger>(
     alloc: Global,
     facts: &Table<Name, Node>,
     children: &Table<Pair, ()>,
@@ -56,38 +56,71 @@ pub(crate) fn take_assertion<L: Ledger>(
     rows: &mut Table<Name, List<Shared>>,
     rows_log: &mut Log<Name, List<Shared>>,
     noted: &mut BTreeMap<Name, List<Shared>>,
-    assertion: &Assertion,
-    shared: &Shared,
+    target: Name,
+    group: &[Shared],
     steps: &mut Steps<L>,
 ) -> Result<(), Memory>
-    requires shared { shared.now ≡ assertion.now }
     requires right { AreRight facts.now.entries children.now.entries own.old.entries rows.old.entries }
     ensures right { OnOk result (AreRight facts.now.entries children.now.entries own.new.entries rows.new.entries) }
-    ensures own { OnOk result ((x tag : List ℕ) → named (λ a. a.tag) (row_in own.new.entries x) tag ≡ cond (bytes_eq assertion.now.target x && bytes_eq assertion.now.tag tag) (greater table.newer_cmp (named (λ a. a.tag) (row_in own.old.entries x) tag) (Some assertion.now)) (named (λ a. a.tag) (row_in own.old.entries x) tag)) }
+    ensures own { OnOk result (HasTaken target group.now own.old.entries own.new.entries) }
     ensures noted { OnOk result ((before : List ℕ → List made.Assertion) → AreNoted before noted.old.entries rows.old.entries → AreNoted before noted.new.entries rows.new.entries) }
     ensures undoes_own { (before : Contents (List ℕ) (List made.Assertion)) → Undoes bytes_cmp own_log.old own.old before → Undoes bytes_cmp own_log.new own.new before }
     ensures undoes_rows { (before : Contents (List ℕ) (List made.Assertion)) → Undoes bytes_cmp rows_log.old rows.old before → Undoes bytes_cmp rows_log.new rows.new before }
-    ensures more { seconds assertion.now.target children.now.entries ≡ [] → length noted.new.entries ≤ length noted.old.entries + 1 }
-    ensures touches { seconds assertion.now.target children.now.entries ≡ [] → steps.new ≤ steps.old + 11 }
-    ensures logged { seconds assertion.now.target children.now.entries ≡ [] → length own_log.new + length rows_log.new ≤ length own_log.old + length rows_log.old + 2 }
+    ensures more { seconds target children.now.entries ≡ [] → length noted.new.entries ≤ length noted.old.entries + 1 }
+    ensures touches { seconds target children.now.entries ≡ [] → steps.new ≤ steps.old + 11 }
+    ensures logged { seconds target children.now.entries ≡ [] → length own_log.new + length rows_log.new ≤ length own_log.old + length rows_log.old + 2 }
 {
-    let near = row_of(own, assertion.target, steps);
-    if !is_newer(assertion, find(near, assertion.tag.bytes())) {
+    let near = row_of(own, target, steps);
+    let row = folded(alloc, near, group)?;
+    set(own, own_log, target, row, steps)?;
+    let up = parent_of(facts, target, steps);
+    renew(
+        alloc, facts, children, own, rows, rows_log, noted, target, up, steps,
+    )
+}
+
+/// Takes the group of a name in, where there is one, and out of the groups.
+fn take_left<L: Ledger>(
+    alloc: Global,
+    facts: &Table<Name, Node>,
+    children: &Table<Pair, ()>,
+    own: &mut Table<Name, List<Shared>>,
+    own_log: &mut Log<Name, List<Shared>>,
+    rows: &mut Table<Name, List<Shared>>,
+    rows_log: &mut Log<Name, List<Shared>>,
+    noted: &mut BTreeMap<Name, List<Shared>>,
+    groups: &mut BTreeMap<Name, List<Shared>>,
+    target: Name,
+    steps: &mut Steps<L>,
+) -> Result<(), Memory>
+    requires right { AreRight facts.now.entries children.now.entries own.old.entries rows.old.entries }
+    requires full { AreFull groups.old.entries }
+    ensures right { OnOk result (AreRight facts.now.entries children.now.entries own.new.entries rows.new.entries) }
+    ensures full { AreFull groups.new.entries }
+    ensures groups { (x : List ℕ) → row_in groups.new.entries x ≡ cond (bytes_eq x target) [] (row_in groups.old.entries x) }
+    ensures own { OnOk result (HasTaken target (row_in groups.old.entries target) own.old.entries own.new.entries) }
+    ensures noted { OnOk result ((before : List ℕ → List made.Assertion) → AreNoted before noted.old.entries rows.old.entries → AreNoted before noted.new.entries rows.new.entries) }
+    ensures undoes_own { (before : Contents (List ℕ) (List made.Assertion)) → Undoes bytes_cmp own_log.old own.old before → Undoes bytes_cmp own_log.new own.new before }
+    ensures undoes_rows { (before : Contents (List ℕ) (List made.Assertion)) → Undoes bytes_cmp rows_log.old rows.old before → Undoes bytes_cmp rows_log.new rows.new before }
+    ensures more { seconds target children.now.entries ≡ [] → length noted.new.entries ≤ length noted.old.entries + 1 }
+    ensures touches { seconds target children.now.entries ≡ [] → steps.new ≤ steps.old + 11 }
+    ensures logged { seconds target children.now.entries ≡ [] → length own_log.new + length rows_log.new ≤ length own_log.old + length rows_log.old + 2 }
+{
+    let group = take_out(alloc, groups, target);
+    if group.items().is_empty() {
         return Ok(());
     }
-    let row = with_assertion(alloc, near, shared)?;
-    set(own, own_log, assertion.target, row, steps)?;
-    let up = parent_of(facts, assertion.target, steps);
-    renew(
+    take_group(
         alloc,
         facts,
         children,
         own,
+        own_log,
         rows,
         rows_log,
         noted,
-        assertion.target,
-        up,
+        target,
+        group.items(),
         steps,
     )
 }
@@ -131,7 +164,8 @@ pub(crate) fn set_node<L: Ledger>(
     )
 }
 
-/// Takes some assertions in.
+/// Takes some assertions in, those on one name at once, so that its row is put once. The names come from the last assertion to the first:
+/// where those of one tag are on a line of check-ins, the newest goes down first, and stops the others.
 pub(crate) fn take_all<L: Ledger>(
     alloc: Global,
     facts: &Table<Name, Node>,
@@ -154,8 +188,11 @@ pub(crate) fn take_all<L: Ledger>(
     ensures touches { AllByRecursion (λ a. seconds a.target children.now.entries ≡ []) assertions.now → steps.new ≤ steps.old + 11 * length assertions.now }
     ensures logged { AllByRecursion (λ a. seconds a.target children.now.entries ≡ []) assertions.now → length own_log.new + length rows_log.new ≤ length own_log.old + length rows_log.old + 2 * length assertions.now }
 {
-    for assertion in assertions {
-        take_assertion(
+    let mut groups = grouped(alloc, assertions)?;
+    let mut at = assertions.len();
+    while at > 0 {
+        at -= 1;
+        take_left(
             alloc,
             facts,
             children,
@@ -164,8 +201,8 @@ pub(crate) fn take_all<L: Ledger>(
             rows,
             rows_log,
             noted,
-            assertion.get(),
-            assertion,
+            &mut groups,
+            assertions[at].get().target,
             steps,
         )?;
     }

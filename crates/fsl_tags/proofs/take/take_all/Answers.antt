@@ -1,65 +1,120 @@
-use Rattle.std.proofs.lemmas.List.{drop_more}
-use Rattle.std.proofs.Common.{◌≡◌, ◌∙◌, ◌+◌, ◌∷◌, drop, sym, ap, arith, []}
-use Rattle.fsl_order.specs.Rows.{named, greater}
-use Rattle.fsl_tags.specs.Tags.{newer_cmp}
-use Rattle.fsl_tags.specs.Kept.{newest_on}
-use Rattle.fsl_tags.specs.Laid.{row_in}
-use Rattle.fsl_tags.proofs.Scans.{newest_on-step}
+use Rattle.std.proofs.lemmas.List.{drop_more, take_more}
+use Rattle.std.proofs.Math.Seq.{take-length}
+use Rattle.std.proofs.Common.{◌≡◌, ◌∙◌, ◌+◌, ◌-◌, ◌<◌, ◌∷◌, ◌++◌, [], drop, take, length, sym, ap, subst, arith}
+use Rattle.fsl_order.specs.Rows.{greater}
 use Rattle.fsl_table.specs.Pairs.{seconds}
+use Rattle.fsl_tags.specs.Tags.{newer_cmp}
+use Rattle.fsl_tags.specs.Kept.{newest_of}
+use Rattle.fsl_tags.specs.Laid.{row_in}
+use Rattle.fsl_tags.specs.Laying.{AreElsewhere}
+use Rattle.fsl_tags.proofs.RowsOf.{of_tag}
+use Rattle.fsl_tags.proofs.Newest.{greater-none}
+use Rattle.fsl_tags.proofs.EffectiveLaw.{newer_cmp-IsTotalOrder}
 use Rattle.fsl_tags.proofs.Dropped.{at_place}
+use Rattle.fsl_tags.proofs.Grouping.{newest_of-group, on_target-none, left-next, gone-next}
 use Rattle.fsl_tags.proofs.take.take_all.Goals as goal
 
-pub loop-assertion-preserved : goal.loop-assertion-preserved
-loop-assertion-preserved g c =
-    let i = c.loop-assertion.assertion-index in
-    let a = c.get.result.now in
-    let rest = drop (i + 1) c.args.assertions.now in
-    let cut : drop i c.args.assertions.now ≡ a ∷ rest = drop_more c.args.assertions.now i c.assertion-item.result c.loop-assertion-test.true ∙ ap (λ y. y ∷ rest) (sym c.assertion-item.is ∙ sym c.get.ensures) in
+pub loop-at-init : goal.loop-at-init
+loop-at-init g c =
+    let all = c.args.assertions.now in
     record {
-      right = c.in_ok-take_assertion.ensures.right;
-      own = λ x tag.
-          ap (λ o. greater newer_cmp o (newest_on x tag rest)) (c.in_ok-take_assertion.ensures.own x tag)
-          ∙ newest_on-step x tag (named (λ a. a.tag) (row_in c.loop-assertion.own.entries x) tag) a rest
-          ∙ ap (λ l. greater newer_cmp (named (λ a. a.tag) (row_in c.loop-assertion.own.entries x) tag) (newest_on x tag l)) (sym cut)
-          ∙ c.loop-assertion.invariant.own x tag;
-      noted = λ before n. c.in_ok-take_assertion.ensures.noted before (c.loop-assertion.invariant.noted before n);
-      undoes_own = λ before u. c.take_assertion.ensures.undoes_own before (c.loop-assertion.invariant.undoes_own before u);
-      undoes_rows = λ before u. c.take_assertion.ensures.undoes_rows before (c.loop-assertion.invariant.undoes_rows before u);
-      touches = λ all. let t = c.take_assertion.ensures.touches (at_place (λ a. seconds a.target c.args.children.now.entries ≡ []) i c.args.assertions.now a rest all cut) in omega (arith, t, c.loop-assertion.invariant.touches all);
-      logged = λ all. let t = c.take_assertion.ensures.logged (at_place (λ a. seconds a.target c.args.children.now.entries ≡ []) i c.args.assertions.now a rest all cut) in omega (arith, t, c.loop-assertion.invariant.logged all);
-      more = λ all. let t = c.take_assertion.ensures.more (at_place (λ a. seconds a.target c.args.children.now.entries ≡ []) i c.args.assertions.now a rest all cut) in omega (arith, t, c.loop-assertion.invariant.more all);
-      within = omega (arith, c.loop-assertion-test.true);
+      right = c.requires.right;
+      full = c.in_ok-groups.ensures.full;
+      own = λ x tag. ap (greater newer_cmp (of_tag (row_in c.args.own.now.entries x) tag)) (ap (newest_of tag) (c.in_ok-groups.ensures.groups x) ∙ newest_of-group x tag all);
+      gone = λ x away. c.in_ok-groups.ensures.groups x ∙ on_target-none x all (subst (AreElsewhere x) (take-length all) away);
+      noted = λ before m. m;
+      undoes_own = λ before u. u;
+      undoes_rows = λ before u. u;
+      touches = λ free. omega arith;
+      logged = λ free. omega arith;
+      more = λ free. omega arith;
+      within = omega arith;
     }
 
-pub returns-in_err-take_assertion-clause-undoes_own : goal.returns-in_err-take_assertion-clause-undoes_own
-returns-in_err-take_assertion-clause-undoes_own g c = λ before u. c.take_assertion.ensures.undoes_own before (c.loop-assertion.invariant.undoes_own before u)
+pub loop-at-preserved : goal.loop-at-preserved
+loop-at-preserved g c =
+    let all = c.args.assertions.now in
+    let i = c.loop-at.at in
+    let j = i - 1 in
+    let a = c.index-assertions-at.result in
+    let e : j + 1 ≡ i = omega (arith, c.loop-at-test.true) in
+    let less : j < length all = omega (arith, c.loop-at-test.true, c.loop-at.invariant.within) in
+    let cut : drop j all ≡ a ∷ drop i all = drop_more all j a less ∙ (λ k. (sym c.index-assertions-at.is) k ∷ drop (e k) all) in
+    let last : take i all ≡ take j all ++ a ∷ [] = ap (λ n. take n all) (sym e) ∙ take_more all j a less ∙ ap (λ y. take j all ++ y ∷ []) (sym c.index-assertions-at.is) in
+    let target : a.target ≡ c.get.result.now.target = ap (λ y. y.target) (sym c.get.ensures) in
+    let kids = c.args.children.now.entries in
+    let left = c.loop-at.groups.entries in
+    record {
+      right = c.in_ok-take_left.ensures.right;
+      full = c.take_left.ensures.full;
+      own = λ x tag.
+          left-next c.get.result.now.target left c.take_left.new.groups.entries c.loop-at.own.entries c.take_left.new.own.entries c.take_left.ensures.groups x tag (c.in_ok-take_left.ensures.own x tag)
+          ∙ c.loop-at.invariant.own x tag;
+      gone = gone-next c.get.result.now.target left c.take_left.new.groups.entries (take j all) (take i all) a target last c.take_left.ensures.groups c.loop-at.invariant.gone;
+      noted = λ before n. c.in_ok-take_left.ensures.noted before (c.loop-at.invariant.noted before n);
+      undoes_own = λ before u. c.take_left.ensures.undoes_own before (c.loop-at.invariant.undoes_own before u);
+      undoes_rows = λ before u. c.take_left.ensures.undoes_rows before (c.loop-at.invariant.undoes_rows before u);
+      touches = λ free. let one = ap (λ t. seconds t kids) (sym target) ∙ at_place (λ b. seconds b.target kids ≡ []) j all a (drop i all) free cut in omega (arith, e, c.take_left.ensures.touches one, c.loop-at.invariant.touches free);
+      logged = λ free. let one = ap (λ t. seconds t kids) (sym target) ∙ at_place (λ b. seconds b.target kids ≡ []) j all a (drop i all) free cut in omega (arith, e, c.take_left.ensures.logged one, c.loop-at.invariant.logged free);
+      more = λ free. let one = ap (λ t. seconds t kids) (sym target) ∙ at_place (λ b. seconds b.target kids ≡ []) j all a (drop i all) free cut in omega (arith, e, c.take_left.ensures.more one, c.loop-at.invariant.more free);
+      within = omega (arith, e, c.loop-at.invariant.within);
+    }
 
-pub returns-in_err-take_assertion-clause-undoes_rows : goal.returns-in_err-take_assertion-clause-undoes_rows
-returns-in_err-take_assertion-clause-undoes_rows g c = λ before u. c.take_assertion.ensures.undoes_rows before (c.loop-assertion.invariant.undoes_rows before u)
+pub returns-clause-own : goal.returns-clause-own
+returns-clause-own g c = λ x tag.
+    let found = of_tag (row_in c.loop-at.own.entries x) tag in
+    let e : c.loop-at.at ≡ 0 = omega (arith, c.loop-at-test.false) in
+    let none : row_in c.loop-at.groups.entries x ≡ [] = c.loop-at.invariant.gone x (subst (λ n. AreElsewhere x (take n c.args.assertions.now)) (sym e) tt) in
+    sym (greater-none newer_cmp newer_cmp-IsTotalOrder found)
+    ∙ ap (λ l. greater newer_cmp found (newest_of tag l)) (sym none) ∙ c.loop-at.invariant.own x tag
 
-pub returns-in_err-take_assertion-clause-touches : goal.returns-in_err-take_assertion-clause-touches
-returns-in_err-take_assertion-clause-touches g c = λ all.
-    let i = c.loop-assertion.assertion-index in
-    let a = c.get.result.now in
-    let rest = drop (i + 1) c.args.assertions.now in
-    let cut : drop i c.args.assertions.now ≡ a ∷ rest = drop_more c.args.assertions.now i c.assertion-item.result c.loop-assertion-test.true ∙ ap (λ y. y ∷ rest) (sym c.assertion-item.is ∙ sym c.get.ensures) in
-    let t = c.take_assertion.ensures.touches (at_place (λ a. seconds a.target c.args.children.now.entries ≡ []) i c.args.assertions.now a rest all cut) in
-    omega (arith, t, c.loop-assertion.invariant.touches all, c.loop-assertion-test.true)
+pub returns-clause-touches : goal.returns-clause-touches
+returns-clause-touches g c = λ free. omega (arith, c.loop-at.invariant.touches free)
 
-pub returns-in_err-take_assertion-clause-logged : goal.returns-in_err-take_assertion-clause-logged
-returns-in_err-take_assertion-clause-logged g c = λ all.
-    let i = c.loop-assertion.assertion-index in
-    let a = c.get.result.now in
-    let rest = drop (i + 1) c.args.assertions.now in
-    let cut : drop i c.args.assertions.now ≡ a ∷ rest = drop_more c.args.assertions.now i c.assertion-item.result c.loop-assertion-test.true ∙ ap (λ y. y ∷ rest) (sym c.assertion-item.is ∙ sym c.get.ensures) in
-    let t = c.take_assertion.ensures.logged (at_place (λ a. seconds a.target c.args.children.now.entries ≡ []) i c.args.assertions.now a rest all cut) in
-    omega (arith, t, c.loop-assertion.invariant.logged all, c.loop-assertion-test.true)
+pub returns-clause-logged : goal.returns-clause-logged
+returns-clause-logged g c = λ free. omega (arith, c.loop-at.invariant.logged free)
 
-pub returns-in_err-take_assertion-clause-more : goal.returns-in_err-take_assertion-clause-more
-returns-in_err-take_assertion-clause-more g c = λ all.
-    let i = c.loop-assertion.assertion-index in
-    let a = c.get.result.now in
-    let rest = drop (i + 1) c.args.assertions.now in
-    let cut : drop i c.args.assertions.now ≡ a ∷ rest = drop_more c.args.assertions.now i c.assertion-item.result c.loop-assertion-test.true ∙ ap (λ y. y ∷ rest) (sym c.assertion-item.is ∙ sym c.get.ensures) in
-    let t = c.take_assertion.ensures.more (at_place (λ a. seconds a.target c.args.children.now.entries ≡ []) i c.args.assertions.now a rest all cut) in
-    omega (arith, t, c.loop-assertion.invariant.more all, c.loop-assertion-test.true)
+pub returns-clause-more : goal.returns-clause-more
+returns-clause-more g c = λ free. omega (arith, c.loop-at.invariant.more free)
+
+pub returns-in_err-take_left-clause-undoes_own : goal.returns-in_err-take_left-clause-undoes_own
+returns-in_err-take_left-clause-undoes_own g c = λ before u. c.take_left.ensures.undoes_own before (c.loop-at.invariant.undoes_own before u)
+
+pub returns-in_err-take_left-clause-undoes_rows : goal.returns-in_err-take_left-clause-undoes_rows
+returns-in_err-take_left-clause-undoes_rows g c = λ before u. c.take_left.ensures.undoes_rows before (c.loop-at.invariant.undoes_rows before u)
+
+pub returns-in_err-take_left-clause-touches : goal.returns-in_err-take_left-clause-touches
+returns-in_err-take_left-clause-touches g c = λ free.
+    let all = c.args.assertions.now in
+    let i = c.loop-at.at in
+    let j = i - 1 in
+    let a = c.index-assertions-at.result in
+    let e : j + 1 ≡ i = omega (arith, c.loop-at-test.true) in
+    let less : j < length all = omega (arith, c.loop-at-test.true, c.loop-at.invariant.within) in
+    let cut : drop j all ≡ a ∷ drop i all = drop_more all j a less ∙ (λ k. (sym c.index-assertions-at.is) k ∷ drop (e k) all) in
+    let one = ap (λ y. seconds y.target c.args.children.now.entries) c.get.ensures ∙ at_place (λ b. seconds b.target c.args.children.now.entries ≡ []) j all a (drop i all) free cut in
+    omega (arith, e, c.take_left.ensures.touches one, c.loop-at.invariant.touches free)
+
+pub returns-in_err-take_left-clause-logged : goal.returns-in_err-take_left-clause-logged
+returns-in_err-take_left-clause-logged g c = λ free.
+    let all = c.args.assertions.now in
+    let i = c.loop-at.at in
+    let j = i - 1 in
+    let a = c.index-assertions-at.result in
+    let e : j + 1 ≡ i = omega (arith, c.loop-at-test.true) in
+    let less : j < length all = omega (arith, c.loop-at-test.true, c.loop-at.invariant.within) in
+    let cut : drop j all ≡ a ∷ drop i all = drop_more all j a less ∙ (λ k. (sym c.index-assertions-at.is) k ∷ drop (e k) all) in
+    let one = ap (λ y. seconds y.target c.args.children.now.entries) c.get.ensures ∙ at_place (λ b. seconds b.target c.args.children.now.entries ≡ []) j all a (drop i all) free cut in
+    omega (arith, e, c.take_left.ensures.logged one, c.loop-at.invariant.logged free)
+
+pub returns-in_err-take_left-clause-more : goal.returns-in_err-take_left-clause-more
+returns-in_err-take_left-clause-more g c = λ free.
+    let all = c.args.assertions.now in
+    let i = c.loop-at.at in
+    let j = i - 1 in
+    let a = c.index-assertions-at.result in
+    let e : j + 1 ≡ i = omega (arith, c.loop-at-test.true) in
+    let less : j < length all = omega (arith, c.loop-at-test.true, c.loop-at.invariant.within) in
+    let cut : drop j all ≡ a ∷ drop i all = drop_more all j a less ∙ (λ k. (sym c.index-assertions-at.is) k ∷ drop (e k) all) in
+    let one = ap (λ y. seconds y.target c.args.children.now.entries) c.get.ensures ∙ at_place (λ b. seconds b.target c.args.children.now.entries ≡ []) j all a (drop i all) free cut in
+    omega (arith, e, c.take_left.ensures.more one, c.loop-at.invariant.more free)

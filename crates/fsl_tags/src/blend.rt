@@ -1,0 +1,77 @@
+//! Rows by rising tag, each with the newest assertion of each tag.
+ghost use Rattle.std.specs.Prelude.{◌≡◌, List, ℕ, IfOk};
+ghost use Rattle.fsl_order.specs.Rows.{named};
+ghost use Rattle.fsl_tags.specs.Kept.{newer, newest_of};
+ghost use Rattle.fsl_tags.specs.Laid.{Rises};
+ghost use Rattle.fsl_tags.specs.Laying.{HasNewer};
+
+use super::merge::{push, push_all};
+use super::order::is_newer;
+use super::shared::{Shared, again};
+use fsl_text::{List, Memory};
+use std::alloc::Global;
+use std::cmp::Ordering;
+
+/// The newer of two assertions of one tag, the first where none is newer.
+fn newer<'a>(first: &'a Shared, second: &'a Shared) -> &'a Shared
+    ensures { result.now ≡ newer first.now second.now }
+{
+    if is_newer(second.get(), Some(first.get())) {
+        second
+    } else {
+        first
+    }
+}
+
+/// The newer of two assertions for each tag.
+fn blended(alloc: Global, first: &[Shared], second: &[Shared]) -> Result<List<Shared>, Memory>
+    requires first { Rises first.now }
+    requires second { Rises second.now }
+    ensures rises { IfOk result (λ row. Rises row) }
+    ensures newest { IfOk result (λ row. HasNewer first.now (λ tag. named (λ a. a.tag) second.now tag) row) }
+{
+    let mut row = List::new(alloc);
+    let mut near = 0;
+    let mut far = 0;
+    while near < first.len() && far < second.len() {
+        let order = first[near].get().tag.cmp(&second[far].get().tag);
+        match order {
+            Ordering::Less => push(&mut row, &first[near])?,
+            Ordering::Equal => push(&mut row, newer(&first[near], &second[far]))?,
+            Ordering::Greater => push(&mut row, &second[far])?,
+        }
+        near += usize::from(order.is_le());
+        far += usize::from(order.is_ge());
+    }
+    push_all(&mut row, &first[near..])?;
+    push_all(&mut row, &second[far..])?;
+    Ok(row)
+}
+
+/// The newest of some assertions for each tag. Both halves are worked out and blended, so that n assertions take time by n log n.
+fn newest_row(alloc: Global, group: &[Shared]) -> Result<List<Shared>, Memory>
+    ensures rises { IfOk result (λ row. Rises row) }
+    ensures newest { IfOk result (λ row. (tag : List ℕ) → named (λ a. a.tag) row tag ≡ newest_of tag group.now) }
+{
+    if group.len() < 2 {
+        return again(alloc, group);
+    }
+    let middle = group.len() / 2;
+    let first = newest_row(alloc, &group[..middle])?;
+    let second = newest_row(alloc, &group[middle..])?;
+    blended(alloc, first.items(), second.items())
+}
+
+/// A row with each assertion of a group in the place of the one of its tag, where it is newer than that. `Memory` is the only error.
+pub(crate) fn folded(
+    alloc: Global,
+    row: &[Shared],
+    group: &[Shared],
+) -> Result<List<Shared>, Memory>
+    requires { Rises row.now }
+    ensures rises { IfOk result (λ list. Rises list) }
+    ensures newest { IfOk result (λ list. HasNewer row.now (λ tag. newest_of tag group.now) list) }
+{
+    let newest = newest_row(alloc, group)?;
+    blended(alloc, row, newest.items())
+}
