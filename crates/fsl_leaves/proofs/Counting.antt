@@ -8,23 +8,18 @@ use Rattle.std.specs.Map.{keys_of}
 use Rattle.std.specs.Cmp.Lexicographic.{texts_ties, bytes_decides, nat_list_eq_equiv}
 use Rattle.fsl_order.specs.Names.{bytes_cmp, has}
 use Rattle.fsl_order.proofs.Orders.{bytes_cmp-IsTotalOrder}
-use Rattle.fsl_table.specs.declared.key.Pair.{Pair}
 use Rattle.fsl_table.specs.Contents.{value_at, with_entry, without_key}
-use Rattle.fsl_table.specs.Pairs.{seconds}
 use Rattle.fsl_table.proofs.Entries.{none_above, sorted-insert_entry, sorted-remove_entry}
 use Rattle.fsl_table.proofs.Finding.{value-with, value-without}
-use Rattle.fsl_table.proofs.Seconds.{has_seconds}
 use Rattle.std.specs.BTreeMap.{is_at}
 use Rattle.fsl_leaves.specs.declared.line.Line.{Line}
-use Rattle.fsl_leaves.specs.Kept.{Lines, ArePairs, lists, is_in, continued, ends, leaf, walked, ends_walk, counted}
-use Rattle.fsl_table.proofs.Finds.{Finds, same_finds, or-true, finds_any}
+use Rattle.fsl_leaves.specs.Keys.{Kin, walked}
+use Rattle.fsl_leaves.specs.Kept.{Lines, ArePairs, lists, is_in, continues_in, continued, ends, leaf, ends_walk, counted}
+use Rattle.fsl_leaves.proofs.Kinship.{kin, finds_walked}
+use Rattle.fsl_table.proofs.Finds.{Finds, same_finds, or-true}
 
 abbrev Sorted : Lines → Type 0
 Sorted es = IsStrictlySortedBy bytes_cmp (keys_of es)
-
--- whether a check-in has this parent and is in this branch
-abbrev pub continues_in : Option Line → List ℕ → List ℕ → Bool
-continues_in o q b = lists o q && is_in o b
 
 not_none : (o : Option Line) (q b : List ℕ) → o ≡ None → continues_in o q b ≡ true → ⊥
 not_none None q b h e = true≢false (sym e)
@@ -56,11 +51,10 @@ continued_there (e ∷ es) q b c h = by (λ k. continued_there es q b c k) (is_e
 pub finds_continued : (es : Lines) → Sorted es → (q b : List ℕ) → Finds (continued es q b) (λ c. continues_in (value_at bytes_cmp c es) q b)
 finds_continued es sorted q b = record { found = continued_found es sorted q b; there = continued_there es q b }
 
--- among the pairs it is the same
-pub walked_is : (es : Lines) (cs : List (Pair × Unit {0})) → Sorted es → ArePairs es cs → (q b : List ℕ) → walked es cs q b ≡ continued es q b
+-- among the keys it is the same
+pub walked_is : (es : Lines) (cs : List (Kin × Unit {0})) → Sorted es → ArePairs es cs → (q b : List ℕ) → walked cs q b ≡ continued es q b
 walked_is es cs sorted pairs q b =
-    same_finds (walked es cs q b) (continued es q b) _ _ (finds_any (λ c. is_in (value_at bytes_cmp c es) b) (seconds q cs)) (finds_continued es sorted q b)
-    (λ c. ap (λ x. x && is_in (value_at bytes_cmp c es) b) (has_seconds q c cs ∙ pairs (record { first = q; second = Some c })))
+    same_finds (walked cs q b) (continued es q b) _ _ (finds_walked cs q b) (finds_continued es sorted q b) (λ c. pairs (kin q b c))
 
 and-true : (b : Bool) → (b && true) ≡ b
 and-true true = refl
@@ -126,20 +120,7 @@ module _ (es : Lines) (name : List ℕ) (sorted : Sorted es) where
   at_less : (c : List ℕ) → value_at bytes_cmp c less ≡ cond (bytes_eq c name) None (value_at bytes_cmp c es)
   at_less c = value-without name es sorted c
 
-  -- a walk over the pairs that are left doesn't meet it
-  walked_less : (cs : List (Pair × Unit {0})) → ArePairs less cs → (q b : List ℕ) → walked es cs q b ≡ continued less q b
-  walked_less cs pairs q b =
-      same_finds (walked es cs q b) (continued less q b) _ _ (finds_any (λ c. is_in (value_at bytes_cmp c es) b) (seconds q cs)) (finds_continued less sorted_less q b)
-      (λ c. ap (λ x. x && is_in (value_at bytes_cmp c es) b) (has_seconds q c cs ∙ pairs (record { first = q; second = Some c })) ∙ same c)
-    where
-      by : (c : List ℕ) (s : Bool) → (lists (cond s None (value_at bytes_cmp c es)) q && is_in (value_at bytes_cmp c es) b) ≡ continues_in (cond s None (value_at bytes_cmp c es)) q b
-      by c true = refl
-      by c false = refl
-
-      same : (c : List ℕ) → (lists (value_at bytes_cmp c less) q && is_in (value_at bytes_cmp c es) b) ≡ continues_in (value_at bytes_cmp c less) q b
-      same c = ap (λ o. lists o q && is_in (value_at bytes_cmp c es) b) (at_less c) ∙ by c (bytes_eq c name) ∙ sym (ap (λ o. continues_in o q b) (at_less c))
-
-  -- nor has who isn't its parent a child less
+  -- who isn't its parent has no child less
   continued_less : (q b : List ℕ) → lists (value_at bytes_cmp name es) q ≡ false → continued es q b ≡ continued less q b
   continued_less q b h =
       same_finds (continued es q b) (continued less q b) _ _ (finds_continued es sorted q b) (finds_continued less sorted_less q b)
@@ -149,7 +130,7 @@ module _ (es : Lines) (name : List ℕ) (sorted : Sorted es) where
       by c true s = ap (λ x. x && is_in (value_at bytes_cmp c es) b) (ap (λ n. lists (value_at bytes_cmp n es) q) ((bytes_decides c name).0 s) ∙ h)
       by c false s = refl
 
-  pub leaf_less : (cs : List (Pair × Unit {0})) → ArePairs less cs → (q : List ℕ)
+  pub leaf_less : (cs : List (Kin × Unit {0})) → ArePairs less cs → (q : List ℕ)
       → (if bytes_eq q name then false else (if lists (value_at bytes_cmp name es) q then counted es cs q else leaf es q)) ≡ leaf less q
   leaf_less cs pairs q =
       elim (bytes_eq q name) as (λ s. (if s then false else (if lists (value_at bytes_cmp name es) q then counted es cs q else leaf es q)) ≡ ends less q (cond s None (value_at bytes_cmp q es))) [
@@ -162,9 +143,9 @@ module _ (es : Lines) (name : List ℕ) (sorted : Sorted es) where
       ]
       ∙ sym (ap (ends less q) (at_less q))
     where
-      count : (o : Option Line) → ends_walk es cs q o ≡ ends less q o
+      count : (o : Option Line) → ends_walk cs q o ≡ ends less q o
       count None = refl
-      count (Some m) = ap not (walked_less cs pairs q m.branch)
+      count (Some m) = ap not (walked_is less cs sorted_less pairs q m.branch)
 
       stay : lists (value_at bytes_cmp name es) q ≡ false → (o : Option Line) → ends es q o ≡ ends less q o
       stay t None = refl

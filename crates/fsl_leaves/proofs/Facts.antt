@@ -5,50 +5,49 @@ use Rattle.std.specs.Str.{bytes_eq}
 use Rattle.std.specs.Cmp.Lexicographic.{bytes_decides}
 use Rattle.std.specs.List.Sorted.{IsStrictlySortedBy}
 use Rattle.std.specs.Map.{keys_of}
-use Rattle.fsl_order.specs.Names.{bytes_cmp, has}
-use Rattle.fsl_table.specs.declared.key.Pair.{Pair}
-use Rattle.fsl_table.specs.Exact.{pair_cmp}
+use Rattle.fsl_order.specs.Names.{bytes_cmp}
 use Rattle.fsl_table.specs.Pairs.{is_name}
 use Rattle.fsl_table.specs.Contents.{value_at, with_entry, without_key}
 use Rattle.fsl_table.proofs.Finding.{value-with, value-without}
 use Rattle.fsl_leaves.specs.declared.line.Line.{Line}
-use Rattle.fsl_leaves.specs.Kept.{Lines, lists, differs, ArePairs}
+use Rattle.fsl_leaves.specs.Keys.{Kin, kin_cmp, is_kin}
+use Rattle.fsl_leaves.specs.Kept.{Lines, lists, continues_in, differs, ArePairs}
 
 or-false : (b : Bool) → (b || false) ≡ b
 or-false true = refl
 or-false false = refl
 
-pub pairs_with : (facts : Lines) (children : List (Pair × Unit {0})) (name : List ℕ) (l : Line) → ArePairs facts children → value_at bytes_cmp name facts ≡ None
-    → (k : Pair) → (is_some (value_at pair_cmp k children) || (is_name k.second name && has l.parents k.first)) ≡ lists (option_and_then (λ c. value_at bytes_cmp c (with_entry bytes_cmp name l facts)) k.second) k.first
+pub pairs_with : (facts : Lines) (children : List (Kin × Unit {0})) (name : List ℕ) (l : Line) → ArePairs facts children → value_at bytes_cmp name facts ≡ None
+    → (k : Kin) → (is_some (value_at kin_cmp k children) || is_kin name l.parents l.branch k) ≡ continues_in (option_and_then (λ c. value_at bytes_cmp c (with_entry bytes_cmp name l facts)) k.second) k.first.parent k.first.branch
 pairs_with facts children name l pairs none k =
-    ap (λ b. b || (is_name k.second name && has l.parents k.first)) (pairs k) ∙ by k.second
+    ap (λ b. b || is_kin name l.parents l.branch k) (pairs k) ∙ by k.second
   where
-    by : (s : Option (List ℕ)) → (lists (option_and_then (λ c. value_at bytes_cmp c facts) s) k.first || (is_name s name && has l.parents k.first)) ≡ lists (option_and_then (λ c. value_at bytes_cmp c (with_entry bytes_cmp name l facts)) s) k.first
+    by : (s : Option (List ℕ)) → (continues_in (option_and_then (λ c. value_at bytes_cmp c facts) s) k.first.parent k.first.branch || (is_name s name && continues_in (Some l) k.first.parent k.first.branch)) ≡ continues_in (option_and_then (λ c. value_at bytes_cmp c (with_entry bytes_cmp name l facts)) s) k.first.parent k.first.branch
     by None = refl
     by (Some c) =
-        elim (bytes_eq c name) as (λ b. bytes_eq c name ≡ b → (lists (value_at bytes_cmp c facts) k.first || (b && has l.parents k.first)) ≡ lists (cond b (Some l) (value_at bytes_cmp c facts)) k.first) [
-          | true ↦ λ h. ap (λ r. lists r k.first || has l.parents k.first) (ap (λ q. value_at bytes_cmp q facts) ((bytes_decides c name).0 h) ∙ none)
-          | false ↦ λ h. or-false (lists (value_at bytes_cmp c facts) k.first)
+        elim (bytes_eq c name) as (λ b. bytes_eq c name ≡ b → (continues_in (value_at bytes_cmp c facts) k.first.parent k.first.branch || (b && continues_in (Some l) k.first.parent k.first.branch)) ≡ continues_in (cond b (Some l) (value_at bytes_cmp c facts)) k.first.parent k.first.branch) [
+          | true ↦ λ h. ap (λ r. continues_in r k.first.parent k.first.branch || continues_in (Some l) k.first.parent k.first.branch) (ap (λ q. value_at bytes_cmp q facts) ((bytes_decides c name).0 h) ∙ none)
+          | false ↦ λ h. or-false (continues_in (value_at bytes_cmp c facts) k.first.parent k.first.branch)
         ] refl
-        ∙ ap (λ r. lists r k.first) (sym (value-with name l facts c))
+        ∙ ap (λ r. continues_in r k.first.parent k.first.branch) (sym (value-with name l facts c))
 
 not-and : (b : Bool) → (not b && b) ≡ false
 not-and true = refl
 not-and false = refl
 
-pub pairs_without : (facts : Lines) (children : List (Pair × Unit {0})) (name : List ℕ) → IsStrictlySortedBy bytes_cmp (keys_of facts) → ArePairs facts children
-    → (k : Pair) → (not (is_name k.second name && lists (value_at bytes_cmp name facts) k.first) && is_some (value_at pair_cmp k children)) ≡ lists (option_and_then (λ c. value_at bytes_cmp c (without_key bytes_cmp name facts)) k.second) k.first
+pub pairs_without : (facts : Lines) (children : List (Kin × Unit {0})) (name : List ℕ) → IsStrictlySortedBy bytes_cmp (keys_of facts) → ArePairs facts children
+    → (k : Kin) → (not (is_name k.second name && continues_in (value_at bytes_cmp name facts) k.first.parent k.first.branch) && is_some (value_at kin_cmp k children)) ≡ continues_in (option_and_then (λ c. value_at bytes_cmp c (without_key bytes_cmp name facts)) k.second) k.first.parent k.first.branch
 pairs_without facts children name sorted pairs k =
-    ap (λ b. not (is_name k.second name && lists (value_at bytes_cmp name facts) k.first) && b) (pairs k) ∙ by k.second
+    ap (λ b. not (is_name k.second name && continues_in (value_at bytes_cmp name facts) k.first.parent k.first.branch) && b) (pairs k) ∙ by k.second
   where
-    by : (s : Option (List ℕ)) → (not (is_name s name && lists (value_at bytes_cmp name facts) k.first) && lists (option_and_then (λ c. value_at bytes_cmp c facts) s) k.first) ≡ lists (option_and_then (λ c. value_at bytes_cmp c (without_key bytes_cmp name facts)) s) k.first
+    by : (s : Option (List ℕ)) → (not (is_name s name && continues_in (value_at bytes_cmp name facts) k.first.parent k.first.branch) && continues_in (option_and_then (λ c. value_at bytes_cmp c facts) s) k.first.parent k.first.branch) ≡ continues_in (option_and_then (λ c. value_at bytes_cmp c (without_key bytes_cmp name facts)) s) k.first.parent k.first.branch
     by None = refl
     by (Some c) =
-        elim (bytes_eq c name) as (λ b. bytes_eq c name ≡ b → (not (b && lists (value_at bytes_cmp name facts) k.first) && lists (value_at bytes_cmp c facts) k.first) ≡ lists (cond b None (value_at bytes_cmp c facts)) k.first) [
-          | true ↦ λ h. ap (λ n. not (lists (value_at bytes_cmp name facts) k.first) && lists (value_at bytes_cmp n facts) k.first) ((bytes_decides c name).0 h) ∙ not-and (lists (value_at bytes_cmp name facts) k.first)
+        elim (bytes_eq c name) as (λ b. bytes_eq c name ≡ b → (not (b && continues_in (value_at bytes_cmp name facts) k.first.parent k.first.branch) && continues_in (value_at bytes_cmp c facts) k.first.parent k.first.branch) ≡ continues_in (cond b None (value_at bytes_cmp c facts)) k.first.parent k.first.branch) [
+          | true ↦ λ h. ap (λ n. not (continues_in (value_at bytes_cmp name facts) k.first.parent k.first.branch) && continues_in (value_at bytes_cmp n facts) k.first.parent k.first.branch) ((bytes_decides c name).0 h) ∙ not-and (continues_in (value_at bytes_cmp name facts) k.first.parent k.first.branch)
           | false ↦ λ h. refl
         ] refl
-        ∙ ap (λ r. lists r k.first) (sym (value-without name facts sorted c))
+        ∙ ap (λ r. continues_in r k.first.parent k.first.branch) (sym (value-without name facts sorted c))
 
 -- ---- one leaf more or less
 

@@ -1,4 +1,5 @@
 pub mod Canonical
 pub mod Counting
 pub mod Facts
+pub mod Kinship
 pub mod Reading

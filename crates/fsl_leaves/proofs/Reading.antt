@@ -1,26 +1,24 @@
 -- The leaves, read off the entries.
-use Rattle.std.proofs.Common.{◌≡◌, ◌≢◌, ℕ, List, [], ◌∷◌, Bool, true, false, cond, not, ◌||◌, ◌&&◌, Option, Some, None, is_some, map, filter, length, refl, sym, ap, subst, ◌∙◌}
+use Rattle.std.proofs.Common.{◌≡◌, ◌≢◌, ℕ, List, [], ◌∷◌, Bool, true, false, cond, not, ◌||◌, ◌&&◌, Option, Some, None, is_some, map, filter, refl, sym, ap, subst, ◌∙◌}
 use mathlib.Core.Bool.{true≢false}
 use Rattle.std.specs.Bool.{MatchBool}
 use Rattle.std.specs.Str.{bytes_eq}
 use Rattle.std.specs.List.{list_any}
 use Rattle.std.specs.List.Sorted.{IsStrictlySortedBy}
 use Rattle.std.specs.Map.{keys_of}
-use Rattle.std.specs.Cmp.Lexicographic.{texts_ties, bytes_decides, nat_list_eq_equiv}
+use Rattle.std.specs.Cmp.Lexicographic.{texts_ties, bytes_decides}
 use Rattle.fsl_order.specs.Names.{bytes_cmp, has}
 use Rattle.fsl_order.specs.Rows.{ListsChanged}
 use Rattle.fsl_order.proofs.Orders.{bytes_cmp-IsTotalOrder}
 use Rattle.fsl_order.proofs.AscendingLemmas.{has-ascending}
 use Rattle.fsl_order.proofs.SortedLemmas.{ascending-from, same_names}
 use Rattle.fsl_table.specs.Contents.{value_at}
-use Rattle.fsl_table.specs.Pairs.{seconds}
 use Rattle.fsl_table.proofs.Entries.{none_above}
 use Rattle.fsl_table.proofs.Facts.{has-facts}
-use Rattle.fsl_table.proofs.Seconds.{has_seconds}
 use Rattle.fsl_leaves.specs.declared.Fact.{Fact}
 use Rattle.fsl_leaves.specs.declared.line.Line.{Line}
 use Rattle.fsl_leaves.specs.Leaves.{continues, leaves, leaves_row}
-use Rattle.fsl_leaves.specs.Kept.{Lines, Rows, IsKept, fact_of, facts_of, lists, continued, ends, leaf, differs, AreFlipped}
+use Rattle.fsl_leaves.specs.Kept.{Lines, Rows, IsKept, fact_of, facts_of, continued, ends, leaf, differs, AreFlipped}
 
 -- whether the fact of an entry passes a test
 abbrev passes : (Fact → Bool) → List ℕ → Option Line → Bool
@@ -88,29 +86,3 @@ lists_flipped r s kr ks changed rising flipped = record {
     by old new true false p q = λ e. true≢false (sym p ∙ e ∙ q)
     by old new false true p q = λ e. true≢false (sym q ∙ sym e ∙ p)
     by old new false false p q = p ∙ sym q
-
--- ---- a name that nobody names
-
-first_false : (a b : Bool) → (a || b) ≡ false → a ≡ false
-first_false true b h = absurd (true≢false h)
-first_false false b h = refl
-
-second_false : (a b : Bool) → (a || b) ≡ false → b ≡ false
-second_false true b h = absurd (true≢false h)
-second_false false b h = h
-
-lists_none : (es : Lines) (q : List ℕ) → list_any (λ f. has f.parents q) (facts_of es) ≡ false → (c : List ℕ) → lists (value_at bytes_cmp c es) q ≡ false
-lists_none [] q h c = refl
-lists_none (e ∷ es) q h c = ap (λ s. lists (cond s (Some e.1) (value_at bytes_cmp c es)) q) (sym (texts_ties c e.0)) ∙ split (λ k. lists_none es q k c) (bytes_eq c e.0)
-  where
-    split : (list_any (λ f. has f.parents q) (facts_of es) ≡ false → lists (value_at bytes_cmp c es) q ≡ false) → (s : Bool) → lists (cond s (Some e.1) (value_at bytes_cmp c es)) q ≡ false
-    split rest true = first_false (has e.1.parents q) (list_any (λ f. has f.parents q) (facts_of es)) h
-    split rest false = rest (second_false (has e.1.parents q) (list_any (λ f. has f.parents q) (facts_of es)) h)
-
-empty : (xs : List (List ℕ)) → ((c : List ℕ) → has xs c ≡ false) → length xs ≡ 0
-empty [] h = refl
-empty (x ∷ xs) h = absurd (true≢false (sym (ap (λ b. b || has xs x) (nat_list_eq_equiv.refl x)) ∙ h x))
-
-pub no_seconds : (r : Rows) (q : List ℕ) → IsKept r → list_any (λ f. has f.parents q) (facts_of r.facts.entries) ≡ false → length (seconds q r.children.entries) ≡ 0
-no_seconds r q k none =
-    empty (seconds q r.children.entries) (λ c. has_seconds q c r.children.entries ∙ k.pairs (record { first = q; second = Some c }) ∙ lists_none r.facts.entries q none c)

@@ -1,4 +1,4 @@
--- How the tables hold the facts: the parents and the branch by name, a pair for each parent and child, and the leaves.
+-- How the tables hold the facts: the parents and the branch by name, a key for each parent, branch and child, and the leaves.
 use Rattle.std.specs.Prelude.{◌≡◌, ℕ, List, [], ◌∷◌, Bool, true, false, not, ◌&&◌, Option, Some, None, map, is_some, option_and_then}
 use Rattle.std.specs.List.{list_any}
 use Rattle.std.specs.Str.{bytes_eq}
@@ -6,13 +6,11 @@ use Rattle.std.specs.List.Sorted.{IsStrictlySortedBy}
 use Rattle.std.specs.Map.{keys_of}
 use Rattle.fsl_order.specs.Names.{bytes_cmp, has}
 use Rattle.fsl_order.specs.Held.{Held, IsAsBefore}
-use Rattle.fsl_table.specs.Exact.{pair_cmp}
-use Rattle.fsl_table.specs.declared.key.Pair.{Pair}
 use Rattle.fsl_table.specs.Contents.{Contents, value_at}
-use Rattle.fsl_table.specs.Pairs.{seconds}
 use Rattle.fsl_table.specs.declared.step.Step.{Step}
 use Rattle.fsl_table.specs.Undo.{undone, CanUndo}
 use Rattle.fsl_leaves.specs.declared.Fact.{Fact}
+use Rattle.fsl_leaves.specs.Keys.{Kin, kin_cmp, walked}
 use Rattle.fsl_leaves.specs.declared.line.Line.{Line}
 
 abbrev pub Lines : Type 0
@@ -26,7 +24,7 @@ facts_of es = map fact_of es
 
 pub record Rows : Type 0 where
   pub facts : Contents (List ℕ) Line
-  pub children : Contents Pair (Unit {0})
+  pub children : Contents Kin (Unit {0})
   pub leaves : Contents (List ℕ) (Unit {0})
 
 abbrev pub held_of : Rows → Held Fact
@@ -42,9 +40,13 @@ abbrev pub is_in : Option Line → List ℕ → Bool
 is_in None b = false
 is_in (Some l) b = bytes_eq l.branch b
 
--- there is a pair exactly for each child and parent
-abbrev pub ArePairs : Lines → List (Pair × Unit {0}) → Type 0
-ArePairs facts children = (k : Pair) → is_some (value_at pair_cmp k children) ≡ lists (option_and_then (λ c. value_at bytes_cmp c facts) k.second) k.first
+-- whether a check-in has this parent and is in this branch
+abbrev pub continues_in : Option Line → List ℕ → List ℕ → Bool
+continues_in o q b = lists o q && is_in o b
+
+-- there is a key exactly for each child, its branch and a parent
+abbrev pub ArePairs : Lines → List (Kin × Unit {0}) → Type 0
+ArePairs facts children = (k : Kin) → is_some (value_at kin_cmp k children) ≡ continues_in (option_and_then (λ c. value_at bytes_cmp c facts) k.second) k.first.parent k.first.branch
 
 -- whether a name has a child in a branch
 abbrev pub continued : Lines → List ℕ → List ℕ → Bool
@@ -59,18 +61,14 @@ ends facts q (Some l) = not (continued facts q l.branch)
 abbrev pub leaf : Lines → List ℕ → Bool
 leaf facts q = ends facts q (value_at bytes_cmp q facts)
 
--- whether a name has a child in a branch, among the pairs
-abbrev pub walked : Lines → List (Pair × Unit {0}) → List ℕ → List ℕ → Bool
-walked facts children q b = list_any (λ c. is_in (value_at bytes_cmp c facts) b) (seconds q children)
+-- whether the check-in is there, and has no child in its own branch among the keys
+abbrev pub ends_walk : List (Kin × Unit {0}) → List ℕ → Option Line → Bool
+ends_walk children q None = false
+ends_walk children q (Some l) = not (walked children q l.branch)
 
--- whether that is so of a check-in and its own branch, among the pairs
-abbrev pub ends_walk : Lines → List (Pair × Unit {0}) → List ℕ → Option Line → Bool
-ends_walk facts children q None = false
-ends_walk facts children q (Some l) = not (walked facts children q l.branch)
-
--- whether the check-in of a name is there, and is a leaf among the pairs
-abbrev pub counted : Lines → List (Pair × Unit {0}) → List ℕ → Bool
-counted facts children q = ends_walk facts children q (value_at bytes_cmp q facts)
+-- whether the check-in of a name is there, and is a leaf among the keys
+abbrev pub counted : Lines → List (Kin × Unit {0}) → List ℕ → Bool
+counted facts children q = ends_walk children q (value_at bytes_cmp q facts)
 
 -- whether two answers differ
 abbrev pub differs : Bool → Bool → Bool
@@ -83,19 +81,19 @@ AreFlipped before changed leaves = (q : List ℕ) → has changed q ≡ differs 
 
 pub record IsKept (r : Rows) : Type 0 where
   pub ordered : IsStrictlySortedBy bytes_cmp (keys_of r.facts.entries)
-  pub pairs_ordered : IsStrictlySortedBy pair_cmp (keys_of r.children.entries)
+  pub pairs_ordered : IsStrictlySortedBy kin_cmp (keys_of r.children.entries)
   pub leaves_ordered : IsStrictlySortedBy bytes_cmp (keys_of r.leaves.entries)
   pub pairs : ArePairs r.facts.entries r.children.entries
   pub leaves : (q : List ℕ) → is_some (value_at bytes_cmp q r.leaves.entries) ≡ leaf r.facts.entries q
 
 -- what the logs leave
-abbrev pub undone_rows : List (Step (List ℕ) Line) → List (Step Pair (Unit {0})) → List (Step (List ℕ) (Unit {0})) → Rows → Rows
-undone_rows facts children leaves r = record { facts = undone bytes_cmp facts r.facts; children = undone pair_cmp children r.children; leaves = undone bytes_cmp leaves r.leaves }
+abbrev pub undone_rows : List (Step (List ℕ) Line) → List (Step Kin (Unit {0})) → List (Step (List ℕ) (Unit {0})) → Rows → Rows
+undone_rows facts children leaves r = record { facts = undone bytes_cmp facts r.facts; children = undone kin_cmp children r.children; leaves = undone bytes_cmp leaves r.leaves }
 
 -- the logs find their memory, and lead back
-pub record TakesBack (facts : List (Step (List ℕ) Line)) (children : List (Step Pair (Unit {0}))) (leaves : List (Step (List ℕ) (Unit {0}))) (before : Held Fact) (now : Rows) : Type 0 where
+pub record TakesBack (facts : List (Step (List ℕ) Line)) (children : List (Step Kin (Unit {0}))) (leaves : List (Step (List ℕ) (Unit {0}))) (before : Held Fact) (now : Rows) : Type 0 where
   pub facts_can : CanUndo bytes_cmp facts now.facts
-  pub children_can : CanUndo pair_cmp children now.children
+  pub children_can : CanUndo kin_cmp children now.children
   pub leaves_can : CanUndo bytes_cmp leaves now.leaves
   pub kept : IsKept (undone_rows facts children leaves now)
   pub back : IsAsBefore before (held_of (undone_rows facts children leaves now))

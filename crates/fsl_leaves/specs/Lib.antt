@@ -1,2 +1,3 @@
-pub mod Leaves
+pub mod Keys
 pub mod Kept
+pub mod Leaves

@@ -1,21 +1,21 @@
 //! Where lines of check-ins in one branch end, and the set of those ends.
-ghost use Rattle.std.specs.Prelude.{ℕ, List, Bool, ◌≡◌, ◌+◌, ◌*◌, ◌≤◌, length, OnOk, not, is_some, ◌&&◌, if◌then◌else◌};
+ghost use Rattle.std.specs.Prelude.{ℕ, List, Bool, ◌≡◌, ◌+◌, ◌*◌, ◌≤◌, length, OnOk, IfOk, not, is_some, ◌&&◌, if◌then◌else◌};
 ghost use Rattle.std.specs.Str.{bytes_eq};
 ghost use Rattle.std.specs.List.Sorted.{IsStrictlySortedBy};
 ghost use Rattle.std.specs.Map.{keys_of};
 ghost use Rattle.fsl_order.specs.Names.{bytes_cmp, has};
-ghost use Rattle.fsl_table.specs.Exact.{pair_cmp};
 ghost use Rattle.fsl_table.specs.Contents.{Contents, value_at};
-ghost use Rattle.fsl_table.specs.Pairs.{seconds};
 ghost use Rattle.fsl_table.specs.Undo.{Undoes};
-ghost use Rattle.fsl_leaves.specs.Kept.{is_in, walked, counted, differs, AreFlipped};
+ghost use Rattle.fsl_leaves.specs.Keys.{kin_cmp, walked};
+ghost use Rattle.fsl_leaves.specs.Kept.{is_in, counted, differs, AreFlipped};
 
+use crate::branch::Branch;
+use crate::kin::{Twig, is_continued};
 use crate::line::Line;
 use fsl_name::Name;
 use fsl_table::names::flip;
-use fsl_table::pairs::second_after;
-use fsl_table::{Log, Pair, Table, log};
-use fsl_text::{Memory, Steps, Text};
+use fsl_table::{Log, Table, Within, log};
+use fsl_text::{Memory, Steps};
 use std::collections::BTreeSet;
 use std::sync::ledger::Ledger;
 
@@ -23,7 +23,7 @@ use std::sync::ledger::Ledger;
 fn is_in<L: Ledger>(
     facts: &Table<Name, Line>,
     name: Name,
-    branch: &Text,
+    branch: &Branch,
     steps: &mut Steps<L>,
 ) -> bool
     ensures is { result ≡ is_in (value_at bytes_cmp name facts.now.entries) branch.now }
@@ -35,41 +35,33 @@ fn is_in<L: Ledger>(
     }
 }
 
-/// Whether a name has a child in a branch.
-pub(crate) fn is_continued<L: Ledger>(
-    facts: &Table<Name, Line>,
-    children: &Table<Pair, ()>,
+/// Whether a name has no child in a branch. `Memory` is the only error.
+fn is_end<L: Ledger>(
+    children: &Table<Within<Twig, Name>, ()>,
     name: Name,
-    branch: &Text,
+    branch: &Branch,
     steps: &mut Steps<L>,
-) -> bool
-    requires { IsStrictlySortedBy pair_cmp (keys_of children.now.entries) }
-    ensures is { result ≡ walked facts.now.entries children.now.entries name branch.now }
-    ensures cost { steps.new ≤ steps.old + (1 + 2 * length (seconds name children.now.entries)) }
+) -> Result<bool, Memory>
+    requires { IsStrictlySortedBy kin_cmp (keys_of children.now.entries) }
+    ensures is { IfOk result (λ ended. ended ≡ not (walked children.now.entries name branch.now)) }
 {
-    let mut next = second_after(children, name, None, steps);
-    while let Some(child) = next {
-        if is_in(facts, child, branch, steps) {
-            return true;
-        }
-        next = second_after(children, name, Some(child), steps);
-    }
-    false
+    let continued = is_continued(children, name, branch, steps)?;
+    Ok(!continued)
 }
 
-/// Whether the check-in of a name is there and has no child in its own branch.
+/// Whether the check-in of a name is there and has no child in its own branch. `Memory` is the only error.
 fn has_ended<L: Ledger>(
     facts: &Table<Name, Line>,
-    children: &Table<Pair, ()>,
+    children: &Table<Within<Twig, Name>, ()>,
     name: Name,
     steps: &mut Steps<L>,
-) -> bool
-    requires { IsStrictlySortedBy pair_cmp (keys_of children.now.entries) }
-    ensures is { result ≡ counted facts.now.entries children.now.entries name }
+) -> Result<bool, Memory>
+    requires { IsStrictlySortedBy kin_cmp (keys_of children.now.entries) }
+    ensures is { IfOk result (λ ended. ended ≡ counted facts.now.entries children.now.entries name) }
 {
     match facts.get(&name, steps) {
-        None => false,
-        Some(line) => !is_continued(facts, children, name, &line.branch, steps),
+        None => Ok(false),
+        Some(line) => is_end(children, name, &line.branch, steps),
     }
 }
 
@@ -146,7 +138,7 @@ fn end_leaf<L: Ledger>(
     log: &mut Log<Name, ()>,
     changed: &mut BTreeSet<Name>,
     parent: Name,
-    branch: &Text,
+    branch: &Branch,
     steps: &mut Steps<L>,
 ) -> Result<(), Memory>
     requires { IsStrictlySortedBy bytes_cmp (keys_of leaves.old.entries) }
@@ -170,7 +162,7 @@ pub(crate) fn end_leaves<L: Ledger>(
     log: &mut Log<Name, ()>,
     changed: &mut BTreeSet<Name>,
     parents: &[Name],
-    branch: &Text,
+    branch: &Branch,
     steps: &mut Steps<L>,
 ) -> Result<(), Memory>
     requires { IsStrictlySortedBy bytes_cmp (keys_of leaves.old.entries) }
@@ -190,7 +182,7 @@ pub(crate) fn end_leaves<L: Ledger>(
 /// Makes each of some names a leaf or none, as its children tell. After `Memory` the log has what was done.
 pub(crate) fn recount<L: Ledger>(
     facts: &Table<Name, Line>,
-    children: &Table<Pair, ()>,
+    children: &Table<Within<Twig, Name>, ()>,
     leaves: &mut Table<Name, ()>,
     log: &mut Log<Name, ()>,
     changed: &mut BTreeSet<Name>,
@@ -198,14 +190,14 @@ pub(crate) fn recount<L: Ledger>(
     steps: &mut Steps<L>,
 ) -> Result<(), Memory>
     requires leaves { IsStrictlySortedBy bytes_cmp (keys_of leaves.old.entries) }
-    requires pairs { IsStrictlySortedBy pair_cmp (keys_of children.now.entries) }
+    requires pairs { IsStrictlySortedBy kin_cmp (keys_of children.now.entries) }
     ensures leaves { OnOk result ((q : List ℕ) → is_some (value_at bytes_cmp q leaves.new.entries) ≡ (if has names.now q then counted facts.now.entries children.now.entries q else is_some (value_at bytes_cmp q leaves.old.entries))) }
     ensures flips { OnOk result ((before : List ℕ → Bool) → AreFlipped before changed.old.keys leaves.old.entries → AreFlipped before changed.new.keys leaves.new.entries) }
     ensures ordered { OnOk result (IsStrictlySortedBy bytes_cmp (keys_of leaves.new.entries)) }
     ensures undoes { (before : Contents (List ℕ) Unit) → Undoes bytes_cmp log.old leaves.old before → Undoes bytes_cmp log.new leaves.new before }
 {
     for name in names {
-        let ended = has_ended(facts, children, *name, steps);
+        let ended = has_ended(facts, children, *name, steps)?;
         set_leaf(leaves, log, changed, *name, ended, steps)?;
     }
     Ok(())

@@ -8,12 +8,13 @@ ghost use Rattle.fsl_leaves.specs.Leaves.{leaves_row};
 ghost use Rattle.fsl_leaves.specs.Leaves as table;
 
 use super::Fact;
+use super::kin::Twig;
 use super::line::Line;
 use super::rows::{put_fact, put_listed};
 use fsl_name::Name;
 use fsl_rows::Named;
 use fsl_table::keys::keys;
-use fsl_table::{Log, Pair, Table, log};
+use fsl_table::{Log, Table, Within, log};
 use fsl_text::{List, Memory, Steps};
 use std::alloc::Global;
 use std::collections::BTreeSet;
@@ -25,8 +26,8 @@ use std::sync::ledger::{Blank, Ledger};
 #[derive(Drop)]
 pub struct Leaves {
     facts: Table<Name, Line>,
-    /// A pair for each name of a P card and the check-in that has it.
-    children: Table<Pair, ()>,
+    /// A key for each name of a P card, with the branch of the check-in that has it, and that check-in.
+    children: Table<Within<Twig, Name>, ()>,
     leaves: Table<Name, ()>,
 }
 
@@ -46,7 +47,7 @@ impl Model for Leaves {
 #[derive(Drop)]
 pub struct Undo {
     facts: Log<Name, Line>,
-    children: Log<Pair, ()>,
+    children: Log<Within<Twig, Name>, ()>,
     leaves: Log<Name, ()>,
     changed: List<Name>,
     before: Snapshot<Leaves>,
@@ -132,6 +133,7 @@ impl Leaves {
         let mut leaves = Table::new(alloc);
         while let Some(fact) = left.pop() {
             put_fact(
+                alloc,
                 &mut rows,
                 &mut children,
                 &mut leaves,

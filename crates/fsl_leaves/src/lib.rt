@@ -6,7 +6,9 @@
 
 ghost use Rattle.std.specs.Prelude.{◌≡◌, IfOk};
 
+mod branch;
 mod ends;
+mod kin;
 mod leaves;
 mod line;
 mod rows;

@@ -5,22 +5,22 @@ ghost use Rattle.std.specs.List.Sorted.{IsStrictlySortedBy};
 ghost use Rattle.std.specs.Map.{keys_of};
 ghost use Rattle.fsl_order.specs.Names.{bytes_cmp, has};
 ghost use Rattle.fsl_order.specs.Rows.{ListsChanged};
-ghost use Rattle.fsl_table.specs.Exact.{pair_cmp};
 ghost use Rattle.fsl_table.specs.Contents.{Contents, with_entry, without_key, value_at};
-ghost use Rattle.fsl_table.specs.Pairs.{is_name, seconds};
+ghost use Rattle.fsl_table.specs.Pairs.{is_name};
 ghost use Rattle.fsl_table.specs.Undo.{Undoes};
-ghost use Rattle.fsl_table.specs.declared.key.Pair as pair;
 ghost use Rattle.fsl_leaves.specs.declared.line.Line as line;
-ghost use Rattle.fsl_leaves.specs.Kept.{facts_of, IsKept, AreFlipped, lists, counted, walked};
+ghost use Rattle.fsl_leaves.specs.Keys.{Kin, kin_cmp, has_kin, is_kin};
+ghost use Rattle.fsl_leaves.specs.Kept.{facts_of, IsKept, AreFlipped, lists, continues_in, counted};
 ghost use Rattle.fsl_leaves.specs.Leaves.{leaves_row};
 
 use crate::Fact;
-use crate::ends::{end_leaves, is_continued, recount, set_leaf};
+use crate::branch::Branch;
+use crate::ends::{end_leaves, recount, set_leaf};
+use crate::kin::{Twig, is_continued, link_each, unlink_each};
 use crate::line::Line;
 use fsl_name::Name;
 use fsl_table::names::listed;
-use fsl_table::pairs::{link_each, unlink_each};
-use fsl_table::{Log, Pair, Table, log};
+use fsl_table::{Log, Table, Within, log};
 use fsl_text::{List, Memory, Steps};
 use std::alloc::Global;
 use std::collections::BTreeSet;
@@ -42,11 +42,12 @@ fn neither(a: bool, b: bool) -> bool
 
 /// Puts a new check-in, and logs what takes it out again. After `Memory` a part may be done; the logs have it.
 pub(crate) fn put_fact<L: Ledger>(
+    alloc: Global,
     facts: &mut Table<Name, Line>,
-    children: &mut Table<Pair, ()>,
+    children: &mut Table<Within<Twig, Name>, ()>,
     leaves: &mut Table<Name, ()>,
     facts_log: &mut Log<Name, Line>,
-    children_log: &mut Log<Pair, ()>,
+    children_log: &mut Log<Within<Twig, Name>, ()>,
     leaves_log: &mut Log<Name, ()>,
     changed: &mut BTreeSet<Name>,
     fact: Fact,
@@ -58,9 +59,9 @@ pub(crate) fn put_fact<L: Ledger>(
     ensures kept { OnOk result (IsKept (record { facts = facts.new; children = children.new; leaves = leaves.new })) }
     ensures flips { OnOk result ((before : List ℕ → Bool) → AreFlipped before changed.old.keys leaves.old.entries → AreFlipped before changed.new.keys leaves.new.entries) }
     ensures undoes_facts { (before : Contents (List ℕ) line.Line) → Undoes bytes_cmp facts_log.old facts.old before → Undoes bytes_cmp facts_log.new facts.new before }
-    ensures undoes_children { (before : Contents pair.Pair Unit) → Undoes pair_cmp children_log.old children.old before → Undoes pair_cmp children_log.new children.new before }
+    ensures undoes_children { (before : Contents Kin Unit) → Undoes kin_cmp children_log.old children.old before → Undoes kin_cmp children_log.new children.new before }
     ensures undoes_leaves { (before : Contents (List ℕ) Unit) → Undoes bytes_cmp leaves_log.old leaves.old before → Undoes bytes_cmp leaves_log.new leaves.new before }
-    ensures cost { steps.new ≤ steps.old + (4 + 2 * length (seconds fact.name children.old.entries) + 4 * length fact.parents) }
+    ensures cost { steps.new ≤ steps.old + (4 + 4 * length fact.parents) }
     ensures logged { length facts_log.new + length children_log.new + length leaves_log.new ≤ length facts_log.old + length children_log.old + length leaves_log.old + (2 + 2 * length fact.parents) }
 {
     let Fact {
@@ -68,10 +69,11 @@ pub(crate) fn put_fact<L: Ledger>(
         parents,
         branch,
     } = fact;
-    let continued = is_continued(facts, children, name, &branch, steps);
+    let branch = Branch::new(alloc, branch)?;
+    let continued = is_continued(children, name, &branch, steps)?;
     let names = parents.items();
     let named = stands_in(names, name);
-    link_each(children, children_log, name, names, steps)?;
+    link_each(children, children_log, name, names, &branch, steps)?;
     end_leaves(facts, leaves, leaves_log, changed, names, &branch, steps)?;
     let ended = neither(continued, named);
     set_leaf(leaves, leaves_log, changed, name, ended, steps)?;
@@ -82,26 +84,27 @@ pub(crate) fn put_fact<L: Ledger>(
 /// Takes the pairs of a check-in that is there out, counts its parents anew, and takes it out of the leaves.
 fn unlink_line<L: Ledger>(
     facts: &Table<Name, Line>,
-    children: &mut Table<Pair, ()>,
+    children: &mut Table<Within<Twig, Name>, ()>,
     leaves: &mut Table<Name, ()>,
-    children_log: &mut Log<Pair, ()>,
+    children_log: &mut Log<Within<Twig, Name>, ()>,
     leaves_log: &mut Log<Name, ()>,
     changed: &mut BTreeSet<Name>,
     name: Name,
     parents: &[Name],
+    branch: &Branch,
     steps: &mut Steps<L>,
 ) -> Result<(), Memory>
-    requires pairs { IsStrictlySortedBy pair_cmp (keys_of children.old.entries) }
+    requires pairs { IsStrictlySortedBy kin_cmp (keys_of children.old.entries) }
     requires leaves { IsStrictlySortedBy bytes_cmp (keys_of leaves.old.entries) }
-    ensures pairs_ordered { OnOk result (IsStrictlySortedBy pair_cmp (keys_of children.new.entries)) }
+    ensures pairs_ordered { OnOk result (IsStrictlySortedBy kin_cmp (keys_of children.new.entries)) }
     ensures leaves_ordered { OnOk result (IsStrictlySortedBy bytes_cmp (keys_of leaves.new.entries)) }
-    ensures pairs { OnOk result ((k : pair.Pair) → is_some (value_at pair_cmp k children.new.entries) ≡ (not (is_name k.second name && has parents.now k.first) && is_some (value_at pair_cmp k children.old.entries))) }
+    ensures pairs { OnOk result ((k : Kin) → has_kin children.new.entries k ≡ (not (is_kin name parents.now branch.now k) && has_kin children.old.entries k)) }
     ensures leaves { OnOk result ((q : List ℕ) → is_some (value_at bytes_cmp q leaves.new.entries) ≡ (if bytes_eq q name then false else (if has parents.now q then counted facts.now.entries children.new.entries q else is_some (value_at bytes_cmp q leaves.old.entries)))) }
     ensures flips { OnOk result ((before : List ℕ → Bool) → AreFlipped before changed.old.keys leaves.old.entries → AreFlipped before changed.new.keys leaves.new.entries) }
-    ensures undoes_children { (before : Contents pair.Pair Unit) → Undoes pair_cmp children_log.old children.old before → Undoes pair_cmp children_log.new children.new before }
+    ensures undoes_children { (before : Contents Kin Unit) → Undoes kin_cmp children_log.old children.old before → Undoes kin_cmp children_log.new children.new before }
     ensures undoes_leaves { (before : Contents (List ℕ) Unit) → Undoes bytes_cmp leaves_log.old leaves.old before → Undoes bytes_cmp leaves_log.new leaves.new before }
 {
-    unlink_each(children, children_log, name, parents, steps)?;
+    unlink_each(children, children_log, name, parents, branch, steps)?;
     recount(facts, children, leaves, leaves_log, changed, parents, steps)?;
     set_leaf(leaves, leaves_log, changed, name, false, steps)
 }
@@ -109,21 +112,21 @@ fn unlink_line<L: Ledger>(
 /// The same of a name, where it is there.
 fn unlink_name<L: Ledger>(
     facts: &Table<Name, Line>,
-    children: &mut Table<Pair, ()>,
+    children: &mut Table<Within<Twig, Name>, ()>,
     leaves: &mut Table<Name, ()>,
-    children_log: &mut Log<Pair, ()>,
+    children_log: &mut Log<Within<Twig, Name>, ()>,
     leaves_log: &mut Log<Name, ()>,
     changed: &mut BTreeSet<Name>,
     name: Name,
     steps: &mut Steps<L>,
 ) -> Result<(), Memory>
     requires kept { IsKept (record { facts = facts.now; children = children.old; leaves = leaves.old }) }
-    ensures pairs_ordered { OnOk result (IsStrictlySortedBy pair_cmp (keys_of children.new.entries)) }
+    ensures pairs_ordered { OnOk result (IsStrictlySortedBy kin_cmp (keys_of children.new.entries)) }
     ensures leaves_ordered { OnOk result (IsStrictlySortedBy bytes_cmp (keys_of leaves.new.entries)) }
-    ensures pairs { OnOk result ((k : pair.Pair) → is_some (value_at pair_cmp k children.new.entries) ≡ (not (is_name k.second name && lists (value_at bytes_cmp name facts.now.entries) k.first) && is_some (value_at pair_cmp k children.old.entries))) }
+    ensures pairs { OnOk result ((k : Kin) → has_kin children.new.entries k ≡ (not (is_name k.second name && continues_in (value_at bytes_cmp name facts.now.entries) k.first.parent k.first.branch) && has_kin children.old.entries k)) }
     ensures leaves { OnOk result ((q : List ℕ) → is_some (value_at bytes_cmp q leaves.new.entries) ≡ (if bytes_eq q name then false else (if lists (value_at bytes_cmp name facts.now.entries) q then counted facts.now.entries children.new.entries q else is_some (value_at bytes_cmp q leaves.old.entries)))) }
     ensures flips { OnOk result ((before : List ℕ → Bool) → AreFlipped before changed.old.keys leaves.old.entries → AreFlipped before changed.new.keys leaves.new.entries) }
-    ensures undoes_children { (before : Contents pair.Pair Unit) → Undoes pair_cmp children_log.old children.old before → Undoes pair_cmp children_log.new children.new before }
+    ensures undoes_children { (before : Contents Kin Unit) → Undoes kin_cmp children_log.old children.old before → Undoes kin_cmp children_log.new children.new before }
     ensures undoes_leaves { (before : Contents (List ℕ) Unit) → Undoes bytes_cmp leaves_log.old leaves.old before → Undoes bytes_cmp leaves_log.new leaves.new before }
 {
     match facts.get(&name, steps) {
@@ -137,6 +140,7 @@ fn unlink_name<L: Ledger>(
             changed,
             name,
             line.parents.items(),
+            &line.branch,
             steps,
         ),
     }
@@ -145,10 +149,10 @@ fn unlink_name<L: Ledger>(
 /// Takes a check-in out, and logs what puts it back. After `Memory` a part may be done; the logs have it.
 fn take_out<L: Ledger>(
     facts: &mut Table<Name, Line>,
-    children: &mut Table<Pair, ()>,
+    children: &mut Table<Within<Twig, Name>, ()>,
     leaves: &mut Table<Name, ()>,
     facts_log: &mut Log<Name, Line>,
-    children_log: &mut Log<Pair, ()>,
+    children_log: &mut Log<Within<Twig, Name>, ()>,
     leaves_log: &mut Log<Name, ()>,
     changed: &mut BTreeSet<Name>,
     name: Name,
@@ -159,7 +163,7 @@ fn take_out<L: Ledger>(
     ensures kept { OnOk result (IsKept (record { facts = facts.new; children = children.new; leaves = leaves.new })) }
     ensures flips { OnOk result ((before : List ℕ → Bool) → AreFlipped before changed.old.keys leaves.old.entries → AreFlipped before changed.new.keys leaves.new.entries) }
     ensures undoes_facts { (before : Contents (List ℕ) line.Line) → Undoes bytes_cmp facts_log.old facts.old before → Undoes bytes_cmp facts_log.new facts.new before }
-    ensures undoes_children { (before : Contents pair.Pair Unit) → Undoes pair_cmp children_log.old children.old before → Undoes pair_cmp children_log.new children.new before }
+    ensures undoes_children { (before : Contents Kin Unit) → Undoes kin_cmp children_log.old children.old before → Undoes kin_cmp children_log.new children.new before }
     ensures undoes_leaves { (before : Contents (List ℕ) Unit) → Undoes bytes_cmp leaves_log.old leaves.old before → Undoes bytes_cmp leaves_log.new leaves.new before }
 {
     unlink_name(
@@ -177,11 +181,12 @@ fn take_out<L: Ledger>(
 
 /// Puts a check-in in the place of that of its name. After `Memory` a part may be done; the logs have it.
 fn put_other<L: Ledger>(
+    alloc: Global,
     facts: &mut Table<Name, Line>,
-    children: &mut Table<Pair, ()>,
+    children: &mut Table<Within<Twig, Name>, ()>,
     leaves: &mut Table<Name, ()>,
     facts_log: &mut Log<Name, Line>,
-    children_log: &mut Log<Pair, ()>,
+    children_log: &mut Log<Within<Twig, Name>, ()>,
     leaves_log: &mut Log<Name, ()>,
     changed: &mut BTreeSet<Name>,
     fact: Fact,
@@ -192,7 +197,7 @@ fn put_other<L: Ledger>(
     ensures kept { OnOk result (IsKept (record { facts = facts.new; children = children.new; leaves = leaves.new })) }
     ensures flips { OnOk result ((before : List ℕ → Bool) → AreFlipped before changed.old.keys leaves.old.entries → AreFlipped before changed.new.keys leaves.new.entries) }
     ensures undoes_facts { (before : Contents (List ℕ) line.Line) → Undoes bytes_cmp facts_log.old facts.old before → Undoes bytes_cmp facts_log.new facts.new before }
-    ensures undoes_children { (before : Contents pair.Pair Unit) → Undoes pair_cmp children_log.old children.old before → Undoes pair_cmp children_log.new children.new before }
+    ensures undoes_children { (before : Contents Kin Unit) → Undoes kin_cmp children_log.old children.old before → Undoes kin_cmp children_log.new children.new before }
     ensures undoes_leaves { (before : Contents (List ℕ) Unit) → Undoes bytes_cmp leaves_log.old leaves.old before → Undoes bytes_cmp leaves_log.new leaves.new before }
 {
     take_out(
@@ -207,6 +212,7 @@ fn put_other<L: Ledger>(
         steps,
     )?;
     put_fact(
+        alloc,
         facts,
         children,
         leaves,
@@ -222,11 +228,12 @@ fn put_other<L: Ledger>(
 /// Puts a check-in, a new one where `new` says so, or in the place of that of its name. After `Memory` a part may be done; the
 /// logs have it.
 fn put_either<L: Ledger>(
+    alloc: Global,
     facts: &mut Table<Name, Line>,
-    children: &mut Table<Pair, ()>,
+    children: &mut Table<Within<Twig, Name>, ()>,
     leaves: &mut Table<Name, ()>,
     facts_log: &mut Log<Name, Line>,
-    children_log: &mut Log<Pair, ()>,
+    children_log: &mut Log<Within<Twig, Name>, ()>,
     leaves_log: &mut Log<Name, ()>,
     changed: &mut BTreeSet<Name>,
     fact: Fact,
@@ -239,13 +246,14 @@ fn put_either<L: Ledger>(
     ensures kept { OnOk result (IsKept (record { facts = facts.new; children = children.new; leaves = leaves.new })) }
     ensures flips { OnOk result ((before : List ℕ → Bool) → AreFlipped before changed.old.keys leaves.old.entries → AreFlipped before changed.new.keys leaves.new.entries) }
     ensures undoes_facts { (before : Contents (List ℕ) line.Line) → Undoes bytes_cmp facts_log.old facts.old before → Undoes bytes_cmp facts_log.new facts.new before }
-    ensures undoes_children { (before : Contents pair.Pair Unit) → Undoes pair_cmp children_log.old children.old before → Undoes pair_cmp children_log.new children.new before }
+    ensures undoes_children { (before : Contents Kin Unit) → Undoes kin_cmp children_log.old children.old before → Undoes kin_cmp children_log.new children.new before }
     ensures undoes_leaves { (before : Contents (List ℕ) Unit) → Undoes bytes_cmp leaves_log.old leaves.old before → Undoes bytes_cmp leaves_log.new leaves.new before }
-    ensures cost { new ≡ true → steps.new ≤ steps.old + (4 + 2 * length (seconds fact.name children.old.entries) + 4 * length fact.parents) }
+    ensures cost { new ≡ true → steps.new ≤ steps.old + (4 + 4 * length fact.parents) }
     ensures logged { new ≡ true → length facts_log.new + length children_log.new + length leaves_log.new ≤ length facts_log.old + length children_log.old + length leaves_log.old + (2 + 2 * length fact.parents) }
 {
     if new {
         put_fact(
+            alloc,
             facts,
             children,
             leaves,
@@ -258,6 +266,7 @@ fn put_either<L: Ledger>(
         )
     } else {
         put_other(
+            alloc,
             facts,
             children,
             leaves,
@@ -275,10 +284,10 @@ fn put_either<L: Ledger>(
 pub(crate) fn put_listed<L: Ledger>(
     alloc: Global,
     facts: &mut Table<Name, Line>,
-    children: &mut Table<Pair, ()>,
+    children: &mut Table<Within<Twig, Name>, ()>,
     leaves: &mut Table<Name, ()>,
     facts_log: &mut Log<Name, Line>,
-    children_log: &mut Log<Pair, ()>,
+    children_log: &mut Log<Within<Twig, Name>, ()>,
     leaves_log: &mut Log<Name, ()>,
     fact: Fact,
     new: bool,
@@ -290,13 +299,14 @@ pub(crate) fn put_listed<L: Ledger>(
     ensures kept { OnOk result (IsKept (record { facts = facts.new; children = children.new; leaves = leaves.new })) }
     ensures changed { IfOk result (ListsChanged (leaves_row (facts_of facts.old.entries)) (leaves_row (facts_of facts.new.entries))) }
     ensures undoes_facts { (before : Contents (List ℕ) line.Line) → Undoes bytes_cmp facts_log.old facts.old before → Undoes bytes_cmp facts_log.new facts.new before }
-    ensures undoes_children { (before : Contents pair.Pair Unit) → Undoes pair_cmp children_log.old children.old before → Undoes pair_cmp children_log.new children.new before }
+    ensures undoes_children { (before : Contents Kin Unit) → Undoes kin_cmp children_log.old children.old before → Undoes kin_cmp children_log.new children.new before }
     ensures undoes_leaves { (before : Contents (List ℕ) Unit) → Undoes bytes_cmp leaves_log.old leaves.old before → Undoes bytes_cmp leaves_log.new leaves.new before }
-    ensures cost { new ≡ true → steps.new ≤ steps.old + (4 + 2 * length (seconds fact.name children.old.entries) + 4 * length fact.parents) }
+    ensures cost { new ≡ true → steps.new ≤ steps.old + (4 + 4 * length fact.parents) }
     ensures logged { new ≡ true → length facts_log.new + length children_log.new + length leaves_log.new ≤ length facts_log.old + length children_log.old + length leaves_log.old + (2 + 2 * length fact.parents) }
 {
     let mut changed = BTreeSet::new(alloc);
     put_either(
+        alloc,
         facts,
         children,
         leaves,

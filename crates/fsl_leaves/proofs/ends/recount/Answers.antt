@@ -11,6 +11,9 @@ use Rattle.fsl_leaves.proofs.ends.recount.Goals as goal
 pub returns-in_err-set_leaf-clause-undoes : goal.returns-in_err-set_leaf-clause-undoes
 returns-in_err-set_leaf-clause-undoes g c = λ before u. c.set_leaf.ensures.undoes before (c.loop-name.invariant.undoes before u)
 
+pub returns-in_err-ended-clause-undoes : goal.returns-in_err-ended-clause-undoes
+returns-in_err-ended-clause-undoes g c = λ before u. c.loop-name.invariant.undoes before u
+
 pub set_leaf-requires : goal.set_leaf-requires
 set_leaf-requires g c = c.loop-name.invariant.ordered
 
@@ -25,8 +28,8 @@ loop-name-preserved g c =
     record {
       leaves = λ q.
           ap (λ b. if has rest q then counted es cs q else b) (c.in_ok-set_leaf.ensures.leaves q)
-          ∙ count-step (bytes_eq q p) (has rest q) (counted es cs q) c.has_ended-ended.result (is_some (value_at bytes_cmp q c.loop-name.leaves.entries)) _
-          (λ s. c.has_ended-ended.ensures.is ∙ ap (counted es cs) (sym ((bytes_decides q p).0 s)))
+          ∙ count-step (bytes_eq q p) (has rest q) (counted es cs q) c.in_ok-ended.ended (is_some (value_at bytes_cmp q c.loop-name.leaves.entries)) _
+          (λ s. c.in_ok-ended.ensures.is ∙ ap (counted es cs) (sym ((bytes_decides q p).0 s)))
           (ap (λ l. if has l q then counted es cs q else is_some (value_at bytes_cmp q c.loop-name.leaves.entries)) (sym cut) ∙ c.loop-name.invariant.leaves q);
       flips = λ before all. c.in_ok-set_leaf.ensures.flips before (c.loop-name.invariant.flips before all);
       ordered = c.in_ok-set_leaf.ensures.ordered;

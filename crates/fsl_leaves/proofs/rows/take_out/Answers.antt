@@ -8,7 +8,7 @@ use Rattle.fsl_order.proofs.Orders.{bytes_cmp-IsTotalOrder}
 use Rattle.fsl_table.specs.Contents.{value_at}
 use Rattle.fsl_table.proofs.Entries.{sorted-remove_entry}
 use Rattle.fsl_table.proofs.Outcomes.{on_ok_map, always_ok}
-use Rattle.fsl_leaves.specs.Kept.{lists, leaf, counted, ArePairs}
+use Rattle.fsl_leaves.specs.Kept.{lists, continues_in, leaf, counted, ArePairs}
 use Rattle.fsl_leaves.proofs.Facts.{pairs_without}
 use Rattle.fsl_leaves.proofs.Counting.{leaf_less}
 use Rattle.fsl_table.specs.Contents.{without_key}
@@ -29,7 +29,7 @@ returns-clause-kept g c =
       ordered = subst (λ es. IsStrictlySortedBy bytes_cmp (keys_of es)) (sym out) (sorted-remove_entry bytes_cmp-IsTotalOrder (is_at (bytes_cmp name)) es k.ordered);
       pairs_ordered = c.in_ok-unlink_name.ensures.pairs_ordered;
       leaves_ordered = c.in_ok-unlink_name.ensures.leaves_ordered;
-      pairs = λ key. pairs key ∙ ap (λ es. lists (option_and_then (λ c. value_at bytes_cmp c es) key.second) key.first) (sym out);
+      pairs = λ key. pairs key ∙ ap (λ es. continues_in (option_and_then (λ c. value_at bytes_cmp c es) key.second) key.first.parent key.first.branch) (sym out);
       leaves = λ q.
           c.in_ok-unlink_name.ensures.leaves q
           ∙ ap (λ b. if bytes_eq q name then false else (if lists (value_at bytes_cmp name es) q then counted es cs q else b)) (k.leaves q)

@@ -1,0 +1,36 @@
+use Rattle.std.proofs.lemmas.List.{drop_more}
+use Rattle.std.proofs.Common.{◌≡◌, ◌&&◌, not, ◌∙◌, ◌∷◌, ◌+◌, drop, ap, sym, is_some, arith}
+use Rattle.std.specs.Str.{bytes_eq}
+use Rattle.fsl_order.specs.Names.{has}
+use Rattle.fsl_table.specs.Contents.{value_at}
+use Rattle.fsl_table.specs.Pairs.{is_name}
+use Rattle.fsl_leaves.specs.Keys.{kin_cmp, is_kin}
+use Rattle.fsl_leaves.proofs.Kinship.{unlink-step}
+use Rattle.fsl_leaves.proofs.kin.unlink_each.Goals as goal
+
+pub returns-in_err-unlink-clause-undoes : goal.returns-in_err-unlink-clause-undoes
+returns-in_err-unlink-clause-undoes g c = λ before u. c.unlink.ensures.undoes before (c.loop-parent.invariant.undoes before u)
+
+pub unlink-requires : goal.unlink-requires
+unlink-requires g c = c.loop-parent.invariant.ordered
+
+pub loop-parent-preserved : goal.loop-parent-preserved
+loop-parent-preserved g c =
+    let i = c.loop-parent.parent-index in
+    let p = c.parent-item.result in
+    let rest = drop (i + 1) c.args.parents.now in
+    let child = c.args.child in
+    let branch = c.args.branch.now in
+    let es = c.loop-parent.children.entries in
+    let cut : drop i c.args.parents.now ≡ p ∷ rest = drop_more c.args.parents.now i p c.loop-parent-test.true ∙ ap (λ x. x ∷ rest) (sym c.parent-item.is) in
+    record {
+      pairs = λ k.
+          ap (λ b. not (is_kin child rest branch k) && b) (c.in_ok-unlink.ensures.pairs k)
+          ∙ unlink-step (is_name k.second child) (bytes_eq k.first.parent p) (bytes_eq branch k.first.branch) (has rest k.first.parent) (is_some (value_at kin_cmp k es)) _
+          (ap (λ l. not (is_kin child l branch k) && is_some (value_at kin_cmp k es)) (sym cut) ∙ c.loop-parent.invariant.pairs k);
+      ordered = c.in_ok-unlink.ensures.ordered;
+      undoes = λ before u. c.unlink.ensures.undoes before (c.loop-parent.invariant.undoes before u);
+      cost = omega (arith, c.unlink.ensures.most, c.loop-parent.invariant.cost);
+      logged = omega (arith, c.unlink.ensures.logged, c.loop-parent.invariant.logged);
+      within = omega (arith, c.loop-parent-test.true);
+    }
