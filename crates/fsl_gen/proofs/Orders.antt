@@ -2,14 +2,14 @@
 use Rattle.std.proofs.Common.{◌≡◌, ℕ, ◌+◌, Bool, true, false, not, cond, List, [], ◌∷◌, ◌++◌, map, reverse, refl, sym, ap, ap₂, ◌∙◌, append-nil, map-id, arith}
 use Rattle.std.specs.List.{filter, range_with_len}
 use Rattle.std.specs.List.Sorted.{IsPermutation}
-use Rattle.std.proofs.lemmas.List.{map-append, reverse-reverse}
+use Rattle.std.proofs.lemmas.List.{map-append}
 use Rattle.std.proofs.lemmas.List.Elements.{filter-append}
 use Rattle.std.proofs.lemmas.List.FromFn.{map-range_with_len_more}
 use Rattle.std.proofs.lemmas.List.Sorted.{IsPermutation-append_left, IsPermutation-filter_both, IsPermutation-reverse, IsPermutation-trans}
 use mathlib.Core.List.{reverse_aux}
 use Rattle.fsl_name.specs.Name.{name_of}
 use Rattle.fsl_gen.specs.Artifacts.{artifact_text, names_before}
-use Rattle.fsl_gen.specs.Arrival.{ArrivesEachOnce, IsReversed, arrival, arrival_from, generated, is_odd}
+use Rattle.fsl_gen.specs.Arrival.{ArrivesEachOnce, IsReversed, arrival, generated, is_odd}
 
 map_onto : {A B : Type 0} (f : A → B) (xs ys : List A) → map f (reverse_aux xs ys) ≡ reverse_aux (map f xs) (map f ys)
 map_onto f [] ys = refl

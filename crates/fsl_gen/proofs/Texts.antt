@@ -1,6 +1,5 @@
 -- The texts follow the table, and no others do.
 use Rattle.std.proofs.Common.{◌≡◌, ℕ, zero, suc, ◌<◌, List, [], length, get_or, sym, ◌∙◌, ap, arith}
-use Rattle.std.specs.List.{range_with_len}
 use Rattle.std.proofs.lemmas.List.FromFn.{length-map-range_with_len, get_or-map-range_with_len}
 use Rattle.fsl_name.specs.Name.{name_of}
 use Rattle.fsl_gen.specs.Table.{name_among, text_in_table}

@@ -1,5 +1,5 @@
 -- What the artifact of a number is. The names of the other artifacts are given by their numbers.
-use Rattle.std.specs.Prelude.{◌≡◌, ℕ, ◌+◌, ◌-◌, ◌*◌, ◌/◌, ◌%◌, ◌==◌, nat_lt, List, [], ◌∷◌, ◌++◌, Option, Some, None, true, false, if◌then◌else◌, codes, decimal, slice_index_or}
+use Rattle.std.specs.Prelude.{ℕ, ◌+◌, ◌-◌, ◌*◌, ◌/◌, ◌%◌, ◌==◌, nat_lt, List, [], ◌∷◌, ◌++◌, Option, Some, None, true, false, if◌then◌else◌, codes, decimal, slice_index_or}
 use Rattle.fsl_name.specs.Name.{name_of}
 use Rattle.fsl_date.specs.Moment.{civil_ms}
 use Rattle.fsl_card.specs.Writing.{sealed_text}

@@ -4,7 +4,6 @@ use Rattle.fsl_manifest.specs.Writing.{manifest_cards}
 use Rattle.fsl_forms.specs.Writing.{control_cards, forum_cards, ticket_cards}
 use Rattle.fsl_gen.specs.Table.{name_among}
 use Rattle.fsl_gen.proofs.Rows.{checkin_row, control_row, post_row, ticket_row, written_as}
-use Rattle.fsl_gen.proofs.EarlierNames.{is_last}
 use Rattle.fsl_gen.proofs.Texts.{of_names, reaches}
 use Rattle.fsl_gen.proofs.text.artifact.Goals as goal
 
