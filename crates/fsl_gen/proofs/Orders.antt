@@ -2,14 +2,14 @@
 use Rattle.std.proofs.Common.{◌≡◌, ℕ, ◌+◌, Bool, true, false, not, cond, List, [], ◌∷◌, ◌++◌, map, reverse, refl, sym, ap, ap₂, ◌∙◌, append-nil, map-id, arith}
 use Rattle.std.specs.List.{filter, range_with_len}
 use Rattle.std.specs.List.Sorted.{IsPermutation}
-use Rattle.std.proofs.lemmas.List.{map-append}
+use Rattle.std.proofs.lemmas.List.{length-map, map-append}
 use Rattle.std.proofs.lemmas.List.Elements.{filter-append}
-use Rattle.std.proofs.lemmas.List.FromFn.{map-range_with_len_more}
-use Rattle.std.proofs.lemmas.List.Sorted.{IsPermutation-append_left, IsPermutation-filter_both, IsPermutation-reverse, IsPermutation-trans}
+use Rattle.std.proofs.lemmas.List.FromFn.{length-range_with_len, map-range_with_len_more}
+use Rattle.std.proofs.lemmas.List.Sorted.{IsPermutation-append_left, IsPermutation-filter_both, IsPermutation-reverse, IsPermutation-trans, length_permutation}
 use mathlib.Core.List.{reverse_aux}
 use Rattle.fsl_name.specs.Name.{name_of}
 use Rattle.fsl_gen.specs.Artifacts.{artifact_text, names_before}
-use Rattle.fsl_gen.specs.Arrival.{ArrivesEachOnce, IsReversed, arrival, generated, is_odd}
+use Rattle.fsl_gen.specs.Arrival.{ArrivesEachOnce, HasAsMany, IsReversed, arrival, arrival_from, generated, is_odd}
 
 map_onto : {A B : Type 0} (f : A → B) (xs ys : List A) → map f (reverse_aux xs ys) ≡ reverse_aux (map f xs) (map f ys)
 map_onto f [] ys = refl
@@ -94,3 +94,11 @@ forward whole count reversed h e = e ∙ ap (generated count) (sym h)
 
 pub backward : (whole turned : List (List ℕ)) (count : ℕ) (reversed : Bool) → reversed ≡ true → whole ≡ generated count false → turned ≡ reverse whole → turned ≡ generated count reversed
 backward whole turned count reversed h e d = d ∙ ap reverse e ∙ sym (is_reversed count) ∙ ap (generated count) (sym h)
+
+pub as_many : HasAsMany
+unfolding generated
+as_many count reversed =
+    let numbers = range_with_len 0 count in
+    length-map (arrival_from reversed count) artifact_text
+    ∙ length_permutation numbers (arrival_from reversed count) (arrives count reversed)
+    ∙ length-range_with_len 0 count

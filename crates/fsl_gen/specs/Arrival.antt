@@ -1,5 +1,5 @@
 -- The order in which the artifacts are given.
-use Rattle.std.specs.Prelude.{◌≡◌, ℕ, ◌%◌, ◌==◌, Bool, true, false, not, List, ◌++◌, map, reverse, if◌then◌else◌}
+use Rattle.std.specs.Prelude.{◌≡◌, ℕ, ◌%◌, ◌==◌, Bool, true, false, not, List, ◌++◌, length, map, reverse, if◌then◌else◌}
 use Rattle.std.specs.List.{filter, range_with_len}
 use Rattle.std.specs.List.Sorted.{IsPermutation}
 use Rattle.fsl_gen.specs.Artifacts.{artifact_text}
@@ -26,6 +26,10 @@ generated count reversed = map artifact_text (arrival_from reversed count)
 -- each number below the count stands once
 abbrev pub ArrivesEachOnce : Type 0
 ArrivesEachOnce = (count : ℕ) (reversed : Bool) → IsPermutation (range_with_len 0 count) (arrival_from reversed count)
+
+-- there are as many texts as the count says
+abbrev pub HasAsMany : Type 0
+HasAsMany = (count : ℕ) (reversed : Bool) → length (generated count reversed) ≡ count
 
 -- the reversed list is the other from its end
 abbrev pub IsReversed : Type 0

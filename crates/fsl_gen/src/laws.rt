@@ -1,5 +1,5 @@
 //! Laws of the generated artifacts. These functions have no code.
-ghost use Rattle.fsl_gen.specs.Arrival.{ArrivesEachOnce, IsReversed};
+ghost use Rattle.fsl_gen.specs.Arrival.{ArrivesEachOnce, HasAsMany, IsReversed};
 ghost use Rattle.fsl_gen.specs.Artifacts.{FollowsTable, IsToldByTable, NamesEarlierOnes, artifact_text};
 
 /// The text of each artifact is what the table says of its number, by the names of the others.
@@ -20,6 +20,11 @@ pub fn names_earlier_ones()
 /// In each of the two orders, each number below the count stands once.
 pub fn arrives_each_once()
     ensures { ArrivesEachOnce }
+{}
+
+/// There are as many texts as the count says.
+pub fn has_as_many()
+    ensures { HasAsMany }
 {}
 
 /// The reversed list is the other from its end.

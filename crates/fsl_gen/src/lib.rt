@@ -2,8 +2,8 @@
 //! tickets and threads of a forum. Nothing in them is random, so their texts and names are the same wherever they are made.
 //!
 //! Each artifact has a number from 0 on, and is what a table says of its number: its kind goes by the remainder by 4, and each 40 have a
-//! branch, a ticket and a thread of their own. An artifact names earlier ones alone.
-//! They are given in an order in which most come before what they name, or in the same order from its end.
+//! branch, a ticket and a thread of their own. An artifact names those with smaller numbers alone.
+//! They are given in an order in which marks and posts come before what they name, or in the same order from its end.
 #![tactic(auto)]
 
 mod arrival;
@@ -16,4 +16,6 @@ mod text;
 mod ticket;
 
 pub use arrival::artifacts;
-pub use laws::{arrives_each_once, follows_table, is_told_by_table, names_earlier_ones, reverses};
+pub use laws::{
+    arrives_each_once, follows_table, has_as_many, is_told_by_table, names_earlier_ones, reverses,
+};

@@ -2,7 +2,8 @@
 ghost use Rattle.std.specs.Prelude.{◌≤◌};
 
 use fsl_gen::{
-    arrives_each_once, artifacts, follows_table, is_told_by_table, names_earlier_ones, reverses,
+    arrives_each_once, artifacts, follows_table, has_as_many, is_told_by_table, names_earlier_ones,
+    reverses,
 };
 use fsl_name::Name;
 use fsl_text::{Memory, Text};
@@ -37,6 +38,7 @@ fn generates_what_the_table_says(rt: HostRuntime) -> Result<(), Memory> {
     is_told_by_table();
     names_earlier_ones();
     arrives_each_once();
+    has_as_many();
     reverses();
     let found = generated_names(rt.alloc(), 45)?;
     assert_eq!(rt; found.bytes(), names());
