@@ -6,4 +6,6 @@ mod artifact;
 #[cfg(test)]
 mod card;
 #[cfg(test)]
+mod generated;
+#[cfg(test)]
 mod writing;

@@ -1,0 +1,50 @@
+//! Changes of tickets: each ten in a row are those of one.
+ghost use Rattle.std.specs.Prelude.{◌≡◌, ◌<◌, IfOk, IsTrue};
+ghost use Rattle.fsl_forms.specs.WellFormed.{is_ticket_well_formed};
+ghost use Rattle.fsl_gen.specs.Table.{appended, replaced, ticket_at};
+
+use crate::by_number::{date_of, numbered, user_of};
+use fsl_forms::{Ticket, TicketChange};
+use fsl_name::Name;
+use fsl_text::{List, Memory, Text};
+use std::alloc::Global;
+
+/// The ticket change of a number. The id of its ticket is the name of the ticket's number, written in decimal.
+pub fn ticket(alloc: Global, number: u64) -> Result<Ticket, Memory>
+    requires few { number < 100_000 }
+    ensures value { IfOk result (λ ticket. ticket ≡ ticket_at number) }
+    ensures written { IfOk result (λ ticket. IsTrue (is_ticket_well_formed ticket)) }
+{
+    let mut changes = List::new(alloc);
+    changes.append(appended(alloc, numbered(alloc, b"x", number)?)?)?;
+    changes.append(replaced(alloc)?)?;
+    let ticket = numbered(alloc, b"", number / 40)?;
+    Ok(Ticket {
+        date: date_of(number),
+        changes,
+        id: Name::of(ticket.bytes()),
+        user: user_of(alloc, number)?,
+    })
+}
+
+/// What is appended to the comment.
+fn appended(alloc: Global, value: Text) -> Result<TicketChange, Memory>
+    ensures { IfOk result (λ change. change ≡ appended value) }
+{
+    Ok(TicketChange {
+        append: true,
+        field: Text::of(alloc, b"comment")?,
+        value: Some(value),
+    })
+}
+
+/// The status, which is open.
+fn replaced(alloc: Global) -> Result<TicketChange, Memory>
+    ensures { IfOk result (λ change. change ≡ replaced) }
+{
+    Ok(TicketChange {
+        append: false,
+        field: Text::of(alloc, b"status")?,
+        value: Some(Text::of(alloc, b"open")?),
+    })
+}
