@@ -45,7 +45,7 @@ fn sharing<R: Net + Clock + Clone + Drop>(
 }
 
 /// Crews whose doors fail.
-fn failing<R: Net + Clock>(
+fn failing<R: Net + Clock + Drop>(
     alloc: Global,
     workers: u64,
 ) -> Result<Vec<Crew<TcpDoor<R>, NoGate>>, AllocError>
