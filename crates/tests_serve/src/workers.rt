@@ -69,28 +69,35 @@ fn door(alloc: Global, message: &[u8], count: u64, fails: u64) -> Result<MemoryD
     Ok(MemoryDoor::new(alloc, connections, Vec::new(alloc), vec![in alloc; fails]?))
 }
 
-/// How many of so many connections are served where this accept fails, whether the door failed, and how many replies were sent.
+/// Whether so many connections got this reply, and those behind them weren't taken.
+fn are_sent(door: &MemoryDoor, want: &[u8], served: u64) -> bool {
+    for connection in 0..3u64 {
+        let as_wanted = match door.sent(connection) {
+            Some(bytes) => connection < served && bytes == want,
+            None => connection >= served,
+        };
+        if !as_wanted {
+            return false;
+        }
+    }
+    true
+}
+
+/// What a worker does with a door of three connections where so many are asked for and this accept fails, and whether they and no
+/// others got their replies.
 fn served<R: Wait>(
     rt: &R,
     alloc: Global,
     requests: u64,
     fails: u64,
-) -> Result<Option<(Work, u64)>, AllocError> {
+) -> Result<Option<(Work, bool)>, AllocError> {
     let mut crew = Crew {
         door: door(alloc, b"", 3, fails)?,
         gate: NoGate,
     };
     let work = work(rt, alloc, &mut crew, requests)?;
     let want = reply(alloc, b"")?;
-    let mut sent = 0u64;
-    for connection in 0..3 {
-        if let Some(bytes) = crew.door.sent(connection) {
-            if bytes == want.as_slice() {
-                sent = sent.saturating_add(1);
-            }
-        }
-    }
-    Ok(work.map(|work| (work, sent)))
+    Ok(work.map(|work| (work, are_sent(&crew.door, &want, work.sessions))))
 }
 
 // A door of three connections: so many are asked for, and this accept fails.
@@ -100,12 +107,13 @@ fn serves_up_to_where_the_door_fails_or_is_closed(rt: HostRuntime) -> Result<(),
         (2u64, 0u64, 2u64, false),
         (3, 0, 3, false),
         (4, 0, 3, false),
-        (3, 1, 0, true),
-        (3, 3, 2, true),
+        (2, 1, 0, true),
+        (2, 2, 1, true),
+        (4, 3, 2, true),
     ];
     for (requests, fails, sessions, failed) in rows {
         let work = Work { sessions, failed };
-        assert!(rt; served(&rt, rt.alloc(), requests, fails)? == Some((work, sessions)));
+        assert!(rt; served(&rt, rt.alloc(), requests, fails)? == Some((work, true)));
     }
     Ok(())
 }
