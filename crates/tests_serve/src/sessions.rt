@@ -104,7 +104,7 @@ fn refuses_a_login_for_other_bytes(rt: HostRuntime) -> Result<(), Fail> {
     Ok(())
 }
 
-const TOLD: [(&[u8], &[u8], &[u8]); 10] = [
+const TOLD: [(&[u8], &[u8], &[u8]); 11] = [
     (b"nobody o -", b"", b""),
     (
         b"nobody o -",
@@ -139,6 +139,11 @@ const TOLD: [(&[u8], &[u8], &[u8]); 10] = [
     ),
     (
         b"nobody oi -",
+        b"file a9993e364706816aba3e25717850c26c9cd0d89d 3\nabc\n",
+        b"error not\\sauthorized\\sto\\swrite\n",
+    ),
+    (
+        b"nobody oi -",
         b"private\n",
         b"error not\\sauthorized\\sto\\swrite\\sprivate\n",
     ),
@@ -169,6 +174,37 @@ fn tells_what_is_wrong(rt: HostRuntime) -> Result<(), Fail> {
             )
         );
     }
+    Ok(())
+}
+
+/// What is replied to the push of an artifact of so many bytes of zero, under another name.
+fn pushed_zeros<R: Wait>(
+    rt: &R,
+    alloc: Global,
+    size: u64,
+) -> Result<Option<(SessionEnd, Vec<u8>)>, AllocError> {
+    let mut message = Vec::from_slice(
+        alloc,
+        b"push 2222222222222222222222222222222222222222 1111111111111111111111111111111111111111\nfile a9993e364706816aba3e25717850c26c9cd0d89d ",
+    )?;
+    message.extend_from_slice(size.to_string(alloc)?.as_bytes())?;
+    message.push(b'\n')?;
+    for _ in 0..size {
+        message.push(0)?;
+    }
+    let asked = request(alloc, &message)?;
+    sent_alone(rt, alloc, b"nobody oi -", &asked, &[])
+}
+
+// The size is looked at before the name.
+#[test]
+fn refuses_an_artifact_that_is_too_large(rt: HostRuntime) -> Result<(), Fail> {
+    let alloc = rt.alloc();
+    let large = reply(
+        alloc,
+        b"error too\\slarge\\sa9993e364706816aba3e25717850c26c9cd0d89d\n",
+    )?;
+    assert!(rt; is_sent(pushed_zeros(&rt, alloc, 16_777_217)?, ANSWERED, &large));
     Ok(())
 }
 

@@ -6,10 +6,12 @@ use Rattle.fossil.proofs.ServeLemmas.{nobody_works, workers_ran, has_served, wit
 use Rattle.fossil.proofs.serving.serve_loaded.Goals as goal
 
 pub finished-requires-clause-few : goal.finished-requires-clause-few
-finished-requires-clause-few g c = let w = c.in-Ok.ensures.worked.1.0 in omega (arith, w, c.requires.crews)
+finished-requires-clause-few g c = omega (arith, c.in-Ok.ensures.worked.1, c.requires.crews.1)
 
 pub finished-requires-clause-within : goal.finished-requires-clause-within
-finished-requires-clause-within g c = within_of c.args.crews.items _ _ c.args.users.now _ c.args.requests c.in-Ok.worked.works.items c.in-Ok.worked.crews.items c.in-Ok.ensures.worked c.requires.requests
+finished-requires-clause-within g c =
+    within_of c.args.crews.items (λ k. (g.A.Link.state k.door).present) (λ k. (g.A.Link.state k.door).standing) c.args.users.now c.config.result.now.project c.args.requests
+    c.in-Ok.worked.works.items c.in-Ok.worked.crews.items c.in-Ok.ensures.worked c.requires.requests
 
 pub returns-in-Ok : goal.returns-in-Ok
 returns-in-Ok g c =
@@ -19,7 +21,7 @@ returns-in-Ok g c =
     workers_ran g.D.Disk.state _ (left_of c.finished.result.state) c.args.crews.items c.finished.result.crews.items _ _ repo last c.args.users.now c.args.requests _
     (ap left_of c.finished.ensures.state)
     (has_served g.D.Disk.state _ c.args.users.now c.args.requests repo last works _ c.in-Ok.worked.stored c.in-Ok.ensures.later c.in-Ok.ensures.stored c.finished.ensures.whole
-    (project_is repo.seen.state.records c.config.result.now c.config.ensures) (subst (λ v. AllWorked (λ k. (g.A.Link.state k.door).present) (λ k. (g.A.Link.state k.door).standing) c.args.users.now _ c.args.requests works c.args.crews.items v.items) (sym c.finished.ensures.crews) c.in-Ok.ensures.worked))
+    (project_is repo.seen.state.records c.config.result.now c.config.ensures) (subst (λ v. AllWorked (λ k. (g.A.Link.state k.door).present) (λ k. (g.A.Link.state k.door).standing) c.args.users.now c.config.result.now.project c.args.requests works c.args.crews.items v.items) (sym c.finished.ensures.crews) c.in-Ok.ensures.worked))
     c.finished.ensures.said
 
 pub returns-in-Err : goal.returns-in-Err

@@ -52,8 +52,8 @@ returns-in-Ask-clause-runs g c =
     let file : DiskState × DiskState = (g.D.Disk.state c.args.repo, g.D.Disk.state c.ask.result.repo) in
     subst (λ (x : Command). RunsCommand x input out file c.ask.result.status) (sym c.in-Ask.is) (c.ask.ensures (g.S.Source.state c.args.input.now))
 
-pub returns-in-Serve-clause-runs : goal.returns-in-Serve-clause-runs
-returns-in-Serve-clause-runs g c =
+pub returns-clause-runs : goal.returns-clause-runs
+returns-clause-runs g c =
     let input : SourceState × SourceState = (g.S.Source.state c.args.input.now, g.S.Source.state c.args.input.now) in
     let out : SinkState × SinkState = (g.K.Sink.state c.args.out.now, g.K.Sink.state c.say_usage-status.new.out) in
     let file : DiskState × DiskState = (g.D.Disk.state c.args.repo, g.D.Disk.state c.args.repo) in
