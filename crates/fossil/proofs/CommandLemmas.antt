@@ -89,13 +89,23 @@ module _ (command : Option Command) (input : Input) (file : DiskState) (no_other
   idle_unread fault_is.Input un reads_it closed = idle_fault fault_is.Input (λ e. cc) (λ bytes o. record { read = reads_it; rose = un; file = λ opened. absurd (closed opened) })
   idle_unread fault_is.Memory un reads_it closed = idle_memory
 
+-- what opens no file and comes to the usage
+usage_of : (command : Option Command) → (IsTrue (opens command) → ⊥) → ((read bytes : List ℕ) → IsSaidOutcome command read bytes usage) → (input : Input) (file : DiskState)
+    → (IsTrue file.is_model → (c : List ℕ) → file.since file.moment c → file.images c) → (out : Output) (status : ℕ) → status ≡ 1 → IsSaid out usage.text → HasRun command input out (both file file) status
+usage_of command closed is input file no_other out status one said =
+    let read = some_bytes input.before.left in
+    written command input (both file file) (Ok (printed_of usage)) out status (idle_acted command input file no_other closed read.0 usage read.1 (is read.0 (some_bytes file.contents).0) (omega arith) (λ z. absurd (cc)) refl)
+    (said_told (printed_of usage) status out one refl said)
+
 -- words that are no command
 pub usage_run : (input : Input) (file : DiskState) → (IsTrue file.is_model → (c : List ℕ) → file.since file.moment c → file.images c) → (out : Output) (status : ℕ) → status ≡ 1 → IsSaid out usage.text
     → HasRun None input out (both file file) status
-usage_run input file no_other out status one said =
-    let read = some_bytes input.before.left in
-    written None input (both file file) (Ok (printed_of usage)) out status (idle_acted None input file no_other (λ opened. cc) read.0 usage read.1 refl (omega arith) (λ z. absurd (cc)) refl)
-    (said_told (printed_of usage) status out one refl said)
+usage_run = usage_of None (λ opened. cc) (λ read bytes. refl)
+
+-- a serve, which is no command of a run
+pub serve_run : (address users : List ℕ) (workers requests : ℕ) (input : Input) (file : DiskState) → (IsTrue file.is_model → (c : List ℕ) → file.since file.moment c → file.images c)
+    → (out : Output) (status : ℕ) → status ≡ 1 → IsSaid out usage.text → HasRun (Some (command_of.Serve address users workers requests)) input out (both file file) status
+serve_run address users workers requests = usage_of (Some (command_of.Serve address users workers requests)) (λ opened. cc) (λ read bytes. refl)
 
 -- ---- ingest
 

@@ -21,3 +21,6 @@ pub mod InitLemmas
 pub mod CommandLemmas
 pub mod WordsLemmas
 pub mod QuestionLemmas
+pub mod AskedLemmas
+pub mod ServeLemmas
+pub mod UsersLemmas

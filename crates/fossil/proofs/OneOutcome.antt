@@ -111,6 +111,7 @@ one_command_outcome command_of.Ingest input bytes a b h k = one_ingested input a
 one_command_outcome command_of.Put input bytes a b h k = one_loaded (IsPutOfFiles input) bytes (λ old x y p q. one_put_outcome input old x y p q) a b h k
 one_command_outcome (command_of.Shun name) input bytes a b h k = one_loaded (IsShunOf name) bytes (λ old x y p q. p ∙ sym q) a b h k
 one_command_outcome (command_of.Ask question) input bytes a b h k = one_loaded (IsAnswered question) bytes (one_answered question) a b h k
+one_command_outcome (command_of.Serve address users workers requests) input bytes a b h k = h ∙ sym k
 
 pub one_said_outcome : (command : Option Command) (input bytes : List ℕ) (a b : Outcome) → IsSaidOutcome command input bytes a → IsSaidOutcome command input bytes b → a ≡ b
 one_said_outcome None input bytes a b h k = h ∙ sym k

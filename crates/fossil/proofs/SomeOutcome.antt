@@ -86,6 +86,7 @@ some_command command_of.Ingest input bytes = let o = some_ingested input (nat_lt
 some_command command_of.Put input bytes =
     some_loaded bytes (IsPutOfFiles input) (λ old. let o = some_put old input (nat_lt (2 ^ 27) (length input)) in (with_commit o.0 o.1, (o.0, o.1, o.2, refl))) (some_file bytes)
 some_command (command_of.Shun name) input bytes = some_loaded bytes (IsShunOf name) (λ old. (shun_outcome name old, refl)) (some_file bytes)
+some_command (command_of.Serve address users workers requests) input bytes = (usage, refl)
 some_command (command_of.Ask question) input bytes =
     some_loaded bytes (IsAnswered question) (λ records. let r = some_report (contents records) question in (report_outcome r.0, (r.0, r.1, refl))) (some_file bytes)
 

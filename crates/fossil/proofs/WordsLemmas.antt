@@ -1,5 +1,5 @@
 -- What words say, as a command that can be obeyed.
-use Rattle.std.proofs.Common.{◌≡◌, ℕ, ◌≤◌, Bool, true, false, not, cond, List, [], ◌∷◌, length, Option, Some, None, refl, ap, subst, arith}
+use Rattle.std.proofs.Common.{◌≡◌, ℕ, ◌<◌, ◌≤◌, Bool, true, false, not, cond, List, [], ◌∷◌, length, Option, Some, None, refl, ap, subst, arith}
 use Rattle.std.specs.Prelude.{◌&&◌, ◌||◌, nat_le, IfSome, option_and_then, codes}
 use Rattle.std.specs.Option.{option_map}
 use Rattle.std.specs.List.{IsDistinct, AllByRecursion, list_any, list_all}
@@ -7,12 +7,13 @@ use Rattle.std.specs.Str.{bytes_eq}
 use Rattle.std.proofs.lemmas.Bool.{and_parts}
 use Rattle.fsl_order.specs.Names.{has}
 use Rattle.fsl_name.specs.Name.{name_in}
+use Rattle.fsl_text.specs.Decimals.{is_decimal_text, decimal_value}
 use Rattle.fsl_record.specs.Records.{is_field, AreFields}
 use Rattle.fsl_words.specs.declared.Question.{Question}
 use Rattle.fsl_words.specs.declared.Command.{Command}
 use Rattle.fsl_words.specs.declared.Command.TheVariants as command_of
 use Rattle.fsl_words.specs.declared.Words.{Words}
-use Rattle.fsl_words.specs.Grammar.{words_in, parts_in, command_in, plain_command, question_in, init_command, fields_in, are_fields, all_differ, is_word}
+use Rattle.fsl_words.specs.Grammar.{words_in, parts_in, command_in, plain_command, question_in, init_command, serve_command, number_in, is_up_to, fields_in, are_fields, all_differ, is_word}
 use Rattle.fossil.specs.Outcome.{said}
 use Rattle.fossil.specs.Acts.{IsObeyable}
 
@@ -87,6 +88,38 @@ plain_obeyed command [] =
 plain_obeyed command (word ∷ []) = command_by (bytes_eq command (codes "shun")) _ _ (shunned (name_in word)) (asked (question_in command word))
 plain_obeyed command (word ∷ other ∷ words) = tt
 
+at_least : (n : ℕ) → nat_le 1 n ≡ true → 0 < n
+at_least n e = grind (arith)
+
+at_most : (n most : ℕ) → nat_le n most ≡ true → n ≤ most
+at_most n most e = grind (arith)
+
+-- a number that is read is within its bounds
+number_by : (most : ℕ) (word : List ℕ) (fit : Bool) → is_up_to most word ≡ fit → IfSome (cond fit (Some (decimal_value word)) None) (λ n. (0 < n) × (n ≤ most))
+number_by most word false e = tt
+number_by most word true e =
+    let parts = and_parts (is_decimal_text word && nat_le 1 (decimal_value word)) (nat_le (decimal_value word) most) e in
+    let more = and_parts (is_decimal_text word) (nat_le 1 (decimal_value word)) parts.0 in
+    (at_least (decimal_value word) more.1, at_most (decimal_value word) most parts.1)
+
+requests_by : (address users : List ℕ) (workers : ℕ) (requests : Option ℕ) → (0 < workers) × (workers ≤ 16) → IfSome requests (λ n. (0 < n) × (n ≤ 65536)) → Obeyed (option_map (command_of.Serve address users workers) requests)
+requests_by address users workers None w r = tt
+requests_by address users workers (Some requests) w r = (w.0, w.1, r.1)
+
+workers_by : (address users : List ℕ) (requests workers : Option ℕ) → IfSome workers (λ n. (0 < n) × (n ≤ 16)) → IfSome requests (λ n. (0 < n) × (n ≤ 65536))
+    → Obeyed (option_and_then (λ w. option_map (command_of.Serve address users w) requests) workers)
+workers_by address users requests None w r = tt
+workers_by address users requests (Some workers) w r = requests_by address users workers requests w r
+
+serve_obeyed : (words : List (List ℕ)) → Obeyed (serve_command words)
+serve_obeyed [] = tt
+serve_obeyed (address ∷ []) = tt
+serve_obeyed (address ∷ users ∷ []) = tt
+serve_obeyed (address ∷ users ∷ workers ∷ []) = tt
+serve_obeyed (address ∷ users ∷ workers ∷ requests ∷ []) =
+    workers_by address users (number_in 65536 requests) (number_in 16 workers) (number_by 16 workers (is_up_to 16 workers) refl) (number_by 65536 requests (is_up_to 65536 requests) refl)
+serve_obeyed (address ∷ users ∷ workers ∷ requests ∷ other ∷ words) = tt
+
 named_by : (repository : List ℕ) (o : Option Command) → Obeyed o → IfSome {T = Words} (option_map (λ c. record { repository = repository; command = c }) o) (λ w. IsObeyable w.command)
 named_by repository None h = tt
 named_by repository (Some command) h = h
@@ -96,7 +129,7 @@ parts_obeyed [] = tt
 parts_obeyed (repository ∷ []) = tt
 parts_obeyed (repository ∷ command ∷ words) =
     named_by repository (command_in command words)
-    (command_by (bytes_eq command (codes "init")) (init_command words) (plain_command command words) (init_obeyed words) (plain_obeyed command words))
+    (command_by (bytes_eq command (codes "init")) _ _ (init_obeyed words) (command_by (bytes_eq command (codes "serve")) _ _ (serve_obeyed words) (plain_obeyed command words)))
 
 words_by : (fit : Bool) (o : Option Words) → IfSome o (λ w. IsObeyable w.command) → IfSome (cond fit o None) (λ w. IsObeyable w.command)
 words_by true o h = h

@@ -1,5 +1,5 @@
 -- What the parts of a run say of what they did.
-use Rattle.std.specs.Prelude.{◌≡◌, ◌≢◌, ◌⊎◌, ◌≤◌, ℕ, false, List, ◌++◌, length, nat_lt, ◌^◌, true, Option, Some, None, Result, Ok, Err, IfOk, IfErr, IsTrue, ⊤}
+use Rattle.std.specs.Prelude.{◌≡◌, ◌≢◌, ◌⊎◌, ◌<◌, ◌≤◌, ℕ, false, List, ◌++◌, length, nat_lt, ◌^◌, true, Option, Some, None, Result, Ok, Err, IfOk, IfErr, IsTrue, ⊤}
 use Rattle.std.specs.Io.KnownBytes.{IsAtEnd}
 use Rattle.fsl_order.specs.Causes.{Rose}
 use Rattle.fsl_outside.specs.Streams.{SourceState, SinkState}
@@ -14,7 +14,7 @@ use Rattle.fsl_journal.specs.declared.LoadFault.TheVariants as load_fault
 use Rattle.fsl_repo.specs.Whole.{Whole, log_of}
 use Rattle.fsl_words.specs.declared.Question.{Question}
 use Rattle.fsl_words.specs.declared.Command.{Command}
-use Rattle.fsl_words.specs.declared.Command.TheVariants.{Init, Ingest, Put, Shun, Ask}
+use Rattle.fsl_words.specs.declared.Command.TheVariants.{Init, Ingest, Put, Shun, Ask, Serve}
 use Rattle.fossil.specs.declared.fault.Fault.{Fault}
 use Rattle.fossil.specs.declared.fault.Fault.TheVariants as fault_is
 use Rattle.fossil.specs.declared.load.Loaded.{Loaded}
@@ -176,13 +176,14 @@ RunsCommand command input out file status = HasRun (Some command) (input_of inpu
 abbrev pub RunsQuestion : Question → SourceState × SourceState → SinkState × SinkState → DiskState × DiskState → ℕ → Type 0
 RunsQuestion question input out file status = RunsCommand (Ask question) input out file status
 
--- the fields of a new repository are in their form
+-- the fields of a new repository are in their form, and workers and their connections within their bounds
 abbrev pub IsObeyable : Command → Type 0
 IsObeyable (Init project server fields) = AreFields fields
 IsObeyable Ingest = ⊤
 IsObeyable Put = ⊤
 IsObeyable (Shun name) = ⊤
 IsObeyable (Ask question) = ⊤
+IsObeyable (Serve address users workers requests) = (0 < workers) × (workers ≤ 16) × (requests ≤ 65536)
 
 -- ---- messages
 

@@ -7,4 +7,7 @@ pub mod Shun
 pub mod Outcome
 pub mod Run
 pub mod Acts
+pub mod Served
+pub mod Serving
+pub mod ServeCall
 pub mod Taking

@@ -7,7 +7,7 @@ use Rattle.fsl_journal.specs.File.{IsFileOf, FailsAt}
 use Rattle.fsl_blobs.specs.Fold.{contents}
 use Rattle.fsl_words.specs.declared.Question.{Question}
 use Rattle.fsl_words.specs.declared.Command.{Command}
-use Rattle.fsl_words.specs.declared.Command.TheVariants.{Init, Ingest, Put, Shun, Ask}
+use Rattle.fsl_words.specs.declared.Command.TheVariants.{Init, Ingest, Put, Shun, Ask, Serve}
 use Rattle.fsl_words.specs.Grammar.{words_in}
 use Rattle.fsl_query.specs.declared.Refused.{Refused}
 use Rattle.fsl_query.specs.Refusals.{refusal_text}
@@ -88,13 +88,14 @@ IsLoaded ByRecords bytes o =
 
 -- ---- a run
 
--- the outcome of a command over its input and the bytes of the file: `init` looks at their number alone, and `ingest` at none
+-- the outcome of a command over its input and the bytes of the file: `init` looks at their number alone, and `ingest` at none; `serve` is no command of a run
 abbrev pub IsCommandOutcome : Command → List ℕ → List ℕ → Outcome → Type 0
 IsCommandOutcome (Init project server fields) input bytes o = o ≡ init_outcome project server fields (length bytes)
 IsCommandOutcome Ingest input bytes o = IsIngestOfFiles input o
 IsCommandOutcome Put input bytes o = IsLoaded (IsPutOfFiles input) bytes o
 IsCommandOutcome (Shun name) input bytes o = IsLoaded (IsShunOf name) bytes o
 IsCommandOutcome (Ask question) input bytes o = IsLoaded (IsAnswered question) bytes o
+IsCommandOutcome (Serve address users workers requests) input bytes o = o ≡ usage
 
 -- the command that words say, where they are in the grammar
 abbrev pub said : List (List ℕ) → Option Command

@@ -4,7 +4,8 @@
 //! tags in force on an artifact, `tip SYMBOL` the latest check-in of a symbolic name, `files PREFIX` the files of a check-in
 //! and what it changed, `wiki TITLE` the versions of a page, `ticket ID` the fields of a ticket, `thread NAME` the posts of
 //! a thread, and `phantoms` the names that are referred to and neither held nor shunned. `ingest` reads a message of files
-//! into a set of its own, and prints which of its names stand in no cluster and which are named and not there.
+//! into a set of its own, and prints which of its names stand in no cluster and which are named and not there. `serve
+//! ADDRESS USERS WORKERS N` serves the repository to the users of a file.
 #![tactic(auto)]
 
 mod answer;
@@ -12,6 +13,7 @@ mod ask;
 mod cat;
 mod checking;
 mod committing;
+mod due;
 mod fault;
 mod ingest;
 mod init;
@@ -25,11 +27,15 @@ mod report;
 mod reporting;
 mod say;
 mod sent;
+mod serving;
 mod shun;
 mod status;
 mod taking;
 mod top;
+mod users;
+mod worked;
 
 pub use ran::Ran;
+pub use serving::{Served, State, serve};
 pub use status::NO_MEMORY;
 pub use top::{one_outcome, run, some_outcome};

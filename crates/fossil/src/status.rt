@@ -14,5 +14,7 @@ pub const DISK_FAULT: u8 = 4;
 pub const INPUT_FAULT: u8 = 5;
 /// The report couldn't be written whole.
 pub const OUTPUT_FAULT: u8 = 6;
+/// A connection failed, or none could be taken.
+pub const LINK_FAULT: u8 = 7;
 /// There was no memory.
 pub const NO_MEMORY: u8 = 9;

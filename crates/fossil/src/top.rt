@@ -61,6 +61,10 @@ fn obey<S: Source, K: Sink, D: Disk>(
             Ran { status, repo }
         }
         Command::Ask(question) => ask(alloc, &question, out, repo),
+        Command::Serve { .. } => {
+            let status = say_usage(out);
+            Ran { status, repo }
+        }
     }
 }
 
@@ -90,7 +94,7 @@ fn run_words<S: Source, K: Sink, D: Disk>(
 }
 
 /// Runs the command that the words say over the input and the repository's disk, prints to the output, and gives the
-/// status and the disk: 0 after a report, 1 for words outside the grammar, 2 where the file isn't a repository, 3 where
+/// status and the disk: 0 after a report, 1 for words outside the grammar and for `serve`, 2 where the file isn't a repository, 3 where
 /// the command or its input is refused, 4, 5 and 6 where the disk, the input or the output failed, 9 for want of memory.
 /// A command that reads no input leaves it, and so `ingest` leaves the disk; words outside the grammar leave both. Where
 /// the line of a refusal or of a fault can't be written, the status stays.

@@ -1,13 +1,16 @@
-//! The program: it makes the real objects and hands them to `fossil::run`.
+//! The program: it makes the real objects and hands them to `fossil::run` and `fossil::serve`.
 #![tactic(auto)]
 
+mod crews;
 mod open;
+mod sockets;
 
 use fossil::{NO_MEMORY, run};
 use fsl_disk::FileDisk;
 use fsl_outside::{StdSink, StdSource};
 use fsl_words::{Command, WordsFault, read};
-use open::open;
+use open::{listen, open, open_users};
+use sockets::serve_at;
 use std::io;
 use std::io::ErrorKind;
 use std::process::ExitCode;
@@ -33,28 +36,44 @@ fn over_nothing(rt: &HostRuntime, words: &[String]) -> u8 {
     run(rt.alloc(), words, &mut input, &mut out, FileDisk::none()).status
 }
 
-/// Runs what the words say, and gives the status.
-fn start(rt: &HostRuntime, words: &[String]) -> u8 {
-    match read(rt.alloc(), words) {
-        Ok(parsed) => over_file(rt, words, &parsed.command),
-        Err(WordsFault::Usage) => over_nothing(rt, words),
-        Err(WordsFault::Memory) => NO_MEMORY,
-    }
-}
-
-fn main(rt: HostRuntime) -> ExitCode {
+/// The words behind the program's name, or none where there is no memory for them. A word that isn't UTF-8 is outside the grammar, as no
+/// words are.
+fn given_words(rt: &HostRuntime) -> Option<Vec<String>> {
     let mut words = Vec::new(rt.alloc());
-    match std::env::args(&rt) {
+    match std::env::args(rt) {
         Ok(args) => {
             for word in args.skip(1) {
                 if words.push(word).is_err() {
-                    return ExitCode::from(NO_MEMORY);
+                    return None;
                 }
             }
         }
-        Err(fault) if fault.kind() == ErrorKind::OutOfMemory => return ExitCode::from(NO_MEMORY),
-        // a word that isn't UTF-8 is outside the grammar, as no words are
+        Err(fault) if fault.kind() == ErrorKind::OutOfMemory => return None,
         Err(_) => {}
     }
-    ExitCode::from(start(&rt, words.as_slice()))
+    Some(words)
+}
+
+fn main(rt: HostRuntime) -> ExitCode {
+    let Some(words) = given_words(&rt) else {
+        return ExitCode::from(NO_MEMORY);
+    };
+    let words = words.as_slice();
+    ExitCode::from(match read(rt.alloc(), words) {
+        Ok(parsed) => match &parsed.command {
+            Command::Serve { workers, .. } => serve_at(
+                &rt,
+                rt.alloc(),
+                words,
+                &mut open_users(&rt, words),
+                open(&rt, words, &parsed.command),
+                listen(&rt, words),
+                *workers,
+                &mut StdSink::new(io::writer(&rt)),
+            ),
+            command => over_file(&rt, words, command),
+        },
+        Err(WordsFault::Usage) => over_nothing(&rt, words),
+        Err(WordsFault::Memory) => NO_MEMORY,
+    })
 }

@@ -2,7 +2,7 @@
 use Rattle.std.specs.Prelude.{◌≡◌, ℕ, List, [], ◌∷◌, Option, Some, None, replicate, refl, codes}
 use Rattle.fsl_words.specs.declared.Question.TheVariants.{Cat, Timeline, Leaves, Tip, Ticket, Phantoms}
 use Rattle.fsl_words.specs.declared.Command.{Command}
-use Rattle.fsl_words.specs.declared.Command.TheVariants.{Init, Put, Shun, Ask}
+use Rattle.fsl_words.specs.declared.Command.TheVariants.{Init, Put, Shun, Ask, Serve}
 use Rattle.fsl_words.specs.declared.Words.{Words}
 use Rattle.fsl_words.specs.Grammar.{words_in}
 
@@ -86,3 +86,18 @@ leaves = refl
 
 id : words_in (r ∷ codes "ticket" ∷ ones ∷ []) ≡ read (Ask (Ticket (replicate 20 17)))
 id = refl
+
+serve : words_in (r ∷ codes "serve" ∷ codes "127.0.0.1:8080" ∷ codes "users" ∷ codes "16" ∷ codes "65536" ∷ []) ≡ read (Serve (codes "127.0.0.1:8080") (codes "users") 16 65536)
+serve = refl
+
+many_workers : words_in (r ∷ codes "serve" ∷ codes "a:1" ∷ codes "users" ∷ codes "17" ∷ codes "1" ∷ []) ≡ None
+many_workers = refl
+
+many_requests : words_in (r ∷ codes "serve" ∷ codes "a:1" ∷ codes "users" ∷ codes "1" ∷ codes "65537" ∷ []) ≡ None
+many_requests = refl
+
+no_requests : words_in (r ∷ codes "serve" ∷ codes "a:1" ∷ codes "users" ∷ codes "1" ∷ codes "0" ∷ []) ≡ None
+no_requests = refl
+
+fewer_words : words_in (r ∷ codes "serve" ∷ codes "a:1" ∷ codes "users" ∷ codes "1" ∷ []) ≡ None
+fewer_words = refl

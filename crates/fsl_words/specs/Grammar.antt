@@ -10,7 +10,7 @@ use Rattle.fsl_record.specs.Records.{is_field}
 use Rattle.fsl_words.specs.declared.Question.{Question}
 use Rattle.fsl_words.specs.declared.Question.TheVariants.{Cat, Timeline, Leaves, Tags, Tip, Files, Wiki, Ticket, Thread, Phantoms}
 use Rattle.fsl_words.specs.declared.Command.{Command}
-use Rattle.fsl_words.specs.declared.Command.TheVariants.{Init, Ingest, Put, Shun, Ask}
+use Rattle.fsl_words.specs.declared.Command.TheVariants.{Init, Ingest, Put, Shun, Ask, Serve}
 use Rattle.fsl_words.specs.declared.Words.{Words}
 
 -- a word has a byte, and doesn't begin with `-` unless it is `-` alone
@@ -25,13 +25,13 @@ is_prefix word = nat_le 4 (length word) && nat_le (length word) 40 && list_all i
 abbrev pub prefix_in : List ℕ → Option (List ℕ)
 prefix_in word = if is_prefix word then Some word else None
 
--- a decimal number from 1 to 1,000,000
-abbrev pub is_count : List ℕ → Bool
-is_count word = is_decimal_text word && nat_le 1 (decimal_value word) && nat_le (decimal_value word) 1000000
+-- a decimal number from 1 to the greatest one
+abbrev pub is_up_to : ℕ → List ℕ → Bool
+is_up_to most word = is_decimal_text word && nat_le 1 (decimal_value word) && nat_le (decimal_value word) most
 
--- how many rows: the number, where the word is such a number
-abbrev pub count_in : List ℕ → Option ℕ
-count_in word = if is_count word then Some (decimal_value word) else None
+-- the number, where the word is such a number
+abbrev pub number_in : ℕ → List ℕ → Option ℕ
+number_in most word = if is_up_to most word then Some (decimal_value word) else None
 
 -- whether the words differ
 abbrev pub all_differ : List (List ℕ) → Bool
@@ -51,6 +51,11 @@ abbrev pub init_command : List (List ℕ) → Option Command
 init_command (project ∷ server ∷ fields) = option_and_then (λ p. option_and_then (λ s. option_map (Init p s) (fields_in fields)) (name_in server)) (name_in project)
 init_command words = None
 
+-- serve ADDRESS USERS WORKERS N: 1 to 16 workers, and 1 to 65,536 connections for each
+abbrev pub serve_command : List (List ℕ) → Option Command
+serve_command (address ∷ users ∷ workers ∷ requests ∷ []) = option_and_then (λ w. option_map (Serve address users w) (number_in 65536 requests)) (number_in 16 workers)
+serve_command words = None
+
 -- a command without words
 abbrev pub bare_command : List ℕ → Option Command
 bare_command command =
@@ -64,7 +69,7 @@ bare_command command =
 abbrev pub question_in : List ℕ → List ℕ → Option Question
 question_in command word =
     if bytes_eq command (codes "cat") then option_map Cat (prefix_in word)
-    else if bytes_eq command (codes "timeline") then option_map Timeline (count_in word)
+    else if bytes_eq command (codes "timeline") then option_map Timeline (number_in 1000000 word)
     else if bytes_eq command (codes "tags") then option_map Tags (prefix_in word)
     else if bytes_eq command (codes "tip") then Some (Tip word)
     else if bytes_eq command (codes "files") then option_map Files (prefix_in word)
@@ -83,9 +88,12 @@ plain_command command [] = bare_command command
 plain_command command (word ∷ []) = worded_command command word
 plain_command command words = None
 
--- `init`, or another command
+-- `init`, `serve`, or another command
 abbrev pub command_in : List ℕ → List (List ℕ) → Option Command
-command_in command words = if bytes_eq command (codes "init") then init_command words else plain_command command words
+command_in command words =
+    if bytes_eq command (codes "init") then init_command words
+    else if bytes_eq command (codes "serve") then serve_command words
+    else plain_command command words
 
 -- a repository and a command
 abbrev pub parts_in : List (List ℕ) → Option Words

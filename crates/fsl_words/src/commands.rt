@@ -1,13 +1,22 @@
 //! Commands with their words.
 ghost use Rattle.std.specs.Prelude.{◌≡◌, map, string_bytes};
-ghost use Rattle.fsl_words.specs.Grammar.{init_command, bare_command, question_in, worded_command, command_in};
+ghost use Rattle.fsl_words.specs.Grammar.{init_command, serve_command, bare_command, question_in, worded_command, plain_command, command_in};
 ghost use Rattle.fsl_words.specs.Answers.{IsAnswer};
 
 use crate::fields::fields;
-use crate::forms::{count, name, prefix};
+use crate::forms::{name, number, prefix};
 use crate::{Command, Question, WordsFault};
 use fsl_text::Text;
 use std::alloc::Global;
+
+/// The greatest number of rows of the timeline that may be asked for.
+const MOST_ROWS: u64 = 1_000_000;
+
+/// The greatest number of workers that serve.
+const MOST_WORKERS: u64 = 16;
+
+/// The greatest number of connections that one worker takes.
+const MOST_REQUESTS: u64 = 65_536;
 
 /// `init` with its words.
 fn init_command(alloc: Global, words: &[String]) -> Result<Command, WordsFault>
@@ -20,6 +29,21 @@ fn init_command(alloc: Global, words: &[String]) -> Result<Command, WordsFault>
         project: name(project.as_bytes())?,
         server: name(server.as_bytes())?,
         fields: fields(alloc, rest)?,
+    })
+}
+
+/// `serve` with its words.
+fn serve_command(alloc: Global, words: &[String]) -> Result<Command, WordsFault>
+    ensures { IsAnswer (serve_command (map string_bytes words.now)) result }
+{
+    let [address, users, workers, requests] = words else {
+        return Err(WordsFault::Usage);
+    };
+    Ok(Command::Serve {
+        workers: number(workers.as_bytes(), MOST_WORKERS)?,
+        requests: number(requests.as_bytes(), MOST_REQUESTS)?,
+        address: Text::of(alloc, address.as_bytes())?,
+        users: Text::of(alloc, users.as_bytes())?,
     })
 }
 
@@ -45,7 +69,7 @@ fn question(alloc: Global, command: &str, word: &[u8]) -> Result<Question, Words
             prefix: prefix(alloc, word)?,
         },
         "timeline" => Question::Timeline {
-            count: count(word)?,
+            count: number(word, MOST_ROWS)?,
         },
         "tags" => Question::Tags {
             prefix: prefix(alloc, word)?,
@@ -75,16 +99,24 @@ fn worded_command(alloc: Global, command: &str, word: &[u8]) -> Result<Command, 
     Ok(Command::Ask(question(alloc, command, word)?))
 }
 
-/// A command by its first word and the words behind it.
-pub fn command(alloc: Global, command: &str, words: &[String]) -> Result<Command, WordsFault>
-    ensures { IsAnswer (command_in command.now (map string_bytes words.now)) result }
+/// A command with at most one word.
+fn plain_command(alloc: Global, command: &str, words: &[String]) -> Result<Command, WordsFault>
+    ensures { IsAnswer (plain_command command.now (map string_bytes words.now)) result }
 {
-    if command == "init" {
-        return init_command(alloc, words);
-    }
     match words {
         [] => bare_command(command),
         [word] => worded_command(alloc, command, word.as_bytes()),
         _ => Err(WordsFault::Usage),
+    }
+}
+
+/// A command by its first word and the words behind it.
+pub fn command(alloc: Global, command: &str, words: &[String]) -> Result<Command, WordsFault>
+    ensures { IsAnswer (command_in command.now (map string_bytes words.now)) result }
+{
+    match command {
+        "init" => init_command(alloc, words),
+        "serve" => serve_command(alloc, words),
+        _ => plain_command(alloc, command, words),
     }
 }

@@ -2,16 +2,13 @@
 ghost use Rattle.std.specs.Prelude.{◌≡◌};
 ghost use Rattle.std.specs.List.{list_all};
 ghost use Rattle.fsl_name.specs.Name.{is_name_digit, name_in};
-ghost use Rattle.fsl_words.specs.Grammar.{is_word, is_prefix, prefix_in, count_in};
+ghost use Rattle.fsl_words.specs.Grammar.{is_word, is_prefix, prefix_in, number_in};
 ghost use Rattle.fsl_words.specs.Answers.{IsAnswer};
 
 use crate::WordsFault;
 use fsl_name::Name;
 use fsl_text::{Text, decimal};
 use std::alloc::Global;
-
-/// The greatest number of rows that may be asked for.
-const MOST_ROWS: u64 = 1_000_000;
 
 /// Whether a word has a byte, and doesn't begin with `-` unless it is `-` alone.
 pub fn is_word(word: &[u8]) -> bool
@@ -62,12 +59,12 @@ pub fn name(word: &[u8]) -> Result<Name, WordsFault>
     }
 }
 
-/// The number of rows that a word is: 1 to 1,000,000, in decimal.
-pub fn count(word: &[u8]) -> Result<u64, WordsFault>
-    ensures { IsAnswer (count_in word.now) result }
+/// The number that a word is: from 1 to the greatest one, in decimal.
+pub fn number(word: &[u8], most: u64) -> Result<u64, WordsFault>
+    ensures { IsAnswer (number_in most word.now) result }
 {
     match decimal(word) {
-        Ok(count) if (1..=MOST_ROWS).contains(&count) => Ok(count),
+        Ok(number) if (1..=most).contains(&number) => Ok(number),
         _ => Err(WordsFault::Usage),
     }
 }

@@ -58,6 +58,14 @@ pub enum Command {
     },
     /// A report.
     Ask(Question),
+    /// `serve ADDRESS USERS WORKERS N`: the repository is served at an address to the users of a file, by 1 to 16 workers, each
+    /// of which takes 1 to 65,536 connections.
+    Serve {
+        address: Text,
+        users: Text,
+        workers: u64,
+        requests: u64,
+    },
 }
 
 /// A repository's path and a command.

@@ -4,7 +4,7 @@ use Rattle.fsl_outside.specs.Streams.{SourceState, SinkState}
 use Rattle.fsl_words.specs.declared.Command.{Command}
 use Rattle.fsl_words.specs.declared.Command.TheVariants as command_of
 use Rattle.fossil.specs.Acts.{IsObeyable, RunsCommand, input_of, output_of, file_of}
-use Rattle.fossil.proofs.CommandLemmas.{ingest_acted}
+use Rattle.fossil.proofs.CommandLemmas.{ingest_acted, serve_run}
 use Rattle.fossil.proofs.PrintedLemmas.{written}
 use Rattle.fossil.proofs.top.obey.Goals as goal
 
@@ -51,3 +51,12 @@ returns-in-Ask-clause-runs g c =
     let out : SinkState × SinkState = (g.K.Sink.state c.args.out.now, g.K.Sink.state c.ask.new.out) in
     let file : DiskState × DiskState = (g.D.Disk.state c.args.repo, g.D.Disk.state c.ask.result.repo) in
     subst (λ (x : Command). RunsCommand x input out file c.ask.result.status) (sym c.in-Ask.is) (c.ask.ensures (g.S.Source.state c.args.input.now))
+
+pub returns-clause-runs : goal.returns-clause-runs
+returns-clause-runs g c =
+    let input : SourceState × SourceState = (g.S.Source.state c.args.input.now, g.S.Source.state c.args.input.now) in
+    let out : SinkState × SinkState = (g.K.Sink.state c.args.out.now, g.K.Sink.state c.say_usage-status.new.out) in
+    let file : DiskState × DiskState = (g.D.Disk.state c.args.repo, g.D.Disk.state c.args.repo) in
+    subst (λ (x : Command). RunsCommand x input out file c.say_usage-status.result) (sym c.in-Serve.is)
+    (serve_run _ _ _ _ (input_of input) (g.D.Disk.state c.args.repo) (λ model f left. g.met.D.Disk.only_now c.args.repo f model left) (output_of out) c.say_usage-status.result
+    c.say_usage-status.ensures.status c.say_usage-status.ensures.said)
