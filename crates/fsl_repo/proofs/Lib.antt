@@ -1,4 +1,6 @@
 pub mod OneList
+pub mod OneArrival
+pub mod SomeArrival
 pub mod Zipped
 pub mod ItemLemmas
 pub mod Wholes
@@ -16,3 +18,5 @@ pub mod Loops
 pub mod Sendings
 pub mod Builds
 pub mod Undoing
+pub mod Touched
+pub mod Placings

@@ -8,3 +8,4 @@ pub mod Sending
 pub mod Keeps
 pub mod Onward
 pub mod Laters
+pub mod Touches

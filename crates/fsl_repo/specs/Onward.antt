@@ -1,14 +1,15 @@
 -- The steps of a repository as those of a machine, and what each of them keeps: the records go on, and the state after it is later.
-use Rattle.std.specs.Prelude.{◌≡◌, ◌≤◌, List, ◌++◌, length}
-use Rattle.fsl_disk.specs.Disk.{DiskState, Keeps}
+use Rattle.std.specs.Prelude.{◌≡◌, ◌≤◌, ◌⊎◌, List, ◌++◌, length, IsSome}
+use Rattle.fsl_disk.specs.Disk.{DiskState, IsModelled, Keeps, LeavesOnly}
 use Rattle.fsl_record.specs.declared.Record.{Record}
+use Rattle.fsl_journal.specs.Log.{Log, BeforeOrAll}
 use Rattle.fsl_repo.specs.declared.Event.{Event}
 use Rattle.fsl_repo.specs.declared.Event.TheVariants as event
 use Rattle.fsl_repo.specs.declared.Answer.{Answer}
 use Rattle.fsl_repo.specs.declared.Answer.TheVariants as answer
 use Rattle.fsl_repo.specs.Machine.{State, ArriveStep, AnnounceStep, ShunStep, ClusterStep, IsCommit}
 use Rattle.fsl_repo.specs.Replies.{BuildStep}
-use Rattle.fsl_repo.specs.Whole.{Seen, Whole, IsWholeOn, IsLater, stored}
+use Rattle.fsl_repo.specs.Whole.{Seen, Whole, IsWholeOn, IsLater, stored, log_of}
 
 -- the step of an event: an answer of its kind, and the state that it leaves
 abbrev pub Step : State → Event → Answer → State → Type 0
@@ -20,13 +21,21 @@ Step old (event.Build ask) (answer.Build result) new = BuildStep old ask result 
 Step old event.Commit (answer.Commit result) new = IsCommit old.stopped old result new
 Step old _ _ new = ⊥
 
--- a step of a repository: both have what every repository has, the state makes the step of the event, and the disk stays of its kind
+-- what the step of an event does to the disk, which is the same where `same` holds: a commit leaves, at each moment, each image standing for the
+-- committed records or for all, and calls no device where nothing is to be written or a commit has failed; no other event calls one
+abbrev pub DiskStep : Event → DiskState → DiskState → Log → Type 0 → Type 0
+DiskStep event.Commit before after log same =
+    (IsModelled before → LeavesOnly before after (BeforeOrAll log)) × (IsSome log.stopped ⊎ (log.stable ≡ length log.records) → same)
+DiskStep _ before after log same = same
+
+-- a step of a repository: both have what every repository has, the state and the disk make the step of the event, and the disk stays of its kind
 pub record MayStep {D : Type 0} (before after : DiskState) (old : Whole D) (e : Event) (a : Answer) (new : Whole D) : Type 0 where
   pub old_whole : IsWholeOn before old
   pub new_whole : IsWholeOn after new
   pub step : Step old.seen.state e a new.seen.state
   pub loaded : new.seen.loaded ≡ old.seen.loaded
   pub keeps : Keeps before after
+  pub disk : DiskStep e before after (log_of old) (new.disk ≡ old.disk)
 
 -- a repository is later than another: its state is, and its disk is of the same kind
 pub record IsLaterOn {D : Type 0} (before after : DiskState) (old new : Whole D) : Type 0 where

@@ -1,14 +1,14 @@
 -- How artifacts that are lent are sent.
 use Rattle.std.specs.Prelude.{ℕ, List, [], ◌++◌, length, take, map, filter, filter_map, Bool, true, false, not, ◌||◌, ◌&&◌, nat_le, Option, Some, None, is_some, if◌then◌else◌}
 use Rattle.std.specs.List.{list_any}
-use Rattle.std.specs.Option.{option_map_or}
+use Rattle.std.specs.Option.{option_map, option_map_or}
 use Rattle.std.specs.FinMap as map_of
 use Rattle.std.specs.FinSet as set
 use Rattle.fsl_order.specs.Names.{has}
 use Rattle.fsl_order.specs.Rows.{ascending}
 use Rattle.fsl_record.specs.declared.Record.{Record}
 use Rattle.fsl_blobs.specs.declared.Holding.{Holding}
-use Rattle.fsl_blobs.specs.Fold.{Held, contents}
+use Rattle.fsl_blobs.specs.Fold.{Held, contents, held_from}
 use Rattle.fsl_blobs.specs.Seen as blobs
 use Rattle.fsl_cluster.specs.declared.Fact.{Fact}
 use Rattle.fsl_cluster.specs.Clusters as clusters
@@ -16,13 +16,17 @@ use Rattle.fsl_wire.specs.declared.WireCard.{WireCard}
 use Rattle.fsl_answer.specs.Contents as reply
 use Rattle.fsl_answer.specs.Contents.{each_once, gimme_of, is_pull, sent_file, sequel}
 use Rattle.fsl_answer.specs.Replies.{taken}
-use Rattle.fsl_repo.specs.Replies.{placed_in}
+use Rattle.fsl_repo.specs.Replies.{held_at, placed_in}
 use Rattle.fsl_answer.specs.declared.SentFile.{SentFile}
 use Rattle.fsl_repo.specs.declared.placed.PlacedHolding.{PlacedHolding}
 
 -- a held artifact at its place
 abbrev pub as_held : PlacedHolding → reply.Held
 as_held p = record { name = p.name; bytes = p.bytes.now; private = p.private; place = p.place }
+
+-- the artifacts that the records leave whose place is at least this, by place
+abbrev pub placed_from : List Record → ℕ → List reply.Held
+placed_from records from = filter_map (λ p. option_map (held_at p) (map_of.get (contents records).held p.1)) (held_from records from)
 
 -- as a file
 abbrev pub as_sent : Holding → SentFile

@@ -11,6 +11,7 @@ ghost use Rattle.fsl_cluster.specs.Clusters as clusters;
 ghost use Rattle.fsl_cross.specs.Tables.{tables};
 ghost use Rattle.fsl_repo.specs.Machine.{ArriveStep, IsDueOrMemory, IsStoring, room_of, now};
 ghost use Rattle.fsl_repo.specs.Arriving.{as_stored, is_private, IsPublishing};
+ghost use Rattle.fsl_repo.specs.Touches.{IsWithin};
 ghost use Rattle.fsl_repo.specs.declared.ArriveFault.TheVariants as arrive_fault;
 
 use crate::wanting::wanted;
@@ -87,6 +88,9 @@ impl<D: Disk> Repo<D> {
     /// An artifact arrives under a name, as a public or a private one. An artifact that is held as private becomes public
     /// where it arrives as a public one. A fault changes nothing.
     ///
+    /// Whatever it answers, it takes at most twice the touches that `Tables::add` states for what the bytes are, where that
+    /// states any.
+    ///
     /// Errors, the first of these: `Stopped` where a commit has failed; `TooLarge` above 16,777,216 bytes; `NameWrong` where
     /// the bytes have another name; `Full` where with it a limit is passed. `Memory` comes in place of `Published`, `Full`
     /// or `Stored` alone.
@@ -100,6 +104,8 @@ impl<D: Disk> Repo<D> {
         ensures step { ArriveStep self.old.seen.state name bytes.now private result self.new.seen.state }
         ensures loaded { self.new.seen.loaded ≡ self.old.seen.loaded }
         ensures disk { self.new.disk ≡ self.old.disk }
+        // Whatever the answer, and so for `Stored` and `Published`.
+        ensures cost { IsWithin self.old.seen.items name private bytes.now steps.old steps.new }
     {
         if let Some(faults) = self.journal.stopped() {
             return Err(ArriveFault::Stopped { faults });
@@ -133,6 +139,7 @@ impl<D: Disk> Repo<D> {
         ensures step { IsDueOrMemory self.old.seen.state (IsPublishing self.old.seen.state name) (Err arrive_fault.Memory) ⊤ result self.new.seen.state }
         ensures loaded { self.new.seen.loaded ≡ self.old.seen.loaded }
         ensures disk { self.new.disk ≡ self.old.disk }
+        ensures cost { steps.new ≤ steps.old + 16 }
     {
         let back = match self.tables.publish(self.alloc, name, steps) {
             Ok(back) => back,
@@ -164,6 +171,7 @@ impl<D: Disk> Repo<D> {
         ensures step { IsDueOrMemory self.old.seen.state (IsStoring self.old.seen.state name bytes.now private) (Err arrive_fault.Memory) ⊤ result self.new.seen.state }
         ensures loaded { self.new.seen.loaded ≡ self.old.seen.loaded }
         ensures disk { self.new.disk ≡ self.old.disk }
+        ensures cost { IsWithin self.old.seen.items name private bytes.now steps.old steps.new }
     {
         let size = bytes.len() as u64;
         let Ok(text) = Text::of(self.alloc, bytes) else {

@@ -1,12 +1,11 @@
 //! Builds the reply to a message.
-ghost use Rattle.std.specs.Prelude.{◌≡◌, IfOk, map, take};
+ghost use Rattle.std.specs.Prelude.{◌≡◌, IfOk, take};
 ghost use Rattle.fsl_answer.specs.Contents as reply;
 ghost use Rattle.fsl_answer.specs.Replies.{reply_text};
-ghost use Rattle.fsl_repo.specs.Replies.{BuildStep};
-ghost use Rattle.fsl_repo.specs.Sending.{as_held, files_by, seen_by};
+ghost use Rattle.fsl_repo.specs.Replies.{BuildStep, placed_in};
+ghost use Rattle.fsl_repo.specs.Sending.{files_by, seen_by};
 
 use crate::asking::{first_clone, has_pull, has_push, sends_private};
-use crate::placed::{PlacedHolding, placed_in};
 use crate::replying::{asked_for, codes_of, first_notices, told_names};
 use crate::sending::{asked_files, files_from};
 use crate::{Ask, BuildFault, Reply, Repo};
@@ -42,15 +41,14 @@ fn asks_names(clone: Option<(u64, u64)>) -> bool
 fn files_of(
     alloc: Global,
     blobs: &Blobs,
-    held: &[PlacedHolding<'_>],
     message: &[WireCard],
     private: bool,
     clone: Option<(u64, u64)>,
 ) -> Result<(List<SentFile>, Option<u64>), Memory>
-    ensures { IfOk result (λ f. f ≡ files_by blobs.now.records (map as_held held.now) message.now private clone) }
+    ensures { IfOk result (λ f. f ≡ files_by blobs.now.records (placed_in blobs.now.records) message.now private clone) }
 {
     if let Some(place) = asked_place(clone) {
-        let (files, next) = files_from(alloc, held, place)?;
+        let (files, next) = files_from(alloc, blobs, place)?;
         return Ok((files, Some(next)));
     }
     if has_pull(message) || clone.is_some() {
@@ -66,16 +64,13 @@ fn lists_of(alloc: Global, blobs: &Blobs, table: &Clusters, ask: &Ask) -> Result
     let message = ask.message.cards();
     let private = sends_private(message, &ask.caps);
     let clone = first_clone(message);
-    let Ok(held) = placed_in(alloc, blobs) else {
-        return Err(Memory);
-    };
-    let (files, sequel) = files_of(alloc, blobs, &held, message, private, clone)?;
+    let (files, sequel) = files_of(alloc, blobs, message, private, clone)?;
     Ok(Lists {
         notices: first_notices(alloc, ask.notices.items())?,
         codes: codes_of(blobs.config(), clone),
         igots: told_names(
             alloc,
-            &held,
+            blobs,
             table,
             private,
             asks_names(clone),

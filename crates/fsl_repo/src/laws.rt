@@ -1,8 +1,29 @@
-//! What holds of the replies of every repository.
+//! What holds of every repository, whatever it holds.
 ghost use Rattle.fsl_repo.specs.Keeps.{BuildsKeep};
+ghost use Rattle.fsl_repo.specs.Machine.{AreOneList, HasItems, HasArrival, HasOneArrival};
 
 /// A law and no code: a reply names a private artifact to nobody but one who may see it and asks for it, and a shunned one
 /// to nobody.
 pub fn builds_keep()
     ensures { BuildsKeep }
+{}
+
+/// A law and no code: held artifacts are some list of items.
+pub fn held_are_items()
+    ensures { HasItems }
+{}
+
+/// A law and no code: held artifacts are one list of items at most.
+pub fn held_are_one_list()
+    ensures { AreOneList }
+{}
+
+/// A law and no code: whatever arrives has an answer, at whatever state.
+pub fn arrival_has_an_answer()
+    ensures { HasArrival }
+{}
+
+/// A law and no code: it has one answer at most, so that an arrival is decided by the state but for want of memory.
+pub fn arrival_has_one_answer()
+    ensures { HasOneArrival }
 {}

@@ -26,7 +26,9 @@ use fsl_journal::CommitFault;
 use fsl_name::Name;
 use fsl_text::{List, Memory, Text};
 use fsl_wire::{Caps, Message};
-pub use laws::builds_keep;
+pub use laws::{
+    arrival_has_an_answer, arrival_has_one_answer, builds_keep, held_are_items, held_are_one_list,
+};
 pub use machine::steps_go_on;
 pub use parsing::{read_artifact, tables_of};
 pub use repo::Repo;

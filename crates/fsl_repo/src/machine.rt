@@ -1,7 +1,8 @@
 //! The repository as a machine that makes one step for each event.
 ghost use Rattle.std.specs.Prelude.{◌≡◌};
 ghost use Rattle.fsl_disk.specs.Disk.{Keeps};
-ghost use Rattle.fsl_repo.specs.Onward.{Step, StepsGoOn};
+ghost use Rattle.fsl_repo.specs.Onward.{Step, DiskStep, StepsGoOn};
+ghost use Rattle.fsl_repo.specs.Whole.{log_of};
 
 use crate::{Answer, Event, Repo};
 use fsl_disk::Disk;
@@ -10,11 +11,13 @@ use fsl_turn::Machine;
 use std::sync::ledger::Ledger;
 
 impl<D: Disk> Repo<D> {
-    /// Does what an event asks, by the call of its own, and answers as that does. The disk stays of its kind.
+    /// Does what an event asks, by the call of its own, and answers as that does. The disk stays of its kind, and a
+    /// commit alone calls it.
     fn obey<L: Ledger>(&mut self, event: &Event, steps: &mut Steps<L>) -> Answer
         ensures step { Step self.old.seen.state event.now result self.new.seen.state }
         ensures loaded { self.new.seen.loaded ≡ self.old.seen.loaded }
         ensures keeps { Keeps (D.state self.old.disk) (D.state self.new.disk) }
+        ensures disk { DiskStep event.now (D.state self.old.disk) (D.state self.new.disk) (log_of self.old) (self.new.disk ≡ self.old.disk) }
     {
         match event {
             Event::Arrive {

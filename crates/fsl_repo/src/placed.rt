@@ -1,12 +1,10 @@
 //! The held artifacts by place, and which of them a reply sends.
-ghost use Rattle.std.specs.Prelude.{◌≡◌, ℕ, List, IfOk, OnOk, map, filter_map, true};
-ghost use Rattle.std.specs.List.{list_any};
-ghost use Rattle.std.specs.Str.{bytes_eq};
+ghost use Rattle.std.specs.Prelude.{◌≡◌, IfOk, map, filter_map};
 ghost use Rattle.std.specs.Option.{option_map};
 ghost use Rattle.std.specs.FinMap as map_of;
-ghost use Rattle.fsl_blobs.specs.Fold.{contents, held_from};
+ghost use Rattle.fsl_blobs.specs.Fold.{contents};
 ghost use Rattle.fsl_repo.specs.Replies.{held_at, placed_in};
-ghost use Rattle.fsl_repo.specs.Sending.{as_held, names_of, public_on};
+ghost use Rattle.fsl_repo.specs.Sending.{as_held, names_of, placed_from, public_on};
 
 use fsl_blobs::{Blobs, Placed};
 use fsl_name::Name;
@@ -56,26 +54,22 @@ fn placed_over<'a>(
     Ok(list)
 }
 
-/// All held artifacts, by place. No bytes are copied.
-pub(crate) fn placed_in<'a>(
+/// The held artifacts from a place on, by place. No bytes are copied.
+fn placed_from<'a>(
     alloc: Global,
     blobs: &'a Blobs,
+    from: u64,
 ) -> Result<Vec<PlacedHolding<'a>>, Memory>
-    ensures all { IfOk result (λ list. map as_held list.items ≡ placed_in blobs.now.records) }
-    ensures whole { OnOk result ((name : List ℕ) → map_of.contains_key (contents blobs.now.records).held name ≡ true → list_any (λ p. bytes_eq p.1 name) (held_from blobs.now.records 0) ≡ true) }
+    ensures { IfOk result (λ list. map as_held list.items ≡ placed_from blobs.now.records from) }
 {
-    match blobs.held(alloc, 0) {
+    match blobs.held(alloc, from) {
         Ok(names) => placed_over(alloc, blobs, names.items()),
         Err(_) => Err(Memory),
     }
 }
 
-/// The names of those that are private, or of those that aren't, in the order of the places.
-pub(crate) fn names_by(
-    alloc: Global,
-    held: &[PlacedHolding<'_>],
-    private: bool,
-) -> Result<Vec<Name>, Memory>
+/// The names of those that are private, or of those that aren't, in their order.
+fn names_over(alloc: Global, held: &[PlacedHolding<'_>], private: bool) -> Result<Vec<Name>, Memory>
     ensures { IfOk result (λ names. names.items ≡ names_of private (map as_held held.now)) }
 {
     let mut names = Vec::new(alloc);
@@ -87,8 +81,18 @@ pub(crate) fn names_by(
     Ok(names)
 }
 
-/// The public ones from a place on.
-pub(crate) fn public_from<'a>(
+/// The names of the held artifacts that are private, or of those that aren't, in the order of their places.
+pub(crate) fn names_by(alloc: Global, blobs: &Blobs, private: bool) -> Result<Vec<Name>, Memory>
+    ensures { IfOk result (λ names. names.items ≡ names_of private (placed_in blobs.now.records)) }
+{
+    match placed_from(alloc, blobs, 0) {
+        Ok(held) => names_over(alloc, &held, private),
+        Err(_) => Err(Memory),
+    }
+}
+
+/// Those of some artifacts that are public and whose place is at least this.
+fn public_over<'a>(
     alloc: Global,
     held: &[PlacedHolding<'a>],
     place: u64,
@@ -110,4 +114,18 @@ pub(crate) fn public_from<'a>(
         }
     }
     Ok(list)
+}
+
+/// The public artifacts from a place on, by place. Those before it aren't looked up.
+pub(crate) fn public_from<'a>(
+    alloc: Global,
+    blobs: &'a Blobs,
+    place: u64,
+) -> Result<Vec<PlacedHolding<'a>>, Memory>
+    ensures { IfOk result (λ list. map as_held list.items ≡ public_on place (placed_in blobs.now.records)) }
+{
+    match placed_from(alloc, blobs, place) {
+        Ok(held) => public_over(alloc, &held, place),
+        Err(_) => Err(Memory),
+    }
 }

@@ -7,9 +7,10 @@ ghost use Rattle.fsl_order.specs.Names.{bytes_cmp, has};
 ghost use Rattle.fsl_order.specs.Rows.{ascending};
 ghost use Rattle.fsl_blobs.specs.Fold.{contents};
 ghost use Rattle.fsl_cluster.specs.Clusters as clusters;
-ghost use Rattle.fsl_repo.specs.Sending.{as_held, told_public, told_private, told};
+ghost use Rattle.fsl_repo.specs.Replies.{placed_in};
+ghost use Rattle.fsl_repo.specs.Sending.{told_public, told_private, told};
 
-use crate::placed::{PlacedHolding, names_by};
+use crate::placed::names_by;
 use crate::wanting::wanted;
 use fsl_blobs::Blobs;
 use fsl_cluster::Clusters;
@@ -75,15 +76,15 @@ fn stands(names: &[Name], name: &Name) -> bool
 /// The public names that a reply tells: all of them, or those that stand in no cluster, or none.
 fn public_names(
     alloc: Global,
-    held: &[PlacedHolding<'_>],
+    blobs: &Blobs,
     table: &Clusters,
     all: bool,
     pull: bool,
 ) -> Result<Vec<Name>, Memory>
-    ensures { IfOk result (λ names. names.items ≡ told_public (map as_held held.now) (clusters.unclustered table.now.facts) all pull) }
+    ensures { IfOk result (λ names. names.items ≡ told_public (placed_in blobs.now.records) (clusters.unclustered table.now.facts) all pull) }
 {
     if all {
-        return names_by(alloc, held, false);
+        return names_by(alloc, blobs, false);
     }
     if pull {
         let names = table.unclustered(alloc)?;
@@ -95,15 +96,15 @@ fn public_names(
 /// The private names that it tells.
 fn private_names(
     alloc: Global,
-    held: &[PlacedHolding<'_>],
+    blobs: &Blobs,
     private: bool,
     all: bool,
     pull: bool,
 ) -> Result<Vec<Name>, Memory>
-    ensures { IfOk result (λ names. names.items ≡ told_private (map as_held held.now) private (pull || all)) }
+    ensures { IfOk result (λ names. names.items ≡ told_private (placed_in blobs.now.records) private (pull || all)) }
 {
     if private && (pull || all) {
-        return names_by(alloc, held, true);
+        return names_by(alloc, blobs, true);
     }
     Ok(Vec::new(alloc))
 }
@@ -123,16 +124,16 @@ fn flagged(alloc: Global, names: &[Name], private: &[Name]) -> Result<Vec<(Name,
 /// The names that a reply tells, ascending, with true beside the private ones.
 pub(crate) fn told_names(
     alloc: Global,
-    held: &[PlacedHolding<'_>],
+    blobs: &Blobs,
     table: &Clusters,
     private: bool,
     all: bool,
     pull: bool,
 ) -> Result<List<(Name, bool)>, Memory>
-    ensures { IfOk result (λ list. list ≡ told (told_public (map as_held held.now) (clusters.unclustered table.now.facts) all pull) (told_private (map as_held held.now) private (pull || all))) }
+    ensures { IfOk result (λ list. list ≡ told (told_public (placed_in blobs.now.records) (clusters.unclustered table.now.facts) all pull) (told_private (placed_in blobs.now.records) private (pull || all))) }
 {
-    let mut names = public_names(alloc, held, table, all, pull)?;
-    let hidden = private_names(alloc, held, private, all, pull)?;
+    let mut names = public_names(alloc, blobs, table, all, pull)?;
+    let hidden = private_names(alloc, blobs, private, all, pull)?;
     names.extend_from_slice(&hidden)?;
     let names = ordered(names);
     let list = flagged(alloc, &names, &ordered(hidden))?;

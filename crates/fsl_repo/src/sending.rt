@@ -5,6 +5,7 @@ ghost use Rattle.std.specs.FinMap as map_of;
 ghost use Rattle.fsl_blobs.specs.Fold.{contents};
 ghost use Rattle.fsl_answer.specs.Contents.{first_of, place_or_zero, sent_file, sequel};
 ghost use Rattle.fsl_answer.specs.Replies.{taken};
+ghost use Rattle.fsl_repo.specs.Replies.{placed_in};
 ghost use Rattle.fsl_repo.specs.Sending.{as_held, as_sent, sent_of, sent_asked, sent_files, public_on};
 
 use crate::asking::asked_names;
@@ -153,13 +154,13 @@ fn place_behind(held: &[PlacedHolding<'_>], count: usize) -> u64
 /// The public files from a place on that the budget takes, and the place of the first that it doesn't, or 0.
 pub(crate) fn files_from(
     alloc: Global,
-    held: &[PlacedHolding<'_>],
+    blobs: &Blobs,
     place: u64,
 ) -> Result<(List<SentFile>, u64), Memory>
-    ensures files { IfOk result (λ f. f.0 ≡ sent_files (map sent_file (public_on place (map as_held held.now)))) }
-    ensures next { IfOk result (λ f. f.1 ≡ sequel (public_on place (map as_held held.now))) }
+    ensures files { IfOk result (λ f. f.0 ≡ sent_files (map sent_file (public_on place (placed_in blobs.now.records)))) }
+    ensures next { IfOk result (λ f. f.1 ≡ sequel (public_on place (placed_in blobs.now.records))) }
 {
-    match public_from(alloc, held, place) {
+    match public_from(alloc, blobs, place) {
         Ok(list) => files_and_next(alloc, &list),
         Err(_) => Err(Memory),
     }

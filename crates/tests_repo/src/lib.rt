@@ -2,6 +2,12 @@
 #![tactic(auto)]
 
 #[cfg(test)]
+mod answers;
+#[cfg(test)]
+mod histories;
+#[cfg(test)]
+mod printing;
+#[cfg(test)]
 mod repo;
 #[cfg(test)]
 mod steps;

@@ -13,7 +13,7 @@ const CLUSTER: &[u8] =
     b"M 66b27417d37e024c46526c2f6d358a754fc552f3\nZ 5d6c647caf1ed4c378c3ad6e14de1428\n";
 
 /// What becomes of bytes that arrive under their own name.
-fn arrival(
+pub(crate) fn arrival(
     alloc: Global,
     repo: &mut Repo<MemoryDisk>,
     bytes: &[u8],
@@ -36,7 +36,7 @@ fn arrival(
 }
 
 /// What becomes of the name of some bytes that is shunned.
-fn shunning(repo: &mut Repo<MemoryDisk>, bytes: &[u8]) -> Option<Shunning> {
+pub(crate) fn shunning(repo: &mut Repo<MemoryDisk>, bytes: &[u8]) -> Option<Shunning> {
     let event = Event::Shun {
         name: Name::of(bytes),
     };
@@ -68,7 +68,7 @@ fn shuns(alloc: Global, repo: &mut Repo<MemoryDisk>) -> bool {
 }
 
 /// What becomes of a cluster that is asked for.
-fn clustering(repo: &mut Repo<MemoryDisk>) -> Option<Clustering> {
+pub(crate) fn clustering(repo: &mut Repo<MemoryDisk>) -> Option<Clustering> {
     let event = Event::Cluster;
     let answer = step_uncounted(repo, &event);
     drop(event);

@@ -1,4 +1,4 @@
-use Rattle.std.proofs.Common.{◌≡◌, ap, refl, ◌∙◌, ◌++◌, map, take, []}
+use Rattle.std.proofs.Common.{◌≡◌, ap, refl, ◌∙◌, ◌++◌, take, []}
 use Rattle.std.specs.Prelude.{◌||◌, if◌then◌else◌}
 use Rattle.std.specs.List.{list_any}
 use Rattle.std.specs.Option.{option_map}
@@ -8,7 +8,8 @@ use Rattle.fsl_cluster.specs.Clusters as clusters
 use Rattle.fsl_answer.specs.Contents as reply
 use Rattle.fsl_answer.specs.Refusals.{is_push}
 use Rattle.fsl_repo.specs.Replies.{placed_in}
-use Rattle.fsl_repo.specs.Sending.{as_held, files_by, seen_by, told, told_public, told_private}
+use Rattle.fsl_repo.specs.Sending.{files_by, seen_by, told, told_public, told_private}
+use Rattle.fsl_repo.proofs.Placings.{all_held}
 use Rattle.fsl_repo.proofs.Sendings.{files_are, codes_are}
 use Rattle.fsl_repo.proofs.building.lists_of.Goals as goal
 
@@ -21,8 +22,6 @@ returns c =
     let config = c.config.result.now in
     let free = clusters.unclustered facts in
     let message : c.cards-message.result.now ≡ ask.message = c.cards-message.ensures in
-    let held : map as_held c.deref.result.now ≡ placed_in blobs.records = ap (map as_held) c.deref.ensures.value ∙ c.in-Ok.ensures.all in
-    let told_held : map as_held c.deref-2.result.now ≡ placed_in blobs.records = ap (map as_held) c.deref-2.ensures.value ∙ c.in-Ok.ensures.all in
     let private : c.sends_private-private.result ≡ reply.sends_private ask.message ask.caps =
     c.sends_private-private.ensures ∙ ap (λ m. reply.sends_private m ask.caps) message in
     let clone : c.first_clone-clone.result ≡ reply.first_clone ask.message = c.first_clone-clone.ensures ∙ ap reply.first_clone message in
@@ -35,12 +34,12 @@ returns c =
     ∙ codes_are (contents blobs.records).config config c.config.ensures (reply.first_clone ask.message) in
     let igots =
     c.in_ok-told_names.ensures
-    ∙ (λ i. told (told_public (told_held i) free (all i) (pull i)) (told_private (told_held i) (private i) (pull i || all i))) in
+    ∙ (λ i. told (told_public (placed_in blobs.records) free (all i) (pull i)) (told_private (placed_in blobs.records) (private i) (pull i || all i))) in
     let gimmes = c.in_ok-asked_for.ensures ∙ ap (λ b. if b then ascending (s.wants ++ s.announced) else []) push in
     let files =
     c.in_ok-files.ensures
-    ∙ (λ i. files_by blobs.records (held i) (message i) (private i) (clone i))
-    ∙ files_are blobs.records c.in-Ok.ensures.whole s refl ask.message ask.caps in
+    ∙ (λ i. files_by blobs.records (placed_in blobs.records) (message i) (private i) (clone i))
+    ∙ files_are blobs.records (all_held blobs.records) s refl ask.message ask.caps in
     λ i. record {
       notices = notices i;
       codes = codes i;

@@ -3,13 +3,14 @@ use Rattle.std.specs.Prelude.{◌||◌}
 use Rattle.fsl_order.specs.Names.{has}
 use Rattle.fsl_order.specs.Rows.{ascending}
 use Rattle.fsl_cluster.specs.Clusters as clusters
-use Rattle.fsl_repo.specs.Sending.{as_held, told_public, told_private}
+use Rattle.fsl_repo.specs.Replies.{placed_in}
+use Rattle.fsl_repo.specs.Sending.{told_public, told_private}
 use Rattle.fsl_repo.proofs.Sendings.{told_is}
 use Rattle.fsl_repo.proofs.replying.told_names.Goals as goal
 
 pub returns : goal.returns
 returns c =
-    let held = map as_held c.args.held.now in
+    let held = placed_in c.args.blobs.now.records in
     let public = told_public held (clusters.unclustered c.args.table.now.facts) c.args.all c.args.pull in
     let private = told_private held c.args.private (c.args.pull || c.args.all) in
     let hidden : c.in_ok-hidden.hidden.items ≡ private = c.in_ok-hidden.ensures in

@@ -1,0 +1,15 @@
+-- How many touches an arrival takes.
+use Rattle.std.specs.Prelude.{ℕ, ◌+◌, ◌*◌, ◌≤◌, List, Bool, IfSome}
+use Rattle.fsl_artifact.specs.declared.Artifact.{Artifact}
+use Rattle.fsl_artifact.specs.Kind.{IsKind}
+use Rattle.fsl_cross.specs.declared.Item.{Item}
+use Rattle.fsl_cross.specs.Touches.{add_touches}
+
+-- the bytes as an item
+abbrev pub item_of : List ℕ → Bool → Artifact → Item
+item_of name private artifact = record { name = name; private = private; artifact = artifact }
+
+-- from a count to another there are at most twice as many touches as adding what the bytes are to these items may take, where that has a bound
+abbrev pub IsWithin : List Item → List ℕ → Bool → List ℕ → ℕ → ℕ → Type 0
+IsWithin items name private bytes old new =
+    (a : Artifact) → IsKind bytes a → IfSome (add_touches items (item_of name private a)) (λ most. new ≤ old + 2 * most)

@@ -1,0 +1,203 @@
+//! Histories of a repository: what it holds when it is closed, and when it is loaded again.
+use crate::printing::printed;
+use crate::repo::{ONE_BLOB, disk_of};
+use fsl_disk::{FuseDisk, MemoryDisk};
+use fsl_name::Name;
+use fsl_repo::{Answer, Event, Repo};
+use fsl_text::{Memory, Text};
+use fsl_turn::step_uncounted;
+use std::alloc::Global;
+use std::test::Fail;
+
+/// A history has so many steps.
+const STEPS: u64 = 40;
+
+// Plain texts, four check-ins of two branches and a merge with a baseline, a tag, a page, a ticket, a post, and two
+// clusters, of which one names the other.
+const ARTIFACTS: [&[u8]; 14] = [
+    b"alpha",
+    b"beta",
+    b"gamma",
+    b"delta",
+    b"C first\nD 2024-05-01T10:00:00.000\nF a.txt be76331b95dfc399cd776d2fc68021e0db03cc4f\nF b.txt a295e0bdde1938d1fbfd343e5a3e569e868e1465\nT *branch * trunk\nT *sym-trunk *\nU ann\nZ ad0e90a1697fc2a1b2e33840c5a0a50d\n",
+    b"C second\nD 2024-05-02T10:00:00.000\nF a.txt ff70f4c33de2200b76651bbe1e54aa55fcd77447\nP 0d385d2dae73c749140cbeb418acd798928033fd\nU bob\nZ a610fb0b65056bb1830802d1014c003d\n",
+    b"C side\nD 2024-05-03T10:00:00.000\nF b.txt 736fcab46d3c183000b547caa2f1f0abcdcd1c87\nP 0d385d2dae73c749140cbeb418acd798928033fd\nT *branch * side\nT *sym-side *\nT -sym-trunk *\nU ann\nZ 4b6b07672a74f2bf53999640c87e0eb4\n",
+    b"B 0d385d2dae73c749140cbeb418acd798928033fd\nC merge\nD 2024-05-04T10:00:00.000\nF b.txt ff70f4c33de2200b76651bbe1e54aa55fcd77447\nP ce537cc83b2e699fa5e194cd8a8dd4ad668df444 9b174339430222e76460ffa49ca2dab1da165d14\nU bob\nZ 6c941f25b9811c7b55186db7e4fdfee9\n",
+    b"D 2024-05-05T10:00:00.000\nT +note ce537cc83b2e699fa5e194cd8a8dd4ad668df444 new\nU ann\nZ c73eabb1618e208ae2f169efa16368df\n",
+    b"D 2024-05-06T10:00:00.000\nL Home\nU ann\nW 5\nhello\nZ 3aff53d842378cc19f38ac84b0bd6bef\n",
+    b"D 2024-05-07T10:00:00.000\nJ status open\nK 346d34a0f0d96ddaf66e2099f5ecba91b7674a31\nU bob\nZ d981112589302824f02743b54367bb44\n",
+    b"D 2024-05-08T10:00:00.000\nH title\nU ann\nW 3\nyes\nZ 84c5fc0e10690238ecf12264c8c74f53\n",
+    b"M 0d385d2dae73c749140cbeb418acd798928033fd\nM be76331b95dfc399cd776d2fc68021e0db03cc4f\nZ 2b97f09ddbe9072312851d19ff807460\n",
+    b"M 047e9b3fcadd763ca155bc899bf82dbe9f998a20\nM 87f1dd5ad47a49a2476a79a0bf7355028ba6945c\nM fd6fc984598c2a317a2128879297643a0580fcfa\nZ e53c6416e391b4ab60f15d56eed614ba\n",
+];
+
+/// They stand behind a call without a contract, which keeps them out of the proof.
+fn artifacts() -> &'static [&'static [u8]] {
+    &ARTIFACTS
+}
+
+/// Numbers that look random, and are the same in each run.
+#[derive(Drop)]
+struct Dice {
+    state: u64,
+}
+
+impl Dice {
+    fn roll(&mut self) -> u8 {
+        self.state = self
+            .state
+            .wrapping_mul(6_364_136_223_846_793_005)
+            .wrapping_add(1_442_695_040_888_963_407);
+        let [high, ..] = self.state.to_be_bytes();
+        high
+    }
+
+    /// One of the artifacts.
+    fn artifact(&mut self) -> &'static [u8] {
+        match artifacts().get(usize::from(self.roll() % 14)) {
+            Some(bytes) => *bytes,
+            None => b"",
+        }
+    }
+}
+
+/// An event: mostly an arrival, one in five of them private, and now and then one under a wrong name.
+fn event_of(alloc: Global, dice: &mut Dice) -> Result<Event, Memory> {
+    let bytes = dice.artifact();
+    let name = Name::of(bytes);
+    Ok(match dice.roll() % 16 {
+        0 | 1 => Event::Arrive {
+            name,
+            bytes: Text::of(alloc, bytes)?,
+            private: true,
+        },
+        2 => Event::Arrive {
+            name: Name::of(b"wrong"),
+            bytes: Text::of(alloc, bytes)?,
+            private: false,
+        },
+        3 | 4 => Event::Announce { name },
+        5 => Event::Shun { name },
+        6 => Event::Cluster,
+        7 | 8 => Event::Commit,
+        _ => Event::Arrive {
+            name,
+            bytes: Text::of(alloc, bytes)?,
+            private: false,
+        },
+    })
+}
+
+/// Whether an event is answered by a commit that succeeds.
+fn commits(repo: &mut Repo<FuseDisk<MemoryDisk>>, event: Event) -> bool {
+    let answer = step_uncounted(repo, &event);
+    drop(event);
+    let committed = matches!(&answer, Answer::Commit(Ok(_)));
+    drop(answer);
+    committed
+}
+
+/// What a repository shows at its last commit and at its end.
+#[derive(Drop)]
+struct Shown {
+    committed: Vec<u8>,
+    end: Vec<u8>,
+}
+
+/// Takes so many steps.
+fn play(
+    alloc: Global,
+    repo: &mut Repo<FuseDisk<MemoryDisk>>,
+    dice: &mut Dice,
+) -> Result<Shown, Memory> {
+    let mut committed = printed(alloc, repo)?;
+    for _ in 0..STEPS {
+        let event = event_of(alloc, dice)?;
+        if commits(repo, event) {
+            committed = printed(alloc, repo)?;
+        }
+    }
+    let end = printed(alloc, repo)?;
+    Ok(Shown { committed, end })
+}
+
+/// How a repository comes back.
+#[derive(Clone, Copy, PartialEq, Eq, Debug)]
+enum Back {
+    /// As it was closed.
+    Whole,
+    /// As it was closed or at its last commit, behind a commit that failed.
+    Stopped,
+    /// Otherwise.
+    Lost,
+}
+
+/// What a disk shows that is loaded.
+fn shown_by(alloc: Global, disk: MemoryDisk) -> Result<Vec<u8>, Memory> {
+    match Repo::load(alloc, disk) {
+        Ok(repo) => {
+            let shown = printed(alloc, &repo);
+            drop(repo);
+            shown
+        }
+        Err((disk, _)) => {
+            drop(disk);
+            Err(Memory)
+        }
+    }
+}
+
+/// How a disk brings back what was shown, where the last commit was so.
+fn back_from(
+    alloc: Global,
+    disk: MemoryDisk,
+    shown: Result<Shown, Memory>,
+    ended: bool,
+) -> Result<Back, Memory> {
+    let again = shown_by(alloc, disk)?;
+    let shown = shown?;
+    let is_end = again.as_slice() == shown.end.as_slice();
+    let is_one = is_end || again.as_slice() == shown.committed.as_slice();
+    Ok(match ended {
+        true if is_end => Back::Whole,
+        false if is_one => Back::Stopped,
+        _ => Back::Lost,
+    })
+}
+
+/// Plays a history over a disk that fails after so many calls, closes the repository and loads it again.
+fn history(alloc: Global, number: u64, calls: u64) -> Result<Back, Memory> {
+    let disk = FuseDisk::new(disk_of(alloc, ONE_BLOB)?, calls);
+    match Repo::load(alloc, disk) {
+        Ok(mut repo) => {
+            let shown = play(alloc, &mut repo, &mut Dice { state: number });
+            let ended = repo.commit().is_ok();
+            let disk = repo.close().inner();
+            back_from(alloc, disk, shown, ended)
+        }
+        Err((disk, _)) => {
+            drop(disk);
+            Ok(Back::Lost)
+        }
+    }
+}
+
+/// Each of 24 histories comes back whole.
+#[test]
+fn comes_back(rt: HostRuntime) -> Result<(), Fail> {
+    for number in 0..24 {
+        let back = history(rt.alloc(), number, 1_000_000)?;
+        assert_eq!(rt; back, Back::Whole, "history {number}");
+    }
+    Ok(())
+}
+
+/// Six more, whose disk fails in the second commit or later, come back as at the end or at a commit before.
+#[test]
+fn comes_back_after_a_failure(rt: HostRuntime) -> Result<(), Fail> {
+    for number in 24..30 {
+        let back = history(rt.alloc(), number, number - 12)?;
+        assert_eq!(rt; back, Back::Stopped, "history {number}");
+    }
+    Ok(())
+}
