@@ -31,10 +31,13 @@ fn refused<D: Disk>(
         bytes: Text::of(alloc, bytes)?,
         private: false,
     };
-    match answer(repo, event) {
-        Answer::Arrive(Err(fault)) => Ok(Some(fault)),
-        _ => Ok(None),
-    }
+    let answer = answer(repo, event);
+    let fault = match &answer {
+        Answer::Arrive(Err(fault)) => Some(*fault),
+        _ => None,
+    };
+    drop(answer);
+    Ok(fault)
 }
 
 /// Whether an artifact of 2^24 + 1 bytes is too large, one under another name is named, and the name of a shunned one
@@ -73,10 +76,13 @@ fn makes_a_cluster(alloc: Global, repo: &mut Repo<MemoryDisk>) -> bool {
 
 /// How a commit fails.
 fn commit_fault<D: Disk>(repo: &mut Repo<D>) -> Option<CommitFault> {
-    match answer(repo, Event::Commit) {
-        Answer::Commit(Err(fault)) => Some(fault),
+    let answer = answer(repo, Event::Commit);
+    let fault = match &answer {
+        Answer::Commit(Err(fault)) => Some(*fault),
         _ => None,
-    }
+    };
+    drop(answer);
+    fault
 }
 
 /// Whether a shun and a cluster are stopped.
@@ -88,11 +94,14 @@ fn are_stopped<D: Disk>(repo: &mut Repo<D>) -> bool {
         },
     );
     let cluster = answer(repo, Event::Cluster);
-    matches!(&shun, Answer::Shun(Err(ShunFault::Stopped { faults: 1 })))
+    let stopped = matches!(&shun, Answer::Shun(Err(ShunFault::Stopped { faults: 1 })))
         && matches!(
             &cluster,
             Answer::Cluster(Err(ArriveFault::Stopped { faults: 1 }))
-        )
+        );
+    drop(shun);
+    drop(cluster);
+    stopped
 }
 
 /// Whether a commit that the disk fails stops all but announcements.
@@ -189,10 +198,13 @@ fn reply(
         message,
         notices: List::new(alloc),
     };
-    match answer(repo, Event::Build { ask }) {
-        Answer::Build(Ok(reply)) => Ok(reply.bytes().to_vec(alloc)?),
+    let answer = answer(repo, Event::Build { ask });
+    let found = match &answer {
+        Answer::Build(Ok(reply)) => reply.bytes().to_vec(alloc),
         _ => Ok(Vec::new(alloc)),
-    }
+    };
+    drop(answer);
+    Ok(found?)
 }
 
 /// The first message that gets another reply.
