@@ -81,9 +81,7 @@ where
         &|_, job: &mut Job<A, G, T::Pass>|
             ensures grown { T.grows job.old.pass job.new.pass }
             ensures worked { IsGated users.entry.now project requests ((A.state job.old.crew.door).present) ((A.state job.old.crew.door).standing) ((A.state job.new.crew.door).present) ((A.state job.new.crew.door).standing) (T.calls job.old.pass) (T.calls job.new.pass) job.new.work (G.passed job.old.crew.gate) (G.passed job.new.crew.gate) }
-        {
-            run_one(turns, rt, alloc, users, project, job, requests)
-        },
+        { run_one(turns, rt, alloc, users, project, job, requests) },
     );
 }
 

@@ -81,7 +81,9 @@ fn logins(alloc: Global, count: u64) -> Result<Text, Memory> {
 #[test]
 fn ends_at_the_first_of_many_logins(rt: HostRuntime) {
     let text = logins(rt.alloc(), 2_000).expect(&rt, "memory");
-    assert!(rt; granted_in_turn(rt.alloc(), text.bytes()) == Some(Err(LoginFault::Nonce { line: 1 })));
+    assert!(rt;
+        granted_in_turn(rt.alloc(), text.bytes()) == Some(Err(LoginFault::Nonce { line: 1 }))
+    );
 }
 
 fn first_bad_line(alloc: Global, bytes: &[u8]) -> Option<u64> {

@@ -15,8 +15,7 @@ returns-in-Some-clause-made g c =
     let sent = sent_of c.not_allowed.result in
     let old = g.G.Gate.passed c.args.gate.now in
     let R : List Call → Type 0 = λ made. ((users : List User) → granted users c.args.message ≡ Ok c.args.caps → IsJudged users c.args.project c.args.message made sent) × Passes old old c.args.number (arrived made) in
-    gains_none _ R
-    (
+    gains_none _ R (
       (λ users so. said_not_allowed users c.args.project c.args.message c.args.caps c.in-Some.reason sent so (sym c.refusal.ensures ∙ c.in-Some.is) c.not_allowed.ensures),
       none_passed old c.args.number,
     )

@@ -29,11 +29,10 @@ pub returns-in-Ok-Refused-clause-session : goal.returns-in-Ok-Refused-clause-ses
 returns-in-Ok-Refused-clause-session g c =
     let status = c.in-Ok-Refused.status in
     let R : List Call → Type 0 = λ made. IsSession c.args.users.now c.args.project (g.K.Link.state c.args.link.now).present (g.K.Link.state c.send.new.link).present made c.send.result × Passes (g.G.Gate.passed c.args.gate.now) (g.G.Gate.passed c.send.new.gate) c.args.number (points_of made c.send.result) in
-    gains_none _ R
-    (
+    gains_none _ R (
       replied (asked_as.Refused status) (status, []) (refused status refl refl refl)
-      (between_both _ _ _ (λ c d. IsAnswered c d (asked_as.Refused status)) (λ x d. Took x d (status, []) c.send.result) (asked_at _ _ _ _ c.in-Ok-Refused.field-0-is c.in-Ok-Refused.ensures.ok) c.send.ensures.took)
-      c.send.ensures.ends,
+          (between_both _ _ _ (λ c d. IsAnswered c d (asked_as.Refused status)) (λ x d. Took x d (status, []) c.send.result) (asked_at _ _ _ _ c.in-Ok-Refused.field-0-is c.in-Ok-Refused.ensures.ok) c.send.ensures.took)
+          c.send.ensures.ends,
       c.send.ensures.passed,
     )
 
@@ -49,8 +48,8 @@ returns-in-Ok-Body-clause-session g c =
     gains_weaker _ _ (λ made. IsReplied c.args.users.now c.args.project (asked_as.Body body) made sent × Passes old mid c.args.number (arrived made)) R c.said_to-said.ensures.made
     (λ xs p. (
       replied (asked_as.Body body) sent p.0
-      (between_both _ _ _ (λ c d. IsAnswered c d (asked_as.Body body)) (λ x d. Took x d sent end) (asked_at _ _ _ _ c.in-Ok-Body.field-0-is c.in-Ok-Body.ensures.ok) c.send-in-Ok-Body.ensures.took)
-      c.send-in-Ok-Body.ensures.ends,
+          (between_both _ _ _ (λ c d. IsAnswered c d (asked_as.Body body)) (λ x d. Took x d sent end) (asked_at _ _ _ _ c.in-Ok-Body.field-0-is c.in-Ok-Body.ensures.ok) c.send-in-Ok-Body.ensures.took)
+          c.send-in-Ok-Body.ensures.ends,
       points_more old mid new c.args.number (arrived xs) (answered end) p.1 c.send-in-Ok-Body.ensures.passed,
     ))
 
@@ -63,8 +62,7 @@ returns-in-Err-Link-clause-session g c =
 pub returns-in-Err-Memory-clause-session : goal.returns-in-Err-Memory-clause-session
 returns-in-Err-Memory-clause-session g c =
     let R : List Call → Type 0 = λ made. IsSession c.args.users.now c.args.project (g.K.Link.state c.args.link.now).present (g.K.Link.state c.send-in-Err-Memory.new.link).present made c.send-in-Err-Memory.result × Passes (g.G.Gate.passed c.args.gate.now) (g.G.Gate.passed c.send-in-Err-Memory.new.gate) c.args.number (points_of made c.send-in-Err-Memory.result) in
-    gains_none _ R
-    (
+    gains_none _ R (
       unread refl (between_both _ _ _ (λ c d. IsBroken c d c.failed) (λ x d. Took x d (503, []) c.send-in-Err-Memory.result) (subst (λ f. Breaks (g.K.Link.state c.args.link.now).present (g.K.Link.state c.ask.new.link).present f) c.in-Err-Memory.field-0-is c.in-Err-Memory.ensures.broken) c.send-in-Err-Memory.ensures.took) c.send-in-Err-Memory.ensures.ends,
       c.send-in-Err-Memory.ensures.passed,
     )
