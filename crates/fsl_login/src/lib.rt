@@ -1,7 +1,8 @@
 //! Users of a repository, and what their logins allow.
 //!
 //! A users file has a line for each user. `Users::read` reads it, and `granted` says what the logins of a message allow
-//! together, or which of them isn't accepted and why.
+//! together, or which of them isn't accepted and why. `granted_by` says the same of a message whose logins wait for their
+//! tails, and makes none behind the first login that isn't accepted.
 #![tactic(auto)]
 
 ghost use Rattle.std.specs.Prelude.{◌≡◌};
@@ -15,7 +16,7 @@ mod reading;
 use fsl_text::{List, Text};
 use fsl_wire::Caps;
 pub use laws::{fronts_tell, users_read_one_way};
-pub use logins::granted;
+pub use logins::{granted, granted_by};
 use std::marker::Model;
 
 /// A user: a name, what the user may do, and the secret that signs logins.

@@ -8,7 +8,7 @@ ghost use Rattle.fsl_login.specs.Judging.{IsJudged};
 
 use crate::{LoginFault, User, Users};
 use fsl_name::Name;
-use fsl_wire::{Caps, Message, WireCard};
+use fsl_wire::{Caps, Draft, Message, WireCard};
 use sha1::Sha1;
 
 /// The user whose line every message has.
@@ -143,6 +143,25 @@ pub fn granted(users: &Users, message: &Message) -> Result<Caps, LoginFault>
     let mut caps = caps_named(users, NOBODY);
     for card in message.cards() {
         caps = both(caps, card_caps(users, card)?);
+    }
+    Ok(caps)
+}
+
+/// What the message of a draft allows, as [`granted`], with its logins settled one after another: the tail of one that comes
+/// behind the first that isn't accepted is never made. Where all are accepted, all cards are settled.
+///
+/// # Errors
+///
+/// As those of [`granted`].
+pub fn granted_by(users: &Users, draft: &mut Draft<'_>) -> Result<Caps, LoginFault>
+    ensures granted { result ≡ granted users.now draft.old.message }
+    ensures message { draft.new.message ≡ draft.old.message }
+{
+    let users = users.items();
+    let mut caps = caps_named(users, NOBODY);
+    for place in 0..draft.len() {
+        draft.settle(place);
+        caps = both(caps, card_caps(users, draft.card(place))?);
     }
     Ok(caps)
 }

@@ -1,6 +1,7 @@
 pub mod Telling
 pub mod Phases
 pub mod Runs
+pub mod Passing
 pub mod Answering
 pub mod Working
 pub mod Staffing

@@ -1,6 +1,6 @@
 -- The notices of a session, its loops, and its whole run.
 use Rattle.std.proofs.Common.{◌≡◌, ℕ, ◌+◌, ◌<◌, length, get_or, drop, List, [], ◌∷◌, ◌++◌, Bool, true, false, Some, None, Ok, Err, refl, ap, sym, ◌∙◌, subst, append_assoc}
-use Rattle.std.specs.Prelude.{Option, Result, option_to_list, IfOk, OnOk, filter_map}
+use Rattle.std.specs.Prelude.{Option, Result, option_to_list, IfOk, OnOk, OnErr, IsTrue, filter_map}
 use Rattle.std.specs.Result.{result_err}
 use Rattle.std.proofs.lemmas.List.{append-nil, drop_more}
 use Rattle.std.specs.List.{cons_option, list_any}
@@ -14,6 +14,7 @@ use Rattle.fsl_serve.specs.declared.said.Halt.TheVariants as halt
 use Rattle.fsl_wire.specs.declared.Caps.{Caps}
 use Rattle.fsl_wire.specs.declared.WireCard.{WireCard}
 use Rattle.fsl_serve.specs.Session.{notice, notices, announcement, where_so, arrivals, events, first_events}
+use Rattle.fsl_serve.specs.Points.{is_late}
 use Rattle.fsl_serve.specs.Sessions.{Reply, IsConcluded, IsRun, halted}
 use Rattle.fsl_serve.specs.Sessions.IsRun.{whole, early}
 use Rattle.fsl_serve.specs.Calls.{Call, asked, told, halt_of, Gains, GoOn, Phase}
@@ -116,13 +117,20 @@ module _ {X : Type 0} (a b d : List Event) (r : Result (List (List ℕ)) Halt) (
   abbrev pub First : List Call → Type 0
   First made = Phase a made (result_err r) × IfOk r (λ texts. texts ≡ notices (asked made) (told made))
 
-  pub first_halts : (o p : Option (List Call)) (h : Halt) → Gains o p First → r ≡ Err h → Gains o p (λ made. Phase ((a ++ b) ++ d) made (Some h) × Unit {0})
-  first_halts o p h g e = gains_weaker o p First (λ made. Phase ((a ++ b) ++ d) made (Some h) × Unit {0}) g (λ xs f. (phase_cut (a ++ b) d xs h (phase_cut a b xs h (halts_with a r xs h e f.0)), tt))
+  -- what is said of a gate beside the calls
+  pub first_halts : (o p : Option (List Call)) (h : Halt) (Q : List Call → Type 0) → ((xs : List Call) → Phase a xs (Some h) → Q xs) → Gains o p First → r ≡ Err h → Gains o p (λ made. (Phase ((a ++ b) ++ d) made (Some h) × Unit {0}) × Q made)
+  first_halts o p h Q gate g e =
+      gains_weaker o p First (λ made. (Phase ((a ++ b) ++ d) made (Some h) × Unit {0}) × Q made) g
+      (λ xs f. ((phase_cut (a ++ b) d xs h (phase_cut a b xs h (halts_with a r xs h e f.0)), tt), gate xs (halts_with a r xs h e f.0)))
 
-  pub second_halts : (o p q : Option (List Call)) (texts : List (List ℕ)) (h : Halt) → Gains o p First → r ≡ Ok texts → Gains p q (λ made. Phase b made (result_err s)) → s ≡ Err h → Gains o q (λ made. Phase ((a ++ b) ++ d) made (Some h) × Unit {0})
-  second_halts o p q texts h g e k f =
-      gains_more o p q First (λ made. Phase b made (result_err s)) (λ made. Phase ((a ++ b) ++ d) made (Some h) × Unit {0}) g k
-      (λ xs ys u v. (phase_cut (a ++ b) d (xs ++ ys) h (phase_more a b xs ys (Some h) (goes_with a r xs texts e u.0) (halts_with b s ys h f v)), tt))
+  pub second_halts : (o p q : Option (List Call)) (texts : List (List ℕ)) (h : Halt) (Q : List Call → Type 0) → ((xs ys : List Call) → Phase a xs None → Phase b ys (Some h) → Q (xs ++ ys)) → Gains o p First → r ≡ Ok texts → Gains p q (λ made. Phase b made (result_err s)) → s ≡ Err h
+      → Gains o q (λ made. (Phase ((a ++ b) ++ d) made (Some h) × Unit {0}) × Q made)
+  second_halts o p q texts h Q gate g e k f =
+      gains_more o p q First (λ made. Phase b made (result_err s)) (λ made. (Phase ((a ++ b) ++ d) made (Some h) × Unit {0}) × Q made) g k
+      (λ xs ys u v.
+      let first = goes_with a r xs texts e u.0 in
+      let second = halts_with b s ys h f v in
+      ((phase_cut (a ++ b) d (xs ++ ys) h (phase_more a b xs ys (Some h) first second), tt), gate xs ys first second))
 
   abbrev pub Two : List (List ℕ) → List Call → Type 0
   Two texts made = Phase (a ++ b) made None × (texts ≡ notices a (told made))
@@ -137,19 +145,25 @@ module _ {X : Type 0} (a b d : List Event) (r : Result (List (List ℕ)) Halt) (
         w.1 ∙ rw (due, told_append xs ys) (sym (notices_more xs (told ys))),
       ))
 
-  pub third_halts : (o q z : Option (List Call)) (texts : List (List ℕ)) (h : Halt) → Gains o q (Two texts) → Gains q z (λ made. Phase d made (result_err t)) → t ≡ Err h → Gains o z (λ made. Phase ((a ++ b) ++ d) made (Some h) × Unit {0})
-  third_halts o q z texts h g k e =
-      gains_more o q z (Two texts) (λ made. Phase d made (result_err t)) (λ made. Phase ((a ++ b) ++ d) made (Some h) × Unit {0}) g k
-      (λ xs ys u v. (phase_more (a ++ b) d xs ys (Some h) u.0 (halts_with d t ys h e v), tt))
+  abbrev pub Third : List Call → Type 0
+  Third made = Phase d made (result_err t) × OnErr t (IsTrue (list_any is_late (asked made)))
 
-  pub three_done : (o q z : Option (List Call)) (texts : List (List ℕ)) (x : X) → Gains o q (Two texts) → Gains q z (λ made. Phase d made (result_err t)) → t ≡ Ok x → Gains o z (λ made. Phase ((a ++ b) ++ d) made None × (texts ≡ notices a (told made)))
-  three_done o q z texts x g k e =
-      gains_more o q z (Two texts) (λ made. Phase d made (result_err t)) (λ made. Phase ((a ++ b) ++ d) made None × (texts ≡ notices a (told made))) g k
+  pub third_halts : (o q z : Option (List Call)) (texts : List (List ℕ)) (h : Halt) (Q : List Call → Type 0) → ((xs ys : List Call) → list_any is_late (asked ys) ≡ true → Q (xs ++ ys)) → Gains o q (Two texts) → Gains q z Third → t ≡ Err h
+      → Gains o z (λ made. (Phase ((a ++ b) ++ d) made (Some h) × Unit {0}) × Q made)
+  third_halts o q z texts h Q gate g k e =
+      gains_more o q z (Two texts) Third (λ made. (Phase ((a ++ b) ++ d) made (Some h) × Unit {0}) × Q made) g k
       (λ xs ys u v.
-      let whole = phase_more (a ++ b) d xs ys None u.0 (goes_with d t ys x e v) in
+      let F : Result X Halt → Type 0 = λ t. OnErr t (IsTrue (list_any is_late (asked ys))) in
+      ((phase_more (a ++ b) d xs ys (Some h) u.0 (halts_with d t ys h e v.0), tt), gate xs ys (subst F e v.1)))
+
+  pub three_done : (o q z : Option (List Call)) (texts : List (List ℕ)) (x : X) (Q : Type 0) → Q → Gains o q (Two texts) → Gains q z Third → t ≡ Ok x → Gains o z (λ made. (Phase ((a ++ b) ++ d) made None × (texts ≡ notices a (told made))) × Q)
+  three_done o q z texts x Q gate g k e =
+      gains_more o q z (Two texts) Third (λ made. (Phase ((a ++ b) ++ d) made None × (texts ≡ notices a (told made))) × Q) g k
+      (λ xs ys u v.
+      let whole = phase_more (a ++ b) d xs ys None u.0 (goes_with d t ys x e v.0) in
       let due : a ++ b ≡ asked xs = (done_of (a ++ b) xs u.0).1 in (
-        whole,
-        u.1 ∙ notices_front a xs (told ys) b due ∙ sym (ap (λ w. notices a w) (told_append xs ys)),
+        (whole, u.1 ∙ notices_front a xs (told ys) b due ∙ sym (ap (λ w. notices a w) (told_append xs ys))),
+        gate,
       ))
 
 -- ---- the cards one by one
@@ -200,26 +214,31 @@ events_made m caps texts xs b k rest due front t =
     let T : List (List ℕ) → List Event = λ n. event.Build (record { caps = caps; message = m; notices = n }) ∷ event.Commit ∷ [] in
     ap (λ w. first_events m caps ++ T w) n ∙ ap (λ w. w ++ T texts) due ∙ sym (asked_append xs ys)
 
-pub run_whole : (o p q : Option (List Call)) (m : List WireCard) (caps : Caps) (texts : List (List ℕ)) (r : Result (List (List ℕ)) Halt) (sent : Reply) → r ≡ Ok texts
-    → Gains o p (λ made. Phase (first_events m caps) made (result_err r) × IfOk r (λ t. t ≡ notices (arrivals false m) (told made)))
-    → Gains p q (λ made. IsConcluded (record { caps = caps; message = m; notices = texts }) made sent) → Gains o q (λ made. IsRun m caps made sent)
-run_whole o p q m caps texts r sent e g k =
+-- the calls before the build, with what is said of a gate
+abbrev pub Before : List WireCard → Caps → Result (List (List ℕ)) Halt → (Result (List (List ℕ)) Halt → List Call → Type 0) → List Call → Type 0
+Before m caps r Q made = (Phase (first_events m caps) made (result_err r) × IfOk r (λ t. t ≡ notices (arrivals false m) (told made))) × Q r made
+
+pub run_whole : (o p q : Option (List Call)) (m : List WireCard) (caps : Caps) (texts : List (List ℕ)) (r : Result (List (List ℕ)) Halt) (sent : Reply) (Q : Result (List (List ℕ)) Halt → List Call → Type 0) (R : List Call → Type 0) → r ≡ Ok texts
+    → ((xs ys : List Call) → Q (Ok texts) xs → list_any is_late (asked ys) ≡ true → R (xs ++ ys)) → Gains o p (Before m caps r Q)
+    → Gains p q (λ made. IsConcluded (record { caps = caps; message = m; notices = texts }) made sent) → Gains o q (λ made. IsRun m caps made sent × R made)
+run_whole o p q m caps texts r sent Q R e gate g k =
     let announced : List Event = where_so (list_any is_push m) (filter_map (announcement caps) m) in
     let clustered : List Event = where_so (list_any is_pull m) (event.Cluster ∷ []) in
     let due = first_events m caps in
-    gains_more o p q (λ made. Phase due made (result_err r) × IfOk r (λ t. t ≡ notices (arrivals false m) (told made))) (λ made. IsConcluded (record { caps = caps; message = m; notices = texts }) made sent) (λ made. IsRun m caps made sent) g k
+    gains_more o p q (Before m caps r Q) (λ made. IsConcluded (record { caps = caps; message = m; notices = texts }) made sent) (λ made. IsRun m caps made sent × R made) g k
     (λ xs ys u v.
-    let w = told_ok due r (λ t made. t ≡ notices (arrivals false m) (told made)) xs texts e u in
+    let w = told_ok due r (λ t made. t ≡ notices (arrivals false m) (told made)) xs texts e u.0 in
     let d = done_of due xs w.0 in
     let last : List Call = (event.Build (record { caps = caps; message = m; notices = texts }), v.0) ∷ (event.Commit, v.1) ∷ [] in
     let made : IsRun m caps (xs ++ last) sent = whole xs (event.Build (record { caps = caps; message = m; notices = texts }), v.0) (event.Commit, v.1) refl d.0 (events_made m caps texts xs v.0 v.1 (announced ++ clustered) d.1 (sym (append_assoc (arrivals false m) announced clustered) ∙ d.1) w.1) v.3 in
-    subst (λ z. IsRun m caps (xs ++ z) sent) (sym v.2) made)
+    let F : Result (List (List ℕ)) Halt → Type 0 = λ r. Q r xs in
+    subst (λ z. IsRun m caps (xs ++ z) sent × R (xs ++ z)) (sym v.2) (made, gate xs last (subst F e u.1) refl))
 
-pub run_early : (o p : Option (List Call)) (m : List WireCard) (caps : Caps) (r : Result (List (List ℕ)) Halt) (h : Halt) → r ≡ Err h
-    → Gains o p (λ made. Phase (first_events m caps) made (result_err r) × IfOk r (λ t. t ≡ notices (arrivals false m) (told made))) → Gains o p (λ made. IsRun m caps made (halted h))
-run_early o p m caps r h e g =
-    gains_weaker o p (λ made. Phase (first_events m caps) made (result_err r) × IfOk r (λ t. t ≡ notices (arrivals false m) (told made))) (λ made. IsRun m caps made (halted h)) g
-    (λ xs u. early h (halts_with (first_events m caps) r xs h e u.0) refl)
+pub run_early : (o p : Option (List Call)) (m : List WireCard) (caps : Caps) (r : Result (List (List ℕ)) Halt) (h : Halt) (Q : Result (List (List ℕ)) Halt → List Call → Type 0) → r ≡ Err h
+    → Gains o p (Before m caps r Q) → Gains o p (λ made. IsRun m caps made (halted h) × Q (Err h) made)
+run_early o p m caps r h Q e g =
+    gains_weaker o p (Before m caps r Q) (λ made. IsRun m caps made (halted h) × Q (Err h) made) g
+    (λ xs u. let F : Result (List (List ℕ)) Halt → Type 0 = λ r. Q r xs in (early h (halts_with (first_events m caps) r xs h e u.0.0) refl, subst F e u.1))
 
 pub due_is : (o p : Option (List Call)) (d e : List Event) (h : Option Halt) → d ≡ e → Gains o p (λ made. Phase d made h) → Gains o p (λ made. Phase e made h)
 due_is o p d e h q g = let F : List Event → Type 0 = λ d. Gains o p (λ made. Phase d made h) in subst F q g

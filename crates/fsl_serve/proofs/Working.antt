@@ -1,18 +1,21 @@
 -- The connections of a worker, one after another.
-use Rattle.std.proofs.Common.{◌≡◌, ℕ, ◌+◌, List, [], ◌∷◌, ◌++◌, length, map, Some, None, refl, ap, sym, ◌∙◌, subst, append_assoc, length-append}
-use Rattle.std.specs.Prelude.{Option}
+use Rattle.std.proofs.Common.{◌≡◌, ℕ, ◌+◌, ◌<◌, ◌≤◌, arith, Bool, true, false, List, [], ◌∷◌, ◌++◌, length, map, Some, None, refl, ap, sym, ◌∙◌, subst, append_assoc, length-append}
+use Rattle.std.specs.Prelude.{Option, option_map}
 use Rattle.std.proofs.lemmas.List.{append-nil, map-append}
 use Rattle.fsl_outside.specs.Connections.{Connection, Standing, Between, listed, HasBegun, IsTold}
+use Rattle.fsl_outside.specs.Memory.{next}
 use Rattle.fsl_login.specs.declared.User.{User}
 use Rattle.fsl_serve.specs.declared.said.SessionEnd.{SessionEnd}
 use Rattle.fsl_serve.specs.Calls.{Call, Gains}
 use Rattle.fsl_serve.specs.Sessions.{IsSession}
 use Rattle.fsl_serve.specs.Sessions.IsSession.{closed, broken, replied, unread}
-use Rattle.fsl_serve.specs.Workers.{Served, IsServed, AllServed, calls_of, Lists}
+use Rattle.fsl_serve.specs.Points.{Points, Passes, points_of}
+use Rattle.fsl_serve.specs.Workers.{Served, IsServed, AllServed, calls_of, Lists, points_from, IsGated}
 use Rattle.fsl_serve.proofs.Telling.{gains_none, gains_more}
+use Rattle.fsl_serve.proofs.Passing.{no_session, session_more}
 
 -- what was served so far
-pub record IsServing (users : List User) (project : List ℕ) (n : ℕ) (p : Option Connection) (s : Standing) (q : Option Connection) (t : Standing) (told told' : Option (List Call)) : Type 0 where
+pub record IsServing (users : List User) (project : List ℕ) (n : ℕ) (p : Option Connection) (s : Standing) (q : Option Connection) (t : Standing) (told told' : Option (List Call)) (before after : Option Points) : Type 0 where
   pub served : List Served
   pub count : length served ≡ n
   pub each : AllServed users project served
@@ -20,6 +23,7 @@ pub record IsServing (users : List User) (project : List ℕ) (n : ℕ) (p : Opt
   pub calls : Gains told told' (λ made. made ≡ calls_of served)
   pub faults : t.accept_faults ≡ s.accept_faults
   pub closings : t.closings ≡ s.closings
+  pub passed : after ≡ option_map (λ ps. ps ++ points_from 0 served) before
 
 all_more : (users : List User) (project : List ℕ) (xs : List Served) (s : Served) → AllServed users project xs → IsServed users project s → AllServed users project (xs ++ s ∷ [])
 all_more users project [] s p q = (q, tt)
@@ -33,8 +37,8 @@ lists_none : (o : Option (List Connection)) → Lists o o []
 lists_none None = tt
 lists_none (Some cs) = ([], ap Some (sym (append-nil cs)), refl)
 
-pub serving_none : (users : List User) (project : List ℕ) (p : Option Connection) (s : Standing) (told : Option (List Call)) → IsServing users project 0 p s p s told told
-serving_none users project p s told = record {
+pub serving_none : (users : List User) (project : List ℕ) (p : Option Connection) (s : Standing) (told : Option (List Call)) (passed : Option Points) → IsServing users project 0 p s p s told told passed passed
+serving_none users project p s told passed = record {
   served = [];
   count = refl;
   each = tt;
@@ -42,6 +46,7 @@ serving_none users project p s told = record {
   calls = gains_none told (λ made. made ≡ []) refl;
   faults = refl;
   closings = refl;
+  passed = no_session passed;
 }
 
 -- a told connection stays told in a session
@@ -73,19 +78,55 @@ lists_one users project (Some cs) earlier begun after xs made end l t s = more b
     more None u v = absurd u
     more (Some c) u v = let w = stays_told users project c after made end v in one w.0 w.1
 
-pub serving_more : (users : List User) (project : List ℕ) (n : ℕ) (p : Option Connection) (s : Standing) (q : Option Connection) (t : Standing) (b : Option Connection) (u : Standing) (r : Option Connection) (v : Standing) (o o' o'' : Option (List Call)) (end : SessionEnd)
-    → IsServing users project n p s q t o o' → HasBegun b → IsTold u.earlier b → u.earlier ≡ listed t.earlier q → u.accept_faults ≡ t.accept_faults → u.closings ≡ t.closings → v ≡ u
-    → Gains o' o'' (λ made. IsSession users project b r made end) → IsServing users project (n + 1) p s r v o o''
-serving_more users project n p s q t b u r v o o' o'' end w begun told earlier faults closings same k =
+pub serving_more : (users : List User) (project : List ℕ) (n : ℕ) (p : Option Connection) (s : Standing) (q : Option Connection) (t : Standing) (b : Option Connection) (u : Standing) (r : Option Connection) (v : Standing) (o o' o'' : Option (List Call)) (h h' h'' : Option Points) (end : SessionEnd)
+    → IsServing users project n p s q t o o' h h' → HasBegun b → IsTold u.earlier b → u.earlier ≡ listed t.earlier q → u.accept_faults ≡ t.accept_faults → u.closings ≡ t.closings → v ≡ u
+    → Gains o' o'' (λ made. IsSession users project b r made end × Passes h' h'' n (points_of made end)) → IsServing users project (n + 1) p s r v o o'' h h''
+serving_more users project n p s q t b u r v o o' o'' h h' h'' end w begun told earlier faults closings same k =
     let one : Served = record { connection = r; made = k.0; end = end } in
     let lists : Lists (listed s.earlier p) (listed u.earlier r) (w.served ++ one ∷ []) =
-    lists_one users project (listed s.earlier p) u.earlier b r w.served k.0 end (subst (λ e. Lists (listed s.earlier p) e w.served) (sym earlier) w.lists) told k.3 in
+    lists_one users project (listed s.earlier p) u.earlier b r w.served k.0 end (subst (λ e. Lists (listed s.earlier p) e w.served) (sym earlier) w.lists) told k.3.0 in
     record {
       served = w.served ++ one ∷ [];
       count = length-append w.served (one ∷ []) ∙ ap (λ m. m + 1) w.count;
-      each = all_more users project w.served one w.each (b, begun, k.3);
+      each = all_more users project w.served one w.each (b, begun, k.3.0);
       lists = subst (λ (z : Standing). Lists (listed s.earlier p) (listed z.earlier r) (w.served ++ one ∷ [])) (sym same) lists;
       calls = gains_more o o' o'' (λ made. made ≡ calls_of w.served) (λ made. made ≡ k.0) (λ made. made ≡ calls_of (w.served ++ one ∷ [])) w.calls (k.0, k.1, k.2, refl) (λ xs ys e f. rw (e, f) (sym (calls_more w.served one)));
       faults = ap (λ (z : Standing). z.accept_faults) same ∙ faults ∙ w.faults;
       closings = ap (λ (z : Standing). z.closings) same ∙ closings ∙ w.closings;
+      passed = session_more h h' h'' w.served one n w.count w.passed k.3.1;
     }
+
+-- ---- the end of a worker
+
+abbrev is_false : Bool → Type 0
+is_false false = Unit {0}
+is_false true = ⊥
+
+pub never : {X : Type 0} → false ≡ true → X
+never {X} e = absurd (subst is_false e tt)
+
+module _ (users : List User) (project : List ℕ) (n : ℕ) (p : Option Connection) (s : Standing) (q : Option Connection) (t : Standing) (o o' : Option (List Call)) (h h' : Option Points) (w : IsServing users project n p s q t o o' h h') where
+  pub gated : (requests m : ℕ) (failed : Bool) (q' : Option Connection) (t' : Standing) → m ≡ n → n ≤ requests → q' ≡ q → t'.earlier ≡ t.earlier
+      → (failed ≡ true → (t'.accept_faults ≡ next t.accept_faults) × (t'.closings ≡ t.closings) × (n < requests)) → (failed ≡ false → t'.accept_faults ≡ t.accept_faults)
+      → (failed ≡ false → n < requests → t'.closings ≡ next t.closings) → (n ≡ requests → t'.closings ≡ t.closings)
+      → IsGated users project requests p s q' t' o o' (record { sessions = m; failed = failed }) h h'
+  gated requests m failed q' t' count within present earlier fails not_fails closes not_closes =
+      record {
+        worked = record {
+          served = w.served;
+          count = w.count ∙ sym count;
+          within = omega (arith, count, within);
+          each = w.each;
+          lists =
+              subst (λ (e : Option (List Connection)). Lists (listed s.earlier p) (listed e q') w.served) (sym earlier)
+              (subst (λ (c : Option Connection). Lists (listed s.earlier p) (listed t.earlier c) w.served) (sym present) w.lists);
+          calls = w.calls;
+          failed = λ e. (fails e).0 ∙ ap next w.faults;
+          kept = λ e. (fails e).1 ∙ w.closings;
+          not_failed = λ e. not_fails e ∙ w.faults;
+          early = λ e. let less = (fails e).2 in omega (arith, count, less);
+          closed = λ e l. closes e (omega (arith, count, l)) ∙ ap next w.closings;
+          not_closed = λ e. not_closes (sym count ∙ e) ∙ w.closings;
+        };
+        passed = w.passed;
+      }

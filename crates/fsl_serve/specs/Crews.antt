@@ -4,13 +4,19 @@ use Rattle.fsl_outside.specs.Connections.{Connection, Standing}
 use Rattle.fsl_login.specs.declared.User.{User}
 use Rattle.fsl_serve.specs.declared.work.Work.{Work}
 use Rattle.fsl_serve.specs.Calls.{Call}
-use Rattle.fsl_serve.specs.Workers.{IsWorked}
+use Rattle.fsl_serve.specs.Points.{Points}
+use Rattle.fsl_serve.specs.Workers.{IsWorked, IsGated}
 
 -- one worker for each crew, in order, and what it did
 abbrev pub AllWorked : {X : Type 0} → (X → Option Connection) → (X → Standing) → List User → List ℕ → ℕ → List Work → List X → List X → Type 0
 AllWorked {X} present standing users project requests works xs ys =
     (length ys ≡ length xs) × (length works ≡ length xs)
     × ((i : ℕ) (d : X) (w : Work) → i < length xs → (o : Option (List Call)) × (o' : Option (List Call)) × IsWorked users project requests (present (slice_index_or xs i d)) (standing (slice_index_or xs i d)) (present (slice_index_or ys i d)) (standing (slice_index_or ys i d)) o o' (slice_index_or works i w))
+
+-- at each place the worker did this, and the gate there has the points of that worker's sessions
+abbrev pub AllGated : {X : Type 0} → (X → Option Connection) → (X → Standing) → (X → Option Points) → List User → List ℕ → ℕ → List Work → List X → List X → Type 0
+AllGated {X} present standing passed users project requests works xs ys =
+    (i : ℕ) (d : X) (w : Work) → i < length xs → (o : Option (List Call)) × (o' : Option (List Call)) × IsGated users project requests (present (slice_index_or xs i d)) (standing (slice_index_or xs i d)) (present (slice_index_or ys i d)) (standing (slice_index_or ys i d)) o o' (slice_index_or works i w) (passed (slice_index_or xs i d)) (passed (slice_index_or ys i d))
 
 -- all their sessions
 abbrev pub sessions_of : List Work → ℕ

@@ -1,5 +1,5 @@
 -- What a worker did with the connections of its door.
-use Rattle.std.specs.Prelude.{◌≡◌, ⊤, ℕ, ◌<◌, ◌≤◌, true, false, List, [], ◌∷◌, ◌++◌, length, map, Option, Some, IfSome}
+use Rattle.std.specs.Prelude.{◌≡◌, ⊤, ℕ, ◌<◌, ◌≤◌, true, false, List, [], ◌∷◌, ◌++◌, ◌+◌, length, map, Option, option_map, Some, IfSome}
 use Rattle.fsl_outside.specs.Connections.{Connection, Standing, listed, HasBegun}
 use Rattle.fsl_outside.specs.Memory.{next}
 use Rattle.fsl_login.specs.declared.User.{User}
@@ -7,6 +7,7 @@ use Rattle.fsl_serve.specs.declared.said.SessionEnd.{SessionEnd}
 use Rattle.fsl_serve.specs.declared.work.Work.{Work}
 use Rattle.fsl_serve.specs.Calls.{Call, Gains}
 use Rattle.fsl_serve.specs.Sessions.{IsSession}
+use Rattle.fsl_serve.specs.Points.{Points, points_of}
 
 -- one connection as its session left it, the session's calls and its end
 pub record Served : Type 0 where
@@ -45,3 +46,13 @@ pub record IsWorked (users : List User) (project : List ℕ) (requests : ℕ) (p
   pub early : work.failed ≡ true → work.sessions < requests
   pub closed : work.failed ≡ false → work.sessions < requests → t.closings ≡ next s.closings
   pub not_closed : work.sessions ≡ requests → t.closings ≡ s.closings
+
+-- the points of sessions one after another, whose numbers count from n
+abbrev pub points_from : ℕ → List Served → Points
+points_from n [] = []
+points_from n (s ∷ more) = map (λ p. (n, p)) (points_of s.made s.end) ++ points_from (n + 1) more
+
+-- the worker did this, and its gate has the points of these sessions behind those before, numbered from 0
+pub record IsGated (users : List User) (project : List ℕ) (requests : ℕ) (p : Option Connection) (s : Standing) (q : Option Connection) (t : Standing) (told told' : Option (List Call)) (work : Work) (before after : Option Points) : Type 0 where
+  pub worked : IsWorked users project requests p s q t told told' work
+  pub passed : after ≡ option_map (λ ps. ps ++ points_from 0 worked.served) before

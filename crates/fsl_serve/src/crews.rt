@@ -2,8 +2,8 @@
 ghost use Rattle.std.specs.Prelude.{◌≡◌, ◌<◌, ◌≤◌, ◌+◌, slice_index_or, vec_len, ℕ, Some, IfOk, IfErr};
 ghost use Rattle.fsl_repo.specs.Onward.{IsLaterOn};
 ghost use Rattle.fsl_repo.specs.Whole.{stored};
-ghost use Rattle.fsl_serve.specs.Workers.{IsWorked};
-ghost use Rattle.fsl_serve.specs.Crews.{AllWorked};
+ghost use Rattle.fsl_serve.specs.Workers.{IsGated};
+ghost use Rattle.fsl_serve.specs.Crews.{AllWorked, AllGated};
 
 use crate::staff::{dismissed, staffed};
 use crate::work::{Crew, Work, worker};
@@ -37,7 +37,7 @@ fn run_one<T: Turns<Repo<D>>, D: Disk, A: Door, G: Gate, R: Wait>(
     requests: u64,
 )
     ensures grown { T.grows job.old.pass job.new.pass }
-    ensures worked { IsWorked users.now project requests ((A.state job.old.crew.door).present) ((A.state job.old.crew.door).standing) ((A.state job.new.crew.door).present) ((A.state job.new.crew.door).standing) (T.calls job.old.pass) (T.calls job.new.pass) job.new.work }
+    ensures worked { IsGated users.now project requests ((A.state job.old.crew.door).present) ((A.state job.old.crew.door).standing) ((A.state job.new.crew.door).present) ((A.state job.new.crew.door).standing) (T.calls job.old.pass) (T.calls job.new.pass) job.new.work (G.passed job.old.crew.gate) (G.passed job.new.crew.gate) }
 {
     job.work = worker(
         turns,
@@ -71,14 +71,17 @@ where
     T::Pass: Send,
     requires { 0 < vec_len jobs.old }
     ensures len { vec_len jobs.new ≡ vec_len jobs.old }
-    ensures each { (i : ℕ) (d : _) → i < vec_len jobs.old → let before = slice_index_or jobs.old.items i d in let after = slice_index_or jobs.new.items i d in IsWorked users.now project requests ((A.state before.crew.door).present) ((A.state before.crew.door).standing) ((A.state after.crew.door).present) ((A.state after.crew.door).standing) (T.calls before.pass) (T.calls after.pass) after.work × T.grows before.pass after.pass }
+    ensures each { (i : ℕ) (d : _) → i < vec_len jobs.old → let before = slice_index_or jobs.old.items i d in let after = slice_index_or jobs.new.items i d in IsGated users.now project requests ((A.state before.crew.door).present) ((A.state before.crew.door).standing) ((A.state after.crew.door).present) ((A.state after.crew.door).standing) (T.calls before.pass) (T.calls after.pass) after.work (G.passed before.crew.gate) (G.passed after.crew.gate) × T.grows before.pass after.pass }
 {
     let threads = jobs.len();
     for_each_mut(
         rt,
         jobs.as_mut_slice(),
         threads,
-        &|_, job| run_one(turns, rt, alloc, users, project, job, requests),
+        &|_, job: &mut Job<A, G, T::Pass>|
+            ensures grown { T.grows job.old.pass job.new.pass }
+            ensures worked { IsGated users.entry.now project requests ((A.state job.old.crew.door).present) ((A.state job.old.crew.door).standing) ((A.state job.new.crew.door).present) ((A.state job.new.crew.door).standing) (T.calls job.old.pass) (T.calls job.new.pass) job.new.work (G.passed job.old.crew.gate) (G.passed job.new.crew.gate) }
+        { run_one(turns, rt, alloc, users, project, job, requests) },
     );
 }
 
@@ -108,6 +111,7 @@ pub fn serve_crews<D: Disk + Send, A: Door + Send, G: Gate + Send, R: Threads + 
     ensures later { IfOk result (λ s. IsLaterOn (D.state repo.disk) (D.state s.repo.disk) repo s.repo) }
     ensures stored { IfOk result (λ s. stored s.repo.seen ≡ stored repo.seen + s.stored) }
     ensures worked { IfOk result (λ s. AllWorked (λ c. (A.state c.door).present) (λ c. (A.state c.door).standing) users.now project requests s.works.items crews.items s.crews.items) }
+    ensures gates { IfOk result (λ s. AllGated (λ c. (A.state c.door).present) (λ c. (A.state c.door).standing) (λ c. G.passed c.gate) users.now project requests s.works.items crews.items s.crews.items) }
     ensures refused { IfErr result (λ r. (r.0 ≡ repo) × (r.1.items ≡ crews.items)) }
 {
     let blank = Blank::new(crews.len() as u64);
@@ -138,6 +142,7 @@ fn serve_locked<
     ensures later { IfOk result (λ s. IsLaterOn (D.state repo.disk) (D.state s.repo.disk) repo s.repo) }
     ensures stored { IfOk result (λ s. stored s.repo.seen ≡ stored repo.seen + s.stored) }
     ensures worked { IfOk result (λ s. AllWorked (λ c. (A.state c.door).present) (λ c. (A.state c.door).standing) users.now project requests s.works.items crews.items s.crews.items) }
+    ensures gates { IfOk result (λ s. AllGated (λ c. (A.state c.door).present) (λ c. (A.state c.door).standing) (λ c. G.passed c.gate) users.now project requests s.works.items crews.items s.crews.items) }
     ensures refused { IfErr result (λ r. (r.0 ≡ repo) × (r.1.items ≡ crews.items)) }
 {
     let count = crews.len() as u64;

@@ -1,5 +1,5 @@
 //! The events of a message, and what they say.
-ghost use Rattle.std.specs.Prelude.{◌≡◌, [], ◌∷◌, ◌++◌, true, false, IfOk, OnOk, filter_map, option_to_list, option_map};
+ghost use Rattle.std.specs.Prelude.{◌≡◌, [], ◌∷◌, ◌++◌, true, false, IfOk, OnOk, OnErr, IsTrue, filter_map, option_to_list, option_map};
 ghost use Rattle.std.specs.Result.{result_err};
 ghost use Rattle.std.specs.List.{list_any};
 ghost use Rattle.fsl_answer.specs.Refusals.{is_push};
@@ -7,6 +7,7 @@ ghost use Rattle.fsl_answer.specs.Contents.{is_pull};
 ghost use Rattle.fsl_repo.specs.declared.Event.TheVariants as event;
 ghost use Rattle.fsl_serve.specs.Calls.{Gains, Phase, asked, told};
 ghost use Rattle.fsl_serve.specs.Session.{announcement, first_events, notices, where_so, arrivals};
+ghost use Rattle.fsl_serve.specs.Points.{Passes, arrived, reached, is_late};
 ghost use Rattle.fsl_serve.specs.Sessions.{IsRun, IsConcluded, sent_of, concluded};
 
 use crate::arrivals::arrive_all;
@@ -89,7 +90,7 @@ fn cluster<T: Turns<Repo<D>>, D: Disk, R: Wait>(
     pass: &mut T::Pass,
 ) -> Result<(), Halt>
     ensures grown { T.grows pass.old pass.new }
-    ensures made { Gains (T.calls pass.old) (T.calls pass.new) (λ made. Phase (event.Cluster ∷ []) made (result_err result)) }
+    ensures made { Gains (T.calls pass.old) (T.calls pass.new) (λ made. Phase (event.Cluster ∷ []) made (result_err result) × IsTrue (list_any is_late (asked made))) }
 {
     heed(&call(turns, rt, pass, &Event::Cluster))
 }
@@ -138,7 +139,7 @@ fn cluster_where_pulled<T: Turns<Repo<D>>, D: Disk, R: Wait>(
     cards: &[WireCard],
 ) -> Result<(), Halt>
     ensures grown { T.grows pass.old pass.new }
-    ensures made { Gains (T.calls pass.old) (T.calls pass.new) (λ made. Phase (where_so (list_any is_pull cards.now) (event.Cluster ∷ [])) made (result_err result)) }
+    ensures made { Gains (T.calls pass.old) (T.calls pass.new) (λ made. Phase (where_so (list_any is_pull cards.now) (event.Cluster ∷ [])) made (result_err result) × OnErr result (IsTrue (list_any is_late (asked made)))) }
 {
     if has_pull(cards) {
         cluster(turns, rt, pass)
@@ -147,7 +148,7 @@ fn cluster_where_pulled<T: Turns<Repo<D>>, D: Disk, R: Wait>(
     }
 }
 
-/// All events before the build, and the notices for the reply.
+/// All events before the build, and the notices for the reply. Passes the gate behind the arrivals and announcements.
 fn before_build<T: Turns<Repo<D>>, D: Disk, G: Gate, R: Wait>(
     turns: &T,
     rt: &R,
@@ -159,7 +160,7 @@ fn before_build<T: Turns<Repo<D>>, D: Disk, G: Gate, R: Wait>(
     caps: Caps,
 ) -> Result<List<Text>, Halt>
     ensures grown { T.grows pass.old pass.new }
-    ensures made { Gains (T.calls pass.old) (T.calls pass.new) (λ made. Phase (first_events cards.old caps) made (result_err result) × IfOk result (λ texts. texts ≡ notices (arrivals false cards.old) (told made))) }
+    ensures made { Gains (T.calls pass.old) (T.calls pass.new) (λ made. (Phase (first_events cards.old caps) made (result_err result) × IfOk result (λ texts. texts ≡ notices (arrivals false cards.old) (told made))) × Passes (G.passed gate.old) (G.passed gate.new) number (reached result made)) }
     ensures kept { OnOk result (cards.new ≡ cards.old) }
 {
     let notices = match arrive_all(turns, rt, alloc, pass, cards) {
@@ -216,7 +217,7 @@ pub(crate) fn run<T: Turns<Repo<D>>, D: Disk, G: Gate, R: Wait>(
     caps: Caps,
 ) -> Said
     ensures grown { T.grows pass.old pass.new }
-    ensures made { Gains (T.calls pass.old) (T.calls pass.new) (λ made. IsRun message caps made (sent_of result)) }
+    ensures made { Gains (T.calls pass.old) (T.calls pass.new) (λ made. IsRun message caps made (sent_of result) × Passes (G.passed gate.old) (G.passed gate.new) number (arrived made)) }
 {
     let mut cards = message.into_cards().into_vec();
     let before = before_build(

@@ -5,6 +5,7 @@ ghost use Rattle.fsl_outside.specs.Connections.{Between};
 ghost use Rattle.fsl_http.specs.Replies.{IsStatus};
 ghost use Rattle.fsl_serve.specs.declared.said.SessionEnd.TheVariants as end_as;
 ghost use Rattle.fsl_serve.specs.Sessions.{sent_of, Took, Ends};
+ghost use Rattle.fsl_serve.specs.Points.{Passes, answered};
 
 use crate::said::{Said, SessionEnd};
 use fsl_http::reply;
@@ -23,6 +24,7 @@ pub(crate) fn send<K: Link, G: Gate>(
     ensures cause { result ≡ end_as.Link → Rose ((K.state link.old).faults) ((K.state link.new).faults) }
     ensures same { result ≢ end_as.Link → (K.state link.new).faults ≡ (K.state link.old).faults }
     ensures stands { (K.state link.new).standing ≡ (K.state link.old).standing }
+    ensures passed { Passes (G.passed gate.old) (G.passed gate.new) number (answered result) }
 {
     let status = said.status();
     match reply(link, status, said.body()) {

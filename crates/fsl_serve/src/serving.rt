@@ -1,12 +1,15 @@
 //! A session.
-ghost use Rattle.std.specs.Prelude.{◌≡◌, ◌≢◌};
+ghost use Rattle.std.specs.Prelude.{◌≡◌, ◌≢◌, ℕ, List as Items, [], Ok, IfOk, IfErr};
 ghost use Rattle.fsl_order.specs.Causes.{Rose};
 ghost use Rattle.fsl_http.specs.declared.request.Asked.TheVariants as asked_as;
 ghost use Rattle.fsl_http.specs.Replies.{IsStatus};
 ghost use Rattle.fsl_wire.specs.Messages.{IsMessage};
+ghost use Rattle.fsl_login.specs.declared.User.{User};
+ghost use Rattle.fsl_login.specs.Logins.{granted};
 ghost use Rattle.fsl_serve.specs.declared.said.SessionEnd.TheVariants as end_as;
 ghost use Rattle.fsl_serve.specs.Calls.{Gains};
 ghost use Rattle.fsl_serve.specs.Sessions.{IsReplied, IsSession, sent_of, IsJudged};
+ghost use Rattle.fsl_serve.specs.Points.{Passes, arrived, points_of};
 
 use crate::bodies::{login_failed, not_allowed, unread};
 use crate::events::run;
@@ -15,41 +18,55 @@ use crate::sending::send;
 use fsl_answer::refusal;
 use fsl_disk::Disk;
 use fsl_http::{Asked, HttpFault, ask};
-use fsl_login::{Users, granted};
+use fsl_login::{Users, granted_by};
 use fsl_name::Name;
 use fsl_outside::{Gate, Link};
 use fsl_repo::Repo;
+use fsl_text::Text;
 use fsl_turn::Turns;
-use fsl_wire::{Message, read};
+use fsl_wire::{Caps, Draft, Message};
 use std::alloc::Global;
 use std::sync::Wait;
 
-/// What is said to a message: its login, then its refusal, then its events.
+/// The message of a body and what its logins allow, or what is said in place of more. The body is let go. A login that isn't
+/// accepted ends the hashing: the tails behind it are never made.
+fn hear(alloc: Global, users: &Users, body: Text) -> Result<(Message, Caps), Said>
+    ensures heard { IfOk result (λ h. IsMessage body h.0 × (granted users.now h.0 ≡ Ok h.1)) }
+    ensures unheard { IfErr result (λ said. (project : Items ℕ) → IsReplied users.now project (asked_as.Body body) [] (sent_of said)) }
+    ensures status { IfErr result (λ said. IsStatus (sent_of said).0) }
+{
+    match Draft::read(alloc, body.bytes()) {
+        Ok(mut draft) => match granted_by(users, &mut draft) {
+            Ok(caps) => Ok((draft.into_message(), caps)),
+            Err(_) => Err(login_failed(alloc)),
+        },
+        Err(fault) => Err(unread(alloc, fault)),
+    }
+}
+
+/// What is said to a message with these privileges: its refusal, or its events.
 fn said_to_message<T: Turns<Repo<D>>, D: Disk, G: Gate, R: Wait>(
     turns: &T,
     rt: &R,
     alloc: Global,
     pass: &mut T::Pass,
-    users: &Users,
     project: Name,
     gate: &mut G,
     number: u64,
     message: Message,
+    caps: Caps,
 ) -> Said
     ensures grown { T.grows pass.old pass.new }
     ensures status { IsStatus (sent_of result).0 }
-    ensures made { Gains (T.calls pass.old) (T.calls pass.new) (λ made. IsJudged users.now project message made (sent_of result)) }
+    ensures made { Gains (T.calls pass.old) (T.calls pass.new) (λ made. ((users : Items User) → granted users message ≡ Ok caps → IsJudged users project message made (sent_of result)) × Passes (G.passed gate.old) (G.passed gate.new) number (arrived made)) }
 {
-    match granted(users, &message) {
-        Ok(caps) => match refusal(&message, caps, project) {
-            Some(reason) => not_allowed(alloc, reason),
-            None => run(turns, rt, alloc, pass, gate, number, message, caps),
-        },
-        Err(_) => login_failed(alloc),
+    match refusal(&message, caps, project) {
+        Some(reason) => not_allowed(alloc, reason),
+        None => run(turns, rt, alloc, pass, gate, number, message, caps),
     }
 }
 
-/// What is said to the body of a request.
+/// What is said to the body of a request, which is let go before the first event.
 fn said_to<T: Turns<Repo<D>>, D: Disk, G: Gate, R: Wait>(
     turns: &T,
     rt: &R,
@@ -59,21 +76,22 @@ fn said_to<T: Turns<Repo<D>>, D: Disk, G: Gate, R: Wait>(
     project: Name,
     gate: &mut G,
     number: u64,
-    body: &[u8],
+    body: Text,
 ) -> Said
     ensures grown { T.grows pass.old pass.new }
     ensures status { IsStatus (sent_of result).0 }
-    ensures made { Gains (T.calls pass.old) (T.calls pass.new) (λ made. IsReplied users.now project (asked_as.Body body.now) made (sent_of result)) }
+    ensures made { Gains (T.calls pass.old) (T.calls pass.new) (λ made. IsReplied users.now project (asked_as.Body body) made (sent_of result) × Passes (G.passed gate.old) (G.passed gate.new) number (arrived made)) }
 {
-    match read(alloc, body) {
-        Ok(message) => said_to_message(
-            turns, rt, alloc, pass, users, project, gate, number, message,
+    match hear(alloc, users, body) {
+        Ok((message, caps)) => said_to_message(
+            turns, rt, alloc, pass, project, gate, number, message, caps,
         ),
-        Err(fault) => unread(alloc, fault),
+        Err(said) => said,
     }
 }
 
-/// Serves the present connection: reads one request, makes its events one by one, and writes one reply.
+/// Serves the present connection: reads one request, makes its events one by one, and writes one reply. The gate is passed behind
+/// the arrivals and announcements, and once the reply is written.
 pub fn session<T: Turns<Repo<D>>, D: Disk, K: Link, G: Gate, R: Wait>(
     turns: &T,
     rt: &R,
@@ -86,7 +104,7 @@ pub fn session<T: Turns<Repo<D>>, D: Disk, K: Link, G: Gate, R: Wait>(
     number: u64,
 ) -> SessionEnd
     ensures grown { T.grows pass.old pass.new }
-    ensures session { Gains (T.calls pass.old) (T.calls pass.new) (λ made. IsSession users.now project ((K.state link.old).present) ((K.state link.new).present) made result) }
+    ensures session { Gains (T.calls pass.old) (T.calls pass.new) (λ made. IsSession users.now project ((K.state link.old).present) ((K.state link.new).present) made result × Passes (G.passed gate.old) (G.passed gate.new) number (points_of made result)) }
     ensures cause { result ≡ end_as.Link → Rose ((K.state link.old).faults) ((K.state link.new).faults) }
     ensures same { result ≢ end_as.Link → (K.state link.new).faults ≡ (K.state link.old).faults }
     ensures stands { (K.state link.new).standing ≡ (K.state link.old).standing }
@@ -95,17 +113,7 @@ pub fn session<T: Turns<Repo<D>>, D: Disk, K: Link, G: Gate, R: Wait>(
         Ok(Asked::Closed) => SessionEnd::Closed,
         Ok(Asked::Refused { status }) => send(link, gate, number, &Said::Refused(status)),
         Ok(Asked::Body(body)) => {
-            let said = said_to(
-                turns,
-                rt,
-                alloc,
-                pass,
-                users,
-                project,
-                gate,
-                number,
-                body.bytes(),
-            );
+            let said = said_to(turns, rt, alloc, pass, users, project, gate, number, body);
             send(link, gate, number, &said)
         }
         Err(HttpFault::Link) => SessionEnd::Link,

@@ -1,5 +1,5 @@
 //! Workers.
-ghost use Rattle.fsl_serve.specs.Workers.{IsWorked};
+ghost use Rattle.fsl_serve.specs.Workers.{IsWorked, IsGated};
 
 use crate::serving::session;
 use fsl_disk::Disk;
@@ -30,7 +30,7 @@ pub struct Work {
 }
 
 /// Serves as many connections as are asked for, or up to where the door fails or is closed. Each connection is let go once its session
-/// ended.
+/// ended. The sessions are numbered from 0 where they pass the gate.
 pub fn worker<T: Turns<Repo<D>>, D: Disk, A: Door, G: Gate, R: Wait>(
     turns: &T,
     rt: &R,
@@ -43,6 +43,7 @@ pub fn worker<T: Turns<Repo<D>>, D: Disk, A: Door, G: Gate, R: Wait>(
 ) -> Work
     ensures grown { T.grows pass.old pass.new }
     ensures worked { IsWorked users.now project requests ((A.state crew.old.door).present) ((A.state crew.old.door).standing) ((A.state crew.new.door).present) ((A.state crew.new.door).standing) (T.calls pass.old) (T.calls pass.new) result }
+    ensures gate { IsGated users.now project requests ((A.state crew.old.door).present) ((A.state crew.old.door).standing) ((A.state crew.new.door).present) ((A.state crew.new.door).standing) (T.calls pass.old) (T.calls pass.new) result (G.passed crew.old.gate) (G.passed crew.new.gate) }
 {
     for number in 0..requests {
         match crew.door.accept() {

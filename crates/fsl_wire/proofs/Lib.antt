@@ -6,3 +6,4 @@ mod FrontLemmas
 mod ReadLemmas
 mod CountLemmas
 mod WriteLemmas
+mod DraftLemmas

@@ -5,3 +5,4 @@ pub mod Meanings
 pub mod Fronts
 pub mod Reading
 pub mod Counts
+pub mod Drafts

@@ -1,16 +1,20 @@
 //! The cards of lines, with their texts unescaped and copied.
-ghost use Rattle.std.specs.Prelude.{◌≡◌, ◌++◌, IfOk, OnOk, option_to_list};
+ghost use Rattle.std.specs.Prelude.{◌≡◌, ◌++◌, ℕ, List as Items, length, IfOk, OnOk, option_map, option_to_list};
 ghost use Rattle.fsl_text.specs.Escapes.{unescape};
 ghost use Rattle.fsl_name.specs.Name.{name_of};
 ghost use Rattle.fsl_wire.specs.declared.WireCard.TheVariants as card_is;
 ghost use Rattle.fsl_wire.specs.Messages.{line_cards};
 ghost use Rattle.fsl_wire.specs.Meanings.{line_of};
+ghost use Rattle.fsl_wire.specs.Drafts.{with_tail, with_tails};
 
 use super::meaning::Meaning;
 use crate::WireCard;
 use fsl_name::Name;
 use fsl_text::{List, Memory, Text, unescape};
 use std::alloc::Global;
+
+/// What stands in a login until its tail is made.
+const NO_TAIL: [u8; 20] = [0; 20];
 
 /// Copies of the codes of a server and of a project.
 fn codes(alloc: Global, server: &[u8], project: &[u8]) -> Result<(Text, Text), Memory>
@@ -19,42 +23,40 @@ fn codes(alloc: Global, server: &[u8], project: &[u8]) -> Result<(Text, Text), M
     Ok((Text::of(alloc, server)?, Text::of(alloc, project)?))
 }
 
-/// A login with its line, and the bytes behind that, of which its tail is the name.
+/// A login with its line. No byte stands for its tail yet.
 fn login(
     alloc: Global,
     user: &[u8],
     nonce: &[u8],
     signature: &[u8],
     line: u64,
-    behind: &[u8],
 ) -> Result<WireCard, Memory>
-    ensures { IfOk result (λ card. card ≡ card_is.Login (unescape user.now) nonce.now signature.now (name_of behind.now) line) }
+    ensures { IfOk result (λ card. (b : Items ℕ) → with_tail b card ≡ card_is.Login (unescape user.now) nonce.now signature.now (name_of b) line) }
 {
     Ok(WireCard::Login {
         user: unescape(alloc, user)?,
         nonce: Text::of(alloc, nonce)?,
         signature: Text::of(alloc, signature)?,
-        tail: Name::of(behind),
+        tail: Name::from_bytes(NO_TAIL),
         line,
     })
 }
 
-/// The card of a line that has one, by its number, its content and the bytes behind its newline.
+/// The card of a line that has one, by its number and its content. A login has no tail yet.
 fn card_of(
     alloc: Global,
     meaning: &Meaning<'_>,
     line: u64,
     content: &[u8],
-    behind: &[u8],
 ) -> Result<Option<WireCard>, Memory>
-    ensures { IfOk result (λ card. option_to_list card ≡ line_cards (line_of meaning.now) line content.now behind.now) }
+    ensures { IfOk result (λ card. (b : Items ℕ) → option_to_list (option_map (with_tail b) card) ≡ line_cards (line_of meaning.now) line content.now b) }
 {
     Ok(Some(match *meaning {
         Meaning::Login {
             user,
             nonce,
             signature,
-        } => login(alloc, user, nonce, signature, line, behind)?,
+        } => login(alloc, user, nonce, signature, line)?,
         Meaning::Push { server, project } => {
             let (server, project) = codes(alloc, server, project)?;
             WireCard::Push { server, project }
@@ -83,19 +85,26 @@ fn card_of(
     }))
 }
 
-/// Puts the card of a line at the end, if it has one.
-pub fn add_card(
+/// Puts the card of a line at the end, if it has one, and the bytes behind the line's newline at the end of theirs.
+pub fn add_card<'a>(
     alloc: Global,
     cards: &mut List<WireCard>,
+    behinds: &mut List<&'a [u8]>,
     meaning: &Meaning<'_>,
     line: u64,
     content: &[u8],
-    behind: &[u8],
+    behind: &'a [u8],
 ) -> Result<(), Memory>
-    ensures { OnOk result (cards.new ≡ cards.old ++ line_cards (line_of meaning.now) line content.now behind.now) }
+    requires { length behinds.old ≡ length cards.old }
+    ensures cards { OnOk result (with_tails cards.new behinds.new ≡ with_tails cards.old behinds.old ++ line_cards (line_of meaning.now) line content.now behind.now) }
+    ensures each { OnOk result (length behinds.new ≡ length cards.new) }
 {
-    match card_of(alloc, meaning, line, content, behind)? {
-        Some(card) => cards.append(card),
+    match card_of(alloc, meaning, line, content)? {
+        Some(card) => {
+            cards.append(card)?;
+            behinds.append(behind)?;
+            Ok(())
+        }
         None => Ok(()),
     }
 }

@@ -1,13 +1,15 @@
 //! Messages of a sync: lines, some of which are cards, and the contents of files between them.
 //!
 //! `read` reads the cards of a message, or tells the first line that doesn't read and why. `write` writes a message
-//! that reads back, and `line_of` tells on which line a card stands. Each reads its bytes once from front to back.
+//! that reads back, and `line_of` tells on which line a card stands. Each reads its bytes once from front to back. A `Draft`
+//! is a message that was read without the tails of its logins, which are made one by one as they are asked for.
 #![tactic(auto)]
 
 ghost use Rattle.std.specs.Prelude.{◌≡◌};
 
 mod arguments;
 mod cards;
+mod drafts;
 mod fronts;
 mod laws;
 mod meaning;
@@ -18,6 +20,7 @@ mod tokens;
 mod writing;
 
 pub use arguments::{Arguments, arguments_of};
+pub use drafts::Draft;
 use fsl_name::Name;
 use fsl_text::{List, Text};
 pub use laws::{reads_back, reads_one_way};

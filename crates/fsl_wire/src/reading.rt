@@ -1,9 +1,11 @@
 //! A message read as its cards.
-ghost use Rattle.std.specs.Prelude.{◌≡◌, [], IfOk, IfErr, OnOk};
+ghost use Rattle.std.specs.Prelude.{◌≡◌, [], length, IfOk, IfErr, OnOk};
 ghost use Rattle.fsl_wire.specs.declared.WireFault.TheVariants as wire_fault;
 ghost use Rattle.fsl_wire.specs.Messages.{IsMessage, IsReadFault};
+ghost use Rattle.fsl_wire.specs.Drafts.{with_tails};
 
 use super::cards::add_card;
+use super::drafts::Draft;
 use super::fronts::{Front, front_of};
 use crate::{Message, WireCard, WireFault};
 use fsl_text::{List, Memory};
@@ -17,10 +19,16 @@ impl From<Memory> for WireFault {
     }
 }
 
-/// Reads the cards of a message into a list that is empty.
-fn read_cards(alloc: Global, bytes: &[u8], cards: &mut List<WireCard>) -> Result<(), WireFault>
-    requires { cards.old ≡ [] }
-    ensures message { OnOk result (IsMessage bytes.now cards.new) }
+/// Reads the cards of a message into a list that is empty, and the bytes behind the line of each into another.
+fn read_cards<'a>(
+    alloc: Global,
+    bytes: &'a [u8],
+    cards: &mut List<WireCard>,
+    behinds: &mut List<&'a [u8]>,
+) -> Result<(), WireFault>
+    requires { (cards.old ≡ []) × (behinds.old ≡ []) }
+    ensures message { OnOk result (IsMessage bytes.now (with_tails cards.new behinds.new)) }
+    ensures each { OnOk result (length behinds.new ≡ length cards.new) }
     ensures fault { IfErr result (IsReadFault bytes.now) }
 {
     let mut at = 0usize;
@@ -30,16 +38,41 @@ fn read_cards(alloc: Global, bytes: &[u8], cards: &mut List<WireCard>) -> Result
         match front_of(rest) {
             Front::Bad { wrong } => return Err(wrong.at(line)),
             Front::Last { meaning } => {
-                add_card(alloc, cards, &meaning, line, &[], &[])?;
+                add_card(alloc, cards, behinds, &meaning, line, &[], &[])?;
                 return Ok(());
             }
             Front::Line { meaning, from, to } => {
                 let behind = &rest[from..];
-                add_card(alloc, cards, &meaning, line, &rest[from..to], behind)?;
+                add_card(
+                    alloc,
+                    cards,
+                    behinds,
+                    &meaning,
+                    line,
+                    &rest[from..to],
+                    behind,
+                )?;
                 at += to;
             }
         }
         line += 1;
+    }
+}
+
+impl<'a> Draft<'a> {
+    /// Reads the cards of a message, as [`read`], without the tails of its logins: it hashes nothing.
+    ///
+    /// # Errors
+    ///
+    /// The fault of the first line that doesn't read, or `Memory`.
+    pub fn read(alloc: Global, bytes: &'a [u8]) -> Result<Draft<'a>, WireFault>
+        ensures message { IfOk result (λ draft. IsMessage bytes.now draft.message) }
+        ensures fault { IfErr result (IsReadFault bytes.now) }
+    {
+        let mut cards = List::new(alloc);
+        let mut behinds = List::new(alloc);
+        read_cards(alloc, bytes, &mut cards, &mut behinds)?;
+        Ok(Draft::of(cards, behinds))
     }
 }
 
@@ -57,7 +90,5 @@ pub fn read(alloc: Global, bytes: &[u8]) -> Result<Message, WireFault>
     ensures message { IfOk result (IsMessage bytes.now) }
     ensures fault { IfErr result (IsReadFault bytes.now) }
 {
-    let mut cards = List::new(alloc);
-    read_cards(alloc, bytes, &mut cards)?;
-    Ok(Message::of(cards))
+    Ok(Draft::read(alloc, bytes)?.into_message())
 }

@@ -1,7 +1,7 @@
 //! Messages, read and written. Digits are those of `sha1sum`.
 use fsl_name::Name;
 use fsl_text::{List, Memory, Text};
-use fsl_wire::{Message, WireCard, WireFault, line_of, read, write};
+use fsl_wire::{Draft, Message, WireCard, WireFault, line_of, read, write};
 use std::alloc::Global;
 
 /// A message with a comment, blanks, two files, a cookie, and a last line without a newline.
@@ -39,6 +39,38 @@ fn reads_each_kind_of_card(rt: HostRuntime) {
     assert!(rt; has_kinds(rt.alloc(), CARDS, b"pqffxcnigems"));
     assert!(rt; has_kinds(rt.alloc(), b"", b""));
     assert!(rt; has_kinds(rt.alloc(), b"login u n s", b"l"));
+}
+
+/// The tail of the login that is the first of two cards, once it is settled; the message has the same.
+fn tail_of_first(alloc: Global, bytes: &[u8]) -> Option<Name> {
+    let Ok(mut draft) = Draft::read(alloc, bytes) else {
+        return None;
+    };
+    if draft.len() != 2 {
+        return None;
+    }
+    draft.settle(0);
+    let tail = login_tail(draft.card(0));
+    let message = draft.into_message();
+    if login_tail(&message.cards()[0]) == tail {
+        tail
+    } else {
+        None
+    }
+}
+
+fn login_tail(card: &WireCard) -> Option<Name> {
+    match card {
+        WireCard::Login { tail, .. } => Some(*tail),
+        _ => None,
+    }
+}
+
+#[test]
+fn settles_a_login(rt: HostRuntime) {
+    let want = Name::read(b"057a7bfbd78975f1bc6dde15b95e3af7a16ca86c");
+    assert!(rt; tail_of_first(rt.alloc(), b"login u n s\nclone\n") == want.ok());
+    assert!(rt; tail_of_first(rt.alloc(), b"clone\nlogin u n s\n") == None);
 }
 
 fn has_fault(alloc: Global, bytes: &[u8], fault: WireFault) -> bool {

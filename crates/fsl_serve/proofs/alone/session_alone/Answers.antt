@@ -19,4 +19,4 @@ pub returns : goal.returns
 returns g c =
     let m = c.session.ensures.session in
     let w = c.session.ensures.grown in
-    (m.0, ap calls_in m.1, m.3, moved _ _ _ w.0 m.0 (append_cancel_left _ w.0 m.0 (sym w.1 ∙ ap calls_in m.1)) w.2)
+    (m.0, ap calls_in m.1, m.3.0, moved _ _ _ w.0 m.0 (append_cancel_left _ w.0 m.0 (sym w.1 ∙ ap calls_in m.1)) w.2)

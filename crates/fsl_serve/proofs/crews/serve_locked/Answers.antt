@@ -7,7 +7,7 @@ use Rattle.fsl_repo.specs.contracts.Answer.{the_row as answer_row}
 use Rattle.fsl_repo.specs.contracts.repo.Repo.{the_row as repo_row}
 use Rattle.fsl_turn.proofs.locked.Locked.TheSendSync as locked
 use Rattle.fsl_serve.proofs.Sent.{repo_sent}
-use Rattle.fsl_serve.proofs.Staffing.{all_worked}
+use Rattle.fsl_serve.proofs.Staffing.{all_worked, all_gated}
 use Rattle.fsl_serve.proofs.crews.serve_locked.Goals as goal
 
 pub run_all-requires-sync-T : goal.run_all-requires-sync-T
@@ -35,4 +35,11 @@ returns-clause-worked g c =
     let js = c.staffed-jobs.result.items in
     let ks = c.run_all.new.jobs.items in
     all_worked (λ j. j.crew) (λ j. j.work) (λ k. (g.A.Link.state k.door).present) (λ k. (g.A.Link.state k.door).standing) c.args.users.now c.args.project c.args.requests (λ j. None) js ks c.args.crews.items c.dismissed-works.new.crews.items c.dismissed-works.result.items
+    c.staffed-jobs.ensures.crews (sym c.dismissed-works.ensures.crews) (sym c.dismissed-works.ensures.works) (omega arith) (λ i d l. (c.run_all.ensures.each i d (omega arith)).0.worked)
+
+pub returns-clause-gates : goal.returns-clause-gates
+returns-clause-gates g c =
+    let js = c.staffed-jobs.result.items in
+    let ks = c.run_all.new.jobs.items in
+    all_gated (λ j. j.crew) (λ j. j.work) (λ k. (g.A.Link.state k.door).present) (λ k. (g.A.Link.state k.door).standing) (λ k. g.G.Gate.passed k.gate) c.args.users.now c.args.project c.args.requests (λ j. None) js ks c.args.crews.items c.dismissed-works.new.crews.items c.dismissed-works.result.items
     c.staffed-jobs.ensures.crews (sym c.dismissed-works.ensures.crews) (sym c.dismissed-works.ensures.works) (omega arith) (λ i d l. (c.run_all.ensures.each i d (omega arith)).0)

@@ -1,0 +1,45 @@
+-- The points that a session passes.
+use Rattle.std.specs.Prelude.{◌≡◌, ℕ, Bool, true, false, List, [], ◌∷◌, ◌++◌, map, Option, option_map, Result, Ok, Err}
+use Rattle.std.specs.List.{list_any}
+use Rattle.fsl_outside.specs.declared.gate.Point.{Point}
+use Rattle.fsl_outside.specs.declared.gate.Point.TheVariants as point
+use Rattle.fsl_repo.specs.declared.Event.{Event}
+use Rattle.fsl_repo.specs.declared.Event.TheVariants as event
+use Rattle.fsl_serve.specs.declared.said.Halt.{Halt}
+use Rattle.fsl_serve.specs.declared.said.SessionEnd.{SessionEnd}
+use Rattle.fsl_serve.specs.declared.said.SessionEnd.TheVariants as end_as
+use Rattle.fsl_serve.specs.Session.{where_so}
+use Rattle.fsl_serve.specs.Calls.{Call, asked}
+
+-- points that were passed, each with the number of its session
+abbrev pub Points : Type 0
+Points = List (ℕ × Point)
+
+-- an event that stands behind all arrivals and announcements of its session
+abbrev pub is_late : Event → Bool
+is_late event.Cluster = true
+is_late (event.Build ask) = true
+is_late event.Commit = true
+is_late e = false
+
+-- `Arrived` is passed where a call was made behind the arrivals and announcements, and only there
+abbrev pub arrived : List Call → List Point
+arrived made = where_so (list_any is_late (asked made)) (point.Arrived ∷ [])
+
+-- `Answered` is passed where the reply was written whole, and only there
+abbrev pub answered : SessionEnd → List Point
+answered (end_as.Answered status) = point.Answered ∷ []
+answered end = []
+
+-- the points of a session with these calls and this end
+abbrev pub points_of : List Call → SessionEnd → List Point
+points_of made end = arrived made ++ answered end
+
+-- a gate that tells its points tells these of the session with this number behind those before
+abbrev pub Passes : Option Points → Option Points → ℕ → List Point → Type 0
+Passes before after number points = after ≡ option_map (λ ps. ps ++ map (λ p. (number, p)) points) before
+
+-- the point before the reply is passed where all that stands before the build was made, and else by the calls
+abbrev pub reached : {X : Type 0} → Result X Halt → List Call → List Point
+reached (Ok x) made = point.Arrived ∷ []
+reached (Err h) made = arrived made
