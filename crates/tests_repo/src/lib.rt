@@ -6,6 +6,8 @@ mod answers;
 #[cfg(test)]
 mod histories;
 #[cfg(test)]
+mod many;
+#[cfg(test)]
 mod printing;
 #[cfg(test)]
 mod repo;
