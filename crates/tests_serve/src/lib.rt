@@ -1,11 +1,8 @@
-//! Tests of sessions, of workers and of a served repository, by their public calls alone. They stand apart, so that no crate is proved
-//! once more for its tests.
+//! Tests of sessions and of workers, by their public calls alone. They stand apart, so that no crate is proved once more for its tests.
 #![tactic(auto)]
 
 #[cfg(test)]
 mod common;
-#[cfg(test)]
-mod served;
 #[cfg(test)]
 mod sessions;
 #[cfg(test)]
