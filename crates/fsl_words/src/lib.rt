@@ -6,6 +6,7 @@ mod commands;
 mod faults;
 mod fields;
 mod forms;
+mod places;
 mod reading;
 
 use fsl_name::Name;

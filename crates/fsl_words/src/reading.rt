@@ -6,6 +6,7 @@ ghost use Rattle.fsl_words.specs.Grammar.{is_word, words_in};
 
 use crate::commands::command;
 use crate::forms::is_word;
+use crate::places::by_place;
 use crate::{Words, WordsFault};
 use fsl_text::Text;
 use std::alloc::Global;
@@ -36,11 +37,12 @@ pub fn read(alloc: Global, words: &[String]) -> Result<Words, WordsFault>
     if !are_words(words) {
         return Err(WordsFault::Usage);
     }
-    let [repository, word, rest @ ..] = words else {
-        return Err(WordsFault::Usage);
+    let places = match by_place(alloc, words) {
+        Ok(places) => places,
+        Err(fault) => return Err(fault),
     };
     Ok(Words {
-        command: command(alloc, word.as_str(), rest)?,
-        repository: Text::of(alloc, repository.as_bytes())?,
+        command: command(alloc, places.command, places.words)?,
+        repository: Text::of(alloc, places.repository.as_bytes())?,
     })
 }
