@@ -1,5 +1,5 @@
 -- Messages that were read, whose logins wait for their tails.
-use Rattle.std.specs.Prelude.{ℕ, List, [], ◌∷◌, ◌++◌, take, drop}
+use Rattle.std.specs.Prelude.{ℕ, ◌+◌, Bool, true, false, List, [], ◌∷◌, ◌++◌, take, drop, if◌then◌else◌}
 use Rattle.std.specs.Borrow.{Bor}
 use Rattle.fsl_name.specs.Name.{name_of}
 use Rattle.fsl_wire.specs.declared.WireCard.{WireCard}
@@ -15,12 +15,29 @@ abbrev pub with_tail : List ℕ → WireCard → WireCard
 with_tail behind (Login user nonce signature tail line) = Login user nonce signature (name_of behind) line
 with_tail behind card = card
 
--- cards with their tails, each by the bytes behind its line
+abbrev pub is_login : WireCard → Bool
+is_login (Login user nonce signature tail line) = true
+is_login card = false
+
+-- how many logins a card is
+abbrev pub login_count : WireCard → ℕ
+login_count card = if is_login card then 1 else 0
+
+-- how many logins stand among cards
+abbrev pub logins_of : List WireCard → ℕ
+logins_of [] = 0
+logins_of (card ∷ cards) = login_count card + logins_of cards
+
+-- the first bytes of some; none where there are none
+abbrev pub first_bytes : List (Bor (List ℕ)) → List ℕ
+first_bytes [] = []
+first_bytes (bytes ∷ behind) = bytes.now
+
+-- cards whose logins have their tails, by the bytes behind the line of each login
 abbrev pub with_tails : List WireCard → List (Bor (List ℕ)) → List WireCard
 with_tails [] behind = []
-with_tails (card ∷ cards) [] = card ∷ cards
-with_tails (card ∷ cards) (bytes ∷ behind) = with_tail bytes.now card ∷ with_tails cards behind
+with_tails (card ∷ cards) behind = with_tail (first_bytes behind) card ∷ with_tails cards (drop (login_count card) behind)
 
--- the message of cards, so many of which have their tails
-abbrev pub drafted : List WireCard → List (Bor (List ℕ)) → ℕ → List WireCard
-drafted cards behind n = take n cards ++ with_tails (drop n cards) (drop n behind)
+-- the message of cards, of which the first n, so many of them logins, have their tails
+abbrev pub drafted : List WireCard → List (Bor (List ℕ)) → ℕ → ℕ → List WireCard
+drafted cards behind n logins = take n cards ++ with_tails (drop n cards) (drop logins behind)

@@ -1,20 +1,24 @@
 //! The cards of lines, with their texts unescaped and copied.
-ghost use Rattle.std.specs.Prelude.{◌≡◌, ◌++◌, ℕ, List as Items, length, IfOk, OnOk, option_map, option_to_list};
+ghost use Rattle.std.specs.Prelude.{◌≡◌, [], ◌∷◌, ◌++◌, ℕ, List as Items, length, IfOk, OnOk, option_map, option_to_list};
 ghost use Rattle.fsl_text.specs.Escapes.{unescape};
 ghost use Rattle.fsl_name.specs.Name.{name_of};
 ghost use Rattle.fsl_wire.specs.declared.WireCard.TheVariants as card_is;
 ghost use Rattle.fsl_wire.specs.Messages.{line_cards};
 ghost use Rattle.fsl_wire.specs.Meanings.{line_of};
-ghost use Rattle.fsl_wire.specs.Drafts.{with_tail, with_tails};
+ghost use Rattle.fsl_wire.specs.Drafts.{with_tail, with_tails, logins_of};
 
+use super::drafts::is_login;
 use super::meaning::Meaning;
-use crate::WireCard;
+use crate::{Boxed, WireCard};
 use fsl_name::Name;
-use fsl_text::{List, Memory, Text, unescape};
+use fsl_text::{Memory, Text, unescape};
 use std::alloc::Global;
 
 /// What stands in a login until its tail is made.
 const NO_TAIL: [u8; 20] = [0; 20];
+
+/// The most logins of one message. Each takes more memory than its line has bytes, and all are read before the first is judged.
+const MOST_LOGINS: usize = 65_536;
 
 /// Copies of the codes of a server and of a project.
 fn codes(alloc: Global, server: &[u8], project: &[u8]) -> Result<(Text, Text), Memory>
@@ -34,10 +38,10 @@ fn login(
     ensures { IfOk result (λ card. (b : Items ℕ) → with_tail b card ≡ card_is.Login (unescape user.now) nonce.now signature.now (name_of b) line) }
 {
     Ok(WireCard::Login {
-        user: unescape(alloc, user)?,
-        nonce: Text::of(alloc, nonce)?,
-        signature: Text::of(alloc, signature)?,
-        tail: Name::from_bytes(NO_TAIL),
+        user: Boxed::of(alloc, unescape(alloc, user)?)?,
+        nonce: Boxed::of(alloc, Text::of(alloc, nonce)?)?,
+        signature: Boxed::of(alloc, Text::of(alloc, signature)?)?,
+        tail: Boxed::of(alloc, Name::from_bytes(NO_TAIL))?,
         line,
     })
 }
@@ -85,26 +89,63 @@ fn card_of(
     }))
 }
 
-/// Puts the card of a line at the end, if it has one, and the bytes behind the line's newline at the end of theirs.
+/// Puts an item at the end. The room grows by an eighth at a time: to double it would take as much again as the items do.
+fn put<T: Drop>(list: &mut Vec<T>, item: T) -> Result<(), Memory>
+    ensures { OnOk result (list.new.items ≡ list.old.items ++ item ∷ []) }
+{
+    if list.len() == list.capacity() && list.reserve_exact(list.len() / 8 + 16).is_err() {
+        return Err(Memory);
+    }
+    match list.push(item) {
+        Ok(()) => Ok(()),
+        Err(_) => Err(Memory),
+    }
+}
+
+/// Puts the bytes behind a login at the end of theirs. There is no memory for more logins than a message may have.
+fn put_behind<'a>(behinds: &mut Vec<&'a [u8]>, behind: &'a [u8]) -> Result<(), Memory>
+    ensures { OnOk result (behinds.new.items ≡ behinds.old.items ++ behind.entry ∷ []) }
+{
+    if behinds.len() >= MOST_LOGINS {
+        return Err(Memory);
+    }
+    put(behinds, behind)
+}
+
+/// Puts a card at the end, and the bytes behind its line at the end of theirs where it is a login.
+fn add_made<'a>(
+    cards: &mut Vec<WireCard>,
+    behinds: &mut Vec<&'a [u8]>,
+    card: WireCard,
+    behind: &'a [u8],
+) -> Result<(), Memory>
+    requires { length behinds.old.items ≡ logins_of cards.old.items }
+    ensures cards { OnOk result (with_tails cards.new.items behinds.new.items ≡ with_tails cards.old.items behinds.old.items ++ with_tail behind.now card ∷ []) }
+    ensures each { OnOk result (length behinds.new.items ≡ logins_of cards.new.items) }
+{
+    if is_login(&card) {
+        put_behind(behinds, behind)?;
+        return put(cards, card);
+    }
+    put(cards, card)
+}
+
+/// Puts the card of a line at the end, if it has one, and the bytes behind the line's newline at the end of theirs, if it is a login.
 pub fn add_card<'a>(
     alloc: Global,
-    cards: &mut List<WireCard>,
-    behinds: &mut List<&'a [u8]>,
+    cards: &mut Vec<WireCard>,
+    behinds: &mut Vec<&'a [u8]>,
     meaning: &Meaning<'_>,
     line: u64,
     content: &[u8],
     behind: &'a [u8],
 ) -> Result<(), Memory>
-    requires { length behinds.old ≡ length cards.old }
-    ensures cards { OnOk result (with_tails cards.new behinds.new ≡ with_tails cards.old behinds.old ++ line_cards (line_of meaning.now) line content.now behind.now) }
-    ensures each { OnOk result (length behinds.new ≡ length cards.new) }
+    requires { length behinds.old.items ≡ logins_of cards.old.items }
+    ensures cards { OnOk result (with_tails cards.new.items behinds.new.items ≡ with_tails cards.old.items behinds.old.items ++ line_cards (line_of meaning.now) line content.now behind.now) }
+    ensures each { OnOk result (length behinds.new.items ≡ logins_of cards.new.items) }
 {
     match card_of(alloc, meaning, line, content)? {
-        Some(card) => {
-            cards.append(card)?;
-            behinds.append(behind)?;
-            Ok(())
-        }
+        Some(card) => add_made(cards, behinds, card, behind),
         None => Ok(()),
     }
 }

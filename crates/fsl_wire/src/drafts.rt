@@ -1,8 +1,7 @@
 //! Messages whose logins wait for their tails.
-ghost use Rattle.std.specs.Prelude.{◌≡◌, ◌<◌, ◌≤◌, [], IfOk, IfErr, OnOk, length, slice_index_or};
+ghost use Rattle.std.specs.Prelude.{◌≡◌, ◌<◌, ◌≤◌, ◌+◌, max, length, drop, slice_index_or};
 ghost use Rattle.fsl_wire.specs.declared.WireCard.{WireCard as Card};
-ghost use Rattle.fsl_wire.specs.Messages.{IsMessage, IsReadFault};
-ghost use Rattle.fsl_wire.specs.Drafts.{with_tail, with_tails};
+ghost use Rattle.fsl_wire.specs.Drafts.{with_tail, with_tails, is_login, first_bytes};
 
 use crate::{Message, WireCard};
 use fsl_name::Name;
@@ -14,40 +13,66 @@ use std::marker::Model;
 #[derive(Drop)]
 pub struct Draft<'a> {
     cards: Vec<WireCard>,
+    // The bytes behind the line of each login, in order.
     behind: Vec<&'a [u8]>,
     settled: usize,
+    // How many logins stand among the settled cards.
+    logins: usize,
 }
 
 impl<'a> Model for Draft<'a> {
-    ghost use Rattle.std.specs.Prelude.{◌≡◌, ◌≤◌, length};
+    ghost use Rattle.std.specs.Prelude.{◌≤◌, length};
     ghost use Rattle.fsl_wire.specs.Drafts.{Drafted, drafted};
 
     ghost Value = { Drafted };
 
-    ghost view = { λ d. record { message = drafted d.cards.items d.behind.items d.settled; settled = d.settled } };
+    ghost view = { λ d. record { message = drafted d.cards.items d.behind.items d.settled d.logins; settled = d.settled } };
 
-    ghost invariant = { λ d. (length d.behind.items ≡ length d.cards.items) × (d.settled ≤ length d.cards.items) };
+    ghost invariant = { λ d. (d.settled ≤ length d.cards.items) × (d.logins ≤ d.settled) };
 }
 
-/// Gives a card the tail that it has, if it is a login.
-fn settle_card(card: &mut WireCard, behind: &[u8])
-    ensures { card.new ≡ with_tail behind.now card.old }
+/// Whether a card is a login.
+pub(crate) fn is_login(card: &WireCard) -> bool
+    ensures { result ≡ is_login card.now }
 {
-    if let WireCard::Login { tail, .. } = card {
-        *tail = Name::of(behind);
+    matches!(card, WireCard::Login { .. })
+}
+
+/// Gives a card the tail that it has, if it is a login, and tells whether it is one.
+fn settle_card(card: &mut WireCard, behind: &[u8]) -> bool
+    ensures card { card.new ≡ with_tail behind.now card.old }
+    ensures login { result ≡ is_login card.old }
+{
+    match card {
+        WireCard::Login { tail, .. } => {
+            tail.set(Name::of(behind));
+            true
+        }
+        _ => false,
+    }
+}
+
+/// The bytes behind the login that comes after so many; none where no login does.
+fn behind_next<'a>(behind: &[&'a [u8]], logins: usize) -> &'a [u8]
+    ensures { result.now ≡ first_bytes (drop logins behind.now) }
+{
+    match behind.get(logins) {
+        Some(bytes) => bytes,
+        None => &[],
     }
 }
 
 impl<'a> Draft<'a> {
-    /// The draft of cards and of the bytes behind the line of each.
-    pub(crate) fn of(cards: List<WireCard>, behind: List<&'a [u8]>) -> Draft<'a>
-        requires { length behind ≡ length cards }
-        ensures { result.message ≡ with_tails cards behind.entry }
+    /// The draft of cards and of the bytes behind the line of each login. Nothing is settled.
+    pub(crate) fn of(cards: Vec<WireCard>, behind: Vec<&'a [u8]>) -> Draft<'a>
+        ensures message { result.message ≡ with_tails cards.items behind.entry.items }
+        ensures none { result.settled ≡ 0 }
     {
         Draft {
-            cards: cards.into_vec(),
-            behind: behind.into_vec(),
+            cards,
+            behind,
             settled: 0,
+            logins: 0,
         }
     }
 
@@ -63,10 +88,12 @@ impl<'a> Draft<'a> {
         requires next { place ≤ self.old.settled }
         requires within { place < length self.old.message }
         ensures message { self.new.message ≡ self.old.message }
-        ensures settled { place < self.new.settled }
+        ensures settled { self.new.settled ≡ max self.old.settled (place + 1) }
     {
         if place == self.settled {
-            settle_card(&mut self.cards[place], self.behind[place]);
+            let behind = behind_next(&self.behind, self.logins);
+            let login = settle_card(&mut self.cards[place], behind);
+            self.logins += usize::from(login);
             self.settled += 1;
         }
     }

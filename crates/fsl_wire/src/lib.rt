@@ -8,6 +8,7 @@
 ghost use Rattle.std.specs.Prelude.{◌≡◌};
 
 mod arguments;
+mod boxed;
 mod cards;
 mod drafts;
 mod fronts;
@@ -20,6 +21,7 @@ mod tokens;
 mod writing;
 
 pub use arguments::{Arguments, arguments_of};
+pub use boxed::Boxed;
 pub use drafts::Draft;
 use fsl_name::Name;
 use fsl_text::{List, Text};
@@ -36,12 +38,13 @@ pub use writing::{
 #[derive(Debug, Drop)]
 pub enum WireCard {
     /// `login USER NONCE SIGNATURE`: the user is unescaped. The tail is the SHA-1 of all bytes behind the newline of
-    /// the card's line, and the line is counted from 1.
+    /// the card's line, and the line is counted from 1. All but the line stand behind pointers, since every card is as large as
+    /// the largest.
     Login {
-        user: Text,
-        nonce: Text,
-        signature: Text,
-        tail: Name,
+        user: Boxed<Text>,
+        nonce: Boxed<Text>,
+        signature: Boxed<Text>,
+        tail: Boxed<Name>,
         line: u64,
     },
     /// `push SERVER PROJECT`: the codes of a server and of a project, as they are written.
@@ -103,7 +106,7 @@ pub enum WireFault {
     Size { line: u64 },
     /// Fewer bytes than the size says, or no newline behind the file's line.
     Short { line: u64 },
-    /// There was no memory for the cards.
+    /// There was no memory for the cards, or more than 65,536 logins.
     Memory,
 }
 

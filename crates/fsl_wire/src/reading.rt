@@ -1,5 +1,5 @@
 //! A message read as its cards.
-ghost use Rattle.std.specs.Prelude.{◌≡◌, [], length, IfOk, IfErr, OnOk};
+ghost use Rattle.std.specs.Prelude.{◌≡◌, [], IfOk, IfErr, OnOk};
 ghost use Rattle.fsl_wire.specs.declared.WireFault.TheVariants as wire_fault;
 ghost use Rattle.fsl_wire.specs.Messages.{IsMessage, IsReadFault};
 ghost use Rattle.fsl_wire.specs.Drafts.{with_tails};
@@ -8,7 +8,7 @@ use super::cards::add_card;
 use super::drafts::Draft;
 use super::fronts::{Front, front_of};
 use crate::{Message, WireCard, WireFault};
-use fsl_text::{List, Memory};
+use fsl_text::Memory;
 use std::alloc::Global;
 
 impl From<Memory> for WireFault {
@@ -19,16 +19,15 @@ impl From<Memory> for WireFault {
     }
 }
 
-/// Reads the cards of a message into a list that is empty, and the bytes behind the line of each into another.
+/// Reads the cards of a message into a list that is empty, and the bytes behind the line of each login into another.
 fn read_cards<'a>(
     alloc: Global,
     bytes: &'a [u8],
-    cards: &mut List<WireCard>,
-    behinds: &mut List<&'a [u8]>,
+    cards: &mut Vec<WireCard>,
+    behinds: &mut Vec<&'a [u8]>,
 ) -> Result<(), WireFault>
-    requires { (cards.old ≡ []) × (behinds.old ≡ []) }
-    ensures message { OnOk result (IsMessage bytes.now (with_tails cards.new behinds.new)) }
-    ensures each { OnOk result (length behinds.new ≡ length cards.new) }
+    requires { (cards.old.items ≡ []) × (behinds.old.items ≡ []) }
+    ensures message { OnOk result (IsMessage bytes.now (with_tails cards.new.items behinds.new.items)) }
     ensures fault { IfErr result (IsReadFault bytes.now) }
 {
     let mut at = 0usize;
@@ -67,10 +66,11 @@ impl<'a> Draft<'a> {
     /// The fault of the first line that doesn't read, or `Memory`.
     pub fn read(alloc: Global, bytes: &'a [u8]) -> Result<Draft<'a>, WireFault>
         ensures message { IfOk result (λ draft. IsMessage bytes.now draft.message) }
+        ensures none { IfOk result (λ draft. draft.settled ≡ 0) }
         ensures fault { IfErr result (IsReadFault bytes.now) }
     {
-        let mut cards = List::new(alloc);
-        let mut behinds = List::new(alloc);
+        let mut cards = Vec::new(alloc);
+        let mut behinds = Vec::new(alloc);
         read_cards(alloc, bytes, &mut cards, &mut behinds)?;
         Ok(Draft::of(cards, behinds))
     }
@@ -82,10 +82,11 @@ impl<'a> Draft<'a> {
 /// line are dropped, and stand between its tokens: an operator and its arguments. A line without tokens and one that
 /// begins with `#` have no meaning, nor has `cookie` or another pragma than `send-private`. The content of a file, as
 /// many bytes as its line says, follows the newline of that line. Each login costs a hash of all bytes behind its line.
+/// A card takes 56 bytes and its texts, and the list of them has an eighth of room to spare.
 ///
 /// # Errors
 ///
-/// The fault of the first line that doesn't read, or `Memory`.
+/// The fault of the first line that doesn't read, or `Memory`, also for more than 65,536 logins: each takes some 300 bytes.
 pub fn read(alloc: Global, bytes: &[u8]) -> Result<Message, WireFault>
     ensures message { IfOk result (IsMessage bytes.now) }
     ensures fault { IfErr result (IsReadFault bytes.now) }

@@ -6,6 +6,6 @@ use Rattle.fsl_wire.proofs.drafts.Draft.len.Goals as goal
 pub returns : goal.returns
 returns c =
     let d = c.self.inside in
-    let same = sym (drafted_length d.settled d.cards.items d.behind.items c.self.invariant.0) ∙ ap (λ (v : Drafted). length v.message) c.self.view_is in
+    let same = sym (drafted_length d.settled d.cards.items d.behind.items d.logins) ∙ ap (λ (v : Drafted). length v.message) c.self.view_is in
     let many = c.len.ensures in
     omega (arith, many, same)
