@@ -1,27 +1,24 @@
 -- The held names in their order, and by their places.
-use Rattle.std.proofs.Common.{◌≡◌, ℕ, ◌-◌, ◌<◌, ◌≤◌, zero, suc, get_or, eqb, Bool, true, false, cond, List, [], ◌∷◌, ◌++◌, length, take, map, filter, Option, Some, None, Result, Ok, Err, IfOk, Vec, Global, refl, sym, ap, ◌∙◌, subst, arith}
+use Rattle.std.proofs.Common.{◌≡◌, ℕ, ◌-◌, ◌<◌, ◌≤◌, zero, suc, get_or, Bool, true, false, cond, List, [], ◌∷◌, ◌++◌, length, take, map, filter, Option, Some, None, Result, Ok, Err, IfOk, Vec, Global, refl, sym, ap, ◌∙◌, subst, arith}
 use Rattle.std.specs.Prelude.{◌&&◌, ◌||◌, is_some, nat_le, filter_map, IfSome, T, slice_get, All}
 use Rattle.std.specs.Option.{option_map, option_map_or, option_to_list}
 use Rattle.std.specs.List.{AllByRecursion, IsDistinct, range_with_len, cons_option, list_any}
 use Rattle.std.specs.Str.{bytes_eq}
-use Rattle.std.specs.List.Sorted.{IsStrictlySortedBy, IsNonDecreasing, IsNonDecreasingBy, IsPermutation}
-use Rattle.std.specs.Cmp.{nat_cmp_total, unsigned_tied, tied_itself, nat_eq_equiv}
+use Rattle.std.specs.List.Sorted.{IsStrictlySortedBy, IsNonDecreasing, IsNonDecreasingBy}
+use Rattle.std.specs.Cmp.{unsigned_tied, tied_itself}
 use Rattle.std.specs.Cmp.Lexicographic.{bytes_decides, texts_ties}
 use Rattle.std.specs.declared.cmp.Ordering.{Ordering}
 use Rattle.std.specs.declared.cmp.Ordering.TheVariants.{Less}
 use Rattle.std.specs.Ordering.{is_eq, is_lt, nat_cmp, eq_by_cmp}
 use Rattle.std.specs.FinMap as map_of
-use Rattle.std.specs.FinMap.{find, is_sorted, nat_cmp-IsAntisymmetric}
+use Rattle.std.specs.FinMap.{find, is_sorted}
 use Rattle.std.specs.FinMap.Entries.{same_entries, below_all}
 use Rattle.std.proofs.lemmas.Bool.{and_parts, le-leb}
 use Rattle.std.proofs.lemmas.List.{length-map}
 use Rattle.std.proofs.lemmas.List.Elements.{filter-append, All-weaker}
-use Rattle.std.proofs.lemmas.List.Sorted.{IsPermutation-map, list_any-IsPermutation, IsNonDecreasingBy-from_default}
-use Rattle.std.proofs.lemmas.Map.Keys.{IsStrictlyIncreasing-from_distinct, sorted_from_strictly_increasing, IsDistinct-IsPermutation}
-use Rattle.std.proofs.lemmas.Map.Made.{IsDistinct-keys_filter}
+use Rattle.std.proofs.lemmas.List.Sorted.{IsNonDecreasingBy-from_default}
 use Rattle.std.proofs.lemmas.Bool.{eqb-true}
-use Rattle.fsl_order.specs.Rows.{greater, greatest, in_order}
-use Rattle.fsl_order.proofs.SortedLemmas.{in_order-from_sort}
+use Rattle.fsl_order.specs.Rows.{greater, greatest}
 use Rattle.fsl_order.specs.Names.{bytes_cmp}
 use Rattle.fsl_order.proofs.Orders.{bytes_cmp-IsTotalOrder, bytes_cmp-IsAntisymmetric}
 use Rattle.fsl_record.specs.declared.Record.{Record}
@@ -31,7 +28,7 @@ use Rattle.fsl_blobs.specs.declared.Placed.{Placed}
 use Rattle.fsl_blobs.specs.declared.Holding.{Holding}
 use Rattle.fsl_blobs.specs.declared.blobs.HeldArtifact.{HeldArtifact}
 use Rattle.fsl_record.specs.declared.Record.TheVariants as record_of
-use Rattle.fsl_blobs.specs.Fold.{Held, contents, is_new, is_blob_of, adds, place, held_from}
+use Rattle.fsl_blobs.specs.Fold.{Held, contents, is_new, is_blob_of, adds, place}
 use Rattle.fsl_blobs.specs.Held.{matching, found}
 use Rattle.fsl_blobs.specs.Seen.{Seen, held_as}
 use Rattle.fsl_blobs.proofs.KeptLemmas.{turned}
@@ -49,7 +46,7 @@ several p keys before left rest (Some first) name split next seen some passes =
 
 -- ---- the held names
 
-abbrev keys_in : List (List ℕ × HeldArtifact) → List (List ℕ)
+abbrev pub keys_in : List (List ℕ × HeldArtifact) → List (List ℕ)
 keys_in es = map (λ e. e.0) es
 
 -- the entries without their places
@@ -69,7 +66,7 @@ unfolding IsStrictlySortedBy
 rising [] h = tt
 rising (e ∷ es) h = both (below_all bytes_cmp e.0 (bare es)) (is_sorted bytes_cmp (bare es)) (all_above e.0 es h.0) (rising es h.1)
 
-find-bare : (q : List ℕ) (es : List (List ℕ × HeldArtifact)) → find bytes_cmp q (bare es) ≡ option_map artifact_of (held_at es q)
+pub find-bare : (q : List ℕ) (es : List (List ℕ × HeldArtifact)) → find bytes_cmp q (bare es) ≡ option_map artifact_of (held_at es q)
 find-bare q [] = refl
 find-bare q (e ∷ es) =
     elim (is_same q e.0) as (λ b. cond b (Some (artifact_of e.1)) (find bytes_cmp q (bare es)) ≡ option_map artifact_of (cond b (Some e.1) (held_at es q))) [ true ↦ refl | false ↦ find-bare q es ]
@@ -85,7 +82,7 @@ module _ (records : List Record) (es : List (List ℕ × HeldArtifact)) (held : 
       same_entries bytes_cmp bytes_cmp-IsTotalOrder bytes_cmp-IsAntisymmetric (map_of.entries set) (bare es) (map_of.entries_sorted set) (rising es rise)
       (λ q. sym (map_of.get-entries set q) ∙ sym (held q) ∙ sym (find-bare q es))
 
-  keys-held : keys_in es ≡ map_of.keys (contents records).held
+  pub keys-held : keys_in es ≡ map_of.keys (contents records).held
   keys-held = sym (keys-bare es) ∙ ap (map (λ e. e.0)) (sym entries-held)
 
   pub bare-held : (b : Seen) → records ≡ b.records → bare es ≡ map_of.entries (contents b.records).held
@@ -128,7 +125,7 @@ greatest-passes p (x ∷ xs) m all e =
     inside : (k : ℕ) → Some k ≡ Some m → k ≡ m
     inside k e = cc
 
-place-blob : (records : List Record) (name : List ℕ) (n : ℕ) → place records name ≡ Some n → option_map_or (is_blob_of name) (slice_get records (n - 1)) false ≡ true
+pub place-blob : (records : List Record) (name : List ℕ) (n : ℕ) → place records name ≡ Some n → option_map_or (is_blob_of name) (slice_get records (n - 1)) false ≡ true
 place-blob records name n e = adds-blob records name n (greatest-passes (adds records name) (filter (adds records name) (range_with_len 1 (length records))) n (filter-passes (adds records name) (range_with_len 1 (length records))) e)
 
 one_name : (r : Record) (a b : List ℕ) → is_blob_of a r ≡ true → is_blob_of b r ≡ true → a ≡ b
@@ -137,7 +134,7 @@ one_name (record_of.Config c) a b p q = cc
 one_name (record_of.Publish name) a b p q = cc
 one_name (record_of.Shun name) a b p q = cc
 
-one_place : (o : Option Record) (a b : List ℕ) → option_map_or (is_blob_of a) o false ≡ true → option_map_or (is_blob_of b) o false ≡ true → a ≡ b
+pub one_place : (o : Option Record) (a b : List ℕ) → option_map_or (is_blob_of a) o false ≡ true → option_map_or (is_blob_of b) o false ≡ true → a ≡ b
 one_place None a b p q = cc
 one_place (Some r) a b p q = one_name r a b p q
 
@@ -158,7 +155,7 @@ apart records a b m n p q below =
     tied : (m n : ℕ) → eq_by_cmp nat_cmp m n ≡ true → m ≡ n
     tied m n e = eqb-true m n (sym (unsigned_tied m n) ∙ e)
 
-abbrev ArePlaced : List Record → List (List ℕ × HeldArtifact) → Type 0
+abbrev pub ArePlaced : List Record → List (List ℕ × HeldArtifact) → Type 0
 ArePlaced records es = AllByRecursion (λ e. place records e.0 ≡ Some e.1.place) es
 
 apart_all : (records : List Record) (a : List ℕ) (m : ℕ) → place records a ≡ Some m → (es : List (List ℕ × HeldArtifact)) → ArePlaced records es → AllByRecursion (λ q. bytes_cmp a q ≡ Less) (keys_in es)
@@ -166,50 +163,50 @@ apart_all : (records : List Record) (a : List ℕ) (m : ℕ) → place records a
 apart_all records a m p [] placed h = tt
 apart_all records a m p (e ∷ es) placed h = (apart records a e.0 m e.1.place p placed.0 h.0, apart_all records a m p es placed.1 h.1)
 
-distinct_places : (records : List Record) (es : List (List ℕ × HeldArtifact)) → ArePlaced records es → IsStrictlySortedBy bytes_cmp (keys_in es) → IsDistinct (eq_by_cmp nat_cmp) (map (λ p. p.0) (map place_of es))
+pub distinct_places : (records : List Record) (es : List (List ℕ × HeldArtifact)) → ArePlaced records es → IsStrictlySortedBy bytes_cmp (keys_in es) → IsDistinct (eq_by_cmp nat_cmp) (map (λ p. p.0) (map place_of es))
 unfolding IsStrictlySortedBy IsDistinct
 distinct_places records [] placed h = tt
 distinct_places records (e ∷ es) placed h = (apart_all records e.0 e.1.place placed.0 es placed.1 h.0, distinct_places records es placed.1 h.1)
 
 -- the places of the held names are those that the code keeps
-places_are : (records : List Record) (es : List (List ℕ × HeldArtifact)) → ArePlaced records es → map place_of es ≡ filter_map (λ name. option_map (λ n. (n, name)) (place records name)) (keys_in es)
+pub places_are : (records : List Record) (es : List (List ℕ × HeldArtifact)) → ArePlaced records es → map place_of es ≡ filter_map (λ name. option_map (λ n. (n, name)) (place records name)) (keys_in es)
 places_are records [] placed = refl
 places_are records (e ∷ es) placed =
     ap (λ (ps : List (ℕ × List ℕ)). place_of e ∷ ps) (places_are records es placed.1)
     ∙ ap (λ (o : Option ℕ). cons_option (option_map (λ n. (n, e.0)) o) (filter_map (λ name. option_map (λ n. (n, name)) (place records name)) (keys_in es))) (sym placed.0)
 
-by_recursion : {X : Type 0} (P : X → Type 0) (xs : List X) → All P xs → AllByRecursion P xs
+pub by_recursion : {X : Type 0} (P : X → Type 0) (xs : List X) → All P xs → AllByRecursion P xs
 by_recursion P [] h = tt
 by_recursion P (x ∷ xs) h = (h 0 x (omega arith), by_recursion P xs (λ k d lt. h (suc k) d (omega arith)))
 
-are_placed : (records : List Record) (es : List (List ℕ × HeldArtifact)) → ((name : List ℕ) → IfSome (held_at es name) (λ a. place records name ≡ Some a.place)) → All (λ e. held_at es e.0 ≡ Some e.1) es → ArePlaced records es
+pub are_placed : (records : List Record) (es : List (List ℕ × HeldArtifact)) → ((name : List ℕ) → IfSome (held_at es name) (λ a. place records name ≡ Some a.place)) → All (λ e. held_at es e.0 ≡ Some e.1) es → ArePlaced records es
 are_placed records es places all =
     by_recursion (λ e. place records e.0 ≡ Some e.1.place) es
     (All-weaker (λ e. held_at es e.0 ≡ Some e.1) (λ e. place records e.0 ≡ Some e.1.place) (λ e at. subst (λ (o : Option HeldArtifact). IfSome o (λ a. place records e.0 ≡ Some a.place)) at (places e.0)) es all)
 
 -- a held name is among the places
-any_placed : (q : List ℕ) (es : List (List ℕ × HeldArtifact)) → list_any (λ p. bytes_eq p.1 q) (map place_of es) ≡ is_some (held_at es q)
+pub any_placed : (q : List ℕ) (es : List (List ℕ × HeldArtifact)) → list_any (λ p. bytes_eq p.1 q) (map place_of es) ≡ is_some (held_at es q)
 any_placed q [] = refl
 any_placed q (e ∷ es) =
     ap (λ (b : Bool). b || list_any (λ p. bytes_eq p.1 q) (map place_of es)) (texts_ties e.0 q ∙ turned e.0 q)
     ∙ elim (is_same q e.0) as (λ b. (b || list_any (λ p. bytes_eq p.1 q) (map place_of es)) ≡ is_some (cond b (Some e.1) (held_at es q))) [ true ↦ refl | false ↦ any_placed q es ]
 
-all_from_zero : (ps : List (ℕ × List ℕ)) → filter (λ p. nat_le 0 p.0) ps ≡ ps
+pub all_from_zero : (ps : List (ℕ × List ℕ)) → filter (λ p. nat_le 0 p.0) ps ≡ ps
 all_from_zero [] = refl
 all_from_zero (p ∷ ps) =
     ap (λ (b : Bool). cond b (p ∷ filter (λ p. nat_le 0 p.0) ps) (filter (λ p. nat_le 0 p.0) ps)) (le-leb 0 p.0 (omega arith))
     ∙ ap (λ (rest : List (ℕ × List ℕ)). p ∷ rest) (all_from_zero ps)
 
-some_map : (o : Option HeldArtifact) → is_some o ≡ is_some (option_map artifact_of o)
+pub some_map : (o : Option HeldArtifact) → is_some o ≡ is_some (option_map artifact_of o)
 some_map None = refl
 some_map (Some a) = refl
 
 -- ---- the sorted list
 
-abbrev places_in : List Placed → List ℕ
+abbrev pub places_in : List Placed → List ℕ
 places_in names = map (λ p. p.0) (map pair_of names)
 
-rise_from_sort : (names : List Placed) → IsNonDecreasingBy (λ p. p.place) names → IsNonDecreasing (places_in names)
+pub rise_from_sort : (names : List Placed) → IsNonDecreasingBy (λ p. p.place) names → IsNonDecreasing (places_in names)
 rise_from_sort names h = IsNonDecreasingBy-from_default (λ n. n) (places_in names) 0 (λ i j low high. below i j low high)
   where
     nowhere : Placed
@@ -229,38 +226,3 @@ rise_from_sort names h = IsNonDecreasingBy-from_default (λ n. n) (places_in nam
         let within : j < length names = subst (λ (k : ℕ). j < k) (count names) high in
         let order : (get_or names i nowhere).place ≤ (get_or names j nowhere).place = h i j nowhere low within in
         subst (λ (k : ℕ). k ≤ get_or (places_in names) j 0) (sym (at names i)) (subst (λ (k : ℕ). (get_or names i nowhere).place ≤ k) (sym (at names j)) order)
-
-module _ (records : List Record) (es : List (List ℕ × HeldArtifact)) (held : (name : List ℕ) → option_map artifact_of (held_at es name) ≡ map_of.get (contents records).held name) (rise : IsStrictlySortedBy bytes_cmp (keys_in es))
-    (places : (name : List ℕ) → IfSome (held_at es name) (λ a. place records name ≡ Some a.place)) (all : All (λ e. held_at es e.0 ≡ Some e.1) es)
-    (from : ℕ) (names sorted : List Placed) (seen : map pair_of names ≡ filter (λ p. nat_le from p.0) (map place_of es)) (moved : IsPermutation names sorted) (ordered : IsNonDecreasingBy (λ p. p.place) sorted) where
-  abbrev chosen : List (ℕ × List ℕ)
-  chosen = filter (λ p. nat_le from p.0) (map place_of es)
-
-  placed : ArePlaced records es
-  placed = are_placed records es places all
-
-  differ : IsDistinct (eq_by_cmp nat_cmp) (map (λ p. p.0) chosen)
-  differ = IsDistinct-keys_filter (eq_by_cmp nat_cmp) (λ p. nat_le from p.0) (map place_of es) (distinct_places records es placed rise)
-
-  pairs_moved : IsPermutation chosen (map pair_of sorted)
-  pairs_moved = subst (λ (ps : List (ℕ × List ℕ)). IsPermutation ps (map pair_of sorted)) seen (IsPermutation-map pair_of names sorted moved)
-
-  still_differ : IsDistinct eqb (places_in sorted)
-  still_differ =
-      IsDistinct-IsPermutation eqb nat_eq_equiv.symm (map (λ p. p.0) chosen) (places_in sorted) (IsPermutation-map (λ p. p.0) chosen (map pair_of sorted) pairs_moved)
-      (subst (λ (e : ℕ → ℕ → Bool). IsDistinct e (map (λ p. p.0) chosen)) (λ i x y. unsigned_tied x y i) differ)
-
-  pub listed : (b : Seen) → records ≡ b.records → map pair_of sorted ≡ held_from b.records from
-  listed b view =
-      in_order-from_sort nat_cmp (λ p. p.0) nat_cmp_total nat_cmp-IsAntisymmetric chosen (map pair_of sorted) differ pairs_moved
-      (sorted_from_strictly_increasing (places_in sorted) (IsStrictlyIncreasing-from_distinct (places_in sorted) (rise_from_sort sorted ordered) still_differ))
-      ∙ ap (λ (ps : List (ℕ × List ℕ)). in_order nat_cmp (λ p. p.0) (filter (λ p. nat_le from p.0) ps)) (places_are records es placed)
-      ∙ ap (λ (ks : List (List ℕ)). in_order nat_cmp (λ p. p.0) (filter (λ p. nat_le from p.0) (filter_map (λ name. option_map (λ n. (n, name)) (place records name)) ks))) (keys-held records es held rise)
-      ∙ ap (λ (rs : List Record). held_from rs from) view
-
-  pub all_listed : (b : Seen) → records ≡ b.records → from ≡ 0 → (q : List ℕ) → map_of.contains_key (contents b.records).held q ≡ true → list_any (λ p. bytes_eq p.1 q) (held_from b.records 0) ≡ true
-  all_listed b view start q there =
-      let p : ℕ × List ℕ → Bool = λ p. bytes_eq p.1 q in
-      ap (λ (n : ℕ). list_any p (held_from b.records n)) (sym start) ∙ sym (ap (list_any p) (listed b view)) ∙ sym (list_any-IsPermutation p chosen (map pair_of sorted) pairs_moved)
-      ∙ ap (λ (n : ℕ). list_any p (filter (λ x. nat_le n x.0) (map place_of es))) start ∙ ap (list_any p) (all_from_zero (map place_of es)) ∙ any_placed q es
-      ∙ some_map (held_at es q) ∙ ap is_some (held q) ∙ ap (λ (rs : List Record). map_of.contains_key (contents rs).held q) view ∙ there

@@ -1,4 +1,8 @@
 pub mod Places
+pub mod Walking
+pub mod OrderSteps
+pub mod Ordered
+pub mod ByPlace
 pub mod KeptLemmas
 pub mod Folding
 pub mod AnnouncedNames

@@ -1,15 +1,16 @@
 -- What the code keeps of the records.
-use Rattle.std.specs.Prelude.{◌≡◌, ℕ, ◌≤◌, ◌*◌, ◌^◌, length, List, Bool, true, false, ◌||◌, if◌then◌else◌, Option, Some, IfSome, is_some}
+use Rattle.std.specs.Prelude.{◌≡◌, ℕ, ◌+◌, ◌≤◌, ◌*◌, ◌^◌, length, List, Bool, true, false, not, ◌&&◌, ◌||◌, if◌then◌else◌, Option, Some, None, IfSome, is_some}
 use Rattle.std.specs.List.{list_any}
 use Rattle.std.specs.Map.{lookup}
 use Rattle.std.specs.Option.{option_map}
-use Rattle.std.specs.Ordering.{is_eq}
+use Rattle.std.specs.Ordering.{is_eq, nat_cmp}
 use Rattle.std.specs.FinMap as map_of
 use Rattle.std.specs.FinSet as set
 use Rattle.fsl_order.specs.Names.{bytes_cmp}
 use Rattle.fsl_record.specs.declared.Config.{Config}
 use Rattle.fsl_record.specs.declared.Record.{Record}
 use Rattle.fsl_blobs.specs.declared.blobs.HeldArtifact.{HeldArtifact}
+use Rattle.fsl_blobs.specs.declared.order.Order.{Order}
 use Rattle.fsl_blobs.specs.Fold.{Held, contents, is_new, place, held_bytes}
 
 -- whether two names are the same
@@ -44,8 +45,63 @@ pub record IsKept (records : List Record) (found : Config) (entries : List (List
   pub shunned : (name : List ℕ) → stands shuns name ≡ set.contains (contents records).shunned name
   pub new : (name : List ℕ) → stands announced name ≡ true → is_new (contents records) name ≡ true
 
--- and the sum of the held sizes is kept; each is below 2^63, and there are no more of them than records
-pub record IsCounted (records : List Record) (found : Config) (entries : List (List ℕ × HeldArtifact)) (shuns announced : List (List ℕ)) (total : ℕ) : Type 0 where
+-- ---- the names by their places
+
+-- whether an artifact is of a kind: of the private ones, or of the public ones
+abbrev pub is_kind : Bool → Bool → Bool
+is_kind true private = private
+is_kind false private = not private
+
+-- whether two places are the same
+abbrev pub is_place : ℕ → ℕ → Bool
+is_place a b = is_eq (nat_cmp a b)
+
+-- the names of a kind by their places, and the one at a place
+abbrev pub names_in : Bool → Order → List (ℕ × List ℕ)
+names_in true order = order.private.entries
+names_in false order = order.public.entries
+
+abbrev pub name_at : List (ℕ × List ℕ) → ℕ → Option (List ℕ)
+name_at names n = lookup (is_place n) names
+
+abbrev pub name_in : Bool → Order → ℕ → Option (List ℕ)
+name_in kind order n = name_at (names_in kind order) n
+
+-- the place of an artifact of a kind
+abbrev pub place_as : Bool → Option HeldArtifact → Option ℕ
+place_as kind None = None
+place_as kind (Some a) = if is_kind kind a.private then Some a.place else None
+
+-- what stands at a place of a kind, by what stood there: after an artifact is added unless its name was known; after a name is published; after it is taken out
+abbrev pub added : Bool → List ℕ → HeldArtifact → Bool → ℕ → Option (List ℕ) → Option (List ℕ)
+added known name a kind n before = if not known && (is_kind kind a.private && is_place a.place n) then Some name else before
+
+abbrev pub revealed : List ℕ → Option HeldArtifact → Bool → ℕ → Option (List ℕ) → Option (List ℕ)
+revealed name None kind n before = before
+revealed name (Some a) kind n before = if a.private && is_place a.place n then (if kind then None else Some name) else before
+
+abbrev pub gone : Option HeldArtifact → Bool → ℕ → Option (List ℕ) → Option (List ℕ)
+gone None kind n before = before
+gone (Some a) kind n before = if is_kind kind a.private && is_place a.place n then None else before
+
+-- the places of the names of each kind, and the names at the places of each kind, are each other's
+pub record Fits (place_of : Bool → List ℕ → Option ℕ) (name_of : Bool → ℕ → Option (List ℕ)) : Type 0 where
+  pub there : (kind : Bool) (name : List ℕ) (n : ℕ) → place_of kind name ≡ Some n → name_of kind n ≡ Some name
+  pub only : (kind : Bool) (name : List ℕ) (n : ℕ) → name_of kind n ≡ Some name → place_of kind name ≡ Some n
+
+abbrev pub IsOrdered : List (List ℕ × HeldArtifact) → Order → Type 0
+IsOrdered entries order = Fits (λ kind name. place_as kind (held_at entries name)) (λ kind n. name_in kind order n)
+
+-- one record more, at this place, leaves names by their places
+abbrev pub StaysOrdered : List (List ℕ × HeldArtifact) → List (List ℕ) → List (List ℕ) → ℕ → Order → List (List ℕ × HeldArtifact) → Order → Type 0
+StaysOrdered entries shuns announced place order next after =
+    (records : List Record) (found : Config) → IsKept records found entries shuns announced → place ≡ length records + 1 → IsOrdered entries order → IsOrdered next after
+
+-- ---- all of it
+
+-- the sum of the held sizes is kept too; each is below 2^63, and there are no more of them than records
+pub record IsCounted (records : List Record) (found : Config) (entries : List (List ℕ × HeldArtifact)) (shuns announced : List (List ℕ)) (total : ℕ) (order : Order) : Type 0 where
   pub kept : IsKept records found entries shuns announced
+  pub ordered : IsOrdered entries order
   pub sum : total ≡ held_bytes (contents records).held
   pub small : total ≤ length records * 2 ^ 63

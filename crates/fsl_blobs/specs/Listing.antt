@@ -1,11 +1,12 @@
 -- How held names are looked through.
 use Rattle.std.specs.Prelude.{ℕ, List, Bool, take, length}
 use Rattle.std.specs.Str.{bytes_eq}
+use Rattle.std.specs.Option.{option_map_or}
 use Rattle.fsl_name.specs.Name.{name_text}
 use Rattle.fsl_blobs.specs.declared.Placed.{Placed}
 use Rattle.fsl_blobs.specs.declared.blobs.HeldArtifact.{HeldArtifact}
 use Rattle.fsl_blobs.specs.Fold.{Held}
-use Rattle.fsl_blobs.specs.Kept.{artifact_of}
+use Rattle.fsl_blobs.specs.Kept.{artifact_of, held_at}
 
 -- whether a name's digits begin with the prefix
 abbrev pub begins : List ℕ → List ℕ → Bool
@@ -18,6 +19,10 @@ pair_of p = (p.place, p.name)
 -- the place of a held artifact, with its name
 abbrev pub place_of : List ℕ × HeldArtifact → ℕ × List ℕ
 place_of e = (e.1.place, e.0)
+
+-- the size of the artifact of a name, or 0
+abbrev pub size_at : List (List ℕ × HeldArtifact) → List ℕ → ℕ
+size_at entries name = option_map_or (λ a. length a.bytes) (held_at entries name) 0
 
 -- a held artifact without its place, under its name
 abbrev pub entry_of : List ℕ × HeldArtifact → List ℕ × Held

@@ -1,15 +1,15 @@
 //! What the held artifacts answer.
-ghost use Rattle.std.specs.Prelude.{◌≡◌, ◌↔◌, ℕ, List as Names, Some, None, IfOk, OnOk, map, true};
+ghost use Rattle.std.specs.Prelude.{◌≡◌, ◌↔◌, ℕ, List as Names, Some, None, IfOk, OnOk, map, true, false};
 ghost use Rattle.std.specs.List.{list_any};
 ghost use Rattle.std.specs.Str.{bytes_eq};
 ghost use Rattle.std.specs.Option.{option_map};
 ghost use Rattle.std.specs.FinMap as map_of;
-ghost use Rattle.fsl_blobs.specs.Fold.{contents, held_from};
+ghost use Rattle.fsl_blobs.specs.Fold.{contents, held_from, held_as_from, size_in, walked};
 ghost use Rattle.fsl_blobs.specs.Held.{state_of, matching, found};
 ghost use Rattle.fsl_blobs.specs.Seen.{held_as};
 ghost use Rattle.fsl_blobs.specs.declared.BlobFault.TheVariants.{Absent as AbsentFault};
 
-use crate::listing::{holdings, only_match, placed_from};
+use crate::listing::{front_from, holdings, is_map, names_over, only_match, placed_from};
 use crate::{BlobFault, BlobState, Blobs, Found, Holding, Placed};
 use fsl_disk::Disk;
 use fsl_name::Name;
@@ -89,8 +89,42 @@ impl Blobs {
         // From 0 on each held name is among them.
         ensures all { OnOk result (from ≡ 0 → (name : Names ℕ) → map_of.contains_key (contents self.now.records).held name ≡ true → list_any (λ p. bytes_eq p.1 name) (held_from self.now.records 0) ≡ true) }
     {
-        let mut names = placed_from(alloc, &self.held, from)?;
+        is_map(&self.held);
+        let mut names = placed_from(alloc, &self.order.public, from)?;
+        let private = placed_from(alloc, &self.order.private, from)?;
+        names.extend_from_slice(&private)?;
         names.sort_unstable_by_key(|placed| placed.place);
+        Ok(List::from_vec(names))
+    }
+
+    /// The names of the artifacts that are held as private ones, or as public ones, by place. The others aren't walked.
+    /// `Memory` is the only error.
+    pub fn names_by_place(&self, alloc: Global, private: bool) -> Result<List<Name>, Memory>
+        ensures { IfOk result (λ names. names ≡ map (λ p. p.1) (held_as_from private self.now.records 0)) }
+    {
+        is_map(&self.held);
+        if private {
+            let hidden = names_over(alloc, &self.order.private)?;
+            return Ok(List::from_vec(hidden));
+        }
+        let names = names_over(alloc, &self.order.public)?;
+        Ok(List::from_vec(names))
+    }
+
+    /// The first public names whose place is at least this, by place: those before which the sizes of their artifacts in
+    /// bytes, and so much for each, don't reach a sum, and one more. No others are walked, so that a round of a clone costs
+    /// what it sends. `Memory` is the only error.
+    pub fn public_front(
+        &self,
+        alloc: Global,
+        from: u64,
+        most: u64,
+        each: u64,
+    ) -> Result<List<Placed>, Memory>
+        ensures { IfOk result (λ names. map (λ p. (p.place, p.name)) names ≡ walked most each (size_in (contents self.now.records).held) 0 (held_as_from false self.now.records from)) }
+    {
+        is_map(&self.held);
+        let names = front_from(alloc, &self.held, &self.order.public, from, most, each)?;
         Ok(List::from_vec(names))
     }
 

@@ -7,6 +7,7 @@ ghost use Rattle.fsl_blobs.specs.Fold.{contents};
 ghost use Rattle.fsl_blobs.specs.Held.{still_new};
 
 use crate::changes::change;
+use crate::order::Order;
 use crate::sizes::total_with;
 use fsl_name::Name;
 use fsl_record::{Config, Record};
@@ -37,6 +38,7 @@ pub struct Blobs {
     pub(crate) announced: BTreeSet<Name>,
     /// The sum of the held sizes.
     pub(crate) total: u128,
+    pub(crate) order: Order,
     // no bytes: clauses alone see them
     pub(crate) records: Vec<Snapshot<Record>>,
 }
@@ -56,7 +58,7 @@ impl Model for Blobs {
 
     ghost view = { λ b. record { records = map (λ s. s.value) b.records.items; announced = set.from_list b.announced.keys } };
 
-    ghost invariant = { λ b. IsCounted (map (λ s. s.value) b.records.items) b.config b.held.entries b.shunned.keys b.announced.keys b.total };
+    ghost invariant = { λ b. IsCounted (map (λ s. s.value) b.records.items) b.config b.held.entries b.shunned.keys b.announced.keys b.total b.order };
 }
 
 /// A record as contracts see it.
@@ -108,6 +110,10 @@ impl Blobs {
             shunned: BTreeSet::new(alloc),
             announced: BTreeSet::new(alloc),
             total: 0,
+            order: Order {
+                public: BTreeMap::new(alloc),
+                private: BTreeMap::new(alloc),
+            },
             records,
         })
     }
@@ -127,6 +133,7 @@ impl Blobs {
             &mut self.held,
             &mut self.shunned,
             &mut self.announced,
+            &mut self.order,
             place,
             entry,
         )?;

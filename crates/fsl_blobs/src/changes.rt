@@ -1,5 +1,5 @@
 //! What one record does to the held artifacts, the shunned and the announced names.
-ghost use Rattle.std.specs.Prelude.{◌≡◌, ℕ, ◌+◌, ◌++◌, ◌∷◌, [], List, length, None, Some, false, not, ◌&&◌, ◌||◌, if◌then◌else◌, OnOk, OnErr};
+ghost use Rattle.std.specs.Prelude.{◌≡◌, ℕ, ◌+◌, ◌++◌, ◌∷◌, [], List, length, None, Some, false, not, ◌&&◌, ◌||◌, Bool, if◌then◌else◌, OnOk, OnErr};
 ghost use Rattle.std.specs.Option.{option_map};
 ghost use Rattle.std.specs.FinSet as set;
 ghost use Rattle.fsl_record.specs.declared.Config as config_of;
@@ -7,9 +7,10 @@ ghost use Rattle.fsl_record.specs.declared.Record as record_of;
 ghost use Rattle.fsl_record.specs.Records.{is_config};
 ghost use Rattle.fsl_blobs.specs.Fold.{contents};
 ghost use Rattle.fsl_blobs.specs.Held.{still_new};
-ghost use Rattle.fsl_blobs.specs.Kept.{is_same, is_kept, held_at, stands, published, IsKept};
+ghost use Rattle.fsl_blobs.specs.Kept.{is_same, is_kept, held_at, stands, published, name_in, names_in, added, revealed, gone, IsKept, StaysOrdered};
 
 use crate::blobs::HeldArtifact;
+use crate::order::{Order, put, take};
 use fsl_name::Name;
 use fsl_record::Record;
 use fsl_text::Memory;
@@ -19,17 +20,44 @@ use std::collections::{BTreeMap, BTreeSet};
 fn add(
     held: &mut BTreeMap<Name, HeldArtifact>,
     shunned: &BTreeSet<Name>,
+    order: &mut Order,
     name: Name,
     artifact: HeldArtifact,
 ) -> Result<(), Memory>
     ensures held { OnOk result ((q : List ℕ) → held_at held.new.entries q ≡ (if is_same name q && not (is_kept held.old.entries shunned.now.keys name) then Some artifact else held_at held.old.entries q)) }
+    ensures order { OnOk result ((b : Bool) (n : ℕ) → name_in b order.new n ≡ added (is_kept held.old.entries shunned.now.keys name) name artifact b n (name_in b order.old n)) }
     ensures err { OnErr result (held.new.entries ≡ held.old.entries) }
+    // Nothing stood at its place.
+    ensures order_err { OnErr result (((b : Bool) → name_in b order.old artifact.place ≡ None) → (b : Bool) (n : ℕ) → name_in b order.new n ≡ name_in b order.old n) }
 {
     if held.contains_key(&name) || shunned.contains(&name) {
         return Ok(());
     }
-    held.insert(name, artifact)?;
+    let place = artifact.place;
+    let private = artifact.private;
+    put(order, private, place, name)?;
+    if let Err(_) = held.insert(name, artifact) {
+        take(order, private, place);
+        return Err(Memory);
+    }
     Ok(())
+}
+
+/// Moves the name of a private artifact among the public ones.
+fn reveal(held: &BTreeMap<Name, HeldArtifact>, order: &mut Order, name: Name) -> Result<(), Memory>
+    ensures order { OnOk result ((b : Bool) (n : ℕ) → name_in b order.new n ≡ revealed name (held_at held.now.entries name) b n (name_in b order.old n)) }
+    ensures err { OnErr result ((b : Bool) → names_in b order.new ≡ names_in b order.old) }
+{
+    match held.get(&name) {
+        Some(artifact) => {
+            if artifact.private {
+                put(order, false, artifact.place, name)?;
+                take(order, true, artifact.place);
+            }
+            Ok(())
+        }
+        None => Ok(()),
+    }
 }
 
 /// Makes an artifact public where the name is held.
@@ -45,15 +73,20 @@ fn publish(held: &mut BTreeMap<Name, HeldArtifact>, name: &Name)
 fn shun(
     held: &mut BTreeMap<Name, HeldArtifact>,
     shunned: &mut BTreeSet<Name>,
+    order: &mut Order,
     name: Name,
 ) -> Result<(), Memory>
     ensures held { OnOk result ((q : List ℕ) → held_at held.new.entries q ≡ (if is_same name q then None else held_at held.old.entries q)) }
     ensures shunned { OnOk result ((q : List ℕ) → stands shunned.new.keys q ≡ (is_same name q || stands shunned.old.keys q)) }
     ensures held_err { OnErr result (held.new.entries ≡ held.old.entries) }
     ensures shunned_err { OnErr result (shunned.new.keys ≡ shunned.old.keys) }
+    ensures order { OnOk result ((b : Bool) (n : ℕ) → name_in b order.new n ≡ gone (held_at held.old.entries name) b n (name_in b order.old n)) }
+    ensures order_err { OnErr result ((b : Bool) → names_in b order.new ≡ names_in b order.old) }
 {
     shunned.insert(name)?;
-    held.remove(&name);
+    if let Some(artifact) = held.remove(&name) {
+        take(order, artifact.private, artifact.place);
+    }
     Ok(())
 }
 
@@ -63,12 +96,15 @@ pub(crate) fn change(
     held: &mut BTreeMap<Name, HeldArtifact>,
     shunned: &mut BTreeSet<Name>,
     announced: &mut BTreeSet<Name>,
+    order: &mut Order,
     place: u64,
     entry: Record,
 ) -> Result<(), Memory>
     requires { is_config entry ≡ false }
     ensures kept { OnOk result ((records : List record_of.Record) (found : config_of.Config) → IsKept records found held.old.entries shunned.old.keys announced.old.keys → place ≡ length records + 1 → IsKept (records ++ entry ∷ []) found held.new.entries shunned.new.keys announced.new.keys) }
     ensures announced { OnOk result ((records : List record_of.Record) (found : config_of.Config) → IsKept records found held.old.entries shunned.old.keys announced.old.keys → set.from_list announced.new.keys ≡ still_new (contents (records ++ entry ∷ [])) (set.from_list announced.old.keys)) }
+    // Whatever the answer.
+    ensures ordered { StaysOrdered held.old.entries shunned.old.keys announced.old.keys place order.old held.new.entries order.new }
     ensures held_err { OnErr result (held.new.entries ≡ held.old.entries) }
     ensures shunned_err { OnErr result (shunned.new.keys ≡ shunned.old.keys) }
     ensures announced_err { OnErr result (announced.new.keys ≡ announced.old.keys) }
@@ -85,16 +121,17 @@ pub(crate) fn change(
                 private,
                 bytes,
             };
-            add(held, shunned, name, artifact)?;
+            add(held, shunned, order, name, artifact)?;
             announced.remove(&name);
             Ok(())
         }
         Record::Publish { name } => {
+            reveal(held, order, name)?;
             publish(held, &name);
             Ok(())
         }
         Record::Shun { name } => {
-            shun(held, shunned, name)?;
+            shun(held, shunned, order, name)?;
             announced.remove(&name);
             Ok(())
         }

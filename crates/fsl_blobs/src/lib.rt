@@ -11,6 +11,7 @@ mod changes;
 mod laws;
 mod listing;
 mod names;
+mod order;
 mod sizes;
 
 ghost use Rattle.std.specs.Prelude.{◌≡◌};

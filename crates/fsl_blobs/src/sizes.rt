@@ -14,7 +14,7 @@ use fsl_record::Record;
 use std::collections::{BTreeMap, BTreeSet};
 
 /// The size of a held artifact, in bytes, and 0 where the name isn't held.
-fn size_of(held: &BTreeMap<Name, HeldArtifact>, name: &Name) -> u64
+pub(crate) fn size_of(held: &BTreeMap<Name, HeldArtifact>, name: &Name) -> u64
     ensures size { result ≡ option_map_or (λ a. length a.bytes) (held_at held.now.entries name.now) 0 }
     ensures fits { result < 2 ^ 63 }
 {

@@ -6,6 +6,7 @@ use Rattle.fsl_blobs.specs.Fold.{contents}
 use Rattle.fsl_blobs.specs.Held.{still_new}
 use Rattle.fsl_blobs.specs.Kept.{IsKept}
 use Rattle.fsl_blobs.proofs.KeptLemmas.{left-from, kept-blob, announced-blob, kept-publish, announced-publish, kept-shun, announced-shun}
+use Rattle.fsl_blobs.proofs.Ordered.{ordered-add, ordered-same, ordered-shun, ordered-publish, next_free}
 use Rattle.fsl_blobs.proofs.changes.change.Goals as goal
 
 pub returns-in_ok-add-in-Blob-clause-kept : goal.returns-in_ok-add-in-Blob-clause-kept
@@ -18,13 +19,13 @@ returns-in_ok-add-in-Blob-clause-announced c = λ records found kept.
     subst (λ (r : Record). set.from_list {R = bytes_cmp} c.remove.new.self.keys ≡ still_new (contents (records ++ r ∷ [])) (set.from_list c.args.announced.now.keys)) (sym c.in-Blob.is)
     (announced-blob records found _ _ _ kept c.in-Blob.private c.in-Blob.name c.in-Blob.bytes _ (left-from c.in-Blob.name _ _ c.remove.ensures.updates.0))
 
-pub returns-in-Publish-clause-kept : goal.returns-in-Publish-clause-kept
-returns-in-Publish-clause-kept c = λ records found kept _.
+pub returns-in_ok-reveal-in-Publish-clause-kept : goal.returns-in_ok-reveal-in-Publish-clause-kept
+returns-in_ok-reveal-in-Publish-clause-kept c = λ records found kept _.
     subst (λ (r : Record). IsKept (records ++ r ∷ []) found c.publish.new.held.entries c.args.shunned.now.keys c.args.announced.now.keys) (sym c.in-Publish.is)
     (kept-publish records found _ _ _ kept c.in-Publish.name _ c.publish.ensures)
 
-pub returns-in-Publish-clause-announced : goal.returns-in-Publish-clause-announced
-returns-in-Publish-clause-announced c = λ records found kept.
+pub returns-in_ok-reveal-in-Publish-clause-announced : goal.returns-in_ok-reveal-in-Publish-clause-announced
+returns-in_ok-reveal-in-Publish-clause-announced c = λ records found kept.
     subst (λ (r : Record). set.from_list {R = bytes_cmp} c.args.announced.now.keys ≡ still_new (contents (records ++ r ∷ [])) (set.from_list c.args.announced.now.keys)) (sym c.in-Publish.is)
     (announced-publish records found _ _ _ kept c.in-Publish.name)
 
@@ -37,3 +38,21 @@ pub returns-in_ok-shun-in-Shun-clause-announced : goal.returns-in_ok-shun-in-Shu
 returns-in_ok-shun-in-Shun-clause-announced c = λ records found kept.
     subst (λ (r : Record). set.from_list {R = bytes_cmp} c.remove-in-Shun.new.self.keys ≡ still_new (contents (records ++ r ∷ [])) (set.from_list c.args.announced.now.keys)) (sym c.in-Shun.is)
     (announced-shun records found _ _ _ kept c.in-Shun.name _ (left-from c.in-Shun.name _ _ c.remove-in-Shun.ensures.updates.0))
+
+pub returns-in_err-add-in-Blob-clause-ordered : goal.returns-in_err-add-in-Blob-clause-ordered
+returns-in_err-add-in-Blob-clause-ordered c = λ records found kept last fits.
+    ordered-same records found _ _ _ kept c.args.order.now fits c.add.new.held.entries c.add.new.order c.in_err-add-in-Blob.ensures.err
+    (c.in_err-add-in-Blob.ensures.order_err (next_free records found _ _ _ kept c.args.order.now fits c.args.place last))
+
+pub returns-in_ok-add-in-Blob-clause-ordered : goal.returns-in_ok-add-in-Blob-clause-ordered
+returns-in_ok-add-in-Blob-clause-ordered c = λ records found kept last fits.
+    ordered-add records found _ _ _ kept c.args.order.now fits c.in-Blob.name (record { place = c.args.place; private = c.in-Blob.private; bytes = c.in-Blob.bytes }) last
+    c.add.new.held.entries c.add.new.order c.in_ok-add-in-Blob.ensures.held c.in_ok-add-in-Blob.ensures.order
+
+pub returns-in_ok-reveal-in-Publish-clause-ordered : goal.returns-in_ok-reveal-in-Publish-clause-ordered
+returns-in_ok-reveal-in-Publish-clause-ordered c = λ records found kept last fits.
+    ordered-publish records found _ _ _ kept c.args.order.now fits c.in-Publish.name c.publish.new.held.entries c.reveal.new.order c.publish.ensures c.in_ok-reveal-in-Publish.ensures.order
+
+pub returns-in_ok-shun-in-Shun-clause-ordered : goal.returns-in_ok-shun-in-Shun-clause-ordered
+returns-in_ok-shun-in-Shun-clause-ordered c = λ records found kept last fits.
+    ordered-shun records found _ _ _ kept c.args.order.now fits c.in-Shun.name c.shun.new.held.entries c.shun.new.order c.in_ok-shun-in-Shun.ensures.held c.in_ok-shun-in-Shun.ensures.order

@@ -26,6 +26,7 @@ pub invariant_of-self-2 : goal.invariant_of-self-2
 invariant_of-self-2 c = record {
   kept = kept-announced _ _ _ _ _ c.self.invariant.kept c.args.self.now c.self.view_is c.args.name _ c.in_ok-insert.ensures.updates.0
       (sym c.contains_key.ensures ∙ c.if-contains_key.false) (sym c.contains.ensures ∙ c.if-contains.false);
+  ordered = c.self.invariant.ordered;
   sum = c.self.invariant.sum;
   small = c.self.invariant.small;
 }

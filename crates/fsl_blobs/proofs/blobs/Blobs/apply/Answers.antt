@@ -21,6 +21,7 @@ invariant_of-self-2 c =
     record {
       kept = subst (λ (rs : List Record). IsKept rs c.self.inside.config c.change.new.held.entries c.change.new.shunned.keys c.change.new.announced.keys) more
           (c.in_ok-change.ensures.kept (map (λ s. s.value) c.self.inside.records.items) c.self.inside.config c.self.invariant.kept last);
+      ordered = c.change.ensures.ordered (map (λ s. s.value) c.self.inside.records.items) c.self.inside.config c.self.invariant.kept last c.self.invariant.ordered;
       sum = subst (λ (rs : List Record). c.total_with-total.result ≡ held_bytes (contents rs).held) more
           (c.total_with-total.ensures.total (map (λ s. s.value) c.self.inside.records.items) c.self.inside.config c.self.inside.announced.keys c.self.invariant.kept c.self.invariant.sum);
       small = omega (arith, longer, c.total_with-total.ensures.fits, c.self.invariant.small);

@@ -1,5 +1,6 @@
 use Rattle.std.proofs.Common.{◌≡◌, [], ◌∷◌, map, rules, arith}
 use Rattle.fsl_blobs.proofs.KeptLemmas.{kept-first}
+use Rattle.fsl_blobs.proofs.Ordered.{ordered-first}
 use Rattle.fsl_blobs.proofs.Totals.{total-first}
 use Rattle.fsl_blobs.proofs.blobs.Blobs.configured.Goals as goal
 
@@ -8,6 +9,7 @@ invariant_of-result c =
     let one : map (λ s. s.value) c.push.new.self.items ≡ c.args.first ∷ [] = search rules in
     record {
       kept = kept-first c.args.first c.config_of.result _ _ _ _ c.config_of.ensures one c.new.ensures.empty c.new-2.ensures.empty c.new-3.ensures.empty;
+      ordered = ordered-first _ _ c.new.ensures.empty c.new-4.ensures.empty c.new-5.ensures.empty;
       sum = total-first c.args.first c.config_of.result _ c.config_of.ensures one;
       small = omega arith;
     }
