@@ -1,8 +1,8 @@
 -- Worked rows: words inside and outside the grammar.
-use Rattle.std.specs.Prelude.{◌≡◌, ℕ, List, [], ◌∷◌, Option, Some, None, replicate, refl, codes}
+use Rattle.std.specs.Prelude.{◌≡◌, ℕ, true, false, List, [], ◌∷◌, Option, Some, None, replicate, refl, codes}
 use Rattle.fsl_words.specs.declared.Question.TheVariants.{Cat, Timeline, Leaves, Tip, Ticket, Phantoms}
 use Rattle.fsl_words.specs.declared.Command.{Command}
-use Rattle.fsl_words.specs.declared.Command.TheVariants.{Init, Put, Shun, Ask, Serve}
+use Rattle.fsl_words.specs.declared.Command.TheVariants.{Init, Put, Shun, Ask, Serve, Gen}
 use Rattle.fsl_words.specs.declared.Words.{Words}
 use Rattle.fsl_words.specs.Grammar.{words_in}
 
@@ -101,3 +101,24 @@ no_requests = refl
 
 fewer_words : words_in (r ∷ codes "serve" ∷ codes "a:1" ∷ codes "users" ∷ codes "1" ∷ []) ≡ None
 fewer_words = refl
+
+gen : words_in (r ∷ codes "gen" ∷ codes "100000" ∷ []) ≡ read (Gen 100000 false)
+gen = refl
+
+gen_reversed : words_in (r ∷ codes "gen" ∷ codes "007" ∷ codes "reversed" ∷ []) ≡ read (Gen 7 true)
+gen_reversed = refl
+
+gen_forward : words_in (r ∷ codes "gen" ∷ codes "1" ∷ codes "forward" ∷ []) ≡ None
+gen_forward = refl
+
+gen_none : words_in (r ∷ codes "gen" ∷ codes "0" ∷ []) ≡ None
+gen_none = refl
+
+gen_many : words_in (r ∷ codes "gen" ∷ codes "100001" ∷ []) ≡ None
+gen_many = refl
+
+gen_nothing : words_in (r ∷ codes "gen" ∷ []) ≡ None
+gen_nothing = refl
+
+gen_more : words_in (r ∷ codes "gen" ∷ codes "1" ∷ codes "reversed" ∷ codes "x" ∷ []) ≡ None
+gen_more = refl

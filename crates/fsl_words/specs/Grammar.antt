@@ -1,5 +1,5 @@
 -- The grammar of the words after the program's name.
-use Rattle.std.specs.Prelude.{ℕ, ◌==◌, ◌&&◌, ◌||◌, nat_le, Bool, true, not, List, [], ◌∷◌, length, Option, Some, None, option_map, option_and_then, if◌then◌else◌, codes, slice_index}
+use Rattle.std.specs.Prelude.{ℕ, ◌==◌, ◌&&◌, ◌||◌, nat_le, Bool, true, false, not, List, [], ◌∷◌, length, Option, Some, None, option_map, option_and_then, if◌then◌else◌, codes, slice_index}
 use Rattle.std.specs.List.{list_all}
 use Rattle.std.specs.Str.{bytes_eq}
 use Rattle.fsl_order.specs.Names.{has}
@@ -10,7 +10,7 @@ use Rattle.fsl_record.specs.Records.{is_field}
 use Rattle.fsl_words.specs.declared.Question.{Question}
 use Rattle.fsl_words.specs.declared.Question.TheVariants.{Cat, Timeline, Leaves, Tags, Tip, Files, Wiki, Ticket, Thread, Phantoms}
 use Rattle.fsl_words.specs.declared.Command.{Command}
-use Rattle.fsl_words.specs.declared.Command.TheVariants.{Init, Ingest, Put, Shun, Ask, Serve}
+use Rattle.fsl_words.specs.declared.Command.TheVariants.{Init, Ingest, Put, Shun, Ask, Serve, Gen}
 use Rattle.fsl_words.specs.declared.Words.{Words}
 
 -- a word has a byte, and doesn't begin with `-` unless it is `-` alone
@@ -56,6 +56,16 @@ abbrev pub serve_command : List (List ℕ) → Option Command
 serve_command (address ∷ users ∷ workers ∷ requests ∷ []) = option_and_then (λ w. option_map (Serve address users w) (number_in 65536 requests)) (number_in 16 workers)
 serve_command words = None
 
+-- `gen` of so many artifacts, in their order or from its end: 1 to 100,000
+abbrev pub gen_of : Bool → List ℕ → Option Command
+gen_of reversed count = option_map (λ n. Gen n reversed) (number_in 100000 count)
+
+-- gen N, and gen N reversed
+abbrev pub gen_command : List (List ℕ) → Option Command
+gen_command (count ∷ []) = gen_of false count
+gen_command (count ∷ order ∷ []) = if bytes_eq order (codes "reversed") then gen_of true count else None
+gen_command words = None
+
 -- a command without words
 abbrev pub bare_command : List ℕ → Option Command
 bare_command command =
@@ -88,11 +98,12 @@ plain_command command [] = bare_command command
 plain_command command (word ∷ []) = worded_command command word
 plain_command command words = None
 
--- `init`, `serve`, or another command
+-- `init`, `serve`, `gen`, or another command
 abbrev pub command_in : List ℕ → List (List ℕ) → Option Command
 command_in command words =
     if bytes_eq command (codes "init") then init_command words
     else if bytes_eq command (codes "serve") then serve_command words
+    else if bytes_eq command (codes "gen") then gen_command words
     else plain_command command words
 
 -- a repository and a command

@@ -1,6 +1,6 @@
 //! Commands with their words.
 ghost use Rattle.std.specs.Prelude.{◌≡◌, map, string_bytes};
-ghost use Rattle.fsl_words.specs.Grammar.{init_command, serve_command, bare_command, question_in, worded_command, plain_command, command_in};
+ghost use Rattle.fsl_words.specs.Grammar.{init_command, serve_command, gen_of, gen_command, bare_command, question_in, worded_command, plain_command, command_in};
 ghost use Rattle.fsl_words.specs.Answers.{IsAnswer};
 
 use crate::fields::fields;
@@ -17,6 +17,9 @@ const MOST_WORKERS: u64 = 16;
 
 /// The greatest number of connections that one worker takes.
 const MOST_REQUESTS: u64 = 65_536;
+
+/// The greatest number of artifacts that are generated.
+const MOST_GENERATED: u64 = 100_000;
 
 /// `init` with its words.
 fn init_command(alloc: Global, words: &[String]) -> Result<Command, WordsFault>
@@ -45,6 +48,27 @@ fn serve_command(alloc: Global, words: &[String]) -> Result<Command, WordsFault>
         address: Text::of(alloc, address.as_bytes())?,
         users: Text::of(alloc, users.as_bytes())?,
     })
+}
+
+/// `gen` with its number, in either order.
+fn gen_of(count: &[u8], reversed: bool) -> Result<Command, WordsFault>
+    ensures { IsAnswer (gen_of reversed count.now) result }
+{
+    Ok(Command::Gen {
+        count: number(count, MOST_GENERATED)?,
+        reversed,
+    })
+}
+
+/// `gen` with its words: the number, and `reversed` behind it for the order from its end.
+fn gen_command(words: &[String]) -> Result<Command, WordsFault>
+    ensures { IsAnswer (gen_command (map string_bytes words.now)) result }
+{
+    match words {
+        [count] => gen_of(count.as_bytes(), false),
+        [count, order] if order.as_str() == "reversed" => gen_of(count.as_bytes(), true),
+        _ => Err(WordsFault::Usage),
+    }
 }
 
 /// A command without words.
@@ -117,6 +141,7 @@ pub fn command(alloc: Global, command: &str, words: &[String]) -> Result<Command
     match command {
         "init" => init_command(alloc, words),
         "serve" => serve_command(alloc, words),
+        "gen" => gen_command(words),
         _ => plain_command(alloc, command, words),
     }
 }

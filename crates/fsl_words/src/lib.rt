@@ -67,6 +67,11 @@ pub enum Command {
         workers: u64,
         requests: u64,
     },
+    /// `gen N` and `gen N reversed`: 1 to 100,000 generated artifacts, in their order or from its end, as a set of their own.
+    Gen {
+        count: u64,
+        reversed: bool,
+    },
 }
 
 /// A repository's path and a command.

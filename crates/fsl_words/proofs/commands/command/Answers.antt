@@ -3,7 +3,7 @@ use Rattle.std.specs.Prelude.{string_bytes, codes}
 use Rattle.std.specs.Str.{bytes_eq}
 use Rattle.std.specs.Cmp.Lexicographic.{bytes_decides}
 use Rattle.fsl_words.specs.declared.Command.{Command}
-use Rattle.fsl_words.specs.Grammar.{init_command, serve_command, plain_command}
+use Rattle.fsl_words.specs.Grammar.{init_command, serve_command, gen_command, plain_command}
 use Rattle.fsl_words.specs.Answers.{IsAnswer}
 use Rattle.fsl_words.proofs.commands.command.Goals as goal
 
@@ -14,7 +14,9 @@ pub returns-in_default : goal.returns-in_default
 returns-in_default c =
     let command = c.args.command.now in
     let words = map string_bytes c.args.words.now in
+    let last : Bool → Option Command = λ b. cond b (gen_command words) (plain_command command words) in
     subst (λ (o : Option Command). IsAnswer o c.plain_command.result)
-    (sym (ap (λ (b : Bool). cond b (init_command words) (cond (bytes_eq command (codes "serve")) (serve_command words) (plain_command command words))) (unlike command (codes "init") c.in_default.not-init)
-    ∙ ap (λ (b : Bool). cond b (serve_command words) (plain_command command words)) (unlike command (codes "serve") c.in_default.not-serve)))
+    (sym (ap (λ (b : Bool). cond b (init_command words) (cond (bytes_eq command (codes "serve")) (serve_command words) (last (bytes_eq command (codes "gen"))))) (unlike command (codes "init") c.in_default.not-init)
+    ∙ ap (λ (b : Bool). cond b (serve_command words) (last (bytes_eq command (codes "gen")))) (unlike command (codes "serve") c.in_default.not-serve)
+    ∙ ap last (unlike command (codes "gen") c.in_default.not-gen)))
     c.plain_command.ensures
