@@ -1,7 +1,9 @@
 -- How the logins of a message are judged one after another.
-use Rattle.std.proofs.Common.{◌≡◌, ℕ, suc, ◌+◌, ◌<◌, ◌≤◌, List, ◌∷◌, length, drop, get_or, filter_map, fold, Option, Some, None, Result, Ok, Err, sym, ap, ◌∙◌, add-one, drop-cons}
+use Rattle.std.proofs.Common.{◌≡◌, ℕ, suc, ◌+◌, ◌<◌, ◌≤◌, List, [], ◌∷◌, ◌++◌, length, take, drop, get_or, filter_map, fold, Option, Some, None, Result, Ok, Err, sym, ap, ◌∙◌, arith, add-one, drop-cons}
 use Rattle.std.specs.List.{cons_option}
 use Rattle.std.proofs.Math.ListN.{drop_of_length-le}
+use Rattle.std.proofs.Math.Seq.{take-suc}
+use Rattle.std.proofs.lemmas.List.Elements.{filter_map-append}
 use Rattle.fsl_wire.specs.declared.Caps.{Caps}
 use Rattle.fsl_wire.specs.declared.WireCard.{WireCard}
 use Rattle.fsl_login.specs.declared.User.{User}
@@ -26,6 +28,14 @@ module _ (users : List User) (cards : List WireCard) (i : ℕ) (caps : Caps) (ca
   pub accepted : (added new : Caps) → IsJudged users card (Ok added) → new ≡ both caps added → granted users cards ≡ granted_from users new (drop (i + 1) cards)
   accepted added new judged e =
       behind None judged.0 ∙ ap (λ (c : Caps). granted_from users c (drop (i + 1) cards)) (sym (e ∙ ap (both caps) judged.1))
+
+  pub none_more : (added : Caps) → IsJudged users card (Ok added) → filter_map (login_fault users) (take i cards) ≡ [] → filter_map (login_fault users) (take (i + 1) cards) ≡ []
+  none_more added judged none =
+      let next : i + 1 ≡ suc i = omega arith in
+      ap (λ (k : ℕ). filter_map (login_fault users) (take k cards)) next ∙ ap (filter_map (login_fault users)) (take-suc cards i card lt)
+      ∙ filter_map-append (login_fault users) (take i cards) (get_or cards i card ∷ [])
+      ∙ (λ k. none k ++ filter_map (login_fault users) (sym is k ∷ []))
+      ∙ ap (λ (f : Option LoginFault). cons_option f []) judged.0
 
   pub refused : (fault : LoginFault) → IsJudged users card (Err fault) → Err fault ≡ granted users cards
   refused fault judged = sym (behind (Some fault) judged)

@@ -1,10 +1,10 @@
 //! What the logins of a message allow.
-ghost use Rattle.std.specs.Prelude.{◌≡◌, ◌++◌, None, Some, IfOk, IfErr, option_copied};
+ghost use Rattle.std.specs.Prelude.{◌≡◌, ◌++◌, None, Some, length, IfOk, IfErr, option_copied};
 ghost use Rattle.std.specs.Str.{bytes_eq};
 ghost use Rattle.fsl_name.specs.Name.{name_of, name_text};
 ghost use Rattle.fsl_wire.specs.declared.WireCard.TheVariants as card_is;
 ghost use Rattle.fsl_login.specs.Logins.{nobody, user_named, caps_or_none, both, granted};
-ghost use Rattle.fsl_login.specs.Judging.{IsJudged};
+ghost use Rattle.fsl_login.specs.Judging.{IsJudged, IsSpared};
 
 use crate::{LoginFault, User, Users};
 use fsl_name::Name;
@@ -105,10 +105,10 @@ fn card_caps(users: &[User], card: &WireCard) -> Result<Caps, LoginFault>
             line,
         } => login_caps(
             users,
-            user.bytes(),
-            nonce.bytes(),
-            signature.bytes(),
-            *tail,
+            user.get().bytes(),
+            nonce.get().bytes(),
+            signature.get().bytes(),
+            *tail.get(),
             *line,
         ),
         _ => Ok(no_caps()),
@@ -147,8 +147,8 @@ pub fn granted(users: &Users, message: &Message) -> Result<Caps, LoginFault>
     Ok(caps)
 }
 
-/// What the message of a draft allows, as [`granted`], with its logins settled one after another: the tail of one that comes
-/// behind the first that isn't accepted is never made. Where all are accepted, all cards are settled.
+/// What the message of a draft allows, as [`granted`], with its logins settled one after another, each of which costs one hash: the
+/// tail of one that comes behind the first that isn't accepted is never made. Where all are accepted, all cards are settled.
 ///
 /// # Errors
 ///
@@ -156,6 +156,8 @@ pub fn granted(users: &Users, message: &Message) -> Result<Caps, LoginFault>
 pub fn granted_by(users: &Users, draft: &mut Draft<'_>) -> Result<Caps, LoginFault>
     ensures granted { result ≡ granted users.now draft.old.message }
     ensures message { draft.new.message ≡ draft.old.message }
+    ensures all { IfOk result (λ _. draft.new.settled ≡ length draft.old.message) }
+    ensures spared { IfErr result (λ _. IsSpared users.now draft.old draft.new.settled) }
 {
     let users = users.items();
     let mut caps = caps_named(users, NOBODY);

@@ -76,9 +76,10 @@ impl<'a> Draft<'a> {
         }
     }
 
-    /// How many cards the message has.
+    /// How many cards the message has. No more are settled.
     pub fn len(&self) -> usize
-        ensures { result ≡ length self.now.message }
+        ensures count { result ≡ length self.now.message }
+        ensures within { self.now.settled ≤ length self.now.message }
     {
         self.cards.len()
     }

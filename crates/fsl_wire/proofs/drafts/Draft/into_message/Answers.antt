@@ -11,6 +11,6 @@ returns c =
     let same = c.loop-place.invariant.0 in
     let far = c.loop-place.invariant.1 in
     let end = c.loop-place-test.false in
-    let many = c.len-place-end.ensures ∙ sym (ap length same) ∙ sym (ap length shown) ∙ drafted_length d.settled d.cards.items d.behind.items d.logins in
+    let many = c.len-place-end.ensures.count ∙ sym (ap length same) ∙ sym (ap length shown) ∙ drafted_length d.settled d.cards.items d.behind.items d.logins in
     let past : length d.cards.items ≤ d.settled = omega (arith, many, count, far, end) in
     c.of.ensures ∙ c.from_vec.ensures ∙ sym (all_settled d.settled d.cards.items d.behind.items d.logins past) ∙ shown ∙ same
