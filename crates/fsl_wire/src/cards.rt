@@ -17,9 +17,6 @@ use std::alloc::Global;
 /// What stands in a login until its tail is made.
 const NO_TAIL: [u8; 20] = [0; 20];
 
-/// The most logins of one message. Each takes more memory than its line has bytes, and all are read before the first is judged.
-const MOST_LOGINS: usize = 65_536;
-
 /// Copies of the codes of a server and of a project.
 fn codes(alloc: Global, server: &[u8], project: &[u8]) -> Result<(Text, Text), Memory>
     ensures { IfOk result (λ codes. codes ≡ (server.now, project.now)) }
@@ -102,16 +99,6 @@ fn put<T: Drop>(list: &mut Vec<T>, item: T) -> Result<(), Memory>
     }
 }
 
-/// Puts the bytes behind a login at the end of theirs. There is no memory for more logins than a message may have.
-fn put_behind<'a>(behinds: &mut Vec<&'a [u8]>, behind: &'a [u8]) -> Result<(), Memory>
-    ensures { OnOk result (behinds.new.items ≡ behinds.old.items ++ behind.entry ∷ []) }
-{
-    if behinds.len() >= MOST_LOGINS {
-        return Err(Memory);
-    }
-    put(behinds, behind)
-}
-
 /// Puts a card at the end, and the bytes behind its line at the end of theirs where it is a login.
 fn add_made<'a>(
     cards: &mut Vec<WireCard>,
@@ -124,7 +111,7 @@ fn add_made<'a>(
     ensures each { OnOk result (length behinds.new.items ≡ logins_of cards.new.items) }
 {
     if is_login(&card) {
-        put_behind(behinds, behind)?;
+        put(behinds, behind)?;
         return put(cards, card);
     }
     put(cards, card)

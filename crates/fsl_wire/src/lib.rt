@@ -106,7 +106,7 @@ pub enum WireFault {
     Size { line: u64 },
     /// Fewer bytes than the size says, or no newline behind the file's line.
     Short { line: u64 },
-    /// There was no memory for the cards, or more than 65,536 logins.
+    /// There was no memory for the cards.
     Memory,
 }
 

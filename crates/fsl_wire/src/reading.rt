@@ -86,7 +86,7 @@ impl<'a> Draft<'a> {
 ///
 /// # Errors
 ///
-/// The fault of the first line that doesn't read, or `Memory`, also for more than 65,536 logins: each takes some 300 bytes.
+/// The fault of the first line that doesn't read, or `Memory`. A login takes some 300 bytes, each other card its 56 and its texts.
 pub fn read(alloc: Global, bytes: &[u8]) -> Result<Message, WireFault>
     ensures message { IfOk result (IsMessage bytes.now) }
     ensures fault { IfErr result (IsReadFault bytes.now) }

@@ -61,7 +61,7 @@ fn tail_of_first(alloc: Global, bytes: &[u8]) -> Option<Name> {
 
 fn login_tail(card: &WireCard) -> Option<Name> {
     match card {
-        WireCard::Login { tail, .. } => Some(*tail),
+        WireCard::Login { tail, .. } => Some(*tail.get()),
         _ => None,
     }
 }

@@ -15,8 +15,13 @@ calls_in (Some calls) = calls
 moved : {M : Type 0} (step : M → Event → Answer → M → Type 0) (a b : M) (xs ys : List Call) → xs ≡ ys → Runs step a xs b → Runs step a ys b
 moved step a b xs ys e r = subst (λ (zs : List Call). Runs step a zs b) e r
 
-pub returns : goal.returns
-returns g c =
+pub returns-clause-session : goal.returns-clause-session
+returns-clause-session g c =
     let m = c.session.ensures.session in
     let w = c.session.ensures.grown in
     (m.0, ap calls_in m.1, m.3.0, moved _ _ _ w.0 m.0 (append_cancel_left _ w.0 m.0 (sym w.1 ∙ ap calls_in m.1)) w.2)
+
+pub returns-clause-points : goal.returns-clause-points
+returns-clause-points g c =
+    let m = c.session.ensures.session in
+    (m.0, ap calls_in m.1, m.3.1)
