@@ -1,6 +1,7 @@
 pub mod OneList
 pub mod OneArrival
 pub mod SomeArrival
+pub mod OneAnswer
 pub mod Zipped
 pub mod ItemLemmas
 pub mod Wholes
@@ -20,3 +21,4 @@ pub mod Builds
 pub mod Undoing
 pub mod Touched
 pub mod Placings
+pub mod Fronts

@@ -1,6 +1,7 @@
 -- What every step keeps, and which repository is later than another. An impl's laws stand on it, so it is no proof file.
 use Rattle.std.proofs.Common.{◌≡◌, inl, inr, ℕ, ◌+◌, ◌≤◌, Bool, true, false, cond, List, [], ◌∷◌, ◌++◌, length, drop, Option, Some, None, Result, Ok, Err, refl, sym, ap, subst, ◌∙◌, arith, append_assoc}
-use Rattle.std.specs.Prelude.{nat_le, MatchBool, MatchOption}
+use Rattle.std.specs.Prelude.{nat_le, MatchBool, MatchOption, ◌⊎◌, IsSome}
+use Rattle.fsl_order.specs.Causes.{Rose}
 use Rattle.std.proofs.lemmas.List.{append-nil, drop-append-le}
 use Rattle.std.proofs.lemmas.List.Sums.{sum_by-append}
 use Rattle.fsl_record.specs.declared.Record.{Record}
@@ -132,6 +133,127 @@ grows old event.Commit (answer.Cluster r) new p = absurd p
 grows old event.Commit (answer.Build r) new p = absurd p
 grows old event.Commit (answer.Commit r) new p = commit_grows old.stopped old r new p
 
+-- ---- a commit alone stops
+
+-- the disk's count doesn't fall; and what stopped stays so, or it stopped now and the count rose
+abbrev Stops : State → State → Type 0
+Stops old new = (old.faults ≤ new.faults) × ((new.stopped ≡ old.stopped) ⊎ ((old.stopped ≡ None) × Rose old.faults new.faults))
+
+stop_leaves : (old due new : State) → Leaves old due new → due.stopped ≡ old.stopped → Stops old new
+stop_leaves old due new l same = (l.faults, inl (ap (λ (s : State). s.stopped) l.state ∙ same))
+
+stop_due : {A : Type 0} (old new : State) (IsDue : A → State → Type 0) (memory : A) (May : Type 0) (r : A) → ((due : State) → IsDue r due → due.stopped ≡ old.stopped) → IsDueOrMemory old IsDue memory May r new → Stops old new
+stop_due old new IsDue memory May r same (inl x) = stop_leaves old x.0 new x.2 (same x.0 x.1)
+stop_due old new IsDue memory May r same (inr y) = stop_leaves old old new y.2 refl
+
+stop_equal : (s due due2 : State) → due ≡ due2 → due2.stopped ≡ s.stopped → due.stopped ≡ s.stopped
+stop_equal s due due2 is same = ap (λ (x : State). x.stopped) is ∙ same
+
+arrived_stop : (s : State) (name bytes : List ℕ) (private : Bool) (r : Result Arrival ArriveFault) → (arrived s name bytes private r).stopped ≡ s.stopped
+arrived_stop s name bytes private (Ok arrival.Shunned) = refl
+arrived_stop s name bytes private (Ok arrival.Present) = refl
+arrived_stop s name bytes private (Ok arrival.Published) = refl
+arrived_stop s name bytes private (Ok arrival.Stored) = refl
+arrived_stop s name bytes private (Err e) = refl
+
+announced_stop : (s : State) (name : List ℕ) (k : Known) → (announced s name k).stopped ≡ s.stopped
+announced_stop s name known.Held = refl
+announced_stop s name known.Shunned = refl
+announced_stop s name known.Again = refl
+announced_stop s name known.Full = refl
+announced_stop s name known.New = refl
+
+shunned_stop : (s : State) (name : List ℕ) (r : Result Shunning ShunFault) → (shunned s name r).stopped ≡ s.stopped
+shunned_stop s name (Ok shunning.Already) = refl
+shunned_stop s name (Ok shunning.Removed) = refl
+shunned_stop s name (Ok shunning.Listed) = refl
+shunned_stop s name (Err e) = refl
+
+module _ (s : State) (result : Result Clustering ArriveFault) (due : State) where
+  of_stop : (few : Bool) (items : List Item)
+      → MatchBool few ((result ≡ Ok (clustering.Few (length (unclustered_names items)))) × (due ≡ s)) (IsClusterArrival s (due_cluster items) result due) → due.stopped ≡ s.stopped
+  of_stop true items p = ap (λ (x : State). x.stopped) p.1
+  of_stop false items p = stop_equal s due (arrived s (name_of (due_cluster items)) (due_cluster items) false p.0) p.3 (arrived_stop s (name_of (due_cluster items)) (due_cluster items) false p.0)
+
+  clustering_stop : (stopped : Option ℕ)
+      → MatchOption stopped ((items : List Item) × AreItems (now s).held items × IsClusteringOf s items result due)
+      (λ faults. (result ≡ Err (arrive_fault.Stopped faults)) × (due ≡ s)) → due.stopped ≡ s.stopped
+  clustering_stop None p = of_stop (nat_le (length (unclustered_names p.0)) 100) p.0 p.2
+  clustering_stop (Some faults) p = ap (λ (x : State). x.stopped) p.1
+
+commit_stop : (stopped : Option ℕ) (old : State) (r : Result ℕ CommitFault) (new : State) → old.stopped ≡ stopped → IsCommit stopped old r new → Stops old new
+commit_stop (Some faults) old r new is p = stop_leaves old old new p.1 refl
+commit_stop None old r new is (inl p) = (p.2.faults, inr (is, p.1))
+commit_stop None old r new is (inr p) =
+    let same : new.faults ≡ old.faults = ap (λ (s : State). s.faults) p.1 in
+    (omega (arith, same), inl (ap (λ (s : State). s.stopped) p.1))
+
+stopping : (old : State) (e : Event) (a : Answer) (new : State) → Step old e a new → Stops old new
+stopping old (event.Arrive name bytes private) (answer.Arrive r) new p =
+    stop_due old new (λ r due. IsArrival old name bytes private r × (due ≡ arrived old name bytes private r)) _ _ r
+    (λ due is. stop_equal old due (arrived old name bytes private r) is.1 (arrived_stop old name bytes private r)) p
+stopping old (event.Arrive name bytes private) (answer.Announce r) new p = absurd p
+stopping old (event.Arrive name bytes private) (answer.Shun r) new p = absurd p
+stopping old (event.Arrive name bytes private) (answer.Cluster r) new p = absurd p
+stopping old (event.Arrive name bytes private) (answer.Build r) new p = absurd p
+stopping old (event.Arrive name bytes private) (answer.Commit r) new p = absurd p
+stopping old (event.Announce name) (answer.Arrive r) new p = absurd p
+stopping old (event.Announce name) (answer.Announce r) new p =
+    stop_due old new (λ r due. (r ≡ Ok (announce old name)) × (due ≡ announced old name (announce old name))) _ _ r
+    (λ due is. stop_equal old due (announced old name (announce old name)) is.1 (announced_stop old name (announce old name))) p
+stopping old (event.Announce name) (answer.Shun r) new p = absurd p
+stopping old (event.Announce name) (answer.Cluster r) new p = absurd p
+stopping old (event.Announce name) (answer.Build r) new p = absurd p
+stopping old (event.Announce name) (answer.Commit r) new p = absurd p
+stopping old (event.Shun name) (answer.Arrive r) new p = absurd p
+stopping old (event.Shun name) (answer.Announce r) new p = absurd p
+stopping old (event.Shun name) (answer.Shun r) new p =
+    stop_due old new (λ r due. (r ≡ shun old name) × (due ≡ shunned old name r)) _ _ r
+    (λ due is. stop_equal old due (shunned old name r) is.1 (shunned_stop old name r)) p
+stopping old (event.Shun name) (answer.Cluster r) new p = absurd p
+stopping old (event.Shun name) (answer.Build r) new p = absurd p
+stopping old (event.Shun name) (answer.Commit r) new p = absurd p
+stopping old event.Cluster (answer.Arrive r) new p = absurd p
+stopping old event.Cluster (answer.Announce r) new p = absurd p
+stopping old event.Cluster (answer.Shun r) new p = absurd p
+stopping old event.Cluster (answer.Cluster r) new p = stop_due old new (IsClustering old) _ _ r (λ due is. clustering_stop old r due old.stopped is) p
+stopping old event.Cluster (answer.Build r) new p = absurd p
+stopping old event.Cluster (answer.Commit r) new p = absurd p
+stopping old (event.Build ask) (answer.Arrive r) new p = absurd p
+stopping old (event.Build ask) (answer.Announce r) new p = absurd p
+stopping old (event.Build ask) (answer.Shun r) new p = absurd p
+stopping old (event.Build ask) (answer.Cluster r) new p = absurd p
+stopping old (event.Build ask) (answer.Build r) new p =
+    stop_due old new (λ r due. IsBuilt old ask r × (due ≡ old)) _ _ r (λ due is. stop_equal old due old is.1 refl) p
+stopping old (event.Build ask) (answer.Commit r) new p = absurd p
+stopping old event.Commit (answer.Arrive r) new p = absurd p
+stopping old event.Commit (answer.Announce r) new p = absurd p
+stopping old event.Commit (answer.Shun r) new p = absurd p
+stopping old event.Commit (answer.Cluster r) new p = absurd p
+stopping old event.Commit (answer.Build r) new p = absurd p
+stopping old event.Commit (answer.Commit r) new p = commit_stop old.stopped old r new refl p
+
+none_of : {A : Type 0} (o : Option A) → o ≡ None → IsSome o → ⊥
+none_of None e h = cc
+none_of (Some x) e h = cc
+
+pub faults_go : (old : State) (e : Event) (a : Answer) (new : State) → Step old e a new → old.faults ≤ new.faults
+faults_go old e a new step = (stopping old e a new step).0
+
+pub stops_go : (old : State) (e : Event) (a : Answer) (new : State) → Step old e a new → old.stopped ≡ None → IsSome new.stopped → Rose old.faults new.faults
+stops_go old e a new step runs some = by (stopping old e a new step).1
+  where
+    by : (new.stopped ≡ old.stopped) ⊎ ((old.stopped ≡ None) × Rose old.faults new.faults) → Rose old.faults new.faults
+    by (inl same) = absurd (none_of new.stopped (same ∙ runs) some)
+    by (inr rose) = rose.1
+
+pub stays_go : (old : State) (e : Event) (a : Answer) (new : State) → Step old e a new → IsSome old.stopped → new.stopped ≡ old.stopped
+stays_go old e a new step some = by (stopping old e a new step).1
+  where
+    by : (new.stopped ≡ old.stopped) ⊎ ((old.stopped ≡ None) × Rose old.faults new.faults) → new.stopped ≡ old.stopped
+    by (inl same) = same
+    by (inr rose) = absurd (none_of old.stopped rose.0 some)
+
 -- ---- later
 
 blobs_of_both : (xs ys : List Record) → blobs (xs ++ ys) ≡ blobs xs + blobs ys
@@ -164,20 +286,53 @@ pub seen_never_falls : (a b : Seen) → IsLater a b → stored a ≤ stored b
 seen_never_falls a b p = omega (arith, p.stored)
 
 pub steps_go_on : StepsGoOn
-steps_go_on = record { grows = grows; later = later; same = same; through = through; never_falls = seen_never_falls }
+steps_go_on = record { grows = grows; later = later; same = same; through = through; never_falls = seen_never_falls; faults = faults_go; stops = stops_go; stays = stays_go }
 
 -- ---- repositories with their disks
 
 pub later_self : {D : Type 0} (d : DiskState) (a : Whole D) → IsLaterOn d d a a
-later_self d a = record { seen = same a.seen; keeps = search }
+later_self d a = record {
+  seen = same a.seen;
+  keeps = search;
+  faults = omega arith;
+  stops = λ runs some. absurd (none_of a.seen.state.stopped runs some);
+  stays = λ _. refl;
+}
 
-pub later_through : {D : Type 0} (d e f : DiskState) (a b c : Whole D) → IsLaterOn d e a b → IsLaterOn e f b c → IsLaterOn d f a c
-later_through d e f a b c p q = record { seen = through a.seen b.seen c.seen p.seen q.seen; keeps = keeps_on d e f p.keeps q.keeps }
+rose_on : (a b c : ℕ) → a ≤ b → Rose b c → Rose a c
+rose_on a b c le rose = omega arith
+
+rose_still : (a b c : ℕ) → Rose a b → b ≤ c → Rose a c
+rose_still a b c rose le = omega arith
+
+module _ {D : Type 0} (d e f : DiskState) (a b c : Whole D) (p : IsLaterOn d e a b) (q : IsLaterOn e f b c) where
+  stops_through : (o : Option ℕ) → b.seen.state.stopped ≡ o → a.seen.state.stopped ≡ None → IsSome c.seen.state.stopped → Rose d.faults f.faults
+  stops_through None is runs some = rose_on d.faults e.faults f.faults p.faults (q.stops is some)
+  stops_through (Some n) is runs some = rose_still d.faults e.faults f.faults (p.stops runs (subst IsSome (sym is) refl)) q.faults
+
+  stays_through : IsSome a.seen.state.stopped → c.seen.state.stopped ≡ a.seen.state.stopped
+  stays_through some = q.stays (subst IsSome (sym (p.stays some)) some) ∙ p.stays some
+
+  pub later_through : IsLaterOn d f a c
+  later_through = record {
+    seen = through a.seen b.seen c.seen p.seen q.seen;
+    keeps = keeps_on d e f p.keeps q.keeps;
+    faults = omega (arith, p.faults, q.faults);
+    stops = stops_through b.seen.state.stopped refl;
+    stays = stays_through;
+  }
 
 pub step_later : {D : Type 0} (d e : DiskState) (a : Whole D) (event : Event) (answer : Answer) (b : Whole D) → MayStep d e a event answer b → IsLaterOn d e a b
 step_later d e a event answer b p =
     let within : a.seen.loaded ≤ length a.seen.state.records = omega (arith, p.old_whole.seen.loaded, p.old_whole.seen.committed) in
-    record { seen = later a.seen b.seen event answer within p.loaded p.step; keeps = p.keeps }
+    let faults : a.seen.state.faults ≤ b.seen.state.faults = faults_go a.seen.state event answer b.seen.state p.step in
+    record {
+      seen = later a.seen b.seen event answer within p.loaded p.step;
+      keeps = p.keeps;
+      faults = omega (arith, faults, p.old_whole.faults, p.new_whole.faults);
+      stops = λ runs some. subst (λ (n : ℕ). Rose n e.faults) p.old_whole.faults (subst (λ (n : ℕ). Rose a.seen.state.faults n) p.new_whole.faults (stops_go a.seen.state event answer b.seen.state p.step runs some));
+      stays = stays_go a.seen.state event answer b.seen.state p.step;
+    }
 
 pub never_falls : {D : Type 0} (d e : DiskState) (a b : Whole D) → IsLaterOn d e a b → stored a.seen ≤ stored b.seen
 never_falls d e a b p = seen_never_falls a.seen b.seen p.seen

@@ -1,5 +1,6 @@
 -- The steps of a repository as those of a machine, and what each of them keeps: the records go on, and the state after it is later.
-use Rattle.std.specs.Prelude.{◌≡◌, ◌≤◌, ◌⊎◌, List, ◌++◌, length, IsSome}
+use Rattle.std.specs.Prelude.{◌≡◌, ◌≤◌, ◌⊎◌, List, ◌++◌, length, IsSome, None}
+use Rattle.fsl_order.specs.Causes.{Rose}
 use Rattle.fsl_disk.specs.Disk.{DiskState, IsModelled, Keeps, LeavesOnly}
 use Rattle.fsl_record.specs.declared.Record.{Record}
 use Rattle.fsl_journal.specs.Log.{Log, BeforeOrAll}
@@ -37,10 +38,14 @@ pub record MayStep {D : Type 0} (before after : DiskState) (old : Whole D) (e : 
   pub keeps : Keeps before after
   pub disk : DiskStep e before after (log_of old) (new.disk ≡ old.disk)
 
--- a repository is later than another: its state is, and its disk is of the same kind
+-- a repository is later than another: its state is, its disk is of the same kind, and the disk's count of faults doesn't fall. It came to stop only where
+-- that count rose, and a stopped one stays stopped by the same count
 pub record IsLaterOn {D : Type 0} (before after : DiskState) (old new : Whole D) : Type 0 where
   pub seen : IsLater old.seen new.seen
   pub keeps : Keeps before after
+  pub faults : before.faults ≤ after.faults
+  pub stops : old.seen.state.stopped ≡ None → IsSome new.seen.state.stopped → Rose before.faults after.faults
+  pub stays : IsSome old.seen.state.stopped → new.seen.state.stopped ≡ old.seen.state.stopped
 
 -- Law. Whatever the event and its answer
 pub record StepsGoOn : Type 0 where
@@ -49,3 +54,10 @@ pub record StepsGoOn : Type 0 where
   pub same : (s : Seen) → IsLater s s
   pub through : (a b c : Seen) → IsLater a b → IsLater b c → IsLater a c
   pub never_falls : (a b : Seen) → IsLater a b → stored a ≤ stored b
+  pub faults : (old : State) (e : Event) (a : Answer) (new : State) → Step old e a new → old.faults ≤ new.faults
+  pub stops : (old : State) (e : Event) (a : Answer) (new : State) → Step old e a new → old.stopped ≡ None → IsSome new.stopped → Rose old.faults new.faults
+  pub stays : (old : State) (e : Event) (a : Answer) (new : State) → Step old e a new → IsSome old.stopped → new.stopped ≡ old.stopped
+
+-- Law. Each event has an answer, and a state that it leaves
+abbrev pub HasStep : Type 0
+HasStep = (s : State) (e : Event) → (a : Answer) × (new : State) × Step s e a new

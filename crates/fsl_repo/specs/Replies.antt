@@ -46,3 +46,10 @@ IsBuilt s ask result = (items : List Item) × AreItems (now s).held items × (re
 
 abbrev pub BuildStep : State → Ask → Result (List ℕ) BuildFault → State → Type 0
 BuildStep old ask result new = IsDueOrMemory old (λ r due. IsBuilt old ask r × (due ≡ old)) (Err build_fault.Memory) ⊤ result new
+
+-- Law. A build has an answer, and one at most
+abbrev pub HasBuilt : Type 0
+HasBuilt = (s : State) (ask : Ask) → (answer : Result (List ℕ) BuildFault) × IsBuilt s ask answer
+
+abbrev pub HasOneBuilt : Type 0
+HasOneBuilt = (s : State) (ask : Ask) (a b : Result (List ℕ) BuildFault) → IsBuilt s ask a → IsBuilt s ask b → a ≡ b

@@ -1,5 +1,5 @@
 -- How artifacts that are lent are sent.
-use Rattle.std.specs.Prelude.{ℕ, List, [], ◌++◌, length, take, map, filter, filter_map, Bool, true, false, not, ◌||◌, ◌&&◌, nat_le, Option, Some, None, is_some, if◌then◌else◌}
+use Rattle.std.specs.Prelude.{ℕ, ◌+◌, List, [], ◌∷◌, ◌++◌, length, take, map, filter, filter_map, Bool, true, false, not, ◌||◌, ◌&&◌, nat_le, Option, Some, None, is_some, if◌then◌else◌}
 use Rattle.std.specs.List.{list_any}
 use Rattle.std.specs.Option.{option_map, option_map_or}
 use Rattle.std.specs.FinMap as map_of
@@ -64,6 +64,11 @@ told public private = map (λ name. (name, has private name)) (ascending (public
 -- the public artifacts from a place on
 abbrev pub public_on : ℕ → List reply.Held → List reply.Held
 public_on place held = filter (λ h. not h.private && nat_le place h.place) held
+
+-- the first of some artifacts: those that the budget takes, with such a sum before them, and one more
+abbrev pub front_after : ℕ → List reply.Held → List reply.Held
+front_after sum [] = []
+front_after sum (h ∷ held) = h ∷ (if nat_le 1000000 sum then [] else front_after (sum + length h.bytes + 64) held)
 
 -- the files of a reply, and where a clone goes on
 abbrev pub files_by : List Record → List reply.Held → List WireCard → Bool → Option (ℕ × ℕ) → List SentFile × Option ℕ

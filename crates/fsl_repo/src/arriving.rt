@@ -11,7 +11,7 @@ ghost use Rattle.fsl_cluster.specs.Clusters as clusters;
 ghost use Rattle.fsl_cross.specs.Tables.{tables};
 ghost use Rattle.fsl_repo.specs.Machine.{ArriveStep, IsDueOrMemory, IsStoring, room_of, now};
 ghost use Rattle.fsl_repo.specs.Arriving.{as_stored, is_private, IsPublishing};
-ghost use Rattle.fsl_repo.specs.Touches.{IsWithin};
+ghost use Rattle.fsl_repo.specs.Touches.{IsWithin, is_idle, is_published};
 ghost use Rattle.fsl_repo.specs.declared.ArriveFault.TheVariants as arrive_fault;
 
 use crate::wanting::wanted;
@@ -60,8 +60,9 @@ pub(crate) fn keep(journal: &mut Journal, blobs: &mut Blobs, entry: Record) -> R
 
 /// Whether there is room for one artifact more, of this size, which the tables have already.
 fn room(alloc: Global, blobs: &Blobs, all: &Tables, size: u64) -> Result<(), ArriveFault>
-    ensures { (as_stored result ≡ Err arrive_fault.Memory) ⊎ (as_stored result ≡ room_of (held_bytes (contents blobs.now.records).held + size) (map_of.len (contents blobs.now.records).held + 1)
+    ensures told { (as_stored result ≡ Err arrive_fault.Memory) ⊎ (as_stored result ≡ room_of (held_bytes (contents blobs.now.records).held + size) (map_of.len (contents blobs.now.records).held + 1)
         (length (clusters.wants (tables all.now.fields all.now.items).clusters (set.items (contents blobs.now.records).shunned)))) }
+    ensures busy { is_idle (as_stored result) ≡ false }
 {
     let bytes = blobs.bytes() + u128::from(size);
     let count = blobs.count() + 1;
@@ -89,7 +90,7 @@ impl<D: Disk> Repo<D> {
     /// where it arrives as a public one. A fault changes nothing.
     ///
     /// Whatever it answers, it takes at most twice the touches that `Tables::add` states for what the bytes are, where that
-    /// states any.
+    /// states any. `Published` takes at most 16, and an answer that only says what is known, as `Present`, none.
     ///
     /// Errors, the first of these: `Stopped` where a commit has failed; `TooLarge` above 16,777,216 bytes; `NameWrong` where
     /// the bytes have another name; `Full` where with it a limit is passed. `Memory` comes in place of `Published`, `Full`
@@ -106,6 +107,9 @@ impl<D: Disk> Repo<D> {
         ensures disk { self.new.disk ≡ self.old.disk }
         // Whatever the answer, and so for `Stored` and `Published`.
         ensures cost { IsWithin self.old.seen.items name private bytes.now steps.old steps.new }
+        // Where that states no bound too.
+        ensures published { is_published result ≡ true → steps.new ≤ steps.old + 16 }
+        ensures idle { is_idle result ≡ true → steps.new ≡ steps.old }
     {
         if let Some(faults) = self.journal.stopped() {
             return Err(ArriveFault::Stopped { faults });
@@ -140,6 +144,7 @@ impl<D: Disk> Repo<D> {
         ensures loaded { self.new.seen.loaded ≡ self.old.seen.loaded }
         ensures disk { self.new.disk ≡ self.old.disk }
         ensures cost { steps.new ≤ steps.old + 16 }
+        ensures busy { is_idle result ≡ false }
     {
         let back = match self.tables.publish(self.alloc, name, steps) {
             Ok(back) => back,
@@ -172,6 +177,8 @@ impl<D: Disk> Repo<D> {
         ensures loaded { self.new.seen.loaded ≡ self.old.seen.loaded }
         ensures disk { self.new.disk ≡ self.old.disk }
         ensures cost { IsWithin self.old.seen.items name private bytes.now steps.old steps.new }
+        ensures stores { is_published result ≡ false }
+        ensures busy { is_idle result ≡ false }
     {
         let size = bytes.len() as u64;
         let Ok(text) = Text::of(self.alloc, bytes) else {

@@ -1,6 +1,8 @@
 //! What holds of every repository, whatever it holds.
 ghost use Rattle.fsl_repo.specs.Keeps.{BuildsKeep};
-ghost use Rattle.fsl_repo.specs.Machine.{AreOneList, HasItems, HasArrival, HasOneArrival};
+ghost use Rattle.fsl_repo.specs.Machine.{AreOneList, HasItems, HasArrival, HasOneArrival, HasClustering, HasOneClustering};
+ghost use Rattle.fsl_repo.specs.Onward.{HasStep};
+ghost use Rattle.fsl_repo.specs.Replies.{HasBuilt, HasOneBuilt};
 
 /// A law and no code: a reply names a private artifact to nobody but one who may see it and asks for it, and a shunned one
 /// to nobody.
@@ -26,4 +28,29 @@ pub fn arrival_has_an_answer()
 /// A law and no code: it has one answer at most, so that an arrival is decided by the state but for want of memory.
 pub fn arrival_has_one_answer()
     ensures { HasOneArrival }
+{}
+
+/// A law and no code: a cluster that is asked for has an answer, at whatever state, with the state that is due then.
+pub fn clustering_has_an_answer()
+    ensures { HasClustering }
+{}
+
+/// A law and no code: it has one answer at most, and one state that is due.
+pub fn clustering_has_one_answer()
+    ensures { HasOneClustering }
+{}
+
+/// A law and no code: whatever a reply is asked for, there is one, at whatever state.
+pub fn build_has_an_answer()
+    ensures { HasBuilt }
+{}
+
+/// A law and no code: there is one reply at most, so that a reply is decided by the state but for want of memory.
+pub fn build_has_one_answer()
+    ensures { HasOneBuilt }
+{}
+
+/// A law and no code: each event has an answer and a state that it leaves, at whatever state.
+pub fn events_have_answers()
+    ensures { HasStep }
 {}

@@ -27,7 +27,9 @@ use fsl_name::Name;
 use fsl_text::{List, Memory, Text};
 use fsl_wire::{Caps, Message};
 pub use laws::{
-    arrival_has_an_answer, arrival_has_one_answer, builds_keep, held_are_items, held_are_one_list,
+    arrival_has_an_answer, arrival_has_one_answer, build_has_an_answer, build_has_one_answer,
+    builds_keep, clustering_has_an_answer, clustering_has_one_answer, events_have_answers,
+    held_are_items, held_are_one_list,
 };
 pub use machine::steps_go_on;
 pub use parsing::{read_artifact, tables_of};

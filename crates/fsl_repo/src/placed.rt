@@ -4,12 +4,18 @@ ghost use Rattle.std.specs.Option.{option_map};
 ghost use Rattle.std.specs.FinMap as map_of;
 ghost use Rattle.fsl_blobs.specs.Fold.{contents};
 ghost use Rattle.fsl_repo.specs.Replies.{held_at, placed_in};
-ghost use Rattle.fsl_repo.specs.Sending.{as_held, names_of, placed_from, public_on};
+ghost use Rattle.fsl_repo.specs.Sending.{as_held, front_after, names_of, public_on};
 
 use fsl_blobs::{Blobs, Placed};
 use fsl_name::Name;
 use fsl_text::Memory;
 use std::alloc::Global;
+
+/// Files are sent until their sizes, and so much for each, reach this many bytes.
+const BUDGET: u64 = 1_000_000;
+
+/// So much each file counts beside its size.
+const SHARE: u64 = 64;
 
 /// A held artifact at its place, with its bytes lent.
 #[derive(Clone, Copy)]
@@ -54,78 +60,26 @@ fn placed_over<'a>(
     Ok(list)
 }
 
-/// The held artifacts from a place on, by place. No bytes are copied.
-fn placed_from<'a>(
-    alloc: Global,
-    blobs: &'a Blobs,
-    from: u64,
-) -> Result<Vec<PlacedHolding<'a>>, Memory>
-    ensures { IfOk result (λ list. map as_held list.items ≡ placed_from blobs.now.records from) }
-{
-    match blobs.held(alloc, from) {
-        Ok(names) => placed_over(alloc, blobs, names.items()),
-        Err(_) => Err(Memory),
-    }
-}
-
-/// The names of those that are private, or of those that aren't, in their order.
-fn names_over(alloc: Global, held: &[PlacedHolding<'_>], private: bool) -> Result<Vec<Name>, Memory>
-    ensures { IfOk result (λ names. names.items ≡ names_of private (map as_held held.now)) }
-{
-    let mut names = Vec::new(alloc);
-    for artifact in held {
-        if artifact.private == private {
-            names.push(artifact.name)?;
-        }
-    }
-    Ok(names)
-}
-
-/// The names of the held artifacts that are private, or of those that aren't, in the order of their places.
+/// The names of the held artifacts that are private, or of those that aren't, in the order of their places. The others
+/// aren't walked.
 pub(crate) fn names_by(alloc: Global, blobs: &Blobs, private: bool) -> Result<Vec<Name>, Memory>
     ensures { IfOk result (λ names. names.items ≡ names_of private (placed_in blobs.now.records)) }
 {
-    match placed_from(alloc, blobs, 0) {
-        Ok(held) => names_over(alloc, &held, private),
-        Err(_) => Err(Memory),
-    }
+    let names = blobs.names_by_place(alloc, private)?;
+    Ok(names.into_vec())
 }
 
-/// Those of some artifacts that are public and whose place is at least this.
-fn public_over<'a>(
-    alloc: Global,
-    held: &[PlacedHolding<'a>],
-    place: u64,
-) -> Result<Vec<PlacedHolding<'a>>, Memory>
-    ensures { IfOk result (λ list. map as_held list.items ≡ public_on place (map as_held held.now)) }
-{
-    let mut list = Vec::new(alloc);
-    for artifact in held {
-        if !artifact.private && artifact.place >= place {
-            let kept = PlacedHolding {
-                place: artifact.place,
-                name: artifact.name,
-                private: artifact.private,
-                bytes: artifact.bytes,
-            };
-            if list.push(kept).is_err() {
-                return Err(Memory);
-            }
-        }
-    }
-    Ok(list)
-}
-
-/// The public artifacts from a place on, by place. Those before it aren't looked up.
+/// The first public artifacts from a place on, by place: those that the budget takes, and one more where there is one. No
+/// others are looked up, so that a round of a clone costs what it sends.
 pub(crate) fn public_from<'a>(
     alloc: Global,
     blobs: &'a Blobs,
     place: u64,
 ) -> Result<Vec<PlacedHolding<'a>>, Memory>
-    ensures { IfOk result (λ list. map as_held list.items ≡ public_on place (placed_in blobs.now.records)) }
+    ensures { IfOk result (λ list. map as_held list.items ≡ front_after 0 (public_on place (placed_in blobs.now.records))) }
 {
-    match placed_from(alloc, blobs, place) {
-        Ok(held) => public_over(alloc, &held, place),
+    match blobs.public_front(alloc, place, BUDGET, SHARE) {
+        Ok(names) => placed_over(alloc, blobs, names.items()),
         Err(_) => Err(Memory),
     }
 }

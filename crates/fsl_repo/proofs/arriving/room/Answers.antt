@@ -7,8 +7,8 @@ use Rattle.fsl_cluster.specs.Clusters as clusters
 use Rattle.fsl_repo.proofs.Storing.{room_fits, wants_few}
 use Rattle.fsl_repo.proofs.arriving.room.Goals as goal
 
-pub returns-then-missing-le-MOST_NAMES : goal.returns-then-missing-le-MOST_NAMES
-returns-then-missing-le-MOST_NAMES c =
+pub returns-then-missing-le-MOST_NAMES-clause-told : goal.returns-then-missing-le-MOST_NAMES-clause-told
+returns-then-missing-le-MOST_NAMES-clause-told c =
     let records = contents c.args.blobs.now.records in
     let facts = (tables c.args.all.now.fields c.args.all.now.items).clusters in
     let missing = c.missing_count-missing.ensures ∙ ap (λ fs. length (clusters.missing fs)) c.cluster-table.ensures.facts in

@@ -1,0 +1,135 @@
+-- A cluster and a build have an answer each, and one at most; and so has each event one.
+use Rattle.std.specs.Prelude.{◌≡◌, ℕ, List, length, Bool, true, false, nat_le, Option, Some, None, Result, Ok, Err, MatchBool, MatchOption}
+use Rattle.std.proofs.Common.{refl, sym, ap, subst, ◌∙◌, inl, inr, arith}
+use Rattle.fsl_name.specs.Name.{name_of}
+use Rattle.fsl_cross.specs.declared.Item.{Item}
+use Rattle.fsl_journal.specs.declared.CommitFault.{CommitFault}
+use Rattle.fsl_journal.specs.declared.CommitFault.TheVariants as commit_fault
+use Rattle.fsl_blobs.specs.declared.Known.{Known}
+use Rattle.fsl_blobs.specs.declared.Known.TheVariants as known
+use Rattle.fsl_repo.specs.declared.Arrival.{Arrival}
+use Rattle.fsl_repo.specs.declared.Arrival.TheVariants as arrival
+use Rattle.fsl_repo.specs.declared.Shunning.{Shunning}
+use Rattle.fsl_repo.specs.declared.Shunning.TheVariants as shunning
+use Rattle.fsl_repo.specs.declared.ShunFault.{ShunFault}
+use Rattle.fsl_repo.specs.declared.ArriveFault.{ArriveFault}
+use Rattle.fsl_repo.specs.declared.ArriveFault.TheVariants as arrive_fault
+use Rattle.fsl_repo.specs.declared.Clustering.{Clustering}
+use Rattle.fsl_repo.specs.declared.Clustering.TheVariants as clustering
+use Rattle.fsl_repo.specs.declared.Event.TheVariants as event
+use Rattle.fsl_repo.specs.declared.Answer.TheVariants as answer
+use Rattle.fsl_repo.specs.Machine.{State, Leaves, now, AreItems, IsClustering, IsClusteringOf, IsClusterArrival, IsCommit, arrived, announced, announce, shun, shunned, as_clustering, due_cluster, unclustered_names, HasClustering, HasOneClustering}
+use Rattle.fsl_repo.specs.Replies.{reply_of, HasBuilt, HasOneBuilt}
+use Rattle.fsl_repo.specs.Onward.{HasStep}
+use Rattle.fsl_repo.proofs.OneArrival.{one_arrival}
+use Rattle.fsl_repo.proofs.OneList.{are_one_list}
+use Rattle.fsl_repo.proofs.SomeArrival.{some_arrival, some_items}
+
+-- ---- clusters
+
+module _ (s : State) where
+  abbrev Clustered : Type 0
+  Clustered = (answer : Result Clustering ArriveFault) × (due : State) × IsClustering s answer due
+
+  abbrev Of : List Item → Bool → Result Clustering ArriveFault → State → Type 0
+  Of items few result due = MatchBool few ((result ≡ Ok (clustering.Few (length (unclustered_names items)))) × (due ≡ s)) (IsClusterArrival s (due_cluster items) result due)
+
+  some_of : (items : List Item) (few : Bool) → (answer : Result Clustering ArriveFault) × (due : State) × Of items few answer due
+  some_of items true = (Ok (clustering.Few (length (unclustered_names items))), s, (refl, refl))
+  some_of items false =
+      let bytes = due_cluster items in
+      let a = some_arrival s (name_of bytes) bytes false in
+      (as_clustering (name_of bytes) a.0, arrived s (name_of bytes) bytes false a.0, (a.0, a.1, refl, refl))
+
+  abbrev By : Option ℕ → Result Clustering ArriveFault → State → Type 0
+  By stopped result due = MatchOption stopped ((items : List Item) × AreItems (now s).held items × IsClusteringOf s items result due) (λ faults. (result ≡ Err (arrive_fault.Stopped faults)) × (due ≡ s))
+
+  some_by : (stopped : Option ℕ) → (answer : Result Clustering ArriveFault) × (due : State) × By stopped answer due
+  some_by None =
+      let items = some_items (now s).held in
+      let told = some_of items.0 (nat_le (length (unclustered_names items.0)) 100) in
+      (told.0, told.1, (items.0, items.1, told.2))
+  some_by (Some faults) = (Err (arrive_fault.Stopped faults), s, (refl, refl))
+
+  one_of : (items : List Item) (few : Bool) (a b : Result Clustering ArriveFault) (due other : State) → Of items few a due → Of items few b other → (a ≡ b) × (due ≡ other)
+  one_of items true a b due other p q = (p.0 ∙ sym q.0, p.1 ∙ sym q.1)
+  one_of items false a b due other p q =
+      let bytes = due_cluster items in
+      let same : p.0 ≡ q.0 = one_arrival s (name_of bytes) bytes false p.0 q.0 p.1 q.1 in
+      (p.2 ∙ ap (as_clustering (name_of bytes)) same ∙ sym q.2, p.3 ∙ ap (arrived s (name_of bytes) bytes false) same ∙ sym q.3)
+
+  one_by : (stopped : Option ℕ) (a b : Result Clustering ArriveFault) (due other : State) → By stopped a due → By stopped b other → (a ≡ b) × (due ≡ other)
+  one_by None a b due other p q =
+      let same : q.0 ≡ p.0 = are_one_list (now s).held q.0 p.0 q.1 p.1 in
+      one_of p.0 (nat_le (length (unclustered_names p.0)) 100) a b due other p.2 (subst (λ (items : List Item). IsClusteringOf s items b other) same q.2)
+  one_by (Some faults) a b due other p q = (p.0 ∙ sym q.0, p.1 ∙ sym q.1)
+
+pub some_clustering : HasClustering
+some_clustering s = some_by s s.stopped
+
+pub one_clustering : HasOneClustering
+one_clustering s a b due other p q = one_by s s.stopped a b due other p q
+
+-- ---- builds
+
+pub some_build : HasBuilt
+some_build s ask = let items = some_items (now s).held in (Ok (reply_of s items.0 ask), (items.0, items.1, refl))
+
+pub one_build : HasOneBuilt
+one_build s ask a b p q = p.2 ∙ ap (λ (items : List Item). Ok (reply_of s items ask)) (are_one_list (now s).held p.0 q.0 p.1 q.1) ∙ sym q.2
+
+-- ---- events
+
+leaves_due : (old due : State) → due.faults ≡ old.faults → Leaves old due due
+leaves_due old due same = record { state = refl; faults = omega (arith, same) }
+
+arrived_faults : (s : State) (name bytes : List ℕ) (private : Bool) (r : Result Arrival ArriveFault) → (arrived s name bytes private r).faults ≡ s.faults
+arrived_faults s name bytes private (Ok arrival.Shunned) = refl
+arrived_faults s name bytes private (Ok arrival.Present) = refl
+arrived_faults s name bytes private (Ok arrival.Published) = refl
+arrived_faults s name bytes private (Ok arrival.Stored) = refl
+arrived_faults s name bytes private (Err e) = refl
+
+announced_faults : (s : State) (name : List ℕ) (k : Known) → (announced s name k).faults ≡ s.faults
+announced_faults s name known.Held = refl
+announced_faults s name known.Shunned = refl
+announced_faults s name known.Again = refl
+announced_faults s name known.Full = refl
+announced_faults s name known.New = refl
+
+shunned_faults : (s : State) (name : List ℕ) (r : Result Shunning ShunFault) → (shunned s name r).faults ≡ s.faults
+shunned_faults s name (Ok shunning.Already) = refl
+shunned_faults s name (Ok shunning.Removed) = refl
+shunned_faults s name (Ok shunning.Listed) = refl
+shunned_faults s name (Err e) = refl
+
+clustered_faults : (s : State) (stopped : Option ℕ) (r : Result Clustering ArriveFault) (due : State) → By s stopped r due → due.faults ≡ s.faults
+clustered_faults s None r due p = of (nat_le (length (unclustered_names p.0)) 100) p.0 p.2
+  where
+    of : (few : Bool) (items : List Item) → Of s items few r due → due.faults ≡ s.faults
+    of true items q = ap (λ (x : State). x.faults) q.1
+    of false items q = ap (λ (x : State). x.faults) q.3 ∙ arrived_faults s (name_of (due_cluster items)) (due_cluster items) false q.0
+clustered_faults s (Some n) r due p = ap (λ (x : State). x.faults) p.1
+
+commit_of : (s : State) (stopped : Option ℕ) → (r : Result ℕ CommitFault) × (new : State) × IsCommit stopped s r new
+commit_of s (Some faults) = (Err (commit_fault.Stopped faults), s, (refl, leaves_due s s refl))
+commit_of s None = (Ok (length s.records), record s { committed = length s.records }, inr (refl, refl))
+
+pub some_step : HasStep
+some_step s (event.Arrive name bytes private) =
+    let a = some_arrival s name bytes private in
+    let due = arrived s name bytes private a.0 in
+    (answer.Arrive a.0, due, inl (due, (a.1, refl), leaves_due s due (arrived_faults s name bytes private a.0)))
+some_step s (event.Announce name) =
+    let due = announced s name (announce s name) in
+    (answer.Announce (Ok (announce s name)), due, inl (due, (refl, refl), leaves_due s due (announced_faults s name (announce s name))))
+some_step s (event.Shun name) =
+    let due = shunned s name (shun s name) in
+    (answer.Shun (shun s name), due, inl (due, (refl, refl), leaves_due s due (shunned_faults s name (shun s name))))
+some_step s event.Cluster =
+    let told = some_clustering s in
+    (answer.Cluster told.0, told.1, inl (told.1, told.2, leaves_due s told.1 (clustered_faults s s.stopped told.0 told.1 told.2)))
+some_step s (event.Build ask) =
+    let built = some_build s ask in
+    (answer.Build built.0, s, inl (s, (built.1, refl), leaves_due s s refl))
+some_step s event.Commit = let told = commit_of s s.stopped in (answer.Commit told.0, told.1, told.2)
