@@ -1,5 +1,5 @@
 //! Reports: what a question about a repository is answered, by what it holds and by the tables of that. Each report has a
-//! module, which prints the answers of the tables, one line each.
+//! module, which prints the answers of the tables, one line each. `summary` says how many artifacts of each sort a set has.
 #![tactic(auto)]
 
 ghost use Rattle.std.specs.Prelude.{◌≡◌};
@@ -11,8 +11,10 @@ mod files;
 mod finding;
 mod leaves;
 mod lines;
+mod noting;
 mod phantoms;
 mod refusals;
+mod summing;
 mod tags;
 mod thread;
 mod ticket;
@@ -24,7 +26,22 @@ pub use answering::answer;
 pub use finding::content;
 use fsl_name::Name;
 use fsl_text::{Memory, Text};
+pub use noting::note_of;
 pub use refusals::refusal_text;
+pub use summing::summary;
+
+/// What the summary notes of an artifact.
+#[derive(Clone, Copy, Debug, Drop)]
+pub enum Note {
+    /// It is a check-in.
+    Checkin,
+    /// It changes the ticket of this id.
+    Ticket { id: Name },
+    /// It is a post of the forum.
+    Post,
+    /// It is none of these.
+    Other,
+}
 
 /// Why a question gets no report.
 #[derive(Debug, Drop)]
