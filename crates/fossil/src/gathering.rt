@@ -161,7 +161,7 @@ impl Gathered {
         }
     }
 
-    /// A file arrives, whose bytes are moved. On want of memory the set is of no use any more.
+    /// A file arrives, whose bytes are moved. On want of memory, and where there is no room for it, the set is of no use any more.
     pub fn arrive(&mut self, alloc: Global, file: Sent) -> Result<Arrival, ArriveFault>
         ensures { IsGatheredBy file self.old self.new result }
     {

@@ -12,7 +12,7 @@ abbrev pub IsJudged : List User → WireCard → Result Caps LoginFault → Type
 IsJudged users card (Ok caps) = (login_fault users card ≡ None) × (caps ≡ caps_of_card users card)
 IsJudged users card (Err fault) = login_fault users card ≡ Some fault
 
--- no card is settled behind one that no login before it keeps from being judged; those that were settled before stay so
+-- no card is settled behind one that no login before it keeps from being judged
 abbrev pub IsSpared : List User → Drafted → ℕ → Type 0
 IsSpared users old settled =
     (place : ℕ) × (filter_map (login_fault users) (take place old.message) ≡ []) × (settled ≤ max old.settled (place + 1))

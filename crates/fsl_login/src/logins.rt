@@ -147,8 +147,9 @@ pub fn granted(users: &Users, message: &Message) -> Result<Caps, LoginFault>
     Ok(caps)
 }
 
-/// What the message of a draft allows, as [`granted`], with its logins settled one after another, each of which costs one hash: the
-/// tail of one that comes behind the first that isn't accepted is never made. Where all are accepted, all cards are settled.
+/// What the message of a draft allows, as [`granted`], with its logins settled one after another: none is settled behind the first
+/// that isn't accepted. To settle one makes its tail, a hash of all bytes behind its line, and the secret of an accepted one costs
+/// another, of a few bytes. Where all are accepted, all cards are settled.
 ///
 /// # Errors
 ///
