@@ -8,6 +8,8 @@ mod histories;
 #[cfg(test)]
 mod many;
 #[cfg(test)]
+mod orders;
+#[cfg(test)]
 mod printing;
 #[cfg(test)]
 mod repo;
