@@ -2,12 +2,14 @@
 use Rattle.std.proofs.Common.{◌≡◌, inl, inr, ℕ, ◌≤◌, Bool, true, false, List, [], length, Option, Some, None, Result, Ok, Err, IfOk, IfErr, IsTrue, refl, sym, ap, ◌∙◌, arith}
 use Rattle.std.specs.Prelude.{◌^◌, nat_lt, MatchBool}
 use Rattle.std.specs.Io.KnownBytes.{IsAtEnd}
-use Rattle.fsl_artifact.specs.Kind.{IsKind}
 use Rattle.fsl_disk.specs.Disk.{DiskState}
 use Rattle.fsl_words.specs.declared.Command.{Command}
 use Rattle.fsl_words.specs.declared.Command.TheVariants as command_of
 use Rattle.fossil.specs.declared.fault.Fault.{Fault}
 use Rattle.fossil.specs.declared.fault.Fault.TheVariants as fault_is
+use Rattle.fossil.specs.declared.message.Sent.{Sent}
+use Rattle.fossil.specs.Arrivals.{Taken, none_taken, Arrive}
+use Rattle.fossil.proofs.ArrivalLemmas.{refused_files}
 use Rattle.fossil.specs.Printed.{Printed}
 use Rattle.fossil.specs.Printed as printing
 use Rattle.fossil.specs.Ingest as ingest
@@ -109,11 +111,15 @@ serve_run address users workers requests = usage_of (Some (command_of.Serve addr
 
 -- ---- ingest
 
-small_read : (read : List ℕ) (answer : Printed) → ingest.IsRead IsKind read answer → answer.status ≤ 3
-small_read read answer (inl h) = let e = refused_status read answer h in omega (arith, e)
-small_read read answer (inr h) = let z = ap (λ (a : Printed). a.status) h.2.2 in omega (arith, z)
+small_printed : (files : List Sent) (result : Result Taken Printed) (answer : Printed) → Arrive (none_taken ingest.fresh) files result → ingest.IsPrintedBy result answer → answer.status ≤ 3
+small_printed files (Ok t) answer arrive is = let z = ap (λ (a : Printed). a.status) is.2 in omega (arith, z)
+small_printed files (Err refusal) answer arrive is = let e = refused_files files (none_taken ingest.fresh) refusal arrive in let same = ap (λ (a : Printed). a.status) is in omega (arith, e, same)
 
-small_ingest : (read : List ℕ) (t : Bool) (answer : Printed) → MatchBool t (answer ≡ printing.too_long) (ingest.IsRead IsKind read answer) → answer.status ≤ 3
+small_read : (read : List ℕ) (answer : Printed) → ingest.IsRead read answer → answer.status ≤ 3
+small_read read answer (inl h) = let e = refused_status read answer h in omega (arith, e)
+small_read read answer (inr h) = small_printed h.0 h.2.0 answer h.2.1 h.2.2
+
+small_ingest : (read : List ℕ) (t : Bool) (answer : Printed) → MatchBool t (answer ≡ printing.too_long) (ingest.IsRead read answer) → answer.status ≤ 3
 small_ingest read true answer h = let e = ap (λ (a : Printed). a.status) h in omega (arith, e)
 small_ingest read false answer h = small_read read answer h
 

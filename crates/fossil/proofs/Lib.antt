@@ -2,8 +2,9 @@ pub mod OneReport
 pub mod OneOutcome
 pub mod SomeOutcome
 pub mod MessageLemmas
-pub mod RefusedLemmas
-pub mod SentLemmas
+pub mod ArrivalLemmas
+pub mod SetLemmas
+pub mod GatherLemmas
 pub mod AnswerLemmas
 pub mod InputLemmas
 pub mod FileLemmas
@@ -11,8 +12,6 @@ pub mod PrintedLemmas
 pub mod LoadLemmas
 pub mod RepoLemmas
 pub mod ActLemmas
-pub mod HeldLemmas
-pub mod TakingLemmas
 pub mod CommitLemmas
 pub mod AppendLemmas
 pub mod PutLemmas

@@ -1,6 +1,6 @@
 -- What a message is as one of files, by its cards.
 use Rattle.std.proofs.Common.{◌≡◌, ◌⊎◌, inl, inr, ℕ, suc, ◌+◌, ◌<◌, ◌≤◌, Bool, true, false, not, cond, List, [], ◌∷◌, ◌++◌, length, map, position, Option, Some, None, refl, sym, ap, subst, ◌∙◌, arith, append_assoc}
-use Rattle.std.specs.Prelude.{nat_lt, slice_get, IfSome, find}
+use Rattle.std.specs.Prelude.{nat_lt, slice_get, find}
 use Rattle.std.specs.Option.{option_map}
 use Rattle.std.specs.List.{position_or_len}
 use Rattle.std.proofs.lemmas.List.{append-nil}
@@ -12,9 +12,8 @@ use Rattle.fsl_wire.specs.Messages.{IsNumberedMessage, IsMessage, IsLineOf, IsFi
 use Rattle.fsl_wire.proofs.OneWay.{reads_one_way}
 use Rattle.fossil.specs.declared.message.Sent.{Sent}
 use Rattle.fossil.specs.declared.message.MessageFault.TheVariants as fault_is
-use Rattle.fossil.specs.Printed.{Printed, bad_line, not_a_file, first_refusal}
-use Rattle.fossil.specs.Messages.{fault_line, is_other, other_line, files_of, IsFileList, AreFilesOf, IsMessageRefused, IsFaultOf, unread_as}
-use Rattle.fossil.proofs.RefusedLemmas.{first_status}
+use Rattle.fossil.specs.Printed.{Printed, bad_line, not_a_file}
+use Rattle.fossil.specs.Messages.{fault_line, is_other, other_line, files_of, IsFileList, IsMessageRefused, IsFaultOf, unread_as}
 
 abbrev Lines : Type 0
 Lines = List (ℕ × WireCard)
@@ -30,8 +29,8 @@ some_is a b e = cc
 
 -- ---- one message
 
-one_list : (message : List ℕ) (a b : List Sent) → IsFileList message a → IsFileList message b → a ≡ b
-one_list message a b h k = h.3 ∙ ap files_in (reads_one_way.one_numbering message h.0 k.0 h.1 k.1) ∙ sym k.3
+pub one_files : (message : List ℕ) (a b : List Sent) → IsFileList message a → IsFileList message b → a ≡ b
+one_files message a b h k = h.3 ∙ ap files_in (reads_one_way.one_numbering message h.0 k.0 h.1 k.1) ∙ sym k.3
 
 no_fault : (message : List ℕ) (lines : Lines) (fault : WireFault) → IsNumberedMessage message lines → IsFirstFault message fault → ⊥
 no_fault message lines fault h k = reads_one_way.not_both message (cards_in lines) fault (lines, h, refl) k
@@ -42,40 +41,24 @@ one_other message a b h k = ap other_line (reads_one_way.one_numbering message a
 all_files : (message : List ℕ) (a b : Lines) (n : ℕ) → IsNumberedMessage message a → IsNumberedMessage message b → other_line a ≡ Some n → other_line b ≡ None → ⊥
 all_files message a b n h k some none = let same = one_other message a b h k in cc
 
-pub one_files : (message : List ℕ) (a b : List Sent) → AreFilesOf message a → AreFilesOf message b → a ≡ b
-one_files message a b h k = one_list message a b h.0 k.0
-
-one_first : (message : List ℕ) (a b : List Sent) → IsFileList message a → IsFileList message b → first_refusal a ≡ first_refusal b
-one_first message a b h k = ap first_refusal (one_list message a b h k)
-
 pub one_refused : (message : List ℕ) (a b : Printed) → IsMessageRefused message a → IsMessageRefused message b → a ≡ b
 one_refused message a b (inl h) (inl k) = h.2 ∙ ap (λ (f : WireFault). bad_line (fault_line f)) (reads_one_way.one_fault message h.0 k.0 h.1 k.1) ∙ sym k.2
-one_refused message a b (inl h) (inr (inl k)) = absurd (no_fault message k.0 h.0 k.2 h.1)
-one_refused message a b (inl h) (inr (inr k)) = absurd (no_fault message k.1.0 h.0 k.1.1 h.1)
-one_refused message a b (inr (inl h)) (inl k) = absurd (no_fault message h.0 k.0 h.2 k.1)
-one_refused message a b (inr (inl h)) (inr (inl k)) = h.4 ∙ ap not_a_file (some_is h.1 k.1 (sym h.3 ∙ one_other message h.0 k.0 h.2 k.2 ∙ k.3)) ∙ sym k.4
-one_refused message a b (inr (inl h)) (inr (inr k)) = absurd (all_files message h.0 k.1.0 h.1 h.2 k.1.1 h.3 k.1.2)
-one_refused message a b (inr (inr h)) (inl k) = absurd (no_fault message h.1.0 k.0 h.1.1 k.1)
-one_refused message a b (inr (inr h)) (inr (inl k)) = absurd (all_files message k.0 h.1.0 k.1 k.2 h.1.1 k.3 h.1.2)
-one_refused message a b (inr (inr h)) (inr (inr k)) = some_is a b (sym h.2 ∙ one_first message h.0 k.0 h.1 k.1 ∙ k.2)
+one_refused message a b (inl h) (inr k) = absurd (no_fault message k.0 h.0 k.2 h.1)
+one_refused message a b (inr h) (inl k) = absurd (no_fault message h.0 k.0 h.2 k.1)
+one_refused message a b (inr h) (inr k) = h.4 ∙ ap not_a_file (some_is h.1 k.1 (sym h.3 ∙ one_other message h.0 k.0 h.2 k.2 ∙ k.3)) ∙ sym k.4
 
-pub not_both : (message : List ℕ) (files : List Sent) (refusal : Printed) → AreFilesOf message files → IsMessageRefused message refusal → ⊥
-not_both message files refusal h (inl k) = no_fault message h.0.0 k.0 h.0.1 k.1
-not_both message files refusal h (inr (inl k)) = all_files message k.0 h.0.0 k.1 k.2 h.0.1 k.3 h.0.2
-not_both message files refusal h (inr (inr k)) = let same = one_first message files k.0 h.0 k.1 in let none = h.1 in let some = k.2 in cc
+pub not_both : (message : List ℕ) (files : List Sent) (refusal : Printed) → IsFileList message files → IsMessageRefused message refusal → ⊥
+not_both message files refusal h (inl k) = no_fault message h.0 k.0 h.1 k.1
+not_both message files refusal h (inr k) = all_files message k.0 h.0 k.1 k.2 h.1 k.3 h.2
 
 -- ---- some message
 
 abbrev pub IsSomeMessage : List ℕ → Type 0
-IsSomeMessage message = ((files : List Sent) × AreFilesOf message files) ⊎ ((refusal : Printed) × IsMessageRefused message refusal)
-
-by_files : (message : List ℕ) (files : List Sent) → IsFileList message files → (o : Option Printed) → first_refusal files ≡ o → IsSomeMessage message
-by_files message files list None e = inl (files, (list, e))
-by_files message files list (Some refusal) e = inr (refusal, inr (inr (files, list, e)))
+IsSomeMessage message = ((files : List Sent) × IsFileList message files) ⊎ ((refusal : Printed) × IsMessageRefused message refusal)
 
 by_cards : (message : List ℕ) (lines : Lines) → IsNumberedMessage message lines → (o : Option ℕ) → other_line lines ≡ o → IsSomeMessage message
-by_cards message lines is None e = by_files message (files_in lines) (lines, is, e, refl) (first_refusal (files_in lines)) refl
-by_cards message lines is (Some n) e = inr (not_a_file n, inr (inl (lines, n, is, e, refl)))
+by_cards message lines is None e = inl (files_in lines, (lines, is, e, refl))
+by_cards message lines is (Some n) e = inr (not_a_file n, inr (lines, n, is, e, refl))
 
 by_lines : (message : List ℕ) → ((cards : List WireCard) × IsMessage message cards) ⊎ ((fault : WireFault) × IsFirstFault message fault) → IsSomeMessage message
 by_lines message (inl h) = by_cards message h.1.0 h.1.1 (other_line h.1.0) refl
@@ -87,8 +70,7 @@ some_message message = by_lines message (reads_one_way.some message)
 -- a refusal has status 3
 pub refused_status : (message : List ℕ) (refusal : Printed) → IsMessageRefused message refusal → refusal.status ≡ 3
 refused_status message refusal (inl h) = ap (λ (p : Printed). p.status) h.2
-refused_status message refusal (inr (inl h)) = ap (λ (p : Printed). p.status) h.4
-refused_status message refusal (inr (inr h)) = subst (λ (o : Option Printed). IfSome o (λ r. r.status ≡ 3)) h.2 (first_status h.0)
+refused_status message refusal (inr h) = ap (λ (p : Printed). p.status) h.4
 
 -- ---- the first card that is none of files
 

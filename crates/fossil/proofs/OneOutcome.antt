@@ -1,65 +1,57 @@
 -- Words, an input and a file have one outcome.
-use Rattle.std.proofs.Common.{◌≡◌, ℕ, Bool, true, false, List, [], ◌∷◌, length, ltb, Option, Some, None, refl, sym, ap, subst, ◌∙◌, inl, inr}
+use Rattle.std.proofs.Common.{◌≡◌, ℕ, Bool, true, false, List, [], length, ltb, Option, Some, None, Result, Ok, Err, sym, ap, subst, ◌∙◌, inl, inr}
 use Rattle.std.specs.Prelude.{◌^◌, MatchBool}
-use Rattle.std.specs.List.{AllZip}
-use Rattle.fsl_artifact.specs.declared.Artifact.{Artifact}
-use Rattle.fsl_artifact.specs.Kind.{IsKind, IsOneAtMost}
-use Rattle.fsl_artifact.proofs.OneKind.{one_artifact}
 use Rattle.fsl_blobs.specs.Fold.{contents}
-use Rattle.fsl_cluster.specs.declared.Fact.{Fact}
 use Rattle.fsl_journal.proofs.Failing.{no_file, one_place}
 use Rattle.fsl_journal.proofs.Unique.{one_file}
 use Rattle.fsl_record.specs.declared.Record.{Record}
+use Rattle.fsl_cross.specs.declared.Item.{Item}
+use Rattle.fsl_repo.specs.Machine.{State, now}
+use Rattle.fsl_repo.specs.Whole.{opened}
+use Rattle.fsl_repo.proofs.OneList.{are_one_list}
 use Rattle.fsl_words.specs.declared.Question.{Question}
 use Rattle.fsl_words.specs.declared.Command.{Command}
 use Rattle.fsl_words.specs.declared.Command.TheVariants as command_of
 use Rattle.fossil.specs.declared.message.Sent.{Sent}
-use Rattle.fossil.specs.Sets.{set_of, IsFactOf, fact_of, report}
+use Rattle.fossil.specs.Arrivals.{Taken, none_taken}
 use Rattle.fossil.specs.Printed.{Printed}
 use Rattle.fossil.specs.Printed as printing
 use Rattle.fossil.specs.Ingest as ingest
-use Rattle.fossil.specs.Put.{IsPut, IsPutRead, IsPutFiles}
+use Rattle.fossil.specs.Put.{IsPut, IsPutRead, IsPutFiles, printed_by, appended_by}
 use Rattle.fossil.specs.Outcome.{Outcome, without_commit, with_commit, not_repository, report_outcome, IsAnswered, IsIngestOfFiles, IsPutOfFiles, IsShunOf, IsLoaded, IsCommandOutcome, said, IsSaidOutcome, HasOneOutcome}
 use Rattle.fossil.proofs.OneReport.{one_result}
 use Rattle.fossil.proofs.MessageLemmas.{one_files, one_refused, not_both}
+use Rattle.fossil.proofs.ArrivalLemmas.{one_arrive}
 
 -- ---- ingest
 
-module _ (IsWhat : List ℕ → Artifact → Type 0) (one : IsOneAtMost IsWhat) where
-  -- an artifact has one fact
-  one_fact : (held : Sent) (a b : Fact) → IsFactOf IsWhat held a → IsFactOf IsWhat held b → a ≡ b
-  one_fact held a b h k = h.2 ∙ ap (fact_of held) (one held.bytes h.0 k.0 h.1 k.1) ∙ sym k.2
+-- artifacts are one list of items
+one_set : (s : State) (a b : Printed) → ingest.IsSetPrinted s a → ingest.IsSetPrinted s b → a ≡ b
+one_set s a b h k = h.2 ∙ ap (λ (items : List Item). record { status = 0; text = ingest.report (now s) items }) (are_one_list (now s).held h.0 k.0 h.1 k.1) ∙ sym k.2
 
-  facts_are : (held : List Sent) (a b : List Fact) → AllZip (IsFactOf IsWhat) held a → AllZip (IsFactOf IsWhat) held b → a ≡ b
-  facts_are [] [] [] h k = refl
-  facts_are [] [] (y ∷ b) h k = absurd k
-  facts_are [] (x ∷ a) b h k = absurd h
-  facts_are (s ∷ held) [] b h k = absurd h
-  facts_are (s ∷ held) (x ∷ a) [] h k = absurd k
-  facts_are (s ∷ held) (x ∷ a) (y ∷ b) h k =
-      let first = one_fact s x y h.0 k.0 in let more = facts_are held a b h.1 k.1 in λ i. first i ∷ more i
+one_printed : (result : Result Taken Printed) (a b : Printed) → ingest.IsPrintedBy result a → ingest.IsPrintedBy result b → a ≡ b
+one_printed (Ok t) a b h k = one_set t.state a b h k
+one_printed (Err refusal) a b h k = h ∙ sym k
 
-  abbrev reported : List Fact → Printed
-  reported facts = record { status = 0; text = report facts }
+one_report : (files : List Sent) (a b : Printed) → ingest.IsReported files a → ingest.IsReported files b → a ≡ b
+one_report files a b h k =
+    one_printed k.0 a b (subst (λ (r : Result Taken Printed). ingest.IsPrintedBy r a) (one_arrive files (none_taken ingest.fresh) h.0 k.0 h.1 k.1) h.2) k.2
 
-  one_report : (files : List Sent) (a b : Printed) → ingest.IsReported IsWhat files a → ingest.IsReported IsWhat files b → a ≡ b
-  one_report files a b h k = h.2 ∙ ap reported (facts_are (set_of files) h.0 k.0 h.1 k.1) ∙ sym k.2
+one_read : (input : List ℕ) (a b : Printed) → ingest.IsRead input a → ingest.IsRead input b → a ≡ b
+one_read input a b (inl h) (inl k) = one_refused input a b h k
+one_read input a b (inl h) (inr k) = absurd (not_both input k.0 a k.1 h)
+one_read input a b (inr h) (inl k) = absurd (not_both input h.0 b h.1 k)
+one_read input a b (inr h) (inr k) = one_report k.0 a b (subst (λ (files : List Sent). ingest.IsReported files a) (one_files input h.0 k.0 h.1 k.1) h.2) k.2
 
-  one_read : (input : List ℕ) (a b : Printed) → ingest.IsRead IsWhat input a → ingest.IsRead IsWhat input b → a ≡ b
-  one_read input a b (inl h) (inl k) = one_refused input a b h k
-  one_read input a b (inl h) (inr k) = absurd (not_both input k.0 a k.1 h)
-  one_read input a b (inr h) (inl k) = absurd (not_both input h.0 b h.1 k)
-  one_read input a b (inr h) (inr k) = one_report k.0 a b (subst (λ (files : List Sent). ingest.IsReported IsWhat files a) (one_files input h.0 k.0 h.1 k.1) h.2) k.2
+by_length : (input : List ℕ) (t : Bool) (a b : Printed) → MatchBool t (a ≡ printing.too_long) (ingest.IsRead input a) → MatchBool t (b ≡ printing.too_long) (ingest.IsRead input b) → a ≡ b
+by_length input true a b h k = h ∙ sym k
+by_length input false a b h k = one_read input a b h k
 
-  by_length : (input : List ℕ) (t : Bool) (a b : Printed) → MatchBool t (a ≡ printing.too_long) (ingest.IsRead IsWhat input a) → MatchBool t (b ≡ printing.too_long) (ingest.IsRead IsWhat input b) → a ≡ b
-  by_length input true a b h k = h ∙ sym k
-  by_length input false a b h k = one_read input a b h k
-
-  pub one_ingest : (input : List ℕ) (a b : Printed) → ingest.IsIngested IsWhat input a → ingest.IsIngested IsWhat input b → a ≡ b
-  one_ingest input a b h k = by_length input (ltb (2 ^ 27) (length input)) a b h k
+one_ingest : (input : List ℕ) (a b : Printed) → ingest.IsIngested input a → ingest.IsIngested input b → a ≡ b
+one_ingest input a b h k = by_length input (ltb (2 ^ 27) (length input)) a b h k
 
 one_ingested : (input : List ℕ) (a b : Outcome) → IsIngestOfFiles input a → IsIngestOfFiles input b → a ≡ b
-one_ingested input a b h k = h.2 ∙ ap without_commit (one_ingest IsKind one_artifact input h.0 k.0 h.1 k.1) ∙ sym k.2
+one_ingested input a b h k = h.2 ∙ ap without_commit (one_ingest input h.0 k.0 h.1 k.1) ∙ sym k.2
 
 -- ---- put
 
@@ -76,7 +68,9 @@ module _ (old : List Record) (a b : Printed) (xs ys : List Record) where
   same_read input (inl h) (inr k) = absurd (not_both input k.0 a k.1 h.0)
   same_read input (inr h) (inl k) = absurd (not_both input h.0 b h.1 k.0)
   same_read input (inr h) (inr k) =
-      let f = subst (λ (files : List Sent). IsPutFiles files old a xs) (one_files input h.0 k.0 h.1 k.1) h.2 in (f.0 ∙ sym k.2.0, f.1 ∙ sym k.2.1)
+      let f = subst (λ (files : List Sent). IsPutFiles files old a xs) (one_files input h.0 k.0 h.1 k.1) h.2 in
+      let same = one_arrive k.0 (none_taken (opened old 0)) f.0 k.2.0 f.1 k.2.1 in
+      (f.2 ∙ ap printed_by same ∙ sym k.2.2, f.3 ∙ ap (appended_by old) same ∙ sym k.2.3)
 
   same_put : (input : List ℕ) (t : Bool) → MatchBool t ((a ≡ printing.too_long) × (xs ≡ [])) (IsPutRead input old a xs) → MatchBool t ((b ≡ printing.too_long) × (ys ≡ [])) (IsPutRead input old b ys) → Same a b xs ys
   same_put input true h k = same_refusal printing.too_long h k

@@ -19,11 +19,9 @@ use Rattle.fsl_repo.specs.declared.ShunFault.{ShunFault}
 use Rattle.fsl_repo.specs.declared.ShunFault.TheVariants as shun_fault
 use Rattle.fsl_repo.specs.Machine.{State, now, shun, shunned, ShunStep, IsCommit}
 use Rattle.fsl_repo.specs.Whole.{Whole, log_of, IsWholeOn}
-use Rattle.fossil.specs.Sets.{name_line}
-use Rattle.fossil.specs.Printed.{Printed}
-use Rattle.fossil.specs.Put.{TextAndRecords}
+use Rattle.fossil.specs.Printed.{Printed, name_line}
 use Rattle.fossil.specs.Outcome.{with_commit}
-use Rattle.fossil.specs.Shun.{shunning, word_of}
+use Rattle.fossil.specs.Shun.{TextAndRecords, shunning, word_of}
 use Rattle.fossil.specs.Acts.{loaded_of}
 use Rattle.fossil.proofs.InputLemmas.{some_bytes}
 use Rattle.fossil.proofs.CommitLemmas.{idle_contents}

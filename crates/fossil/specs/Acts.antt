@@ -1,9 +1,8 @@
 -- What the parts of a run say of what they did.
-use Rattle.std.specs.Prelude.{◌≡◌, ◌≢◌, ◌⊎◌, ◌<◌, ◌≤◌, ℕ, false, List, ◌++◌, length, nat_lt, ◌^◌, true, Option, Some, None, Result, Ok, Err, IfOk, IfErr, IsTrue, ⊤}
+use Rattle.std.specs.Prelude.{◌≡◌, ◌≢◌, ◌⊎◌, ◌<◌, ◌≤◌, ℕ, false, List, length, nat_lt, ◌^◌, true, Option, Some, None, Result, Ok, Err, IfOk, IfErr, IsTrue, ⊤}
 use Rattle.std.specs.Io.KnownBytes.{IsAtEnd}
 use Rattle.fsl_order.specs.Causes.{Rose}
 use Rattle.fsl_outside.specs.Streams.{SourceState, SinkState}
-use Rattle.fsl_artifact.specs.Kind.{IsKind}
 use Rattle.fsl_record.specs.declared.Record.{Record}
 use Rattle.fsl_record.specs.Records.{AreRecords, AreFields}
 use Rattle.fsl_disk.specs.Disk.{DiskState, IsModelled, Told, Keeps, Quiet, LeavesOnly}
@@ -20,7 +19,6 @@ use Rattle.fossil.specs.declared.fault.Fault.TheVariants as fault_is
 use Rattle.fossil.specs.declared.load.Loaded.{Loaded}
 use Rattle.fossil.specs.Printed.{Printed}
 use Rattle.fossil.specs.Ingest.{IsIngested}
-use Rattle.fossil.specs.Put.{IsPut, IsPutRead}
 use Rattle.fsl_query.specs.declared.Refused.{Refused}
 use Rattle.fossil.specs.Outcome.{Outcome, without_commit, report_outcome, printed_of, not_repository, IsSaidOutcome}
 use Rattle.fossil.specs.Run.{Input, Output, File, Agrees, reads, IsSaid, IsTold, IsDiskFault, IsInputFault, IsFileLeft, IsRefusedKept, IsWholeAtAnyMoment, lasts, IsDurable, IsSpared, HasRun, disk_fault, input_fault, out_of_memory}
@@ -191,20 +189,5 @@ IsObeyable (Serve address users workers requests) = (0 < workers) × (workers �
 pub record IsIngestRun (input : Input) (answer : Printed) : Type 0 where
   pub read : List ℕ
   pub told : Agrees input.before.left read
-  pub ingested : IsIngested IsKind read answer
+  pub ingested : IsIngested read answer
   pub end : answer.status ≡ 0 → IsAtEnd input.after.left
-
--- what `put` answers of an input that was read, and what it appended in memory
-pub record IsPutRun (input : Input) (before after : Loaded) (answer : Printed) : Type 0 where
-  pub read : List ℕ
-  pub appended : List Record
-  pub told : Agrees input.before.left read
-  pub put : IsPut read before.journal.records answer appended
-  pub journal : after.journal ≡ record before.journal { records = before.journal.records ++ appended }
-  pub end : answer.status ≡ 0 → IsAtEnd input.after.left
-
--- what `put` answers of a message, and what it appended in memory
-pub record IsMessagePut (message : List ℕ) (before after : Loaded) (answer : Printed) : Type 0 where
-  pub appended : List Record
-  pub put : IsPutRead message before.journal.records answer appended
-  pub journal : after.journal ≡ record before.journal { records = before.journal.records ++ appended }

@@ -1,24 +1,39 @@
 -- What `ingest` prints, by its input.
-use Rattle.std.specs.Prelude.{◌≡◌, ℕ, ◌^◌, ◌⊎◌, nat_lt, List, length, MatchBool}
-use Rattle.std.specs.List.{AllZip}
-use Rattle.fsl_artifact.specs.declared.Artifact.{Artifact}
-use Rattle.fsl_cluster.specs.declared.Fact.{Fact}
+use Rattle.std.specs.Prelude.{◌≡◌, ℕ, ◌^◌, ◌⊎◌, nat_lt, List, [], ◌++◌, length, flat_map, codes, Result, Ok, Err, MatchBool}
+use Rattle.fsl_blobs.specs.Fold.{Contents}
+use Rattle.fsl_cross.specs.declared.Item.{Item}
+use Rattle.fsl_repo.specs.Machine.{State, now, AreItems, unclustered_names, wants}
+use Rattle.fsl_repo.specs.Whole.{opened}
 use Rattle.fossil.specs.declared.message.Sent.{Sent}
-use Rattle.fossil.specs.Sets.{set_of, IsFactOf, report}
-use Rattle.fossil.specs.Printed.{Printed, too_long}
-use Rattle.fossil.specs.Messages.{IsMessageRefused, AreFilesOf}
+use Rattle.fossil.specs.Printed.{Printed, too_long, name_line}
+use Rattle.fossil.specs.Messages.{IsMessageRefused, IsFileList}
+use Rattle.fossil.specs.Arrivals.{Taken, none_taken, Arrive}
 
--- what an artifact is, is a parameter
-module _ (IsWhat : List ℕ → Artifact → Type 0) where
-  -- the files make a set, and its unclustered and wanted names are printed
-  abbrev pub IsReported : List Sent → Printed → Type 0
-  IsReported files printed =
-      (facts : List Fact) × AllZip (IsFactOf IsWhat) (set_of files) facts × (printed ≡ record { status = 0; text = report facts })
+-- a set without artifacts
+abbrev pub fresh : State
+fresh = opened [] 0
 
-  -- a message is refused, or its files are reported
-  abbrev pub IsRead : List ℕ → Printed → Type 0
-  IsRead input printed = IsMessageRefused input printed ⊎ ((files : List Sent) × AreFilesOf input files × IsReported files printed)
+-- the lines of a set: the unclustered names and the wanted ones, ascending
+abbrev pub report : Contents → List Item → List ℕ
+report c items = flat_map (name_line (codes "unclustered")) (unclustered_names items) ++ flat_map (name_line (codes "wanted")) (wants c items)
 
-  -- what `ingest` prints: the length of the input first, and then what its message comes to
-  abbrev pub IsIngested : List ℕ → Printed → Type 0
-  IsIngested input printed = MatchBool (nat_lt (2 ^ 27) (length input)) (printed ≡ too_long) (IsRead input printed)
+-- the set that files leave is printed
+abbrev pub IsSetPrinted : State → Printed → Type 0
+IsSetPrinted s printed = (items : List Item) × AreItems (now s).held items × (printed ≡ record { status = 0; text = report (now s) items })
+
+-- what files come to: their set, or the refusal
+abbrev pub IsPrintedBy : Result Taken Printed → Printed → Type 0
+IsPrintedBy (Ok t) printed = IsSetPrinted t.state printed
+IsPrintedBy (Err refusal) printed = printed ≡ refusal
+
+-- the files arrive in a set of their own
+abbrev pub IsReported : List Sent → Printed → Type 0
+IsReported files printed = (result : Result Taken Printed) × Arrive (none_taken fresh) files result × IsPrintedBy result printed
+
+-- a message is refused, or its files are reported
+abbrev pub IsRead : List ℕ → Printed → Type 0
+IsRead input printed = IsMessageRefused input printed ⊎ ((files : List Sent) × IsFileList input files × IsReported files printed)
+
+-- what `ingest` prints: the length of the input first, and then what its message comes to
+abbrev pub IsIngested : List ℕ → Printed → Type 0
+IsIngested input printed = MatchBool (nat_lt (2 ^ 27) (length input)) (printed ≡ too_long) (IsRead input printed)

@@ -1,6 +1,6 @@
-pub mod Sets
 pub mod Printed
 pub mod Messages
+pub mod Arrivals
 pub mod Ingest
 pub mod Put
 pub mod Shun

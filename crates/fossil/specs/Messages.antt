@@ -9,7 +9,7 @@ use Rattle.fsl_wire.specs.Messages.{IsNumberedMessage, IsFirstFault}
 use Rattle.fossil.specs.declared.message.Sent.{Sent}
 use Rattle.fossil.specs.declared.message.MessageFault.{MessageFault}
 use Rattle.fossil.specs.declared.message.MessageFault.TheVariants as fault_is
-use Rattle.fossil.specs.Printed.{Printed, bad_line, not_a_file, first_refusal}
+use Rattle.fossil.specs.Printed.{Printed, bad_line, not_a_file}
 
 -- the line of a fault; want of memory has none
 abbrev pub fault_line : WireFault → ℕ
@@ -54,17 +54,9 @@ abbrev pub IsFileList : List ℕ → List Sent → Type 0
 IsFileList message files =
     (cards : List (ℕ × WireCard)) × IsNumberedMessage message cards × (other_line cards ≡ None) × (files ≡ files_of false (map (λ l. l.1) cards))
 
--- a file is refused; the first such decides
-abbrev pub IsFileRefused : List ℕ → Printed → Type 0
-IsFileRefused message refusal = (files : List Sent) × IsFileList message files × (first_refusal files ≡ Some refusal)
-
--- a message is refused for its lines first, then for its cards, then for its files
+-- a message is refused for its lines first, then for its cards
 abbrev pub IsMessageRefused : List ℕ → Printed → Type 0
-IsMessageRefused message refusal = IsLineRefused message refusal ⊎ IsCardRefused message refusal ⊎ IsFileRefused message refusal
-
--- nothing of a message is refused, and these are its files
-abbrev pub AreFilesOf : List ℕ → List Sent → Type 0
-AreFilesOf message files = IsFileList message files × (first_refusal files ≡ None)
+IsMessageRefused message refusal = IsLineRefused message refusal ⊎ IsCardRefused message refusal
 
 -- ---- what the reader answers
 

@@ -1,6 +1,5 @@
 -- The outcome of a run: the status, the text, and the commits that the command appends to the file.
 use Rattle.std.specs.Prelude.{◌≡◌, ℕ, ◌==◌, ◌⊎◌, List, [], ◌∷◌, ◌++◌, length, Option, Some, None, option_map, Result, Ok, Err, if◌then◌else◌, codes, decimal}
-use Rattle.fsl_artifact.specs.Kind.{IsKind}
 use Rattle.fsl_record.specs.declared.Record.{Record}
 use Rattle.fsl_record.specs.declared.Record.TheVariants as record_of
 use Rattle.fsl_journal.specs.File.{IsFileOf, FailsAt}
@@ -59,7 +58,7 @@ init_outcome project server fields len =
 
 -- what `ingest` prints
 abbrev pub IsIngestOfFiles : List ℕ → Outcome → Type 0
-IsIngestOfFiles input o = (printed : Printed) × ingest.IsIngested IsKind input printed × (o ≡ without_commit printed)
+IsIngestOfFiles input o = (printed : Printed) × ingest.IsIngested input printed × (o ≡ without_commit printed)
 
 -- what `put` prints and appends
 abbrev pub IsPutOfFiles : List ℕ → List Record → Outcome → Type 0

@@ -1,8 +1,6 @@
 -- What is printed: a status and a text, and the refusals among them.
-use Rattle.std.specs.Prelude.{ℕ, ◌^◌, nat_lt, List, [], ◌∷◌, ◌++◌, length, filter_map, slice_get, Option, Some, None, if◌then◌else◌, codes, decimal}
-use Rattle.std.specs.Str.{bytes_eq}
-use Rattle.fsl_name.specs.Name.{name_of, name_text}
-use Rattle.fossil.specs.declared.message.Sent.{Sent}
+use Rattle.std.specs.Prelude.{ℕ, List, [], ◌∷◌, ◌++◌, codes, decimal}
+use Rattle.fsl_name.specs.Name.{name_text}
 
 -- the status, and the text that is written
 pub record Printed : Type 0 where
@@ -37,12 +35,10 @@ wrong names = refused (codes "wrong name " ++ name_text names.0 ++ 32 ∷ name_t
 abbrev pub too_large : List ℕ → ℕ → Printed
 too_large name size = refused (codes "too large " ++ name_text name ++ 32 ∷ decimal size)
 
--- what is refused of a file: first that it is too large, then that its name is wrong
-abbrev pub file_refusal : Sent → Option Printed
-file_refusal f =
-    if nat_lt (2 ^ 24) (length f.bytes) then Some (too_large f.name (length f.bytes))
-    else (if bytes_eq f.name (name_of f.bytes) then None else Some (wrong (f.name, name_of f.bytes)))
+-- a file for which there is no room, by its name
+abbrev pub full : List ℕ → Printed
+full name = refused (codes "full " ++ name_text name)
 
--- the refusal of the first file that is refused
-abbrev pub first_refusal : List Sent → Option Printed
-first_refusal files = slice_get (filter_map file_refusal files) 0
+-- a line of a word and a name
+abbrev pub name_line : List ℕ → List ℕ → List ℕ
+name_line word name = word ++ 32 ∷ name_text name ++ 10 ∷ []

@@ -2,12 +2,17 @@
 use Rattle.std.specs.Prelude.{ℕ, List, [], ◌∷◌, codes, if◌then◌else◌}
 use Rattle.std.specs.FinMap as map_of
 use Rattle.std.specs.FinSet as set
+use Rattle.fsl_record.specs.declared.Record.{Record}
 use Rattle.fsl_record.specs.declared.Record.TheVariants as record_of
 use Rattle.fsl_blobs.specs.Fold.{Contents}
 use Rattle.fsl_repo.specs.declared.Shunning.{Shunning}
 use Rattle.fsl_repo.specs.declared.Shunning.TheVariants as became
-use Rattle.fossil.specs.Sets.{name_line}
-use Rattle.fossil.specs.Put.{TextAndRecords}
+use Rattle.fossil.specs.Printed.{name_line}
+
+-- what is printed, and what is appended
+pub record TextAndRecords : Type 0 where
+  pub text : List ℕ
+  pub records : List Record
 
 -- a name that is shunned appends nothing; each other name gets a Shun record, which takes its artifact out where it is held
 abbrev pub shunning : Contents → List ℕ → TextAndRecords

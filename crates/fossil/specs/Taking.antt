@@ -1,60 +1,104 @@
--- How files are taken one after another.
-use Rattle.std.specs.Prelude.{◌≡◌, ℕ, List, [], ◌∷◌, ◌++◌, All, codes, if◌then◌else◌}
+-- What the parts of `put` and `ingest` say of the files of a message.
+use Rattle.std.specs.Prelude.{◌≡◌, ℕ, List, [], ◌∷◌, ◌++◌, length, drop, map, flat_map, codes, Option, Some, None, Result, Ok, Err, ⊤}
+use Rattle.std.specs.FinSet as set
+use Rattle.std.specs.BTreeSet.{contains}
+use Rattle.fsl_order.specs.Names.{bytes_cmp, has}
+use Rattle.fsl_outside.specs.Streams.{SourceState}
+use Rattle.fsl_disk.specs.Disk.{DiskState}
+use Rattle.fsl_record.specs.declared.Config.{Config}
+use Rattle.fsl_record.specs.declared.Record.{Record}
 use Rattle.fsl_record.specs.declared.Record.TheVariants as record_of
-use Rattle.fsl_record.specs.Records.{IsWritable}
-use Rattle.fsl_blobs.specs.declared.BlobState.{BlobState}
-use Rattle.fsl_blobs.specs.declared.BlobState.TheVariants as blob
-use Rattle.fsl_blobs.specs.Fold.{contents}
-use Rattle.fsl_journal.specs.Log.{Log}
-use Rattle.fossil.specs.declared.load.Loaded.{Loaded}
+use Rattle.fsl_blobs.specs.Fold.{Held, contents}
+use Rattle.fsl_artifact.specs.declared.Artifact.{Artifact}
+use Rattle.fsl_artifact.specs.Kind.{IsKind}
+use Rattle.fsl_artifact.specs.References.{references}
+use Rattle.fsl_cluster.specs.declared.Fact.{Fact}
+use Rattle.fsl_cluster.specs.Clusters.{unclustered, missing}
+use Rattle.fsl_cross.specs.declared.Item.{Item}
+use Rattle.fsl_cross.specs.Facts.{cluster_fact}
+use Rattle.fsl_repo.specs.declared.Arrival.{Arrival}
+use Rattle.fsl_repo.specs.declared.ArriveFault.{ArriveFault}
+use Rattle.fsl_repo.specs.declared.ArriveFault.TheVariants as arrive_fault
+use Rattle.fsl_repo.specs.Machine.{State, now, AreItems, IsItemOf, IsArrival, arrived}
+use Rattle.fsl_repo.specs.Whole.{Whole, opened}
+use Rattle.fsl_words.specs.declared.Command.TheVariants as command_of
+use Rattle.fossil.specs.declared.fault.Fault.{Fault}
 use Rattle.fossil.specs.declared.message.Sent.{Sent}
-use Rattle.fossil.specs.declared.refused.Refused.{Refused as RefusedFile}
-use Rattle.fossil.specs.declared.refused.Refused.TheVariants.{TooLarge, WrongName}
 use Rattle.fossil.specs.declared.checking.Checked.{Checked}
-use Rattle.fossil.specs.declared.checking.Checked.TheVariants.{Files, Refused}
-use Rattle.fossil.specs.Sets.{name_line}
-use Rattle.fossil.specs.Messages.{IsMessageRefused, AreFilesOf}
-use Rattle.fossil.specs.Printed.{Printed}
-use Rattle.fossil.specs.Printed as printing
-use Rattle.fossil.specs.Put.{TextAndRecords, text_and_records_of, all_taken, put_files}
+use Rattle.fossil.specs.declared.checking.Checked.TheVariants as checked
+use Rattle.fossil.specs.declared.arrivals.Arrivals.{Arrivals}
+use Rattle.fossil.specs.declared.arrivals.Arrivals.TheVariants as came
+use Rattle.fossil.specs.declared.gathering.Gathered.{Gathered}
+use Rattle.fossil.specs.Messages.{IsMessageRefused, IsFileList}
+use Rattle.fossil.specs.Printed.{Printed, name_line}
+use Rattle.fossil.specs.Arrivals.{Taken, none_taken, Arrive}
+use Rattle.fossil.specs.Ingest.{fresh}
+use Rattle.fossil.specs.Acts.{input_of, loaded_of, IsInput, IsOpened, Acts}
 
--- the refusal of a file
-abbrev pub refused_as : RefusedFile → Printed
-refused_as (TooLarge name size) = printing.too_large name size
-refused_as (WrongName name found) = printing.wrong (name, found)
-
--- a file that a record may hold
-abbrev pub IsSound : Sent → Type 0
-IsSound f = IsWritable (record_of.Blob f.private f.name f.bytes)
-
--- what is told of a message before its files are taken
+-- what is told of a message before its files arrive
 abbrev pub IsChecked : List ℕ → Checked → Type 0
-IsChecked message (Files files) = AreFilesOf message files × All IsSound files
-IsChecked message (Refused refusal) = IsMessageRefused message refusal
+IsChecked message (checked.Files files) = IsFileList message files
+IsChecked message (checked.Refused refusal) = IsMessageRefused message refusal
 
--- what a file prints and appends, by what its name is
-abbrev pub taken_as : BlobState → Sent → TextAndRecords
-taken_as (blob.Public size) f = record { text = name_line (codes "present") f.name; records = [] }
-taken_as (blob.Private size) f =
-    if f.private then record { text = name_line (codes "present") f.name; records = [] }
-    else record { text = name_line (codes "published") f.name; records = record_of.Publish f.name ∷ [] }
-taken_as blob.Shunned f = record { text = name_line (codes "shunned") f.name; records = [] }
-taken_as blob.Absent f = record { text = name_line (codes "stored") f.name; records = record_of.Blob f.private f.name f.bytes ∷ [] }
+-- ---- put
 
--- the files are appended in memory
-abbrev pub with_files : Log → List Sent → Log
-with_files log files = record log { records = log.records ++ (put_files log.records files).records }
+-- all files were taken behind the old records, with these lines
+pub record AreAllTaken (files : List Sent) (old new : State) (lines : List ℕ) : Type 0 where
+  pub taken : Taken
+  pub arrive : Arrive (none_taken (opened old.records 0)) files (Ok taken)
+  pub printed : lines ≡ taken.text
+  pub records : new.records ≡ old.records ++ drop (length old.records) taken.state.records
+  pub committed : new.committed ≡ old.committed
+  pub runs : new.stopped ≡ None
 
--- one file was taken
-pub record IsFileTaken (f : Sent) (before after : Loaded) (text_before text_after : List ℕ) : Type 0 where
-  pub journal : after.journal ≡ record before.journal { records = before.journal.records ++ (text_and_records_of (contents before.journal.records) f).records }
-  pub blobs : after.blobs.records ≡ after.journal.records
-  pub text : text_after ≡ text_before ++ (text_and_records_of (contents before.journal.records) f).text
+-- what files came to that arrived in a repository
+abbrev pub HaveArrived : List Sent → State → State → Arrivals → Type 0
+HaveArrived files old new (came.Taken lines) = AreAllTaken files old new lines
+HaveArrived files old new (came.Refused refusal) = Arrive (none_taken (opened old.records 0)) files (Err refusal)
 
--- files were taken, and these are left of all
-pub record AreTaken (before : Log) (all left : List Sent) (now : Loaded) (text : List ℕ) : Type 0 where
-  pub so_far : TextAndRecords
-  pub printed : text ≡ so_far.text
-  pub journal : now.journal ≡ record before { records = before.records ++ so_far.records }
-  pub blobs : now.blobs.records ≡ now.journal.records
-  pub rest : all_taken before.records so_far left ≡ put_files before.records all
+-- what `put` did with a message over a repository that was opened, of whatever input and file these are
+abbrev pub PutsMessage : {D : Type 0} → (D → DiskState) → Whole D → Whole D → List ℕ → Result Printed Fault → Type 0
+PutsMessage state old new message result =
+    (disk : _) (input : SourceState × SourceState) → IsInput (input_of input) (Some message) → IsOpened (state disk) (state old.disk) (loaded_of old)
+    → Acts command_of.Put input (state disk, state new.disk) result
+
+-- the same of its files
+abbrev pub PutsFiles : {D : Type 0} → (D → DiskState) → Whole D → Whole D → List Sent → Result Printed Fault → Type 0
+PutsFiles state old new files result = (message : List ℕ) → IsFileList message files → PutsMessage state old new message result
+
+-- ---- ingest
+
+-- the records are a Config alone
+abbrev pub IsConfigAlone : List Record → Type 0
+IsConfigAlone records = (config : Config) × (records ≡ record_of.Config config ∷ [])
+
+-- what an arrival in a set looks at and leaves: what is held, no name that is shunned, and the names that held artifacts refer to and that aren't held
+pub record IsGathered (s : State) (g : Gathered) : Type 0 where
+  pub runs : s.stopped ≡ None
+  pub held : (contents g.blobs.records).held ≡ (now s).held
+  pub shunned : (contents g.blobs.records).shunned ≡ set.empty
+  pub none : (now s).shunned ≡ set.empty
+  pub wanted : (items : List Item) → AreItems (now s).held items → (name : List ℕ) → contains bytes_cmp g.wanted name ≡ has (missing (map cluster_fact items)) name
+
+-- a file arrived in a set
+abbrev pub IsGatheredBy : Sent → Gathered → Gathered → Result Arrival ArriveFault → Type 0
+IsGatheredBy f old new (Ok a) = (s : State) → IsGathered s old → IsArrival s f.name f.bytes f.private (Ok a) × IsGathered (arrived s f.name f.bytes f.private (Ok a)) new
+IsGatheredBy f old new (Err arrive_fault.Memory) = ⊤
+IsGatheredBy f old new (Err fault) = (s : State) → IsGathered s old → IsArrival s f.name f.bytes f.private (Err fault)
+
+-- what files came to that arrived in a set: all were taken, or a refusal
+abbrev pub HaveGathered : List Sent → Gathered → Option Printed → Type 0
+HaveGathered files new None = (taken : Taken) × Arrive (none_taken fresh) files (Ok taken) × IsGathered taken.state new
+HaveGathered files new (Some refusal) = Arrive (none_taken fresh) files (Err refusal)
+
+-- what bytes refer to, by what they are
+abbrev pub AreReferences : List ℕ → List (List ℕ) → Type 0
+AreReferences bytes names = (a : Artifact) × IsKind bytes a × (names ≡ references a)
+
+-- the fact of a held artifact, by what it is
+abbrev pub IsFactOf : List ℕ × Held → Fact → Type 0
+IsFactOf entry fact = (item : Item) × IsItemOf entry item × (fact ≡ cluster_fact item)
+
+-- the lines of facts
+abbrev pub report_of : List Fact → List ℕ
+report_of facts = flat_map (name_line (codes "unclustered")) (unclustered facts) ++ flat_map (name_line (codes "wanted")) (missing facts)

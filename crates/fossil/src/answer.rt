@@ -1,12 +1,13 @@
 //! Answers: a status and the text that is printed.
-ghost use Rattle.std.specs.Prelude.{◌≡◌, ◌++◌, IfOk, codes, decimal};
+ghost use Rattle.std.specs.Prelude.{◌≡◌, ◌≢◌, ◌++◌, ℕ, Some, Err, IfOk, codes, decimal};
 ghost use Rattle.fossil.specs.Printed as printing;
 ghost use Rattle.fossil.specs.Outcome.{printed_of, not_repository};
-ghost use Rattle.fossil.specs.Taking.{refused_as};
+ghost use Rattle.fossil.specs.Arrivals.{refusal_of as refused_for};
+ghost use Rattle.fsl_repo.specs.declared.ArriveFault.TheVariants as arrive_fault;
 
-use super::refused::Refused;
 use super::status::{NOT_REPOSITORY, REFUSED};
 use fsl_name::Name;
+use fsl_repo::ArriveFault;
 use fsl_text::{Memory, Text};
 use std::alloc::Global;
 use std::marker::Model;
@@ -97,13 +98,24 @@ fn wrong_name(alloc: Global, name: Name, found: Name) -> Result<Answer, Memory>
     refusal_of(alloc, reason.bytes(), found.text().as_slice())
 }
 
-/// The refusal of a file.
-pub fn file_refusal(alloc: Global, refused: Refused) -> Result<Answer, Memory>
-    ensures { IfOk result (λ a. a ≡ refused_as refused) }
+/// The refusal of a file for which there is no room, by its name.
+fn full(alloc: Global, name: Name) -> Result<Answer, Memory>
+    ensures { IfOk result (λ a. a ≡ printing.full name) }
 {
-    match refused {
-        Refused::TooLarge { name, size } => too_large(alloc, name, size),
-        Refused::WrongName { name, found } => wrong_name(alloc, name, found),
+    refusal_of(alloc, b"full ", name.text().as_slice())
+}
+
+/// The refusal of a file by its name and the fault of its arrival, which isn't that of a repository that is stopped.
+pub fn file_refusal(alloc: Global, name: Name, fault: ArriveFault) -> Result<Answer, Memory>
+    requires { (faults : ℕ) → fault ≢ arrive_fault.Stopped faults }
+    ensures { IfOk result (λ a. refused_for name (Err fault) ≡ Some a) }
+{
+    match fault {
+        ArriveFault::TooLarge { size } => too_large(alloc, name, size),
+        ArriveFault::NameWrong { found } => wrong_name(alloc, name, found),
+        ArriveFault::Full { .. } => full(alloc, name),
+        ArriveFault::Memory => Err(Memory),
+        ArriveFault::Stopped { .. } => unreachable!(),
     }
 }
 

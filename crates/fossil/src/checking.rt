@@ -1,15 +1,14 @@
-//! What a message comes to before its files are taken.
+//! What a message comes to before its files arrive.
 ghost use Rattle.std.specs.Prelude.{ℕ, List as Items, IfOk};
-ghost use Rattle.fossil.specs.Messages.{IsFileList, IsFaultOf, IsMessageRefused};
+ghost use Rattle.fossil.specs.Messages.{IsFaultOf, IsMessageRefused};
 ghost use Rattle.fossil.specs.Taking.{IsChecked};
 
-use super::answer::{Answer, bad_line, file_refusal, not_a_file};
+use super::answer::{Answer, bad_line, not_a_file};
 use super::message::{MessageFault, Sent, read_files};
-use super::refused::first_refused;
 use fsl_text::{List, Memory, Text};
 use std::alloc::Global;
 
-/// What a message comes to before its files are taken.
+/// What a message comes to before its files arrive.
 #[derive(Drop)]
 pub enum Checked {
     /// These are its files.
@@ -29,23 +28,13 @@ fn message_refusal(alloc: Global, fault: MessageFault) -> Result<Answer, Memory>
     }
 }
 
-/// The files of a message, or the refusal of the first that isn't taken.
-fn check_files(alloc: Global, files: List<Sent>) -> Result<Checked, Memory>
-    ensures { IfOk result (λ checked. (message : Items ℕ) → IsFileList message files → IsChecked message checked) }
-{
-    match first_refused(files.items()) {
-        Some(refused) => Ok(Checked::Refused(file_refusal(alloc, refused)?)),
-        None => Ok(Checked::Files(files)),
-    }
-}
-
 /// The files of a message, or its refusal: of its first line that doesn't read, or else of its first card that is none
-/// of files, or else of its first file that isn't taken.
+/// of files.
 pub fn check_message(alloc: Global, message: Text) -> Result<Checked, Memory>
     ensures { IfOk result (IsChecked message) }
 {
     match read_files(alloc, message) {
-        Ok(files) => check_files(alloc, files),
+        Ok(files) => Ok(Checked::Files(files)),
         Err(fault) => Ok(Checked::Refused(message_refusal(alloc, fault)?)),
     }
 }

@@ -1,35 +1,36 @@
 //! `ingest`: what a message of files comes to, as a set of its own.
 ghost use Rattle.std.specs.Prelude.{IfOk, IfErr};
-ghost use Rattle.fsl_artifact.specs.Kind.{IsKind};
 ghost use Rattle.fossil.specs.Ingest as ingest;
 ghost use Rattle.fossil.specs.Acts.{input_of, IsIngestRun, IsUnread};
 
 use super::answer::{Answer, too_long};
 use super::checking::{Checked, check_message};
 use super::fault::Fault;
+use super::gathering::{Gathered, gather, print_set};
 use super::input::read_input;
 use super::message::Sent;
-use super::report::report_of;
-use super::sent::facts_sent;
 use super::status::DONE;
 use fsl_outside::Source;
 use fsl_text::{List, Memory, Text};
 use std::alloc::Global;
 
-/// The report on the set that files make.
+/// The report on the set that files make, or the refusal of one.
 fn report_on(alloc: Global, files: List<Sent>) -> Result<Answer, Memory>
-    ensures { IfOk result (λ a. ingest.IsReported IsKind files a) }
+    ensures { IfOk result (λ a. ingest.IsReported files a) }
 {
-    let facts = facts_sent(alloc, files)?;
-    Ok(Answer {
-        status: DONE,
-        text: report_of(alloc, facts.items())?,
-    })
+    let mut set = Gathered::empty(alloc)?;
+    match gather(alloc, files, &mut set)? {
+        Some(refused) => Ok(refused),
+        None => Ok(Answer {
+            status: DONE,
+            text: print_set(alloc, &set)?,
+        }),
+    }
 }
 
 /// What a message comes to: its refusal, or else the report on the set of its files.
 fn answer_of(alloc: Global, message: Text) -> Result<Answer, Memory>
-    ensures { IfOk result (λ a. ingest.IsRead IsKind message a) }
+    ensures { IfOk result (λ a. ingest.IsRead message a) }
 {
     match check_message(alloc, message)? {
         Checked::Files(files) => report_on(alloc, files),

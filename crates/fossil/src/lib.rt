@@ -9,12 +9,13 @@
 #![tactic(auto)]
 
 mod answer;
+mod arrivals;
 mod ask;
 mod cat;
 mod checking;
-mod committing;
 mod due;
 mod fault;
+mod gathering;
 mod ingest;
 mod init;
 mod input;
@@ -22,15 +23,12 @@ mod load;
 mod message;
 mod put;
 mod ran;
-mod refused;
 mod report;
 mod reporting;
 mod say;
-mod sent;
 mod serving;
 mod shun;
 mod status;
-mod taking;
 mod top;
 mod users;
 mod worked;

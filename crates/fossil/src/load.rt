@@ -1,6 +1,5 @@
 //! Loads the repository file.
-ghost use Rattle.std.specs.Prelude.{◌≡◌, ◌++◌, ◌∷◌, [], false, None, IfOk, IfErr, OnOk};
-ghost use Rattle.fsl_record.specs.Records.{IsWritable, is_config};
+ghost use Rattle.std.specs.Prelude.{IfOk, IfErr};
 ghost use Rattle.fossil.specs.Acts.{IsOpened, IsUnopened, IsNotLoadedAnswer};
 
 use super::answer::{Answer, not_repository};
@@ -8,8 +7,6 @@ use super::fault::Fault;
 use fsl_blobs::Blobs;
 use fsl_disk::Disk;
 use fsl_journal::{Journal, LoadFault};
-use fsl_record::Record;
-use fsl_text::Memory;
 use std::alloc::Global;
 
 /// What a repository file was loaded as: its journal, and the artifacts that its records leave.
@@ -45,19 +42,5 @@ pub fn not_loaded(alloc: Global, fault: LoadFault) -> Result<Answer, Fault>
             Err(_) => Err(Fault::Memory),
         },
         LoadFault::Memory => Err(Fault::Memory),
-    }
-}
-
-impl Loaded {
-    /// Adds a record to the journal and to what its records leave, in memory alone. It isn't a Config.
-    pub fn append(&mut self, entry: Record) -> Result<(), Memory>
-        requires runs { self.old.journal.stopped ≡ None }
-        requires place { is_config entry ≡ false }
-        requires fit { IsWritable entry }
-        ensures journal { OnOk result (self.new.journal ≡ record self.old.journal { records = self.old.journal.records ++ entry ∷ [] }) }
-        ensures blobs { OnOk result (self.new.blobs.records ≡ self.old.blobs.records ++ entry ∷ []) }
-    {
-        self.journal.append(&entry)?;
-        self.blobs.apply(entry)
     }
 }

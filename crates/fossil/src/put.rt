@@ -1,58 +1,83 @@
 //! `put`: takes a message of files into the repository.
-ghost use Rattle.std.specs.Prelude.{◌≡◌, None, IfOk, IfErr};
+ghost use Rattle.std.specs.Prelude.{◌≡◌, None};
 ghost use Rattle.fsl_words.specs.declared.Command.TheVariants as command_of;
-ghost use Rattle.fossil.specs.Acts.{input_of, IsMessagePut, IsPutRun, IsUnread, Acts};
+ghost use Rattle.fossil.specs.Acts.{loaded_of, IsOpened, Acts};
+ghost use Rattle.fossil.specs.Taking.{PutsMessage, PutsFiles};
 
 use super::answer::{Answer, too_long};
+use super::arrivals::{Arrivals, arrive};
 use super::checking::{Checked, check_message};
-use super::committing::commit;
 use super::fault::Fault;
 use super::input::read_input;
-use super::load::{Loaded, load, not_loaded};
+use super::load::not_loaded;
+use super::message::Sent;
 use super::status::DONE;
-use super::taking::take_files;
 use fsl_disk::Disk;
 use fsl_outside::Source;
-use fsl_text::{Memory, Text};
+use fsl_repo::Repo;
+use fsl_text::{List, Text};
 use std::alloc::Global;
 
-/// Takes a message: its refusal, or else the lines of its files, which are then appended in memory.
-fn take_message(alloc: Global, message: Text, loaded: &mut Loaded) -> Result<Answer, Memory>
-    requires runs { loaded.old.journal.stopped ≡ None }
-    requires same { loaded.old.blobs.records ≡ loaded.old.journal.records }
-    ensures { IfOk result (λ a. IsMessagePut message loaded.old loaded.new a) }
+/// Takes files into a repository that was opened, and commits them. Where one is refused, or there is no memory, nothing
+/// is committed.
+fn take_files<D: Disk>(
+    alloc: Global,
+    files: List<Sent>,
+    repo: &mut Repo<D>,
+) -> Result<Answer, Fault>
+    requires runs { repo.old.seen.state.stopped ≡ None }
+    ensures { PutsFiles (λ d. D.state d) repo.old repo.new files result }
+{
+    let text = match arrive(alloc, files, repo)? {
+        Arrivals::Taken(text) => text,
+        Arrivals::Refused(answer) => return Ok(answer),
+    };
+    repo.is_whole();
+    let committed = repo.commit();
+    repo.is_whole();
+    match committed {
+        Ok(_) => Ok(Answer { status: DONE, text }),
+        // No commit has failed before, so the disk did.
+        Err(_) => Err(Fault::Disk),
+    }
+}
+
+/// Takes a message into a repository that was opened: it is refused, or else its files are taken.
+fn take_message<D: Disk>(alloc: Global, message: Text, repo: &mut Repo<D>) -> Result<Answer, Fault>
+    requires runs { repo.old.seen.state.stopped ≡ None }
+    ensures { PutsMessage (λ d. D.state d) repo.old repo.new message result }
 {
     match check_message(alloc, message)? {
-        Checked::Files(files) => Ok(Answer {
-            status: DONE,
-            text: take_files(alloc, files, loaded)?,
-        }),
+        Checked::Files(files) => take_files(alloc, files, repo),
         Checked::Refused(answer) => Ok(answer),
     }
 }
 
-/// Reads the input and takes it, in memory alone.
-fn take_input<S: Source>(alloc: Global, input: &mut S, loaded: &mut Loaded) -> Result<Answer, Fault>
-    requires runs { loaded.old.journal.stopped ≡ None }
-    requires same { loaded.old.blobs.records ≡ loaded.old.journal.records }
-    ensures ok { IfOk result (IsPutRun (input_of (S.state input.old, S.state input.new)) loaded.old loaded.new) }
-    ensures err { IfErr result (λ fault. IsUnread fault (input_of (S.state input.old, S.state input.new))) }
+/// Reads the input, and takes it into a repository that was opened.
+fn take_input<S: Source, D: Disk>(
+    alloc: Global,
+    input: &mut S,
+    repo: &mut Repo<D>,
+) -> Result<Answer, Fault>
+    requires runs { repo.old.seen.state.stopped ≡ None }
+    ensures { (disk : D) → IsOpened (D.state disk) (D.state repo.old.disk) (loaded_of repo.old) → Acts command_of.Put (S.state input.old, S.state input.new) (D.state disk, D.state repo.new.disk) result }
 {
-    let Some(message) = read_input(alloc, input)? else {
-        return Ok(too_long(alloc)?);
-    };
-    Ok(take_message(alloc, message, loaded)?)
+    match read_input(alloc, input)? {
+        Some(message) => take_message(alloc, message, repo),
+        None => Ok(too_long(alloc)?),
+    }
 }
 
-/// Takes a message of files into the repository: all of them in one commit, or none.
-pub fn put<S: Source, D: Disk>(alloc: Global, input: &mut S, disk: &mut D) -> Result<Answer, Fault>
-    ensures { Acts command_of.Put (S.state input.old, S.state input.new) (D.state disk.old, D.state disk.new) result }
+/// Takes a message of files into the repository: all of them in one commit, or none. The disk comes back.
+pub fn put<S: Source, D: Disk>(alloc: Global, input: &mut S, disk: D) -> (Result<Answer, Fault>, D)
+    ensures { Acts command_of.Put (S.state input.old, S.state input.new) (D.state disk, D.state result.1) result.0 }
 {
-    let mut loaded = match load(alloc, disk) {
-        Ok(loaded) => loaded,
-        Err(fault) => return not_loaded(alloc, fault),
-    };
-    let answer = take_input(alloc, input, &mut loaded)?;
-    commit(&mut loaded.journal, disk)?;
-    Ok(answer)
+    match Repo::load(alloc, disk) {
+        Ok(mut repo) => {
+            repo.is_whole();
+            let answer = take_input(alloc, input, &mut repo);
+            (answer, repo.close())
+        }
+        Err((disk, fault)) => (not_loaded(alloc, fault), disk),
+    }
 }

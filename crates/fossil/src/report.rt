@@ -1,6 +1,7 @@
 //! What is printed of a set of artifacts.
 ghost use Rattle.std.specs.Prelude.{◌≡◌, ◌++◌, flat_map, OnOk, IfOk};
-ghost use Rattle.fossil.specs.Sets.{name_line, report};
+ghost use Rattle.fossil.specs.Printed.{name_line};
+ghost use Rattle.fossil.specs.Taking as taking;
 
 use fsl_cluster::{Fact, missing, unclustered};
 use fsl_name::Name;
@@ -29,7 +30,7 @@ fn add_lines(text: &mut Text, word: &[u8], names: &[Name]) -> Result<(), Memory>
 /// The unclustered names of a set of artifacts, and then the wanted ones, both ascending, each on a line. The set is given
 /// by its facts, in any order.
 pub fn report_of(alloc: Global, facts: &[Fact]) -> Result<Text, Memory>
-    ensures { IfOk result (λ text. text ≡ report facts.now) }
+    ensures { IfOk result (λ text. text ≡ taking.report_of facts.now) }
 {
     let unclustered = unclustered(alloc, facts)?;
     let missing = missing(alloc, facts)?;

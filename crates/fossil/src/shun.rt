@@ -2,7 +2,7 @@
 ghost use Rattle.std.specs.Prelude.{◌≡◌, None, IfOk};
 ghost use Rattle.fsl_outside.specs.Streams.{SourceState};
 ghost use Rattle.fsl_words.specs.declared.Command.TheVariants as command_of;
-ghost use Rattle.fossil.specs.Sets.{name_line};
+ghost use Rattle.fossil.specs.Printed.{name_line};
 ghost use Rattle.fossil.specs.Shun.{word_of};
 ghost use Rattle.fossil.specs.Acts.{loaded_of, IsOpened, Acts};
 

@@ -52,7 +52,8 @@ fn obey<S: Source, K: Sink, D: Disk>(
             Ran { status, repo }
         }
         Command::Put => {
-            let status = print(out, put(alloc, input, &mut repo));
+            let (answer, repo) = put(alloc, input, repo);
+            let status = print(out, answer);
             Ran { status, repo }
         }
         Command::Shun { name } => {

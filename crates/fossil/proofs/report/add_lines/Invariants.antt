@@ -1,6 +1,6 @@
 use Rattle.std.proofs.Common.{◌≡◌, ◌++◌, take}
 use Rattle.std.specs.Prelude.{flat_map}
-use Rattle.fossil.specs.Sets.{name_line}
+use Rattle.fossil.specs.Printed.{name_line}
 use Rattle.fossil.proofs.report.add_lines.Given as goal
 
 abbrev pub invariant-loop-name : goal.invariant-loop-name

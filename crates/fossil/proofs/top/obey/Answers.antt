@@ -31,11 +31,11 @@ returns-in-Ingest-clause-runs g c =
 
 pub returns-in-Put-clause-runs : goal.returns-in-Put-clause-runs
 returns-in-Put-clause-runs g c =
-    let input : SourceState × SourceState = (g.S.Source.state c.args.input.now, g.S.Source.state c.put.new.input) in
+    let input : SourceState × SourceState = (g.S.Source.state c.args.input.now, g.S.Source.state c.put-answer.new.input) in
     let out : SinkState × SinkState = (g.K.Sink.state c.args.out.now, g.K.Sink.state c.print-status-in-Put.new.out) in
-    let file : DiskState × DiskState = (g.D.Disk.state c.args.repo, g.D.Disk.state c.put.new.disk) in
+    let file : DiskState × DiskState = (g.D.Disk.state c.args.repo, g.D.Disk.state c.put-answer.result.1) in
     subst (λ (x : Command). RunsCommand x input out file c.print-status-in-Put.result) (sym c.in-Put.is)
-    (written (Some command_of.Put) (input_of input) (file_of file) c.put.result (output_of out) c.print-status-in-Put.result c.put.ensures c.print-status-in-Put.ensures)
+    (written (Some command_of.Put) (input_of input) (file_of file) c.put-answer.result.0 (output_of out) c.print-status-in-Put.result c.put-answer.ensures c.print-status-in-Put.ensures)
 
 pub returns-in-Shun-clause-runs : goal.returns-in-Shun-clause-runs
 returns-in-Shun-clause-runs g c =
