@@ -1,5 +1,5 @@
 -- Words, an input and a file have one outcome.
-use Rattle.std.proofs.Common.{◌≡◌, ℕ, Bool, true, false, List, [], ◌∷◌, length, ltb, Option, Some, None, Result, Ok, Err, refl, sym, ap, subst, ◌∙◌, inl, inr}
+use Rattle.std.proofs.Common.{◌≡◌, ℕ, Bool, true, false, List, [], length, ltb, Option, Some, None, Result, Ok, Err, sym, ap, subst, ◌∙◌, inl, inr}
 use Rattle.std.specs.Prelude.{◌^◌, MatchBool}
 use Rattle.fsl_blobs.specs.Fold.{contents}
 use Rattle.fsl_journal.proofs.Failing.{no_file, one_place}

@@ -1,11 +1,10 @@
 -- What `put` appended, by what it read.
-use Rattle.std.proofs.Common.{◌≡◌, inl, inr, ℕ, Bool, true, false, List, [], ◌++◌, length, Option, Some, None, Result, Ok, Err, IsTrue, refl, sym, ap, subst}
-use Rattle.std.specs.Prelude.{◌^◌, nat_lt, drop, MatchBool}
+use Rattle.std.proofs.Common.{◌≡◌, inl, inr, ℕ, Bool, List, [], ◌++◌, length, Some, None, Ok, Err, IsTrue, refl, sym, ap, subst}
+use Rattle.std.specs.Prelude.{drop, MatchBool}
 use Rattle.std.proofs.lemmas.List.{append-nil}
 use Rattle.fsl_record.specs.declared.Record.{Record}
 use Rattle.fsl_disk.specs.Disk.{DiskState, IsModelled, LeavesOnly}
 use Rattle.fsl_journal.specs.Log.{BeforeOrAll}
-use Rattle.fsl_repo.specs.Machine.{State}
 use Rattle.fsl_repo.specs.Whole.{Whole, opened}
 use Rattle.fsl_words.specs.declared.Command.TheVariants as command_of
 use Rattle.fossil.specs.declared.load.Loaded.{Loaded}
@@ -14,7 +13,7 @@ use Rattle.fossil.specs.Messages.{IsMessageRefused, IsFileList}
 use Rattle.fossil.specs.Printed.{Printed}
 use Rattle.fossil.specs.Printed as printing
 use Rattle.fossil.specs.Arrivals.{none_taken, Arrive}
-use Rattle.fossil.specs.Put.{IsPut, IsPutRead}
+use Rattle.fossil.specs.Put.{IsPutRead}
 use Rattle.fossil.specs.Run.{Input}
 use Rattle.fossil.specs.Acts.{loaded_of, IsInput, IsOpened, HasActed}
 use Rattle.fossil.specs.Taking.{AreAllTaken}

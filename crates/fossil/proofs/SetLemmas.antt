@@ -1,13 +1,10 @@
 -- Artifacts of a set, one more of them, and one that becomes public.
-use Rattle.std.proofs.Common.{◌≡◌, ℕ, Bool, true, false, cond, not, List, [], ◌∷◌, ◌++◌, length, map, Option, Some, None, refl, sym, ap, subst, ◌∙◌}
-use Rattle.std.specs.Prelude.{T, ◌&&◌, ◌||◌, if◌then◌else◌, is_some, filter, flat_map}
+use Rattle.std.proofs.Common.{◌≡◌, ℕ, Bool, true, false, cond, not, List, [], ◌∷◌, ◌++◌, map, Some, None, refl, sym, ap, subst, ◌∙◌}
+use Rattle.std.specs.Prelude.{T, ◌&&◌, ◌||◌, filter, flat_map}
 use Rattle.std.specs.List.{AllZip, AllByRecursion, IsDistinct, list_any}
 use Rattle.std.specs.Str.{bytes_eq}
-use Rattle.std.specs.Ordering.{is_eq, is_lt, eq_by_cmp}
-use Rattle.std.specs.declared.cmp.Ordering.{Ordering}
+use Rattle.std.specs.Ordering.{is_eq}
 use Rattle.std.specs.declared.cmp.Ordering.TheVariants.{Less, Equal, Greater}
-use Rattle.std.specs.Cmp.{eq_by_cmp_equiv}
-use Rattle.std.specs.Cmp.Lexicographic.{texts_ties}
 use Rattle.std.specs.Prelude.{IsPermutation}
 use Rattle.std.specs.FinMap as map_of
 use Rattle.std.specs.FinMap.{put, find, is_sorted}
@@ -16,8 +13,8 @@ use Rattle.std.specs.FinSet as set
 use Rattle.std.proofs.lemmas.List.Elements.{filter_agree}
 use Rattle.std.proofs.lemmas.List.Sorted.{list_any-IsPermutation, IsPermutation-map}
 use Rattle.fsl_order.specs.Names.{bytes_cmp, has}
-use Rattle.fsl_order.specs.Rows.{ascending, by_name, AreDistinct}
-use Rattle.fsl_order.proofs.Orders.{bytes_cmp-IsTotalOrder, bytes_cmp-IsAntisymmetric}
+use Rattle.fsl_order.specs.Rows.{ascending, AreDistinct}
+use Rattle.fsl_order.proofs.Orders.{bytes_cmp-IsTotalOrder}
 use Rattle.fsl_order.proofs.RowLemmas.{has-filter}
 use Rattle.fsl_order.proofs.AscendingLemmas.{has-ascending}
 use Rattle.fsl_order.proofs.MovedLemmas.{IsPermutation-by_name}
@@ -25,17 +22,16 @@ use Rattle.fsl_artifact.specs.Kind.{IsKind}
 use Rattle.fsl_artifact.specs.References.{references}
 use Rattle.fsl_artifact.proofs.OneKind.{one_artifact}
 use Rattle.fsl_blobs.specs.Fold.{Held, HeldSet}
-use Rattle.fsl_blobs.proofs.Totals.{front_first, front_second, other_less, below_less, none_below}
+use Rattle.fsl_blobs.proofs.Totals.{front_first, front_second, below_less, none_below}
 use Rattle.fsl_cluster.specs.declared.Fact.{Fact}
 use Rattle.fsl_cluster.specs.Clusters.{names, missing, wants}
 use Rattle.fsl_cluster.proofs.FactLemmas.{has-flat_map}
 use Rattle.fsl_cross.specs.declared.Item.{Item}
 use Rattle.fsl_cross.specs.Facts.{cluster_fact}
-use Rattle.fsl_cross.specs.Tables.{with_item, public_at}
+use Rattle.fsl_cross.specs.Tables.{with_item}
 use Rattle.fsl_repo.specs.Machine.{AreItems, IsItemOf}
 use Rattle.fsl_repo.proofs.ItemLemmas.{same_names, items_differ}
 use Rattle.fsl_repo.proofs.HeldMore.{any_alike, absent_items, items_more}
-use Rattle.fsl_repo.proofs.OneList.{are_one_list}
 use Rattle.fsl_repo.proofs.Storing.{wants_by}
 use Rattle.fossil.specs.Taking.{IsFactOf}
 

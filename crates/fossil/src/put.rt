@@ -43,11 +43,7 @@ fn take_files<D: Disk>(
 }
 
 /// Takes a message into a repository that was opened: it is refused, or else its files are taken.
-fn take_message<D: Disk>(
-    alloc: Global,
-    message: Text,
-    repo: &mut Repo<D>,
-) -> Result<Answer, Fault>
+fn take_message<D: Disk>(alloc: Global, message: Text, repo: &mut Repo<D>) -> Result<Answer, Fault>
     requires runs { repo.old.seen.state.stopped ≡ None }
     ensures { PutsMessage (λ d. D.state d) repo.old repo.new message result }
 {
@@ -73,11 +69,7 @@ fn take_input<S: Source, D: Disk>(
 }
 
 /// Takes a message of files into the repository: all of them in one commit, or none. The disk comes back.
-pub fn put<S: Source, D: Disk>(
-    alloc: Global,
-    input: &mut S,
-    disk: D,
-) -> (Result<Answer, Fault>, D)
+pub fn put<S: Source, D: Disk>(alloc: Global, input: &mut S, disk: D) -> (Result<Answer, Fault>, D)
     ensures { Acts command_of.Put (S.state input.old, S.state input.new) (D.state disk, D.state result.1) result.0 }
 {
     match Repo::load(alloc, disk) {

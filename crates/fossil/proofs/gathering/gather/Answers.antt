@@ -3,7 +3,7 @@ use Rattle.std.proofs.lemmas.List.{nil_from_length}
 use Rattle.fossil.specs.declared.message.Sent.{Sent}
 use Rattle.fossil.specs.Arrivals.{none_taken}
 use Rattle.fossil.specs.Ingest.{fresh}
-use Rattle.fossil.proofs.GatherLemmas.{AreGathered, gathered_more, never_so, gathered_refused, all_gathered}
+use Rattle.fossil.proofs.GatherLemmas.{AreGathered, gathered_more, all_gathered}
 use Rattle.fossil.proofs.gathering.gather.Goals as goal
 
 pub loop-file-init : goal.loop-file-init

@@ -1,12 +1,8 @@
-use Rattle.std.proofs.Common.{◌≡◌, List, ap, subst, ◌∙◌, rules}
+use Rattle.std.proofs.Common.{◌≡◌, ap, ◌∙◌}
 use Rattle.std.specs.Prelude.{map}
-use Rattle.std.specs.List.{AllZip}
 use Rattle.std.specs.FinMap as map_of
-use Rattle.fsl_blobs.specs.declared.Holding.{Holding}
 use Rattle.fsl_blobs.specs.Fold.{contents}
 use Rattle.fsl_blobs.specs.Seen.{held_as}
-use Rattle.fsl_cluster.specs.declared.Fact.{Fact}
-use Rattle.fossil.specs.Taking.{IsFactOf}
 use Rattle.fossil.proofs.GatherLemmas.{printed_set}
 use Rattle.fossil.proofs.gathering.print_set.Goals as goal
 

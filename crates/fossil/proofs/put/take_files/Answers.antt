@@ -1,15 +1,15 @@
-use Rattle.std.proofs.Common.{◌≡◌, List, Some, None, Ok, Err, refl, sym, subst}
+use Rattle.std.proofs.Common.{◌≡◌, Some, Ok, Err, sym, subst}
 use Rattle.std.proofs.lemmas.Result.{err_from_is_err_and}
 use Rattle.fsl_disk.specs.Disk.{DiskState}
 use Rattle.fsl_journal.proofs.Belonging.{same_moments}
 use Rattle.fsl_repo.specs.Whole.{log_of}
 use Rattle.fsl_words.specs.declared.Command.TheVariants as command_of
 use Rattle.fossil.specs.declared.fault.Fault.TheVariants as fault_is
-use Rattle.fossil.specs.Acts.{input_of, loaded_of, IsInput, IsOpened, Acts}
-use Rattle.fossil.specs.Taking.{HaveArrived, IsChecked}
+use Rattle.fossil.specs.Acts.{input_of, loaded_of, IsOpened, Acts}
+use Rattle.fossil.specs.Taking.{HaveArrived}
 use Rattle.fossil.proofs.ActLemmas.{put_loads}
-use Rattle.fossil.proofs.AppendLemmas.{memory_acted, unread_acted, failed_acted, appended_acted}
-use Rattle.fossil.proofs.PutLemmas.{files_appended, refused_appended, refused_file_appended, long_appended, idle_acted}
+use Rattle.fossil.proofs.AppendLemmas.{memory_acted, failed_acted, appended_acted}
+use Rattle.fossil.proofs.PutLemmas.{files_appended, refused_file_appended, idle_acted}
 use Rattle.fossil.proofs.ShunLemmas.{was_due, commit_rose, commit_contents}
 use Rattle.fossil.proofs.put.take_files.Goals as goal
 

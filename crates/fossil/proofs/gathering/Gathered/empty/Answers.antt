@@ -1,4 +1,4 @@
-use Rattle.std.proofs.Common.{refl, ap, ◌∙◌}
+use Rattle.std.proofs.Common.{ap, ◌∙◌}
 use Rattle.fsl_blobs.specs.Seen.{Seen}
 use Rattle.fossil.proofs.GatherLemmas.{fresh_gathered}
 use Rattle.fossil.proofs.gathering.Gathered.empty.Goals as goal
