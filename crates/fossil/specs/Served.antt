@@ -1,5 +1,5 @@
 -- What a serve answers: the first of its cases that holds, its line, and what it leaves.
-use Rattle.std.specs.Prelude.{◌≡◌, ℕ, ◌^◌, ◌<◌, ◌≤◌, ◌⊎◌, List, [], ◌∷◌, ◌++◌, length, Option, Some, None, IfSome, is_some, option_and_then, if◌then◌else◌, codes, decimal}
+use Rattle.std.specs.Prelude.{◌≡◌, ℕ, ◌+◌, ◌^◌, ◌<◌, ◌≤◌, ◌⊎◌, List, [], ◌∷◌, ◌++◌, length, Option, Some, None, IfSome, is_some, option_and_then, if◌then◌else◌, codes, decimal}
 use Rattle.std.specs.List.{list_any}
 use Rattle.std.specs.Option.{option_map_or}
 use Rattle.std.specs.Io.KnownBytes.{Appends, Consumes, IsAtEnd}
@@ -56,10 +56,11 @@ pub data Left (D : Type 0) : Type 0 where
 abbrev pub IsQuiet : Input → Type 0
 IsQuiet users = users.after.faults ≡ users.before.faults
 
--- these bytes of the users file were read: to its end, or more than 2^20
+-- these bytes of the users file were read: to its end, or more than 2^20 and at most one piece of 65,536 more
 pub record IsUsersRead (users : Input) (bytes : List ℕ) : Type 0 where
   pub bytes_read : Consumes users.before.left users.after.left bytes
   pub far : IsAtEnd users.after.left ⊎ (2 ^ 20 < length bytes)
+  pub few : length bytes ≤ 2 ^ 20 + 65536
   pub quiet : IsQuiet users
 
 -- it was read to its end, and is the file of these users

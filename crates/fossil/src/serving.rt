@@ -103,7 +103,7 @@ fn serve_loaded<D: Disk + Send, A: Door + Send, G: Gate + Send, K: Sink, R: Thre
 ) -> Served<D, A, G>
     requires crews { (0 < vec_len crews) × (vec_len crews ≤ 16) }
     requires requests { requests ≤ 65536 }
-    ensures { IsLoadedServed D.state A.state users.now requests repo crews.items (K.state out.old, K.state out.new) result }
+    ensures { IsLoadedServed D.state A.state G.passed users.now requests repo crews.items (K.state out.old, K.state out.new) result }
 {
     let project = repo.config().project;
     match serve_crews(rt, alloc, users, project, repo, crews, requests) {
@@ -124,7 +124,7 @@ fn serve_disk<D: Disk + Send, A: Door + Send, G: Gate + Send, K: Sink, R: Thread
 ) -> Served<D, A, G>
     requires crews { (0 < vec_len crews) × (vec_len crews ≤ 16) }
     requires requests { requests ≤ 65536 }
-    ensures { IsDiskServed D.state A.state users.now requests disk crews.items (K.state out.old, K.state out.new) result }
+    ensures { IsDiskServed D.state A.state G.passed users.now requests disk crews.items (K.state out.old, K.state out.new) result }
 {
     match Repo::load(alloc, disk) {
         Ok(repo) => serve_loaded(rt, alloc, users, repo, crews, requests, out),
@@ -151,7 +151,7 @@ fn serve_file<
 ) -> Served<D, A, G>
     requires crews { (0 < vec_len crews) × (vec_len crews ≤ 16) }
     requires requests { requests ≤ 65536 }
-    ensures { IsFileServed D.state A.state (S.state users.old, S.state users.new) requests disk crews.items (K.state out.old, K.state out.new) result }
+    ensures { IsFileServed D.state A.state G.passed (S.state users.old, S.state users.new) requests disk crews.items (K.state out.old, K.state out.new) result }
 {
     match read_users(alloc, users) {
         Ok(users) => serve_disk(rt, alloc, &users, disk, crews, requests, out),
@@ -184,7 +184,7 @@ pub fn serve<
     out: &mut K,
 ) -> Served<D, A, G>
     requires staffed { AreStaffed (map string_bytes words.now) (vec_len crews) }
-    ensures said { IsServe D.state A.state (map string_bytes words.now) (S.state users.old, S.state users.new) (K.state out.old, K.state out.new) repo crews.items result }
+    ensures said { IsServe D.state A.state G.passed (map string_bytes words.now) (S.state users.old, S.state users.new) (K.state out.old, K.state out.new) repo crews.items result }
     ensures unread { serving_in (map string_bytes words.now) ≡ None → users.new ≡ users.old }
 {
     match asked(alloc, words) {

@@ -1,5 +1,5 @@
 //! The users file of a serve.
-ghost use Rattle.std.specs.Prelude.{◌≡◌, ◌<◌, ◌⊎◌, ◌^◌, length, IfOk, IfErr, OnOk};
+ghost use Rattle.std.specs.Prelude.{◌≡◌, ◌<◌, ◌≤◌, ◌⊎◌, ◌+◌, ◌^◌, length, IfOk, IfErr, OnOk};
 ghost use Rattle.std.specs.Io.KnownBytes.{Consumes, IsAtEnd};
 ghost use Rattle.fsl_outside.specs.Whole.{FailsBy};
 ghost use Rattle.fsl_login.specs.UserFiles.{IsUsersFile};
@@ -20,10 +20,11 @@ const MOST_BYTES: usize = 1 << 20;
 // How many bytes are asked for at a time.
 const PIECE: usize = 65536;
 
-/// Reads a source to its end, or more than 2^20 bytes of it.
+/// Reads a source to its end, or more than 2^20 bytes of it, and at most one piece more.
 fn read_front<S: Source>(alloc: Global, source: &mut S) -> Result<Text, ReadFault>
     ensures read { IfOk result (λ text. Consumes (S.state source.old).left (S.state source.new).left text) }
     ensures far { IfOk result (λ text. IsAtEnd (S.state source.new).left ⊎ (2 ^ 20 < length text)) }
+    ensures few { IfOk result (λ text. length text ≤ 2 ^ 20 + 65536) }
     ensures cause { IfErr result (FailsBy (S.state source.old).faults (S.state source.new).faults) }
     ensures same { OnOk result ((S.state source.new).faults ≡ (S.state source.old).faults) }
 {

@@ -1,7 +1,6 @@
 use Rattle.std.proofs.Common.{ap, sym, subst, ◌∙◌, arith}
-use Rattle.fsl_serve.specs.Crews.{AllWorked}
 use Rattle.fossil.specs.Served.{Loaded}
-use Rattle.fossil.specs.ServeCall.{left_of}
+use Rattle.fossil.specs.ServeCall.{left_of, CrewsWorked}
 use Rattle.fossil.proofs.ServeLemmas.{nobody_works, workers_ran, has_served, within_of, project_is}
 use Rattle.fossil.proofs.serving.serve_loaded.Goals as goal
 
@@ -21,7 +20,8 @@ returns-in-Ok g c =
     workers_ran g.D.Disk.state _ (left_of c.finished.result.state) c.args.crews.items c.finished.result.crews.items _ _ repo last c.args.users.now c.args.requests _
     (ap left_of c.finished.ensures.state)
     (has_served g.D.Disk.state _ c.args.users.now c.args.requests repo last works _ c.in-Ok.worked.stored c.in-Ok.ensures.later c.in-Ok.ensures.stored c.finished.ensures.whole
-    (project_is repo.seen.state.records c.config.result.now c.config.ensures) (subst (λ v. AllWorked (λ k. (g.A.Link.state k.door).present) (λ k. (g.A.Link.state k.door).standing) c.args.users.now c.config.result.now.project c.args.requests works c.args.crews.items v.items) (sym c.finished.ensures.crews) c.in-Ok.ensures.worked))
+    (project_is repo.seen.state.records c.config.result.now c.config.ensures)
+    (subst (λ v. CrewsWorked g.A.Link.state g.G.Gate.passed c.args.crews.items v.items c.args.users.now c.config.result.now.project c.args.requests works) (sym c.finished.ensures.crews) (c.in-Ok.ensures.worked, c.in-Ok.ensures.gates)))
     c.finished.ensures.said
 
 pub returns-in-Err : goal.returns-in-Err
