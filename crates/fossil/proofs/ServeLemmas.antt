@@ -113,9 +113,8 @@ pub has_served : {D : Type 0} (tells : D → DiskState) (Worked : Workers) (user
     → Worked users project requests works → HasServed tells Worked users requests first last (worked last.seen.state.stopped works n)
 has_served tells Worked users requests first last works project n later rise whole is so =
     record {
-      later = later.seen;
+      later = later;
       whole = whole;
-      keeps = later.keeps;
       works = works;
       worked_so = subst (λ (p : List ℕ). Worked users p requests works) is so;
       says = ap (λ (m : ℕ). worked last.seen.state.stopped works m) (omega (arith, rise, later.seen.stored));

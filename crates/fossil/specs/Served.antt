@@ -12,7 +12,8 @@ use Rattle.fsl_journal.specs.Log.{StandsBetween}
 use Rattle.fsl_journal.specs.declared.LoadFault.{LoadFault}
 use Rattle.fsl_journal.specs.declared.LoadFault.TheVariants as load_fault
 use Rattle.fsl_blobs.specs.Fold.{contents}
-use Rattle.fsl_repo.specs.Whole.{Whole, IsWholeOn, IsLater, blobs}
+use Rattle.fsl_repo.specs.Whole.{Whole, IsWholeOn, blobs}
+use Rattle.fsl_repo.specs.Onward.{IsLaterOn}
 use Rattle.fsl_repo.specs.Opening.{IsOpened, OpenFailed}
 use Rattle.fsl_words.specs.declared.Command.{Command}
 use Rattle.fsl_words.specs.declared.Command.TheVariants as command_of
@@ -129,14 +130,13 @@ pub data AreNoUsers (users : Input) (o : Printed) : Type 0 where
   unread : IsQuiet users → o ≡ no_memory → AreNoUsers users o
   bad : (bytes : List ℕ) (n : ℕ) → IsUsersRead users bytes → IsFirstBadLine bytes n → o ≡ bad_users n → AreNoUsers users o
 
--- from the loaded repository to the one that is left: its records go on, and the workers served these users under its project
+-- from the loaded repository to the one that is left: its records go on, it is stopped only where its disk failed, and the workers served these users under its project
 pub record HasServed {D : Type 0} (tells : D → DiskState) (Worked : Workers) (users : List User) (requests : ℕ) (first last : Whole D) (o : Printed) : Type 0 where
-  pub later : IsLater first.seen last.seen
+  pub later : IsLaterOn (tells first.disk) (tells last.disk) first last
   pub whole : IsWholeOn (tells last.disk) last
-  pub keeps : Keeps (tells first.disk) (tells last.disk)
   pub works : List Work
   pub worked_so : Worked users (project_of first.seen.state.records) requests works
-  pub says : o ≡ worked last.seen.state.stopped works (blobs later.more)
+  pub says : o ≡ worked last.seen.state.stopped works (blobs later.seen.more)
 
 -- what became of a loaded repository, and what is due then: there was no memory for the workers, or they ran
 pub data ServesLoaded {D X : Type 0} (tells : D → DiskState) (Worked : Workers) (first : Whole D) (left : Left D) (crews crews_left : List X) (users : List User) (requests : ℕ) (o : Printed) : Type 0 where
