@@ -1,5 +1,5 @@
 -- Words, an input and a file have an outcome.
-use Rattle.std.proofs.Common.{◌≡◌, ◌⊎◌, inl, inr, ℕ, Bool, true, false, List, [], ◌∷◌, length, Option, Some, None, refl}
+use Rattle.std.proofs.Common.{◌≡◌, ◌⊎◌, inl, inr, ℕ, Bool, true, false, List, [], ◌∷◌, length, map, Option, Some, None, refl}
 use Rattle.std.specs.Prelude.{◌^◌, nat_lt, MatchBool, Result}
 use Rattle.std.specs.List.{AllZip}
 use Rattle.std.specs.FinMap as map_of
@@ -12,6 +12,9 @@ use Rattle.fsl_blobs.specs.Fold.{Held, Contents, contents}
 use Rattle.fsl_cluster.specs.declared.Fact.{Fact}
 use Rattle.fsl_cross.specs.declared.Item.{Item}
 use Rattle.fsl_repo.specs.Machine.{IsItemOf}
+use Rattle.fsl_cross.specs.Tables.{tables}
+use Rattle.fsl_gen.specs.Arrival.{generated}
+use Rattle.fsl_query.specs.Summary.{summary}
 use Rattle.fsl_query.specs.declared.Refused.{Refused}
 use Rattle.fsl_query.specs.Reports.{IsReport, report, content}
 use Rattle.fsl_words.specs.declared.Question.{Question}
@@ -22,6 +25,7 @@ use Rattle.fossil.specs.declared.message.Sent.{Sent}
 use Rattle.fossil.specs.Sets.{set_of, IsFactOf, fact_of, report as set_report}
 use Rattle.fossil.specs.Printed.{Printed}
 use Rattle.fossil.specs.Printed as printing
+use Rattle.fossil.specs.Gen.{public_record}
 use Rattle.fossil.specs.Ingest as ingest
 use Rattle.fossil.specs.Put.{IsPutRead, put_files}
 use Rattle.fossil.specs.Outcome.{Outcome, without_commit, with_commit, init_outcome, report_outcome, not_repository, usage, IsAnswered, IsPutOfFiles, shun_outcome, IsShunOf, IsLoaded, IsCommandOutcome, said, IsSaidOutcome, HasSomeOutcome}
@@ -87,6 +91,9 @@ some_command command_of.Put input bytes =
     some_loaded bytes (IsPutOfFiles input) (λ old. let o = some_put old input (nat_lt (2 ^ 27) (length input)) in (with_commit o.0 o.1, (o.0, o.1, o.2, refl))) (some_file bytes)
 some_command (command_of.Shun name) input bytes = some_loaded bytes (IsShunOf name) (λ old. (shun_outcome name old, refl)) (some_file bytes)
 some_command (command_of.Serve address users workers requests) input bytes = (usage, refl)
+some_command (command_of.Gen count reversed) input bytes =
+    let i = some_items (map_of.entries (contents (map public_record (generated count reversed))).held) in
+    let printed : Printed = record { status = 0; text = summary (tables [] i.0) i.0 } in (without_commit printed, (printed, (i.0, i.1, refl), refl))
 some_command (command_of.Ask question) input bytes =
     some_loaded bytes (IsAnswered question) (λ records. let r = some_report (contents records) question in (report_outcome r.0, (r.0, r.1, refl))) (some_file bytes)
 
