@@ -35,6 +35,7 @@ few_by command_of.Ingest r fit e = absurd (cc)
 few_by command_of.Put r fit e = absurd (cc)
 few_by (command_of.Shun name) r fit e = absurd (cc)
 few_by (command_of.Ask question) r fit e = absurd (cc)
+few_by (command_of.Gen count reversed) r fit e = absurd (cc)
 few_by (command_of.Serve address users workers requests) r fit e = let same : requests ≡ r = cc in subst (λ (n : ℕ). n ≤ 65536) same fit.2
 
 -- a worker takes few connections

@@ -1,7 +1,9 @@
 -- What the commands did that don't touch the file.
-use Rattle.std.proofs.Common.{◌≡◌, inl, inr, ℕ, ◌≤◌, Bool, true, false, List, [], length, Option, Some, None, Result, Ok, Err, IfOk, IfErr, IsTrue, refl, sym, ap, ◌∙◌, arith}
+use Rattle.std.proofs.Common.{◌≡◌, inl, inr, ℕ, ◌≤◌, Bool, true, false, List, [], length, Option, Some, None, Result, Ok, Err, IfOk, IfErr, IsTrue, refl, sym, ap, subst, ◌∙◌, arith}
 use Rattle.std.specs.Prelude.{◌^◌, nat_lt, MatchBool}
 use Rattle.std.specs.Io.KnownBytes.{IsAtEnd}
+use Rattle.fsl_artifact.specs.Kind.{IsKind}
+use Rattle.fsl_text.specs.declared.memory.Memory.{Memory}
 use Rattle.fsl_disk.specs.Disk.{DiskState}
 use Rattle.fsl_words.specs.declared.Command.{Command}
 use Rattle.fsl_words.specs.declared.Command.TheVariants as command_of
@@ -12,6 +14,7 @@ use Rattle.fossil.specs.Arrivals.{Taken, none_taken, Arrive}
 use Rattle.fossil.proofs.ArrivalLemmas.{refused_files}
 use Rattle.fossil.specs.Printed.{Printed}
 use Rattle.fossil.specs.Printed as printing
+use Rattle.fossil.specs.Gen.{IsGenPrinted}
 use Rattle.fossil.specs.Ingest as ingest
 use Rattle.fossil.specs.Outcome.{Outcome, without_commit, printed_of, usage, IsSaidOutcome}
 use Rattle.fossil.specs.Run.{Input, Output, Agrees, reads, opens, IsSaid, IsTold, cut_off_status, HasRun}
@@ -128,3 +131,16 @@ pub ingest_acted : (input : Input) (file : DiskState) → (IsTrue file.is_model 
 ingest_acted input file no_other (Ok answer) run un =
     idle_acted (Some command_of.Ingest) input file no_other (λ opened. cc) run.read (without_commit answer) run.told (answer, run.ingested, refl) (small_ingest run.read (nat_lt (2 ^ 27) (length run.read)) answer run.ingested) (λ z reads. run.end z) refl
 ingest_acted input file no_other (Err fault) run un = idle_unread (Some command_of.Ingest) input file no_other fault un refl (λ e. cc)
+
+-- ---- gen
+
+pub gen_acted : (count : ℕ) (reversed : Bool) (input : Input) (file : DiskState) → (IsTrue file.is_model → (c : List ℕ) → file.since file.moment c → file.images c) → (made : Result Printed Memory) (result : Result Printed Fault)
+    → IfOk made (IsGenPrinted count reversed) → IfOk result (λ a. made ≡ Ok a) → IfErr result (λ fault. fault ≡ fault_is.Memory)
+    → HasActed (Some (command_of.Gen count reversed)) input (both file file) result
+gen_acted count reversed input file no_other made (Ok answer) is ok err =
+    let read = some_bytes input.before.left in
+    let printed : IsGenPrinted count reversed answer = subst (λ (m : Result Printed Memory). IfOk m (IsGenPrinted count reversed)) ok is in
+    let small : answer.status ≤ 3 = let z = ap (λ (a : Printed). a.status) printed.2 in omega (arith, z) in
+    idle_acted (Some (command_of.Gen count reversed)) input file no_other (λ opened. cc) read.0 (without_commit answer) read.1 (answer, printed, refl) small (λ z reads. absurd (cc)) refl
+gen_acted count reversed input file no_other made (Err fault) is ok err =
+    subst (λ (f : Fault). HasActed (Some (command_of.Gen count reversed)) input (both file file) (Err f)) (sym err) (idle_memory (Some (command_of.Gen count reversed)) input file no_other)

@@ -1,4 +1,5 @@
 pub mod OneReport
+pub mod GenLemmas
 pub mod OneOutcome
 pub mod SomeOutcome
 pub mod MessageLemmas

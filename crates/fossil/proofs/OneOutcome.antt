@@ -19,6 +19,7 @@ use Rattle.fossil.specs.Printed as printing
 use Rattle.fossil.specs.Ingest as ingest
 use Rattle.fossil.specs.Put.{IsPut, IsPutRead, IsPutFiles, printed_by, appended_by}
 use Rattle.fossil.specs.Outcome.{Outcome, without_commit, with_commit, not_repository, report_outcome, IsAnswered, IsIngestOfFiles, IsPutOfFiles, IsShunOf, IsLoaded, IsCommandOutcome, said, IsSaidOutcome, HasOneOutcome}
+use Rattle.fossil.proofs.GenLemmas.{one_gen}
 use Rattle.fossil.proofs.OneReport.{one_result}
 use Rattle.fossil.proofs.MessageLemmas.{one_files, one_refused, not_both}
 use Rattle.fossil.proofs.ArrivalLemmas.{one_arrive}
@@ -106,6 +107,7 @@ one_command_outcome command_of.Put input bytes a b h k = one_loaded (IsPutOfFile
 one_command_outcome (command_of.Shun name) input bytes a b h k = one_loaded (IsShunOf name) bytes (λ old x y p q. p ∙ sym q) a b h k
 one_command_outcome (command_of.Ask question) input bytes a b h k = one_loaded (IsAnswered question) bytes (one_answered question) a b h k
 one_command_outcome (command_of.Serve address users workers requests) input bytes a b h k = h ∙ sym k
+one_command_outcome (command_of.Gen count reversed) input bytes a b h k = one_gen count reversed a b h k
 
 pub one_said_outcome : (command : Option Command) (input bytes : List ℕ) (a b : Outcome) → IsSaidOutcome command input bytes a → IsSaidOutcome command input bytes b → a ≡ b
 one_said_outcome None input bytes a b h k = h ∙ sym k

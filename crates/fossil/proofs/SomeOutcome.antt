@@ -1,10 +1,13 @@
 -- Words, an input and a file have an outcome.
-use Rattle.std.proofs.Common.{◌≡◌, ◌⊎◌, inl, inr, ℕ, Bool, true, false, List, [], length, Option, Some, None, Result, Ok, Err, refl}
+use Rattle.std.proofs.Common.{◌≡◌, ◌⊎◌, inl, inr, ℕ, Bool, true, false, List, [], ◌∷◌, length, map, Option, Some, None, Result, Ok, Err, refl}
 use Rattle.std.specs.Prelude.{◌^◌, nat_lt, MatchBool}
 use Rattle.fsl_record.specs.declared.Record.{Record}
 use Rattle.fsl_journal.specs.File.{IsFileOf, FailsAt}
 use Rattle.fsl_journal.proofs.SomeFile.{some_file}
 use Rattle.fsl_blobs.specs.Fold.{Contents, contents}
+use Rattle.fsl_cross.specs.Tables.{tables}
+use Rattle.fsl_gen.specs.Arrival.{generated}
+use Rattle.fsl_query.specs.Summary.{summary}
 use Rattle.fsl_repo.specs.Machine.{now}
 use Rattle.fsl_repo.specs.Whole.{opened}
 use Rattle.fsl_query.specs.declared.Refused.{Refused}
@@ -16,6 +19,7 @@ use Rattle.fsl_words.specs.declared.Command.TheVariants as command_of
 use Rattle.fossil.specs.Arrivals.{Taken, none_taken}
 use Rattle.fossil.specs.Printed.{Printed}
 use Rattle.fossil.specs.Printed as printing
+use Rattle.fossil.specs.Gen.{public_record}
 use Rattle.fossil.specs.Ingest as ingest
 use Rattle.fossil.specs.Put.{IsPutRead, printed_by, appended_by}
 use Rattle.fossil.specs.Outcome.{Outcome, without_commit, with_commit, init_outcome, report_outcome, not_repository, usage, IsAnswered, IsPutOfFiles, shun_outcome, IsShunOf, IsLoaded, IsCommandOutcome, said, IsSaidOutcome, HasSomeOutcome}
@@ -78,6 +82,9 @@ some_command command_of.Put input bytes =
     some_loaded bytes (IsPutOfFiles input) (λ old. let o = some_put old input (nat_lt (2 ^ 27) (length input)) in (with_commit o.0 o.1, (o.0, o.1, o.2, refl))) (some_file bytes)
 some_command (command_of.Shun name) input bytes = some_loaded bytes (IsShunOf name) (λ old. (shun_outcome name old, refl)) (some_file bytes)
 some_command (command_of.Serve address users workers requests) input bytes = (usage, refl)
+some_command (command_of.Gen count reversed) input bytes =
+    let i = some_items (contents (map public_record (generated count reversed))).held in
+    let printed : Printed = record { status = 0; text = summary (tables [] i.0) i.0 } in (without_commit printed, (printed, (i.0, i.1, refl), refl))
 some_command (command_of.Ask question) input bytes =
     some_loaded bytes (IsAnswered question) (λ records. let r = some_report (contents records) question in (report_outcome r.0, (r.0, r.1, refl))) (some_file bytes)
 

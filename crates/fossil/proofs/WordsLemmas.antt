@@ -13,7 +13,7 @@ use Rattle.fsl_words.specs.declared.Question.{Question}
 use Rattle.fsl_words.specs.declared.Command.{Command}
 use Rattle.fsl_words.specs.declared.Command.TheVariants as command_of
 use Rattle.fsl_words.specs.declared.Words.{Words}
-use Rattle.fsl_words.specs.Grammar.{words_in, parts_in, command_in, plain_command, question_in, init_command, serve_command, number_in, is_up_to, fields_in, are_fields, all_differ, is_word}
+use Rattle.fsl_words.specs.Grammar.{words_in, parts_in, command_in, plain_command, question_in, init_command, serve_command, gen_command, number_in, is_up_to, fields_in, are_fields, all_differ, is_word}
 use Rattle.fossil.specs.Outcome.{said}
 use Rattle.fossil.specs.Acts.{IsObeyable}
 
@@ -120,6 +120,16 @@ serve_obeyed (address ∷ users ∷ workers ∷ requests ∷ []) =
     workers_by address users (number_in 65536 requests) (number_in 16 workers) (number_by 16 workers (is_up_to 16 workers) refl) (number_by 65536 requests (is_up_to 65536 requests) refl)
 serve_obeyed (address ∷ users ∷ workers ∷ requests ∷ other ∷ words) = tt
 
+gen_by : (reversed : Bool) (count : Option ℕ) → IfSome count (λ n. (0 < n) × (n ≤ 100000)) → Obeyed (option_map (λ n. command_of.Gen n reversed) count)
+gen_by reversed None h = tt
+gen_by reversed (Some count) h = let least : 1 ≤ count = omega (arith, h.0) in (least, h.1)
+
+gen_obeyed : (words : List (List ℕ)) → Obeyed (gen_command words)
+gen_obeyed [] = tt
+gen_obeyed (count ∷ []) = gen_by false (number_in 100000 count) (number_by 100000 count (is_up_to 100000 count) refl)
+gen_obeyed (count ∷ order ∷ []) = command_by (bytes_eq order (codes "reversed")) _ _ (gen_by true (number_in 100000 count) (number_by 100000 count (is_up_to 100000 count) refl)) tt
+gen_obeyed (count ∷ order ∷ other ∷ words) = tt
+
 named_by : (repository : List ℕ) (o : Option Command) → Obeyed o → IfSome {T = Words} (option_map (λ c. record { repository = repository; command = c }) o) (λ w. IsObeyable w.command)
 named_by repository None h = tt
 named_by repository (Some command) h = h
@@ -129,7 +139,7 @@ parts_obeyed [] = tt
 parts_obeyed (repository ∷ []) = tt
 parts_obeyed (repository ∷ command ∷ words) =
     named_by repository (command_in command words)
-    (command_by (bytes_eq command (codes "init")) _ _ (init_obeyed words) (command_by (bytes_eq command (codes "serve")) _ _ (serve_obeyed words) (plain_obeyed command words)))
+    (command_by (bytes_eq command (codes "init")) _ _ (init_obeyed words) (command_by (bytes_eq command (codes "serve")) _ _ (serve_obeyed words) (command_by (bytes_eq command (codes "gen")) _ _ (gen_obeyed words) (plain_obeyed command words))))
 
 words_by : (fit : Bool) (o : Option Words) → IfSome o (λ w. IsObeyable w.command) → IfSome (cond fit o None) (λ w. IsObeyable w.command)
 words_by true o h = h

@@ -13,7 +13,7 @@ use Rattle.fsl_journal.specs.declared.LoadFault.TheVariants as load_fault
 use Rattle.fsl_repo.specs.Whole.{Whole, log_of}
 use Rattle.fsl_words.specs.declared.Question.{Question}
 use Rattle.fsl_words.specs.declared.Command.{Command}
-use Rattle.fsl_words.specs.declared.Command.TheVariants.{Init, Ingest, Put, Shun, Ask, Serve}
+use Rattle.fsl_words.specs.declared.Command.TheVariants.{Init, Ingest, Put, Shun, Ask, Serve, Gen}
 use Rattle.fossil.specs.declared.fault.Fault.{Fault}
 use Rattle.fossil.specs.declared.fault.Fault.TheVariants as fault_is
 use Rattle.fossil.specs.declared.load.Loaded.{Loaded}
@@ -174,7 +174,7 @@ RunsCommand command input out file status = HasRun (Some command) (input_of inpu
 abbrev pub RunsQuestion : Question → SourceState × SourceState → SinkState × SinkState → DiskState × DiskState → ℕ → Type 0
 RunsQuestion question input out file status = RunsCommand (Ask question) input out file status
 
--- the fields of a new repository are in their form, and workers and their connections within their bounds
+-- the fields of a new repository are in their form, workers and their connections within their bounds, and so is the number of artifacts
 abbrev pub IsObeyable : Command → Type 0
 IsObeyable (Init project server fields) = AreFields fields
 IsObeyable Ingest = ⊤
@@ -182,6 +182,7 @@ IsObeyable Put = ⊤
 IsObeyable (Shun name) = ⊤
 IsObeyable (Ask question) = ⊤
 IsObeyable (Serve address users workers requests) = (0 < workers) × (workers ≤ 16) × (requests ≤ 65536)
+IsObeyable (Gen count reversed) = (1 ≤ count) × (count ≤ 100000)
 
 -- ---- messages
 

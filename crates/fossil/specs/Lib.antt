@@ -4,6 +4,7 @@ pub mod Arrivals
 pub mod Ingest
 pub mod Put
 pub mod Shun
+pub mod Gen
 pub mod Outcome
 pub mod Run
 pub mod Acts

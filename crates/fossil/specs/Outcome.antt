@@ -1,12 +1,12 @@
 -- The outcome of a run: the status, the text, and the commits that the command appends to the file.
-use Rattle.std.specs.Prelude.{◌≡◌, ℕ, ◌==◌, ◌⊎◌, List, [], ◌∷◌, ◌++◌, length, Option, Some, None, option_map, Result, Ok, Err, if◌then◌else◌, codes, decimal}
+use Rattle.std.specs.Prelude.{◌≡◌, ℕ, Bool, ◌==◌, ◌⊎◌, List, [], ◌∷◌, ◌++◌, length, Option, Some, None, option_map, Result, Ok, Err, if◌then◌else◌, codes, decimal}
 use Rattle.fsl_record.specs.declared.Record.{Record}
 use Rattle.fsl_record.specs.declared.Record.TheVariants as record_of
 use Rattle.fsl_journal.specs.File.{IsFileOf, FailsAt}
 use Rattle.fsl_blobs.specs.Fold.{contents}
 use Rattle.fsl_words.specs.declared.Question.{Question}
 use Rattle.fsl_words.specs.declared.Command.{Command}
-use Rattle.fsl_words.specs.declared.Command.TheVariants.{Init, Ingest, Put, Shun, Ask, Serve}
+use Rattle.fsl_words.specs.declared.Command.TheVariants.{Init, Ingest, Put, Shun, Ask, Serve, Gen}
 use Rattle.fsl_words.specs.Grammar.{words_in}
 use Rattle.fsl_query.specs.declared.Refused.{Refused}
 use Rattle.fsl_query.specs.Refusals.{refusal_text}
@@ -14,6 +14,7 @@ use Rattle.fsl_query.specs.Reports.{IsReport}
 use Rattle.fossil.specs.Printed.{Printed}
 use Rattle.fossil.specs.Printed as printing
 use Rattle.fossil.specs.Ingest as ingest
+use Rattle.fossil.specs.Gen.{IsGenPrinted}
 use Rattle.fossil.specs.Put.{IsPut}
 use Rattle.fossil.specs.Shun.{shunning}
 
@@ -80,6 +81,10 @@ report_outcome (Err refused) = without_commit (printing.refused (refusal_text re
 abbrev pub IsAnswered : Question → List Record → Outcome → Type 0
 IsAnswered question records o = (result : Result (List ℕ) Refused) × IsReport (contents records) question result × (o ≡ report_outcome result)
 
+-- `gen` prints what the generated artifacts make
+abbrev pub IsGen : ℕ → Bool → Outcome → Type 0
+IsGen count reversed o = (printed : Printed) × IsGenPrinted count reversed printed × (o ≡ without_commit printed)
+
 -- the file stands for records, by which the outcome is told, or the place at which it doesn't is told
 abbrev pub IsLoaded : (List Record → Outcome → Type 0) → List ℕ → Outcome → Type 0
 IsLoaded ByRecords bytes o =
@@ -87,7 +92,7 @@ IsLoaded ByRecords bytes o =
 
 -- ---- a run
 
--- the outcome of a command over its input and the bytes of the file: `init` looks at their number alone, and `ingest` at none; `serve` is no command of a run
+-- the outcome of a command over its input and the bytes of the file: `init` looks at their number alone, `ingest` at none, and `gen` at neither; `serve` is no command of a run
 abbrev pub IsCommandOutcome : Command → List ℕ → List ℕ → Outcome → Type 0
 IsCommandOutcome (Init project server fields) input bytes o = o ≡ init_outcome project server fields (length bytes)
 IsCommandOutcome Ingest input bytes o = IsIngestOfFiles input o
@@ -95,6 +100,7 @@ IsCommandOutcome Put input bytes o = IsLoaded (IsPutOfFiles input) bytes o
 IsCommandOutcome (Shun name) input bytes o = IsLoaded (IsShunOf name) bytes o
 IsCommandOutcome (Ask question) input bytes o = IsLoaded (IsAnswered question) bytes o
 IsCommandOutcome (Serve address users workers requests) input bytes o = o ≡ usage
+IsCommandOutcome (Gen count reversed) input bytes o = IsGen count reversed o
 
 -- the command that words say, where they are in the grammar
 abbrev pub said : List (List ℕ) → Option Command

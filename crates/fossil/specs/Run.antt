@@ -8,7 +8,7 @@ use Rattle.fsl_record.specs.declared.Record.{Record}
 use Rattle.fsl_disk.specs.Disk.{DiskState, IsModelled, Keeps, Quiet, LeavesOnly}
 use Rattle.fsl_journal.specs.File.{IsFileOf, FailsAt}
 use Rattle.fsl_words.specs.declared.Command.{Command}
-use Rattle.fsl_words.specs.declared.Command.TheVariants.{Init, Ingest, Put, Shun, Ask, Serve}
+use Rattle.fsl_words.specs.declared.Command.TheVariants.{Init, Ingest, Put, Shun, Ask, Serve, Gen}
 use Rattle.fossil.specs.Outcome.{Outcome, said, IsSaidOutcome}
 
 -- ---- what a run is handed and leaves
@@ -42,6 +42,7 @@ command_reads Put = true
 command_reads (Shun name) = false
 command_reads (Ask question) = false
 command_reads (Serve address users workers requests) = false
+command_reads (Gen count reversed) = false
 
 abbrev pub command_opens : Command → Bool
 command_opens (Init project server fields) = true
@@ -50,6 +51,7 @@ command_opens Put = true
 command_opens (Shun name) = true
 command_opens (Ask question) = true
 command_opens (Serve address users workers requests) = false
+command_opens (Gen count reversed) = false
 
 abbrev pub command_begins : Command → Bool
 command_begins (Init project server fields) = true
@@ -58,6 +60,7 @@ command_begins Put = false
 command_begins (Shun name) = false
 command_begins (Ask question) = false
 command_begins (Serve address users workers requests) = false
+command_begins (Gen count reversed) = false
 
 -- whether a command reads the input
 abbrev pub reads : Option Command → Bool
@@ -190,6 +193,7 @@ IsRefused (Some Put) bytes = IsNoRepository bytes
 IsRefused (Some (Shun name)) bytes = IsNoRepository bytes
 IsRefused (Some (Ask question)) bytes = IsNoRepository bytes
 IsRefused (Some (Serve address users workers requests)) bytes = ⊥
+IsRefused (Some (Gen count reversed)) bytes = ⊥
 
 -- a file that is refused stays as it is, at each moment and whatever the status
 abbrev pub IsRefusedKept : Option Command → File → List ℕ → Type 0

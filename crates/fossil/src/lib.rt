@@ -5,7 +5,8 @@
 //! and what it changed, `wiki TITLE` the versions of a page, `ticket ID` the fields of a ticket, `thread NAME` the posts of
 //! a thread, and `phantoms` the names that are referred to and neither held nor shunned. `ingest` reads a message of files
 //! into a set of its own, and prints which of its names stand in no cluster and which are named and not there. `serve
-//! ADDRESS USERS WORKERS N` serves the repository to the users of a file.
+//! ADDRESS USERS WORKERS N` serves the repository to the users of a file. `gen N` and `gen N reversed` take so many generated
+//! artifacts one after another into a set of their own, and print how many of each sort there are.
 #![tactic(auto)]
 
 mod answer;
@@ -16,6 +17,7 @@ mod checking;
 mod due;
 mod fault;
 mod gathering;
+mod generating;
 mod ingest;
 mod init;
 mod input;

@@ -7,11 +7,12 @@ ghost use Rattle.fossil.specs.Acts.{IsObeyable, RunsCommand};
 
 use super::ask::ask;
 use super::fault::Fault;
+use super::generating::generate;
 use super::ingest::ingest;
 use super::init::init;
 use super::put::put;
 use super::ran::Ran;
-use super::say::{print, say_usage};
+use super::say::{made, print, say_usage};
 use super::shun::shun;
 use fsl_disk::Disk;
 use fsl_outside::{Sink, Source};
@@ -66,6 +67,10 @@ fn obey<S: Source, K: Sink, D: Disk>(
             let status = say_usage(out);
             Ran { status, repo }
         }
+        Command::Gen { count, reversed } => {
+            let status = print(out, made(generate(alloc, count, reversed)));
+            Ran { status, repo }
+        }
     }
 }
 
@@ -97,7 +102,7 @@ fn run_words<S: Source, K: Sink, D: Disk>(
 /// Runs the command that the words say over the input and the repository's disk, prints to the output, and gives the
 /// status and the disk: 0 after a report, 1 for words outside the grammar and for `serve`, 2 where the file isn't a repository, 3 where
 /// the command or its input is refused, 4, 5 and 6 where the disk, the input or the output failed, 9 for want of memory.
-/// A command that reads no input leaves it, and so `ingest` leaves the disk; words outside the grammar leave both. Where
+/// A command that reads no input leaves it, and so `ingest` leaves the disk; `gen` and words outside the grammar leave both. Where
 /// the line of a refusal or of a fault can't be written, the status stays.
 ///
 /// The file is loaded first, then the input is read, then what it appends is committed, then the text is printed. After

@@ -6,7 +6,7 @@ use std::fs::{File, OpenOptions};
 use std::net::TcpListener;
 
 /// The disk of a command: that of the file that the first word names, which is made for `init` alone where it is
-/// missing. Each call of the disk fails where the file can't be opened, and for `ingest`, which opens none.
+/// missing. Each call of the disk fails where the file can't be opened, and for `ingest` and `gen`, which open none.
 pub fn open(rt: &HostRuntime, words: &[String], command: &Command) -> FileDisk {
     let Some(path) = words.first() else {
         return FileDisk::none();
@@ -14,7 +14,7 @@ pub fn open(rt: &HostRuntime, words: &[String], command: &Command) -> FileDisk {
     let mut options = OpenOptions::new();
     options.read(true).write(true);
     match command {
-        Command::Ingest => return FileDisk::none(),
+        Command::Ingest | Command::Gen { .. } => return FileDisk::none(),
         Command::Init { .. } => {
             options.create(true);
         }

@@ -4,7 +4,7 @@ use Rattle.fsl_outside.specs.Streams.{SourceState, SinkState}
 use Rattle.fsl_words.specs.declared.Command.{Command}
 use Rattle.fsl_words.specs.declared.Command.TheVariants as command_of
 use Rattle.fossil.specs.Acts.{IsObeyable, RunsCommand, input_of, output_of, file_of}
-use Rattle.fossil.proofs.CommandLemmas.{ingest_acted, serve_run}
+use Rattle.fossil.proofs.CommandLemmas.{ingest_acted, gen_acted, serve_run}
 use Rattle.fossil.proofs.PrintedLemmas.{written}
 use Rattle.fossil.proofs.top.obey.Goals as goal
 
@@ -52,11 +52,24 @@ returns-in-Ask-clause-runs g c =
     let file : DiskState × DiskState = (g.D.Disk.state c.args.repo, g.D.Disk.state c.ask.result.repo) in
     subst (λ (x : Command). RunsCommand x input out file c.ask.result.status) (sym c.in-Ask.is) (c.ask.ensures (g.S.Source.state c.args.input.now))
 
-pub returns-clause-runs : goal.returns-clause-runs
-returns-clause-runs g c =
+pub returns-in-Serve-clause-runs : goal.returns-in-Serve-clause-runs
+returns-in-Serve-clause-runs g c =
     let input : SourceState × SourceState = (g.S.Source.state c.args.input.now, g.S.Source.state c.args.input.now) in
     let out : SinkState × SinkState = (g.K.Sink.state c.args.out.now, g.K.Sink.state c.say_usage-status.new.out) in
     let file : DiskState × DiskState = (g.D.Disk.state c.args.repo, g.D.Disk.state c.args.repo) in
     subst (λ (x : Command). RunsCommand x input out file c.say_usage-status.result) (sym c.in-Serve.is)
     (serve_run _ _ _ _ (input_of input) (g.D.Disk.state c.args.repo) (λ model f left. g.met.D.Disk.only_now c.args.repo f model left) (output_of out) c.say_usage-status.result
     c.say_usage-status.ensures.status c.say_usage-status.ensures.said)
+
+pub generate-requires : goal.generate-requires
+generate-requires g c = subst IsObeyable c.in-Gen.is c.requires
+
+pub returns-clause-runs : goal.returns-clause-runs
+returns-clause-runs g c =
+    let input : SourceState × SourceState = (g.S.Source.state c.args.input.now, g.S.Source.state c.args.input.now) in
+    let out : SinkState × SinkState = (g.K.Sink.state c.args.out.now, g.K.Sink.state c.print-status-in-Gen.new.out) in
+    let file : DiskState × DiskState = (g.D.Disk.state c.args.repo, g.D.Disk.state c.args.repo) in
+    subst (λ (x : Command). RunsCommand x input out file c.print-status-in-Gen.result) (sym c.in-Gen.is)
+    (written (Some (command_of.Gen c.in-Gen.count c.in-Gen.reversed)) (input_of input) (file_of file) c.made.result (output_of out) c.print-status-in-Gen.result
+    (gen_acted c.in-Gen.count c.in-Gen.reversed (input_of input) (g.D.Disk.state c.args.repo) (λ model f left. g.met.D.Disk.only_now c.args.repo f model left) c.generate.result c.made.result c.generate.ensures c.made.ensures.ok c.made.ensures.err)
+    c.print-status-in-Gen.ensures)
