@@ -212,12 +212,7 @@ fn tell(into: &mut Vec<u8>, text: &[u8]) -> Result<(), Memory> {
 }
 
 /// The tags of an artifact and their values, a line each.
-fn tell_tags(
-    alloc: Global,
-    into: &mut Vec<u8>,
-    tables: &Tables,
-    name: Name,
-) -> Result<(), Memory> {
+fn tell_tags(alloc: Global, into: &mut Vec<u8>, tables: &Tables, name: Name) -> Result<(), Memory> {
     for assertion in tables.tags().in_force(alloc, name)?.items() {
         tell(into, assertion.tag.bytes())?;
         tell(into, assertion.value.bytes())?;
@@ -357,35 +352,60 @@ fn played(alloc: Global, play: &Play) -> Result<Vec<u8>, Memory> {
     }
 }
 
+/// The name of the artifact of a set at a place, if there is one.
+fn name_at(number: u64, place: Option<usize>) -> Option<Name> {
+    match place {
+        Some(place) => name_in(number, place),
+        None => None,
+    }
+}
+
+/// What a set shows in an order, where the code is one of it.
+fn shown_in(
+    alloc: Global,
+    number: u64,
+    code: u64,
+    shunned: Option<usize>,
+    at: u64,
+) -> Result<Option<Vec<u8>>, Memory> {
+    let set = set_of(number);
+    if !is_order(set, code) {
+        return Ok(None);
+    }
+    let play = Play {
+        set,
+        code,
+        shunned: name_at(number, shunned),
+        at,
+        upto: 6,
+    };
+    Ok(Some(played(alloc, &play)?))
+}
+
+/// Counts one for what is shown as it was shown first.
+fn count_alike(first: &mut Vec<u8>, shown: Option<Vec<u8>>) -> u64 {
+    match shown {
+        Some(text) if first.is_empty() => {
+            *first = text;
+            1
+        }
+        Some(text) => u64::from(text.as_slice() == first.as_slice()),
+        None => 0,
+    }
+}
+
 /// How many orders of a set show what the first shows.
 fn orders_alike(
     alloc: Global,
     number: u64,
-    shunned: Option<Name>,
+    shunned: Option<usize>,
     at: u64,
 ) -> Result<u64, Memory> {
-    let set = set_of(number);
     let mut first: Vec<u8> = Vec::new(alloc);
     let mut alike: u64 = 0;
     for code in 0..CODES {
-        if is_order(set, code) {
-            let text = played(
-                alloc,
-                &Play {
-                    set,
-                    code,
-                    shunned,
-                    at,
-                    upto: 6,
-                },
-            )?;
-            if first.is_empty() {
-                first = text;
-                alike = alike.wrapping_add(1);
-            } else if text.as_slice() == first.as_slice() {
-                alike = alike.wrapping_add(1);
-            }
-        }
+        let shown = shown_in(alloc, number, code, shunned, at)?;
+        alike = alike.wrapping_add(count_alike(&mut first, shown));
     }
     Ok(alike)
 }
@@ -394,7 +414,11 @@ fn orders_alike(
 #[test]
 fn orders_show_one(rt: HostRuntime) -> Result<(), Fail> {
     for (number, orders) in [(0, 6), (1, 6), (2, 24), (3, 2), (4, 6), (5, 24), (6, 24)] {
-        assert_eq!(rt; orders_alike(rt.alloc(), number, None, 5)?, orders, "set {number}");
+        assert_eq!(rt;
+            orders_alike(rt.alloc(), number, None, 5)?,
+            orders,
+            "set {number}"
+        );
     }
     Ok(())
 }
@@ -412,9 +436,9 @@ fn name_in(number: u64, place: usize) -> Option<Name> {
 #[test]
 fn orders_with_a_shun_show_one(rt: HostRuntime) -> Result<(), Fail> {
     for at in 0..5 {
-        let tags = orders_alike(rt.alloc(), 2, name_in(2, 3), at)?;
+        let tags = orders_alike(rt.alloc(), 2, Some(3), at)?;
         assert_eq!(rt; tags, 24, "a tag, at {at}");
-        let posts = orders_alike(rt.alloc(), 5, name_in(5, 2), at)?;
+        let posts = orders_alike(rt.alloc(), 5, Some(2), at)?;
         assert_eq!(rt; posts, 24, "a post, at {at}");
     }
     Ok(())
@@ -431,7 +455,10 @@ fn a_branch_is_closed(rt: HostRuntime) -> Result<(), Fail> {
         upto: 6,
     };
     let text = told(rt.alloc(), &play, name_in(0, 0))?;
-    assert_eq!(rt; text.as_slice(), b"branch\nb\nclosed\n\nsym-b\n\n".as_slice());
+    assert_eq!(rt;
+        text.as_slice(),
+        b"branch\nb\nclosed\n\nsym-b\n\n".as_slice()
+    );
     Ok(())
 }
 

@@ -191,11 +191,7 @@ fn print_held<D: Disk>(
 }
 
 /// The wanted, shunned, unclustered and missing names, the leaves and tips, the timeline, a page, its files and a ticket.
-fn print_lists<D: Disk>(
-    alloc: Global,
-    into: &mut Vec<u8>,
-    repo: &Repo<D>,
-) -> Result<(), Memory> {
+fn print_lists<D: Disk>(alloc: Global, into: &mut Vec<u8>, repo: &Repo<D>) -> Result<(), Memory> {
     print_names(into, repo.wants()?.items())?;
     print_names(into, repo.shuns()?.items())?;
     let tables = repo.tables();
