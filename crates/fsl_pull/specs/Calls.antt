@@ -8,7 +8,10 @@ use Rattle.fsl_pull.specs.Clones.{Cloning, IsClone, CloneAsks, CloneRound, Clone
 use Rattle.std.specs.Str.{bytes_eq}
 use Rattle.fsl_outside.specs.Connections.{Connection, LinkState, listed}
 use Rattle.fsl_wire.specs.declared.WireCard.{WireCard}
+use Rattle.fsl_disk.specs.Disk.{DiskState}
 use Rattle.fsl_repo.specs.Machine.{State, Leaves, now}
+use Rattle.fsl_repo.specs.Whole.{Seen, front}
+use Rattle.fsl_pull.specs.Kept.{IsKeptAtAnyMoment}
 use Rattle.fsl_pull.specs.declared.Login.{Login}
 use Rattle.fsl_pull.specs.declared.Pulled.{Pulled}
 use Rattle.fsl_pull.specs.declared.PullFault.{PullFault}
@@ -104,6 +107,10 @@ IsPullCall login old new d IsKept result = IsCall (a_pull login old) old new d I
 
 abbrev pub IsPushCall : Option Login → State → State → Dialled → (List (List Record) → Type 0) → Result Pulled PullFault → Type 0
 IsPushCall login old new d IsKept result = IsCall (a_push login old) old new d IsKept result
+
+-- one call of `pull`, by its dial, its disk and its repository before and after
+abbrev pub IsPulledOver : Option Login → LinkState → LinkState → DiskState → DiskState → Seen → Seen → Result Pulled PullFault → Type 0
+IsPulledOver login d e before after old new result = IsPullCall login old.state new.state (dialled d e) (IsKeptAtAnyMoment (front old.state) before after) result
 
 -- one call of `pull_local`: the peer is what it was
 abbrev pub IsLocalEnd : State → State → State → Option PullFault → Option Pulled → Type 0

@@ -57,7 +57,8 @@ fn take_asked<D: Disk, P: Disk, L: Ledger>(
     asked: &[Name],
     steps: &mut Steps<L>,
 ) -> Result<bool, PullFault>
-    ensures taken { TakesAll repo.old.seen None (map file_card (filter_map (public_file (now peer.old.seen.state)) asked.now)) result repo.new.seen }
+    ensures taken { TakesAll repo.old.seen None
+        (map file_card (filter_map (public_file (now peer.old.seen.state)) asked.now)) result repo.new.seen }
     ensures disk { repo.new.disk ≡ repo.old.disk }
     ensures peer { peer.new ≡ peer.old }
 {
@@ -93,7 +94,8 @@ fn local_round<D: Disk, P: Disk, L: Ledger>(
 ) -> Result<Option<List<Name>>, PullFault>
     requires runs { repo.old.seen.state.stopped ≡ None }
     requires rising { IsStrictlySortedBy bytes_cmp asked.now }
-    ensures step { IsTaken none_missing asked.now (local_reply (now peer.old.seen.state) told.now asked.now) (D.state repo.old.disk) (D.state repo.new.disk) repo.old.seen repo.new.seen (repo.new.disk ≡ repo.old.disk) result }
+    ensures step { IsTaken none_missing asked.now (local_reply (now peer.old.seen.state) told.now asked.now)
+        (D.state repo.old.disk) (D.state repo.new.disk) repo.old.seen repo.new.seen (repo.new.disk ≡ repo.old.disk) result }
     ensures runs { OnOk result (repo.new.seen.state.stopped ≡ None) }
     ensures rising { IfOk result NamesRise }
     ensures later { repo.old.seen.state.faults ≤ repo.new.seen.state.faults }
@@ -155,7 +157,8 @@ pub fn pull_local<D: Disk, P: Disk, L: Ledger>(
     peer: &mut Repo<P>,
     steps: &mut Steps<L>,
 ) -> Result<Pulled, PullFault>
-    ensures pulls { IsPulledFrom (D.state repo.old.disk) (D.state repo.new.disk) repo.old.seen repo.new.seen peer.old.seen peer.new.seen result }
+    ensures pulls { IsPulledFrom (D.state repo.old.disk) (D.state repo.new.disk)
+        repo.old.seen repo.new.seen peer.old.seen peer.new.seen result }
     ensures loaded { repo.new.seen.loaded ≡ repo.old.seen.loaded }
     ensures keeps { Keeps (D.state repo.old.disk) (D.state repo.new.disk) }
     ensures peer { peer.new ≡ peer.old }

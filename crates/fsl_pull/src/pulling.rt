@@ -3,13 +3,11 @@ ghost use Rattle.std.specs.Prelude.{◌≡◌, ◌≤◌, None, IsSome, OnOk, If
 ghost use Rattle.std.specs.List.Sorted.{IsStrictlySortedBy};
 ghost use Rattle.fsl_order.specs.Names.{bytes_cmp};
 ghost use Rattle.fsl_disk.specs.Disk.{Keeps};
-ghost use Rattle.fsl_repo.specs.Whole.{front};
-ghost use Rattle.fsl_pull.specs.Kept.{IsKeptAtAnyMoment};
 ghost use Rattle.fsl_pull.specs.Steps.{step_of, step_answer, Rises, NamesRise};
 ghost use Rattle.fsl_pull.specs.Replies.{announced_in};
 ghost use Rattle.fsl_pull.specs.Pulls.{missing_fault};
 ghost use Rattle.fsl_pull.specs.PullTurns.{IsTaken, IsTurned};
-ghost use Rattle.fsl_pull.specs.Calls.{IsPullCall, dialled};
+ghost use Rattle.fsl_pull.specs.Calls.{IsPulledOver};
 
 use crate::asking::{Unasked, ask};
 use crate::committing::commit;
@@ -66,7 +64,8 @@ fn take_reply<D: Disk, L: Ledger>(
 ) -> Result<Option<List<Name>>, PullFault>
     requires runs { repo.old.seen.state.stopped ≡ None }
     requires rising { IsStrictlySortedBy bytes_cmp asked.now }
-    ensures step { IsTaken missing_fault asked.now cards.now (D.state repo.old.disk) (D.state repo.new.disk) repo.old.seen repo.new.seen (repo.new.disk ≡ repo.old.disk) result }
+    ensures step { IsTaken missing_fault asked.now cards.now
+        (D.state repo.old.disk) (D.state repo.new.disk) repo.old.seen repo.new.seen (repo.new.disk ≡ repo.old.disk) result }
     ensures runs { OnOk result (repo.new.seen.state.stopped ≡ None) }
     ensures rising { IfOk result NamesRise }
     ensures later { repo.old.seen.state.faults ≤ repo.new.seen.state.faults }
@@ -101,7 +100,8 @@ fn pull_round<D: Disk, N: Dial, L: Ledger>(
 ) -> Result<Option<List<Name>>, PullFault>
     requires runs { repo.old.seen.state.stopped ≡ None }
     requires rising { IsStrictlySortedBy bytes_cmp asked.now }
-    ensures round { IsTurned login.now asked.now (N.state dial.old) (N.state dial.new) (D.state repo.old.disk) (D.state repo.new.disk) repo.old.seen repo.new.seen (repo.new.disk ≡ repo.old.disk) result }
+    ensures round { IsTurned login.now asked.now (N.state dial.old) (N.state dial.new)
+        (D.state repo.old.disk) (D.state repo.new.disk) repo.old.seen repo.new.seen (repo.new.disk ≡ repo.old.disk) result }
     ensures runs { OnOk result (repo.new.seen.state.stopped ≡ None) }
     ensures rising { IfOk result NamesRise }
     ensures later { repo.old.seen.state.faults ≤ repo.new.seen.state.faults }
@@ -137,7 +137,8 @@ pub fn pull<D: Disk, N: Dial, L: Ledger>(
     login: &Option<Login>,
     steps: &mut Steps<L>,
 ) -> Result<Pulled, PullFault>
-    ensures pulls { IsPullCall login.now repo.old.seen.state repo.new.seen.state (dialled (N.state dial.old) (N.state dial.new)) (IsKeptAtAnyMoment (front repo.old.seen.state) (D.state repo.old.disk) (D.state repo.new.disk)) result }
+    ensures pulls { IsPulledOver login.now (N.state dial.old) (N.state dial.new)
+        (D.state repo.old.disk) (D.state repo.new.disk) repo.old.seen repo.new.seen result }
     ensures loaded { repo.new.seen.loaded ≡ repo.old.seen.loaded }
     ensures keeps { Keeps (D.state repo.old.disk) (D.state repo.new.disk) }
     // A stopped repository calls no device, nor does a pull whose first request isn't answered.

@@ -64,7 +64,8 @@ pub(crate) fn pull_request(
     config: &Config,
     names: &[Name],
 ) -> Result<Text, Memory>
-    ensures { IfOk result (λ text. text ≡ signed_bytes login.now (message_bytes (card_is.Pull (name_text config.now.server) (name_text config.now.project) ∷ map card_is.Gimme names.now))) }
+    ensures { IfOk result (λ text. text ≡ signed_bytes login.now
+        (message_bytes (card_is.Pull (name_text config.now.server) (name_text config.now.project) ∷ map card_is.Gimme names.now))) }
 {
     let mut message = Text::empty(alloc);
     let server = config.server.text();
