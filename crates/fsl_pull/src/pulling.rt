@@ -141,7 +141,7 @@ pub fn pull<D: Disk, N: Dial, L: Ledger>(
         (D.state repo.old.disk) (D.state repo.new.disk) repo.old.seen repo.new.seen result }
     ensures loaded { repo.new.seen.loaded ≡ repo.old.seen.loaded }
     ensures keeps { Keeps (D.state repo.old.disk) (D.state repo.new.disk) }
-    // A stopped repository calls no device, nor does a pull whose first request isn't answered.
+    // A stopped repository calls no device.
     ensures idle { IsSome repo.old.seen.state.stopped → repo.new.disk ≡ repo.old.disk }
 {
     match repo.stopped() {
