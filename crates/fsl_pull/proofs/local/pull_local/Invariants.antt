@@ -1,0 +1,20 @@
+use Rattle.std.proofs.Common.{◌≡◌, ◌-◌, ℕ, List, None, length}
+use Rattle.std.specs.List.Sorted.{IsStrictlySortedBy}
+use Rattle.fsl_order.specs.Names.{bytes_cmp}
+use Rattle.fsl_repo.specs.Whole.{stored}
+use Rattle.fsl_pull.specs.Calls.{MayBegin}
+use Rattle.fsl_pull.proofs.LocalEnds.{local_pulls_end}
+use Rattle.fsl_pull.proofs.LocalSync.{LocalAt}
+use Rattle.fsl_pull.proofs.local.pull_local.Given as goal
+
+abbrev pub invariant-loop-number : goal.invariant-loop-number
+invariant-loop-number g l = record {
+  at : LocalAt g.D.Disk.state l.initial.peer.seen l.initial.repo.disk l.repo.disk l.initial.repo.seen l.repo.seen l.names l.round;
+  may : MayBegin l.initial.repo.seen.state l.initial.peer.seen.state;
+  runs : l.repo.seen.state.stopped ≡ None;
+  rising : IsStrictlySortedBy bytes_cmp l.names;
+  peer : l.peer ≡ l.initial.peer;
+}
+
+abbrev pub decreases-loop-number : goal.decreases-loop-number
+decreases-loop-number g l = length (local_pulls_end l.initial.repo.seen.state l.initial.peer.seen.state).0 - l.round

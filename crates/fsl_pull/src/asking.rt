@@ -1,0 +1,44 @@
+//! One request and its reply.
+ghost use Rattle.std.specs.Prelude.{◌≤◌, IfOk, IfErr};
+ghost use Rattle.fsl_pull.specs.Asking.{IsAsked, IsUnasked};
+
+use crate::PeerFault;
+use crate::replies::read_body;
+use fsl_http::{ExchangeFault, exchange};
+use fsl_outside::Dial;
+use fsl_wire::Message;
+use std::alloc::Global;
+
+/// Why there is no reply that was read.
+#[derive(Clone, Copy)]
+pub(crate) enum Unasked {
+    /// A call of the dial failed.
+    Link,
+    /// There was no memory for the reply.
+    Memory,
+}
+
+/// Makes one exchange on a connection of its own, and answers the cards of the reply, or the first thing that is wrong
+/// with it.
+pub(crate) fn ask<N: Dial>(
+    alloc: Global,
+    dial: &mut N,
+    request: &[u8],
+) -> Result<Result<Message, PeerFault>, Unasked>
+    ensures asked { IfOk result (IsAsked (N.state dial.old) (N.state dial.new) request.now) }
+    ensures unasked { IfErr result (IsUnasked (N.state dial.old) (N.state dial.new) request.now) }
+    ensures later { (N.state dial.old).faults ≤ (N.state dial.new).faults }
+{
+    match exchange(alloc, dial, request) {
+        Ok(body) => match read_body(alloc, body.bytes()) {
+            Ok(read) => Ok(read),
+            Err(_) => Err(Unasked::Memory),
+        },
+        Err(ExchangeFault::Head) => Ok(Err(PeerFault::Head)),
+        Err(ExchangeFault::Status { found }) => Ok(Err(PeerFault::Http { found })),
+        Err(ExchangeFault::Long { found }) => Ok(Err(PeerFault::Long { found })),
+        Err(ExchangeFault::Short { found }) => Ok(Err(PeerFault::Short { found })),
+        Err(ExchangeFault::Link) => Err(Unasked::Link),
+        Err(ExchangeFault::Memory) => Err(Unasked::Memory),
+    }
+}

@@ -1,0 +1,76 @@
+//! The bodies of requests.
+ghost use Rattle.std.specs.Prelude.{◌≡◌, ◌∷◌, ◌++◌, [], map, IfOk, OnOk};
+ghost use Rattle.fsl_name.specs.Name.{name_text};
+ghost use Rattle.fsl_wire.specs.declared.WireCard.TheVariants as card_is;
+ghost use Rattle.fsl_wire.specs.Writing.{card_bytes, message_bytes};
+ghost use Rattle.fsl_pull.specs.Requests.{signature_of, login_line, signed_bytes};
+
+use crate::Login;
+use fsl_name::Name;
+use fsl_record::Config;
+use fsl_text::{Memory, Text, escape};
+use fsl_wire::{append_gimme, append_line};
+use std::alloc::Global;
+
+/// The signature of a message with this nonce: the name of the nonce and the secret, in digits.
+fn signature(alloc: Global, nonce: &[u8], secret: &[u8]) -> Result<[u8; 40], Memory>
+    ensures { IfOk result (λ digits. digits ≡ signature_of nonce.now secret.now) }
+{
+    let mut signed = Text::of(alloc, nonce)?;
+    signed.append(secret)?;
+    Ok(Name::of(signed.bytes()).text())
+}
+
+/// The line of a login before the rest of its message. Its nonce is the name of that rest, in digits.
+fn login_of(alloc: Global, login: &Login, rest: &[u8]) -> Result<Text, Memory>
+    ensures { IfOk result (λ text. text ≡ login_line login.now rest.now) }
+{
+    let nonce = Name::of(rest).text();
+    let signature = signature(alloc, &nonce, login.secret.bytes())?;
+    let user = escape(alloc, login.user.bytes())?;
+    let mut text = Text::empty(alloc);
+    append_line(&mut text, &[b"login", user.bytes(), &nonce, &signature])?;
+    Ok(text)
+}
+
+/// A message behind the line of a login, where one is given.
+fn signed(alloc: Global, login: &Option<Login>, message: Text) -> Result<Text, Memory>
+    ensures { IfOk result (λ text. text ≡ signed_bytes login.now message) }
+{
+    match login {
+        None => Ok(message),
+        Some(login) => {
+            let mut text = login_of(alloc, login, message.bytes())?;
+            text.append(message.bytes())?;
+            Ok(text)
+        }
+    }
+}
+
+/// Puts a gimme card for each name at the end of a message.
+fn append_gimmes(into: &mut Text, names: &[Name]) -> Result<(), Memory>
+    ensures { OnOk result (into.new ≡ into.old ++ message_bytes (map card_is.Gimme names.now)) }
+{
+    for name in names {
+        append_gimme(into, name)?;
+    }
+    Ok(())
+}
+
+/// The request of a pull: the codes of the repository, and the names that it asks for.
+pub(crate) fn pull_request(
+    alloc: Global,
+    login: &Option<Login>,
+    config: &Config,
+    names: &[Name],
+) -> Result<Text, Memory>
+    ensures { IfOk result (λ text. text ≡ signed_bytes login.now
+        (message_bytes (card_is.Pull (name_text config.now.server) (name_text config.now.project) ∷ map card_is.Gimme names.now))) }
+{
+    let mut message = Text::empty(alloc);
+    let server = config.server.text();
+    let project = config.project.text();
+    append_line(&mut message, &[b"pull", &server, &project])?;
+    append_gimmes(&mut message, names)?;
+    signed(alloc, login, message)
+}
