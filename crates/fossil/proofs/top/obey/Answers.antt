@@ -62,7 +62,7 @@ returns-in-Serve-clause-runs g c =
     c.say_usage-status.ensures.status c.say_usage-status.ensures.said)
 
 pub generate-requires : goal.generate-requires
-generate-requires g c = subst IsObeyable c.in-Gen.is c.requires
+generate-requires g c = let fit = subst IsObeyable c.in-Gen.is c.requires in record { some = fit.0; few = fit.1 }
 
 pub returns-clause-runs : goal.returns-clause-runs
 returns-clause-runs g c =
