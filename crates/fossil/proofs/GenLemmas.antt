@@ -1,17 +1,19 @@
 -- The set that generated artifacts make.
-use Rattle.std.proofs.Common.{◌≡◌, ℕ, Bool, true, false, cond, List, [], ◌∷◌, map, Option, Some, None, refl, sym, ap, subst, ◌∙◌}
+use Rattle.std.proofs.Common.{◌≡◌, ℕ, Bool, true, false, cond, List, [], ◌∷◌, map, Option, Some, None, Result, Ok, Err, IfOk, refl, sym, ap, subst, ◌∙◌}
 use Rattle.std.specs.Prelude.{◌||◌, not, is_some, fold, if◌then◌else◌}
 use Rattle.std.specs.Map.{keys_of, values_of, lookup}
 use Rattle.std.specs.BTreeMap.{insert_entry, is_at}
 use Rattle.std.specs.Ordering.{match_ordering}
 use Rattle.std.specs.declared.cmp.Ordering.TheVariants.{Less, Equal, Greater}
-use Rattle.std.specs.List.{AllByRecursion}
+use Rattle.std.specs.List.{AllByRecursion, AllZip}
+use Rattle.std.proofs.lemmas.List.{nil_from_length}
 use Rattle.std.specs.List.Sorted.{IsStrictlySortedBy}
 use Rattle.std.specs.Cmp.Lexicographic.{texts_ties}
 use Rattle.std.specs.FinMap as map_of
 use Rattle.std.specs.FinSet as set
 use Rattle.fsl_name.specs.Name.{name_of}
 use Rattle.fsl_order.specs.Names.{bytes_cmp, has}
+use Rattle.fsl_text.specs.declared.memory.Memory.{Memory}
 use Rattle.fsl_order.specs.Rows.{by_name}
 use Rattle.fsl_order.proofs.Orders.{bytes_cmp-IsAntisymmetric}
 use Rattle.fsl_record.specs.declared.Record.TheVariants as record_of
@@ -29,7 +31,7 @@ use Rattle.fsl_repo.proofs.ItemLemmas.{same_names}
 use Rattle.fsl_repo.proofs.OneList.{are_one_list}
 use Rattle.fossil.specs.Printed.{Printed}
 use Rattle.fossil.specs.Outcome.{Outcome, without_commit, IsGen}
-use Rattle.fossil.specs.Gen.{public_record, IsSetOf, all_after}
+use Rattle.fossil.specs.Gen.{public_record, IsSummed, IsSetOf, IsTextAdded, all_after, AreTextsAdded}
 
 -- ---- one outcome
 
@@ -125,9 +127,15 @@ note_more x items entries is rise =
 
 -- ---- all texts
 
+no_entries : map_of.entries (map_of.empty {K = List ℕ} {X = Held} {R = bytes_cmp}) ≡ []
+no_entries = nil_from_length (map_of.entries (map_of.empty {K = List ℕ} {X = Held} {R = bytes_cmp})) (sym (map_of.len-entries (map_of.empty {K = List ℕ} {X = Held} {R = bytes_cmp})) ∙ map_of.len-empty bytes_cmp Held)
+
 -- no contents have no items
 pub none_held : IsSetOf nothing []
-none_held = record { held = tt; unshunned = λ name. refl }
+none_held = record {
+  held = subst (λ (es : List (List ℕ × Held)). AllZip IsItemOf es []) (sym no_entries) tt;
+  unshunned = λ name. set.contains-empty bytes_cmp name;
+}
 
 contents_from : (c : Contents) (texts : List (List ℕ)) → all_after c texts ≡ fold after c (map public_record texts)
 contents_from c [] = refl
@@ -135,3 +143,74 @@ contents_from c (text ∷ texts) = contents_from (after c (public_record text)) 
 
 pub all_contents : (texts : List (List ℕ)) → all_after nothing texts ≡ contents (map public_record texts)
 all_contents texts = contents_from nothing texts
+
+-- ---- what the parts of it say
+
+-- whether a name is there, as the notes say
+pub there_is : (name : List ℕ) (items : List Item) (entries : List (List ℕ × Note)) (b : Bool) → entries ≡ map entry_of items → is_some (lookup (is_at (bytes_cmp name)) entries) ≡ b
+    → has (map (λ i. i.name) items) name ≡ b
+there_is name items entries b noted is =
+    sym (noted_has items name) ∙ ap (λ (es : List (List ℕ × Note)). is_some (lookup (is_at (bytes_cmp name)) es)) (sym noted) ∙ is
+
+-- the notes with that of an item more
+pub new_note : (x : Item) (before now : List Item) (note : Note) (old new : List (List ℕ × Note)) → old ≡ map entry_of before → IsStrictlySortedBy bytes_cmp (keys_of old)
+    → note ≡ note_of x.artifact → new ≡ insert_entry bytes_cmp old x.name note → now ≡ with_item x before → new ≡ map entry_of now
+new_note x before now note old new noted rise is put items =
+    put ∙ ap (λ (n : Note). insert_entry bytes_cmp old x.name n) is ∙ note_more x before old noted rise ∙ ap (λ (xs : List Item). map entry_of xs) (sym items)
+
+-- a name that is there leaves the set
+pub old_text : (text name : List ℕ) (before : Seen) → name ≡ name_of text → has (map (λ i. i.name) before.items) name ≡ true → IsTextAdded text before before
+old_text text name before named there = record {
+  set = λ c s. passed_over c before.items text s (ap (λ (q : List ℕ). has (map (λ i. i.name) before.items) q) (sym named) ∙ there);
+  fields = refl;
+}
+
+-- another one goes into it
+pub new_text : (text : List ℕ) (before now : Seen) (item : Item) → has (map (λ i. i.name) before.items) item.name ≡ false → IsItemOf (name_of text, public_held text) item
+    → now.items ≡ with_item item before.items → now.fields ≡ before.fields → IsTextAdded text before now
+new_text text before now item absent fits items fields = record {
+  set = λ c s.
+      subst (λ (xs : List Item). IsSetOf (after c (public_record text)) xs) (sym items)
+      (text_added c before.items text item s (ap (λ (q : List ℕ). has (map (λ i. i.name) before.items) q) (sym fits.name) ∙ absent) fits);
+  fields = fields;
+}
+
+-- what the texts that were passed leave, the others lead to what all leave
+pub record IsOnWay (texts left : List (List ℕ)) (before now : Seen) : Type 0 where
+  pub set : (c : Contents) → IsSetOf c before.items → (d : Contents) × IsSetOf d now.items × (all_after d left ≡ all_after c texts)
+  pub fields : now.fields ≡ before.fields
+
+pub way_begun : (texts left : List (List ℕ)) (before : Seen) → left ≡ texts → IsOnWay texts left before before
+way_begun texts left before same = record { set = λ c s. (c, s, ap (λ (ts : List (List ℕ)). all_after c ts) same); fields = refl }
+
+pub way_on : (texts left rest : List (List ℕ)) (text : List ℕ) (before now later : Seen) → IsOnWay texts left before now → left ≡ text ∷ rest → IsTextAdded text now later
+    → IsOnWay texts rest before later
+way_on texts left rest text before now later way first added = record {
+  set = λ c s.
+      let there = way.set c s in
+      (after there.0 (public_record text), added.set there.0 there.1, ap (λ (ts : List (List ℕ)). all_after there.0 ts) (sym first) ∙ there.2);
+  fields = added.fields ∙ way.fields;
+}
+
+pub way_ended : (texts left : List (List ℕ)) (before now : Seen) → IsOnWay texts left before now → left ≡ [] → AreTextsAdded texts before now
+way_ended texts left before now way ended = record {
+  set = λ c s.
+      let there = way.set c s in
+      subst (λ (d : Contents). IsSetOf d now.items) (ap (λ (ts : List (List ℕ)). all_after there.0 ts) (sym ended) ∙ there.2) there.1;
+  fields = way.fields;
+}
+
+-- the summary of a set that was empty is that of the texts
+pub set_summed : (texts : List (List ℕ)) (before now : Seen) (text : List ℕ) → before.items ≡ [] → before.fields ≡ [] → AreTextsAdded texts before now
+    → text ≡ summary (tables now.fields now.items) now.items → IsSummed texts text
+set_summed texts before now text fresh plain added is =
+    let made = added.set nothing (subst (λ (is : List Item). IsSetOf nothing is) (sym fresh) none_held) in (
+      now.items,
+      subst (λ (c : Contents). AreItems c.held now.items) (all_contents texts) made.held,
+      is ∙ ap (λ (fields : List (List ℕ)). summary (tables fields now.items) now.items) (added.fields ∙ plain),
+    )
+
+pub summed_by : (texts : List (List ℕ)) (before now : Seen) (result : Result (List ℕ) Memory) → before.items ≡ [] → before.fields ≡ [] → AreTextsAdded texts before now
+    → IfOk result (λ text. text ≡ summary (tables now.fields now.items) now.items) → IfOk result (IsSummed texts)
+summed_by texts before now (Ok text) fresh plain added is = set_summed texts before now text fresh plain added is
+summed_by texts before now (Err e) fresh plain added is = tt

@@ -1,5 +1,8 @@
 //! `gen`: the generated artifacts, as a set of their own.
-ghost use Rattle.std.specs.Prelude.{◌≡◌, ◌≤◌, ◌<◌, [], IfOk, OnOk, map};
+ghost use Rattle.std.specs.Prelude.{◌≡◌, ◌≤◌, ◌<◌, false, [], IfOk, OnOk, map};
+ghost use Rattle.std.specs.BTreeMap.{IsOrdered};
+ghost use Rattle.fsl_order.specs.Names.{bytes_cmp, has};
+ghost use Rattle.fsl_name.specs.Name.{name_of};
 ghost use Rattle.fsl_query.specs.Summary.{entry_of, summary};
 ghost use Rattle.fsl_cross.specs.Tables as cross;
 ghost use Rattle.fossil.specs.Gen.{IsTextAdded, AreTextsAdded, IsSummed, IsGenPrinted};
@@ -17,22 +20,23 @@ use std::collections::BTreeMap;
 use std::marker::Brand;
 use std::sync::ledger::{Blank, Ledger};
 
-/// Adds an artifact to the tables of a set, and notes what it is. One whose name is there is passed over.
-fn add_text<L: Ledger>(
+/// Adds an artifact whose name isn't there to the tables of a set, and notes what it is.
+fn add_new<L: Ledger>(
     alloc: Global,
-    text: Text,
+    name: Name,
+    text: &Text,
     tables: &mut Tables,
     notes: &mut BTreeMap<Name, Note>,
     steps: &mut Steps<L>,
 ) -> Result<(), Memory>
-    requires { notes.old.entries ≡ map entry_of tables.old.items }
-    ensures added { OnOk result (IsTextAdded text tables.old tables.new) }
+    requires named { name ≡ name_of text.now }
+    requires absent { has (map (λ i. i.name) tables.old.items) name ≡ false }
+    requires rising { IsOrdered bytes_cmp notes.old }
+    requires noted { notes.old.entries ≡ map entry_of tables.old.items }
+    ensures added { OnOk result (IsTextAdded text.now tables.old tables.new) }
+    ensures rising { OnOk result (IsOrdered bytes_cmp notes.new) }
     ensures noted { OnOk result (notes.new.entries ≡ map entry_of tables.new.items) }
 {
-    let name = Name::of(text.bytes());
-    if notes.contains_key(&name) {
-        return Ok(());
-    }
     let artifact = read_artifact(alloc, text.bytes())?;
     let note = note_of(&artifact);
     let item = Item {
@@ -47,6 +51,27 @@ fn add_text<L: Ledger>(
     Ok(())
 }
 
+/// Adds an artifact to the tables of a set, and notes what it is. One whose name is there is passed over.
+fn add_text<L: Ledger>(
+    alloc: Global,
+    text: &Text,
+    tables: &mut Tables,
+    notes: &mut BTreeMap<Name, Note>,
+    steps: &mut Steps<L>,
+) -> Result<(), Memory>
+    requires rising { IsOrdered bytes_cmp notes.old }
+    requires noted { notes.old.entries ≡ map entry_of tables.old.items }
+    ensures added { OnOk result (IsTextAdded text.now tables.old tables.new) }
+    ensures rising { OnOk result (IsOrdered bytes_cmp notes.new) }
+    ensures noted { OnOk result (notes.new.entries ≡ map entry_of tables.new.items) }
+{
+    let name = Name::of(text.bytes());
+    if notes.contains_key(&name) {
+        return Ok(());
+    }
+    add_new(alloc, name, text, tables, notes, steps)
+}
+
 /// Adds artifacts one after another, with a counter of their own.
 fn add_texts<L: Ledger>(
     alloc: Global,
@@ -58,13 +83,14 @@ fn add_texts<L: Ledger>(
     requires name { blank.name ≡ L.name }
     requires parts { blank.parts ≡ L.parts }
     requires counts { 0 < L.parts }
+    requires rising { IsOrdered bytes_cmp notes.old }
     requires noted { notes.old.entries ≡ map entry_of tables.old.items }
     ensures added { OnOk result (AreTextsAdded texts tables.old tables.new) }
     ensures noted { OnOk result (notes.new.entries ≡ map entry_of tables.new.items) }
 {
     let mut steps: Steps<L> = Steps::new(blank);
     for text in texts.into_vec() {
-        add_text(alloc, text, tables, notes, &mut steps)?;
+        add_text(alloc, &text, tables, notes, &mut steps)?;
     }
     Ok(())
 }
