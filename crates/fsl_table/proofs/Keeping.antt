@@ -1,5 +1,5 @@
 -- What each change of a table's parts keeps, and what it does to the whole.
-use Rattle.std.proofs.Common.{◌≡◌, ℕ, ◌+◌, ◌<◌, ◌≤◌, List, ◌∷◌, length, get_or, set, refl, sym, ap, subst, ◌∙◌, arith, length-set, if◌then◌else◌}
+use Rattle.std.proofs.Common.{◌≡◌, ℕ, ◌+◌, ◌<◌, ◌≤◌, List, [], ◌∷◌, ◌++◌, length, get_or, set, refl, sym, ap, subst, ◌∙◌, arith, length-set, if◌then◌else◌}
 use Rattle.std.specs.declared.option.Option.{Option}
 use Rattle.std.specs.declared.option.Option.TheVariants.{Some, None}
 use Rattle.std.specs.declared.cmp.Ordering.{Ordering}
@@ -11,9 +11,10 @@ use Rattle.std.specs.Map.{lookup, remove_entry, keys_of}
 use Rattle.std.specs.BTreeMap.{is_at, insert_entry}
 use Rattle.fsl_table.specs.Weave.{weave, IsApart, place}
 use Rattle.fsl_table.specs.Kept.{IsKept}
-use Rattle.fsl_table.proofs.Entries.{sorted-insert_entry, sorted-remove_entry, length-remove_entry}
+use Rattle.std.proofs.lemmas.List.{length-append}
+use Rattle.fsl_table.proofs.Entries.{sorted-insert_entry, sorted-remove_entry, length-remove_entry, length-insert_entry}
 use Rattle.fsl_table.proofs.Places.{Stands, place_some, place_none}
-use Rattle.fsl_table.proofs.Weaving.{weave-insert_entry, weave-remove_entry, weave-set_value, weave-remove_waiting, apart-insert_entry, apart-remove_entry, apart-set_value, apart-remove_waiting}
+use Rattle.fsl_table.proofs.Weaving.{weave-insert_entry, weave-remove_entry, weave-set_value, weave-remove_waiting, apart-insert_entry, apart-remove_entry, apart-set_value, apart-remove_waiting, weave-last, absent-last, apart-last}
 
 pub fits_after : {X : Type 0} (before : Option X) (n m l room : ℕ) → m ≡ n + (if is_some before then 0 else 1) → (before ≡ None → n + l < room) → n + l ≤ room → m + l ≤ room
 fits_after None n m l room h free fits = let f = free refl in omega (arith, f)
@@ -75,3 +76,26 @@ module _ {K X : Type 0} {R : K → K → Ordering} (o : IsTotalOrder R) where
 
   pub kept-wait : (e : K × X) (w t : List (K × X)) (room more : ℕ) → lookup (is_at (R e.0)) (weave R w t) ≡ None → length t + length w < more → IsKept R room w t → IsKept R more (e ∷ w) t
   kept-wait e w t room more none h kept = record { fits = omega arith; ordered = kept.ordered; apart = (none, kept.apart) }
+
+  -- the last of what waits, once it is in the tree
+  pub kept-settled : (e : K × X) (w t u : List (K × X)) (room : ℕ) → u ≡ insert_entry R t e.0 e.1 → IsKept R room (w ++ e ∷ []) t → IsKept R room w u
+  kept-settled e w t u room is kept =
+      let absent = absent-last o w e t kept.apart in
+      let longer = length-insert_entry o e.0 e.1 t absent in
+      let count = length-append w (e ∷ []) in
+      let same = ap length is in
+      record {
+        fits = omega (arith, kept.fits, longer, count, same);
+        ordered = subst (λ l. IsStrictlySortedBy R (keys_of l)) (sym is) (sorted-insert_entry o e.0 e.1 t kept.ordered);
+        apart = subst (λ l. IsApart R w l) (sym is) (apart-last o w e t kept.apart);
+      }
+
+  pub weave-settled : (e : K × X) (w t u : List (K × X)) → u ≡ insert_entry R t e.0 e.1 → weave R w u ≡ weave R (w ++ e ∷ []) t
+  weave-settled e w t u is = ap (λ l. weave R w l) is ∙ sym (weave-last o w e t)
+
+  pub count-settled : (e : K × X) (w t u : List (K × X)) (room : ℕ) → u ≡ insert_entry R t e.0 e.1 → IsKept R room (w ++ e ∷ []) t → length u + length w ≡ length t + length (w ++ e ∷ [])
+  count-settled e w t u room is kept =
+      let longer = length-insert_entry o e.0 e.1 t (absent-last o w e t kept.apart) in
+      let count = length-append w (e ∷ []) in
+      let same = ap length is in
+      omega (arith, longer, count, same)

@@ -1,5 +1,5 @@
 -- A tree's entries with those that wait beside it: what each change of either does to the whole.
-use Rattle.std.proofs.Common.{◌≡◌, ℕ, zero, suc, ◌+◌, ◌-◌, ◌<◌, ◌≤◌, Bool, true, false, cond, List, [], ◌∷◌, length, get_or, drop, drop-cons, refl, sym, ap, subst, ◌∙◌, arith}
+use Rattle.std.proofs.Common.{◌≡◌, ℕ, zero, suc, ◌+◌, ◌-◌, ◌<◌, ◌≤◌, Bool, true, false, cond, List, [], ◌∷◌, ◌++◌, length, get_or, drop, drop-cons, refl, sym, ap, subst, ◌∙◌, arith}
 use mathlib.Core.Bool.{true≢false}
 use Rattle.std.specs.declared.option.Option.{Option}
 use Rattle.std.specs.declared.option.Option.TheVariants.{Some, None}
@@ -186,3 +186,16 @@ module _ {K : Type 0} {R : K → K → Ordering} (o : IsTotalOrder R) where
         let l : at - 1 < length es = omega arith in
         let r : best ≡ slice_get (filter (λ f. is_lt (R q f.0)) (weave R (drop (suc (at - 1)) es) tree)) 0 = h ∙ ap (λ n. slice_get (filter (λ f. is_lt (R q f.0)) (weave R (drop n es) tree)) 0) (sym n) in
         ap (λ b. cond b (lower R e best) best) (sym t) ∙ ap (λ r. cond (is_lt (R q e.0)) (lower R e r) r) r ∙ sym (next-weave q es tree (at - 1) e l is (apart-drop es tree (at - 1) apart))
+
+    -- ---- the last of what waits goes into the tree
+    pub weave-last : (es : List (K × X)) (e : K × X) (tree : List (K × X)) → weave R (es ++ e ∷ []) tree ≡ weave R es (insert_entry R tree e.0 e.1)
+    weave-last [] e tree = refl
+    weave-last (f ∷ es) e tree = ap (λ l. insert_entry R l f.0 f.1) (weave-last es e tree)
+
+    pub absent-last : (es : List (K × X)) (e : K × X) (tree : List (K × X)) → IsApart R (es ++ e ∷ []) tree → lookup (is_at (R e.0)) tree ≡ None
+    absent-last [] e tree apart = apart.0
+    absent-last (f ∷ es) e tree apart = absent-last es e tree apart.1
+
+    pub apart-last : (es : List (K × X)) (e : K × X) (tree : List (K × X)) → IsApart R (es ++ e ∷ []) tree → IsApart R es (insert_entry R tree e.0 e.1)
+    apart-last [] e tree apart = tt
+    apart-last (f ∷ es) e tree apart = (ap (lookup (is_at (R f.0))) (sym (weave-last es e tree)) ∙ apart.0, apart-last es e tree apart.1)

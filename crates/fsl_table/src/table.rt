@@ -5,7 +5,7 @@ ghost use Rattle.std.specs.List.Sorted.{IsStrictlySortedBy};
 ghost use Rattle.std.specs.Map.{keys_of};
 ghost use Rattle.fsl_table.specs.Contents.{value_at, with_entry, without_key, entries_after, first_of};
 
-use crate::waiting::{has_room, lower_of, place_of, replace_at};
+use crate::waiting::{has_room, lower_of, place_of, replace_at, settle_last};
 use fsl_text::Steps;
 use std::alloc::Global;
 use std::collections::BTreeMap;
@@ -61,8 +61,43 @@ impl<K: Ord, V> Table<K, V> {
         }
     }
 
+    /// Moves what waits into the tree, where there is memory for it now. What the table is stays the same.
+    fn settle(&mut self)
+    where
+        K: Drop,
+        V: Drop,
+        ensures { self.new ≡ self.old }
+    {
+        settle_last(&mut self.tree, &mut self.waiting);
+    }
+
     /// The pair comes back for want of memory. That isn't so at a key that is there, nor where anything is spare.
     pub fn put<L: Ledger>(
+        &mut self,
+        key: K,
+        value: V,
+        steps: &mut Steps<L>,
+    ) -> Result<Option<V>, (K, V)>
+    where
+        K: Drop,
+        V: Drop,
+        ensures before { IfOk result (λ before. before ≡ value_at K.cmp key self.old.entries) }
+        ensures ok { OnOk result (self.new.entries ≡ with_entry K.cmp key value self.old.entries) }
+        ensures spare_of_new { IfOk result (λ before. IfNone before (self.old.spare ≤ self.new.spare + 1)) }
+        ensures spare_of_old { IfOk result (λ before. IfSome before (λ _. self.new.spare ≡ self.old.spare)) }
+        ensures back { IfErr result (λ pair. pair ≡ (key, value)) }
+        ensures unchanged { OnErr result (self.new ≡ self.old) }
+        ensures none_spare { OnErr result (self.old.spare ≡ 0) }
+        ensures absent { OnErr result (value_at K.cmp key self.old.entries ≡ None) }
+        ensures was_ordered { IsStrictlySortedBy K.cmp (keys_of self.old.entries) }
+        ensures cost { steps.new ≡ steps.old + 1 }
+    {
+        self.settle();
+        self.put_settled(key, value, steps)
+    }
+
+    /// Puts a value without a look at what waits for memory.
+    fn put_settled<L: Ledger>(
         &mut self,
         key: K,
         value: V,

@@ -2,7 +2,8 @@
 ghost use Rattle.std.specs.Prelude.{◌≡◌, ◌+◌, ◌<◌, ◌≤◌, ◌⊎◌, false, length, slice_index_or, slice_set, vec_capacity, vec_len, IsSome, IsTrue, None};
 ghost use Rattle.std.specs.Option.{option_map};
 ghost use Rattle.std.specs.BTreeMap.{btree_map_len, get, is_at};
-ghost use Rattle.fsl_table.specs.Weave.{lower, place};
+ghost use Rattle.fsl_table.specs.Kept.{IsKept};
+ghost use Rattle.fsl_table.specs.Weave.{lower, place, weave};
 
 use std::collections::BTreeMap;
 use std::mem;
@@ -68,4 +69,25 @@ pub(crate) fn has_room<K: Ord, V>(tree: &BTreeMap<K, V>, waiting: &mut Vec<(K, V
         return true;
     }
     waiting.reserve(tree.len() + 1).is_ok()
+}
+
+/// Moves the last entry that waits into the tree, where there is memory for it now. So what waits after memory was refused
+/// goes back, one entry by one, and look-ups among it become short again.
+pub(crate) fn settle_last<K: Ord + Drop, V: Drop>(
+    tree: &mut BTreeMap<K, V>,
+    waiting: &mut Vec<(K, V)>,
+)
+    requires { IsKept K.cmp (vec_capacity waiting.old) waiting.old.items tree.old.entries }
+    ensures kept { IsKept K.cmp (vec_capacity waiting.new) waiting.new.items tree.new.entries }
+    ensures entries { weave K.cmp waiting.new.items tree.new.entries ≡ weave K.cmp waiting.old.items tree.old.entries }
+    ensures len { length tree.new.entries + length waiting.new.items ≡ length tree.old.entries + length waiting.old.items }
+    ensures room { vec_capacity waiting.new ≡ vec_capacity waiting.old }
+{
+    match waiting.pop() {
+        Some((key, value)) => match tree.insert(key, value) {
+            Ok(before) => drop(before),
+            Err(refused) => waiting.push_reserved(refused.value),
+        },
+        None => {}
+    }
 }

@@ -7,8 +7,8 @@ use Rattle.fsl_table.specs.Weave.{place, weave}
 use Rattle.fsl_table.proofs.Places.{place_some}
 use Rattle.fsl_table.proofs.Keeping.{fits_after, kept-set_place, weave-set_place, kept-insert, weave-insert, kept-wait}
 use Rattle.fsl_table.proofs.Weaving.{lookup-waiting, lookup-tree, sorted-weave}
-use Rattle.fsl_table.proofs.table.Table.put.Goals as goal
-use Rattle.fsl_table.proofs.table.Table.put.Goals.{in-Ok-insert, in-Err-insert}
+use Rattle.fsl_table.proofs.table.Table.put_settled.Goals as goal
+use Rattle.fsl_table.proofs.table.Table.put_settled.Goals.{in-Ok-insert, in-Err-insert}
 
 pub replace_at-requires : goal.replace_at-requires
 replace_at-requires g c =
