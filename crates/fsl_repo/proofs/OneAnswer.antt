@@ -1,5 +1,11 @@
 -- A cluster and a build have an answer each, and one at most; and so has each event one.
-use Rattle.std.specs.Prelude.{◌≡◌, ℕ, List, length, Bool, true, false, nat_le, Option, Some, None, Result, Ok, Err, MatchBool, MatchOption}
+use Rattle.std.specs.Str.{bytes_eq}
+use Rattle.std.specs.Option.{option_map_or}
+use Rattle.std.specs.FinMap as map_of
+use Rattle.std.specs.FinSet as set
+use Rattle.fsl_record.specs.declared.Record.TheVariants as record_of
+use Rattle.fsl_blobs.specs.Fold.{Contents, after, held_bytes}
+use Rattle.std.specs.Prelude.{◌≡◌, ℕ, ◌^◌, List, length, Bool, true, false, ◌||◌, nat_lt, nat_le, if◌then◌else◌, Option, Some, None, Result, Ok, Err, MatchBool, MatchOption}
 use Rattle.std.proofs.Common.{refl, sym, ap, subst, ◌∙◌, inl, inr, arith}
 use Rattle.fsl_name.specs.Name.{name_of}
 use Rattle.fsl_cross.specs.declared.Item.{Item}
@@ -12,15 +18,16 @@ use Rattle.fsl_repo.specs.declared.Arrival.TheVariants as arrival
 use Rattle.fsl_repo.specs.declared.Shunning.{Shunning}
 use Rattle.fsl_repo.specs.declared.Shunning.TheVariants as shunning
 use Rattle.fsl_repo.specs.declared.ShunFault.{ShunFault}
+use Rattle.fsl_repo.specs.declared.ShunFault.TheVariants as shun_fault
 use Rattle.fsl_repo.specs.declared.ArriveFault.{ArriveFault}
 use Rattle.fsl_repo.specs.declared.ArriveFault.TheVariants as arrive_fault
 use Rattle.fsl_repo.specs.declared.Clustering.{Clustering}
 use Rattle.fsl_repo.specs.declared.Clustering.TheVariants as clustering
 use Rattle.fsl_repo.specs.declared.Event.TheVariants as event
 use Rattle.fsl_repo.specs.declared.Answer.TheVariants as answer
-use Rattle.fsl_repo.specs.Machine.{State, Leaves, now, AreItems, IsClustering, IsClusteringOf, IsClusterArrival, IsCommit, arrived, announced, announce, shun, shunned, as_clustering, due_cluster, unclustered_names, HasClustering, HasOneClustering}
+use Rattle.fsl_repo.specs.Machine.{State, Leaves, now, AreItems, wants, room, again, IsRoom, IsArrivalOf, IsArrival, IsClustering, IsClusteringOf, IsClusterArrival, IsCommit, arrived, announced, announce, shun, shunned, as_clustering, due_cluster, unclustered_names, HasClustering, HasOneClustering}
 use Rattle.fsl_repo.specs.Replies.{reply_of, HasBuilt, HasOneBuilt}
-use Rattle.fsl_repo.specs.Onward.{HasStep}
+use Rattle.fsl_repo.specs.Onward.{arriving_wants, wants_memory, HasStep}
 use Rattle.fsl_repo.proofs.OneArrival.{one_arrival}
 use Rattle.fsl_repo.proofs.OneList.{are_one_list}
 use Rattle.fsl_repo.proofs.SomeArrival.{some_arrival, some_items}
@@ -111,6 +118,86 @@ clustered_faults s None r due p = of (nat_le (length (unclustered_names p.0)) 10
     of false items q = ap (λ (x : State). x.faults) q.3 ∙ arrived_faults s (name_of (due_cluster items)) (due_cluster items) false q.0
 clustered_faults s (Some n) r due p = ap (λ (x : State). x.faults) p.1
 
+-- ---- and none of these is for want of memory
+
+abbrev Told : Type 0
+Told = Result Arrival ArriveFault
+
+abbrev AreNotWanting : (Told → Type 0) → Type 0
+AreNotWanting P = (a : Told) → P a → arriving_wants a ≡ false
+
+is_not : (r : Told) → arriving_wants r ≡ false → AreNotWanting (λ a. a ≡ r)
+is_not r not a h = ap (λ (a : Told). arriving_wants a) h ∙ not
+
+not_by_test : (t : Bool) (P Q : Told → Type 0) → AreNotWanting P → AreNotWanting Q → AreNotWanting (λ a. MatchBool t (P a) (Q a))
+not_by_test true P Q p q a h = p a h
+not_by_test false P Q p q a h = q a h
+
+not_by_option : {X : Type 0} (o : Option X) (P : Told → Type 0) (Q : X → Told → Type 0) → AreNotWanting P → ((x : X) → AreNotWanting (Q x)) → AreNotWanting (λ a. MatchOption o (P a) (λ x. Q x a))
+not_by_option None P Q p q a h = p a h
+not_by_option (Some x) P Q p q a h = q x a h
+
+full_or_stored : (t : Bool) (bytes count missed : ℕ) → arriving_wants (if t then Err (arrive_fault.Full bytes count missed) else Ok arrival.Stored) ≡ false
+full_or_stored true bytes count missed = refl
+full_or_stored false bytes count missed = refl
+
+not_wanting_room : (c : Contents) → AreNotWanting (IsRoom c)
+not_wanting_room c a h =
+    let bytes = held_bytes c.held in
+    let count = map_of.len c.held in
+    let missed = length (wants c h.0) in
+    is_not (room c h.0) (full_or_stored (nat_lt (2 ^ 30) bytes || nat_lt (2 ^ 20) count || nat_lt (2 ^ 20) missed) bytes count missed) a h.2
+
+not_wanting_of : (c : Contents) (name bytes : List ℕ) (private : Bool) → AreNotWanting (IsArrivalOf c name bytes private)
+not_wanting_of c name bytes private =
+    not_by_test (set.contains c.shunned name) (λ r. r ≡ Ok arrival.Shunned)
+    (λ r. MatchOption (map_of.get c.held name) (IsRoom (after c (record_of.Blob private name bytes)) r) (λ held. r ≡ Ok (again held private)))
+    (is_not (Ok arrival.Shunned) refl)
+    (not_by_option (map_of.get c.held name) (IsRoom (after c (record_of.Blob private name bytes))) (λ held r. r ≡ Ok (again held private))
+    (not_wanting_room (after c (record_of.Blob private name bytes))) (λ held. is_not (Ok (again held private)) refl))
+
+not_wanting : (s : State) (name bytes : List ℕ) (private : Bool) → AreNotWanting (IsArrival s name bytes private)
+not_wanting s name bytes private =
+    not_by_option s.stopped
+    (λ r.
+    MatchBool (nat_lt (2 ^ 24) (length bytes)) (r ≡ Err (arrive_fault.TooLarge (length bytes)))
+    (MatchBool (bytes_eq (name_of bytes) name) (IsArrivalOf (now s) name bytes private r) (r ≡ Err (arrive_fault.NameWrong (name_of bytes)))))
+    (λ faults r. r ≡ Err (arrive_fault.Stopped faults))
+    (not_by_test (nat_lt (2 ^ 24) (length bytes)) (λ r. r ≡ Err (arrive_fault.TooLarge (length bytes)))
+    (λ r. MatchBool (bytes_eq (name_of bytes) name) (IsArrivalOf (now s) name bytes private r) (r ≡ Err (arrive_fault.NameWrong (name_of bytes))))
+    (is_not (Err (arrive_fault.TooLarge (length bytes))) refl)
+    (not_by_test (bytes_eq (name_of bytes) name) (IsArrivalOf (now s) name bytes private) (λ r. r ≡ Err (arrive_fault.NameWrong (name_of bytes)))
+    (not_wanting_of (now s) name bytes private) (is_not (Err (arrive_fault.NameWrong (name_of bytes))) refl)))
+    (λ faults. is_not (Err (arrive_fault.Stopped faults)) refl)
+
+as_wanting : (name : List ℕ) (r : Told) → arriving_wants r ≡ false → arriving_wants (as_clustering name r) ≡ false
+as_wanting name (Ok a) not = refl
+as_wanting name (Err (arrive_fault.Stopped faults)) not = refl
+as_wanting name (Err (arrive_fault.TooLarge size)) not = refl
+as_wanting name (Err (arrive_fault.NameWrong found)) not = refl
+as_wanting name (Err (arrive_fault.Full bytes count missed)) not = refl
+as_wanting name (Err arrive_fault.Memory) not = not
+
+not_clustered : (s : State) (stopped : Option ℕ) (r : Result Clustering ArriveFault) (due : State) → By s stopped r due → arriving_wants r ≡ false
+not_clustered s None r due p = of (nat_le (length (unclustered_names p.0)) 100) p.0 p.2
+  where
+    of : (few : Bool) (items : List Item) → Of s items few r due → arriving_wants r ≡ false
+    of true items q = ap (λ (r : Result Clustering ArriveFault). arriving_wants r) q.0
+    of false items q =
+        ap (λ (r : Result Clustering ArriveFault). arriving_wants r) q.2
+        ∙ as_wanting (name_of (due_cluster items)) q.0 (not_wanting s (name_of (due_cluster items)) (due_cluster items) false q.0 q.1)
+not_clustered s (Some n) r due p = ap (λ (r : Result Clustering ArriveFault). arriving_wants r) p.0
+
+not_shunned : (s : State) (name : List ℕ) → wants_memory (answer.Shun (shun s name)) ≡ false
+not_shunned s name = of s.stopped (set.contains (now s).shunned name) (map_of.contains_key (now s).held name)
+  where
+    of : (stopped : Option ℕ) (shunned held : Bool) →
+        wants_memory (answer.Shun (option_map_or (λ faults. Err (shun_fault.Stopped faults)) stopped (if shunned then Ok shunning.Already else (if held then Ok shunning.Removed else Ok shunning.Listed)))) ≡ false
+    of (Some faults) shunned held = refl
+    of None true held = refl
+    of None false true = refl
+    of None false false = refl
+
 commit_of : (s : State) (stopped : Option ℕ) → (r : Result ℕ CommitFault) × (new : State) × IsCommit stopped s r new
 commit_of s (Some faults) = (Err (commit_fault.Stopped faults), s, (refl, leaves_due s s refl))
 commit_of s None = (Ok (length s.records), record s { committed = length s.records }, inr (refl, refl))
@@ -119,17 +206,17 @@ pub some_step : HasStep
 some_step s (event.Arrive name bytes private) =
     let a = some_arrival s name bytes private in
     let due = arrived s name bytes private a.0 in
-    (answer.Arrive a.0, due, inl (due, (a.1, refl), leaves_due s due (arrived_faults s name bytes private a.0)))
+    (answer.Arrive a.0, due, (inl (due, (a.1, refl), leaves_due s due (arrived_faults s name bytes private a.0)), not_wanting s name bytes private a.0 a.1))
 some_step s (event.Announce name) =
     let due = announced s name (announce s name) in
-    (answer.Announce (Ok (announce s name)), due, inl (due, (refl, refl), leaves_due s due (announced_faults s name (announce s name))))
+    (answer.Announce (Ok (announce s name)), due, (inl (due, (refl, refl), leaves_due s due (announced_faults s name (announce s name))), refl))
 some_step s (event.Shun name) =
     let due = shunned s name (shun s name) in
-    (answer.Shun (shun s name), due, inl (due, (refl, refl), leaves_due s due (shunned_faults s name (shun s name))))
+    (answer.Shun (shun s name), due, (inl (due, (refl, refl), leaves_due s due (shunned_faults s name (shun s name))), not_shunned s name))
 some_step s event.Cluster =
     let told = some_clustering s in
-    (answer.Cluster told.0, told.1, inl (told.1, told.2, leaves_due s told.1 (clustered_faults s s.stopped told.0 told.1 told.2)))
+    (answer.Cluster told.0, told.1, (inl (told.1, told.2, leaves_due s told.1 (clustered_faults s s.stopped told.0 told.1 told.2)), not_clustered s s.stopped told.0 told.1 told.2))
 some_step s (event.Build ask) =
     let built = some_build s ask in
-    (answer.Build built.0, s, inl (s, (built.1, refl), leaves_due s s refl))
-some_step s event.Commit = let told = commit_of s s.stopped in (answer.Commit told.0, told.1, told.2)
+    (answer.Build (Ok (reply_of s (some_items (now s).held).0 ask)), s, (inl (s, (built.1, refl), leaves_due s s refl), refl))
+some_step s event.Commit = let told = commit_of s s.stopped in (answer.Commit told.0, told.1, (told.2, refl))

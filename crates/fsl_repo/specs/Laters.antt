@@ -7,6 +7,7 @@ use Rattle.std.proofs.lemmas.List.Sums.{sum_by-append}
 use Rattle.fsl_record.specs.declared.Record.{Record}
 use Rattle.fsl_record.specs.declared.Record.TheVariants as record_of
 use Rattle.fsl_journal.specs.declared.CommitFault.{CommitFault}
+use Rattle.fsl_journal.specs.Log.{Log}
 use Rattle.fsl_blobs.specs.declared.Known.{Known}
 use Rattle.fsl_blobs.specs.declared.Known.TheVariants as known
 use Rattle.fsl_disk.proofs.Moments.{keeps_on}
@@ -27,8 +28,8 @@ use Rattle.fsl_repo.specs.declared.Answer.{Answer}
 use Rattle.fsl_repo.specs.declared.Answer.TheVariants as answer
 use Rattle.fsl_repo.specs.Machine.{State, IsDueOrMemory, Leaves, now, AreItems, arrived, announced, announce, shun, shunned, IsArrival, IsClusterArrival, IsClusteringOf, IsClustering, IsCommit, unclustered_names, due_cluster}
 use Rattle.fsl_repo.specs.Replies.{IsBuilt}
-use Rattle.fsl_repo.specs.Whole.{Seen, Whole, IsLater, is_blob, blobs, stored}
-use Rattle.fsl_repo.specs.Onward.{Step, MayStep, IsLaterOn, StepsGoOn}
+use Rattle.fsl_repo.specs.Whole.{Seen, Whole, IsLater, is_blob, blobs, stored, log_of}
+use Rattle.fsl_repo.specs.Onward.{Step, DiskStep, MayStep, IsLaterOn, StepsGoOn}
 use Rattle.fsl_name.specs.Name.{name_of}
 
 -- ---- the records go on
@@ -297,6 +298,7 @@ later_self d a = record {
   faults = omega arith;
   stops = λ runs some. absurd (none_of a.seen.state.stopped runs some);
   stays = λ _. refl;
+  still = λ _. refl;
 }
 
 rose_on : (a b c : ℕ) → a ≤ b → Rose b c → Rose a c
@@ -313,6 +315,9 @@ module _ {D : Type 0} (d e f : DiskState) (a b c : Whole D) (p : IsLaterOn d e a
   stays_through : IsSome a.seen.state.stopped → c.seen.state.stopped ≡ a.seen.state.stopped
   stays_through some = q.stays (subst IsSome (sym (p.stays some)) some) ∙ p.stays some
 
+  still_through : IsSome a.seen.state.stopped → c.disk ≡ a.disk
+  still_through some = q.still (subst IsSome (sym (p.stays some)) some) ∙ p.still some
+
   pub later_through : IsLaterOn d f a c
   later_through = record {
     seen = through a.seen b.seen c.seen p.seen q.seen;
@@ -320,7 +325,17 @@ module _ {D : Type 0} (d e f : DiskState) (a b c : Whole D) (p : IsLaterOn d e a
     faults = omega (arith, p.faults, q.faults);
     stops = stops_through b.seen.state.stopped refl;
     stays = stays_through;
+    still = still_through;
   }
+
+-- a repository that is stopped calls no device
+stopped_stays : {same : Type 0} (d e : DiskState) (log : Log) (event : Event) → DiskStep event d e log same → IsSome log.stopped → same
+stopped_stays d e log event.Commit p some = p.1 (inl some)
+stopped_stays d e log (event.Arrive name bytes private) p some = p
+stopped_stays d e log (event.Announce name) p some = p
+stopped_stays d e log (event.Shun name) p some = p
+stopped_stays d e log event.Cluster p some = p
+stopped_stays d e log (event.Build ask) p some = p
 
 pub step_later : {D : Type 0} (d e : DiskState) (a : Whole D) (event : Event) (answer : Answer) (b : Whole D) → MayStep d e a event answer b → IsLaterOn d e a b
 step_later d e a event answer b p =
@@ -332,6 +347,7 @@ step_later d e a event answer b p =
       faults = omega (arith, faults, p.old_whole.faults, p.new_whole.faults);
       stops = λ runs some. subst (λ (n : ℕ). Rose n e.faults) p.old_whole.faults (subst (λ (n : ℕ). Rose a.seen.state.faults n) p.new_whole.faults (stops_go a.seen.state event answer b.seen.state p.step runs some));
       stays = stays_go a.seen.state event answer b.seen.state p.step;
+      still = stopped_stays d e (log_of a) event p.disk;
     }
 
 pub never_falls : {D : Type 0} (d e : DiskState) (a b : Whole D) → IsLaterOn d e a b → stored a.seen ≤ stored b.seen

@@ -1,9 +1,12 @@
 -- The steps of a repository as those of a machine, and what each of them keeps: the records go on, and the state after it is later.
-use Rattle.std.specs.Prelude.{◌≡◌, ◌≤◌, ◌⊎◌, List, ◌++◌, length, IsSome, None}
+use Rattle.std.specs.Prelude.{◌≡◌, ◌≤◌, ◌⊎◌, Bool, true, false, List, ◌++◌, length, IsSome, None, Result, Ok, Err}
 use Rattle.fsl_order.specs.Causes.{Rose}
 use Rattle.fsl_disk.specs.Disk.{DiskState, IsModelled, Keeps, LeavesOnly}
 use Rattle.fsl_record.specs.declared.Record.{Record}
 use Rattle.fsl_journal.specs.Log.{Log, BeforeOrAll}
+use Rattle.fsl_repo.specs.declared.ArriveFault.{ArriveFault}
+use Rattle.fsl_repo.specs.declared.ArriveFault.TheVariants as arrive_fault
+use Rattle.fsl_repo.specs.declared.ShunFault.TheVariants as shun_fault
 use Rattle.fsl_repo.specs.declared.Event.{Event}
 use Rattle.fsl_repo.specs.declared.Event.TheVariants as event
 use Rattle.fsl_repo.specs.declared.Answer.{Answer}
@@ -39,13 +42,14 @@ pub record MayStep {D : Type 0} (before after : DiskState) (old : Whole D) (e : 
   pub disk : DiskStep e before after (log_of old) (new.disk ≡ old.disk)
 
 -- a repository is later than another: its state is, its disk is of the same kind, and the disk's count of faults doesn't fall. It came to stop only where
--- that count rose, and a stopped one stays stopped by the same count
+-- that count rose; a stopped one stays stopped by the same count, and its disk stays as it is
 pub record IsLaterOn {D : Type 0} (before after : DiskState) (old new : Whole D) : Type 0 where
   pub seen : IsLater old.seen new.seen
   pub keeps : Keeps before after
   pub faults : before.faults ≤ after.faults
   pub stops : old.seen.state.stopped ≡ None → IsSome new.seen.state.stopped → Rose before.faults after.faults
   pub stays : IsSome old.seen.state.stopped → new.seen.state.stopped ≡ old.seen.state.stopped
+  pub still : IsSome old.seen.state.stopped → new.disk ≡ old.disk
 
 -- Law. Whatever the event and its answer
 pub record StepsGoOn : Type 0 where
@@ -58,6 +62,20 @@ pub record StepsGoOn : Type 0 where
   pub stops : (old : State) (e : Event) (a : Answer) (new : State) → Step old e a new → old.stopped ≡ None → IsSome new.stopped → Rose old.faults new.faults
   pub stays : (old : State) (e : Event) (a : Answer) (new : State) → Step old e a new → IsSome old.stopped → new.stopped ≡ old.stopped
 
--- Law. Each event has an answer, and a state that it leaves
+-- whether an answer is for want of memory
+abbrev pub arriving_wants : {A : Type 0} → Result A ArriveFault → Bool
+arriving_wants (Ok a) = false
+arriving_wants (Err arrive_fault.Memory) = true
+arriving_wants (Err _) = false
+
+abbrev pub wants_memory : Answer → Bool
+wants_memory (answer.Arrive result) = arriving_wants result
+wants_memory (answer.Announce (Err memory)) = true
+wants_memory (answer.Shun (Err shun_fault.Memory)) = true
+wants_memory (answer.Cluster result) = arriving_wants result
+wants_memory (answer.Build (Err memory)) = true
+wants_memory _ = false
+
+-- Law. Each event has an answer that isn't for want of memory, and a state that it leaves
 abbrev pub HasStep : Type 0
-HasStep = (s : State) (e : Event) → (a : Answer) × (new : State) × Step s e a new
+HasStep = (s : State) (e : Event) → (a : Answer) × (new : State) × Step s e a new × (wants_memory a ≡ false)

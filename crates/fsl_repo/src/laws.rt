@@ -50,7 +50,7 @@ pub fn build_has_one_answer()
     ensures { HasOneBuilt }
 {}
 
-/// A law and no code: each event has an answer and a state that it leaves, at whatever state.
+/// A law and no code: each event has an answer that isn't for want of memory, and a state that it leaves, at whatever state.
 pub fn events_have_answers()
     ensures { HasStep }
 {}
