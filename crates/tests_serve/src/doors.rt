@@ -1,0 +1,44 @@
+// A door that counts how often it lets its connection go.
+use fsl_outside::{Accepted, Door, Failed, Link};
+
+/// Another door, and how often it was left.
+#[derive(Drop)]
+pub struct CountingDoor<D> {
+    pub door: D,
+    pub left: u64,
+}
+
+impl<D: Link> Link for CountingDoor<D> {
+    ghost state = { λ d. D.state d.door };
+
+    fn faults(&self) -> u64 {
+        self.door.faults()
+    }
+
+    fn read(&mut self, into: &mut [u8]) -> Result<usize, Failed> {
+        self.door.read(into)
+    }
+
+    fn write(&mut self, piece: &[u8]) -> Result<usize, Failed> {
+        self.door.write(piece)
+    }
+}
+
+impl<D: Door> Door for CountingDoor<D> {
+    fn accept_faults(&self) -> u64 {
+        self.door.accept_faults()
+    }
+
+    fn closings(&self) -> u64 {
+        self.door.closings()
+    }
+
+    fn accept(&mut self) -> Result<Accepted, Failed> {
+        self.door.accept()
+    }
+
+    fn leave(&mut self) {
+        self.left = self.left.saturating_add(1);
+        self.door.leave();
+    }
+}
