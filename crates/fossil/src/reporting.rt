@@ -17,7 +17,7 @@ use super::load::not_loaded;
 use super::say::made;
 use super::status::DONE;
 use fsl_disk::Disk;
-use fsl_query::{QueryFault, Refused, answer, refusal_text};
+use fsl_query::{QueryFault, Refused, refusal_text};
 use fsl_repo::Repo;
 use fsl_text::{Memory, Text};
 use fsl_words::Question;
@@ -51,7 +51,7 @@ fn report_on<D: Disk>(
     ensures answered { IfOk result (λ a. IsAnswered question.now repo.old.seen.state.records (without_commit a)) }
     ensures same { repo.new ≡ repo.old }
 {
-    let found = answer(alloc, repo, question);
+    let found = fsl_query::report(alloc, repo, question);
     answer_of(alloc, found)
 }
 

@@ -36,7 +36,7 @@ fn ticket_of<D: Disk>(alloc: Global, repo: &Repo<D>, id: Name) -> Result<Text, Q
 /// # Errors
 ///
 /// `Refused` where there is nothing to report; `Memory` for want of memory.
-pub fn answer<D: Disk>(
+pub fn report<D: Disk>(
     alloc: Global,
     repo: &mut Repo<D>,
     question: &Question,

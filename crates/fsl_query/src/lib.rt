@@ -22,7 +22,7 @@ mod timeline;
 mod tip;
 mod wiki;
 
-pub use answering::answer;
+pub use answering::report;
 pub use finding::content;
 use fsl_name::Name;
 use fsl_text::{Memory, Text};
