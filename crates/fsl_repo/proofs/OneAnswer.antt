@@ -206,17 +206,17 @@ pub some_step : HasStep
 some_step s (event.Arrive name bytes private) =
     let a = some_arrival s name bytes private in
     let due = arrived s name bytes private a.0 in
-    (answer.Arrive a.0, due, (inl (due, (a.1, refl), leaves_due s due (arrived_faults s name bytes private a.0)), not_wanting s name bytes private a.0 a.1))
+    (answer.Arrive a.0, due, inl (due, (a.1, refl), leaves_due s due (arrived_faults s name bytes private a.0)), not_wanting s name bytes private a.0 a.1)
 some_step s (event.Announce name) =
     let due = announced s name (announce s name) in
-    (answer.Announce (Ok (announce s name)), due, (inl (due, (refl, refl), leaves_due s due (announced_faults s name (announce s name))), refl))
+    (answer.Announce (Ok (announce s name)), due, inl (due, (refl, refl), leaves_due s due (announced_faults s name (announce s name))), refl)
 some_step s (event.Shun name) =
     let due = shunned s name (shun s name) in
-    (answer.Shun (shun s name), due, (inl (due, (refl, refl), leaves_due s due (shunned_faults s name (shun s name))), not_shunned s name))
+    (answer.Shun (shun s name), due, inl (due, (refl, refl), leaves_due s due (shunned_faults s name (shun s name))), not_shunned s name)
 some_step s event.Cluster =
     let told = some_clustering s in
-    (answer.Cluster told.0, told.1, (inl (told.1, told.2, leaves_due s told.1 (clustered_faults s s.stopped told.0 told.1 told.2)), not_clustered s s.stopped told.0 told.1 told.2))
+    (answer.Cluster told.0, told.1, inl (told.1, told.2, leaves_due s told.1 (clustered_faults s s.stopped told.0 told.1 told.2)), not_clustered s s.stopped told.0 told.1 told.2)
 some_step s (event.Build ask) =
-    let built = some_build s ask in
-    (answer.Build (Ok (reply_of s (some_items (now s).held).0 ask)), s, (inl (s, (built.1, refl), leaves_due s s refl), refl))
-some_step s event.Commit = let told = commit_of s s.stopped in (answer.Commit told.0, told.1, (told.2, refl))
+    let items = some_items (now s).held in
+    (answer.Build (Ok (reply_of s items.0 ask)), s, inl (s, ((items.0, items.1, refl), refl), leaves_due s s refl), refl)
+some_step s event.Commit = let told = commit_of s s.stopped in (answer.Commit told.0, told.1, told.2, refl)

@@ -70,10 +70,10 @@ arriving_wants (Err _) = false
 
 abbrev pub wants_memory : Answer → Bool
 wants_memory (answer.Arrive result) = arriving_wants result
-wants_memory (answer.Announce (Err memory)) = true
+wants_memory (answer.Announce (Err _)) = true
 wants_memory (answer.Shun (Err shun_fault.Memory)) = true
 wants_memory (answer.Cluster result) = arriving_wants result
-wants_memory (answer.Build (Err memory)) = true
+wants_memory (answer.Build (Err _)) = true
 wants_memory _ = false
 
 -- Law. Each event has an answer that isn't for want of memory, and a state that it leaves
