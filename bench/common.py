@@ -2,6 +2,7 @@
 import hashlib
 import json
 import os
+import shutil
 import subprocess
 import sys
 import tempfile
@@ -48,6 +49,45 @@ class Room:
             for piece in pieces:
                 out.write(piece)
         return self.path(name)
+
+
+def below(lines, names):
+    """The crates of these names and all that they stand on."""
+    uses = {line.split(':')[0]: line.split(':')[1].split() for line in lines if ':' in line and not line.startswith('#')}
+    found, more = set(), set(names)
+    while more:
+        found |= more
+        more = {use for name in more for use in uses[name] if use in uses} - found
+    return found
+
+
+def program_over(room, name, uses, sources, words):
+    """A program over crates of the repository, proved and built in a folder of its own, and run once with these words.
+
+    The sources are files by their places in the crate."""
+    repository = room.path('repository')
+    os.makedirs(os.path.join(repository, 'crates'))
+    subprocess.run(['git', 'init', '-q', repository], check=True)
+    shutil.copy(os.path.join(TOP, 'HANDLES'), repository)
+    with open(os.path.join(TOP, 'crates.txt')) as file:
+        lines = file.readlines()
+    crates = below(lines, uses.split())
+    with open(os.path.join(repository, 'crates.txt'), 'w') as out:
+        out.writelines(line for line in lines if line.split(':')[0] in crates)
+        out.write(f'{name}: {uses}\n')
+    for crate in crates:
+        shutil.copytree(os.path.join(TOP, 'crates', crate), os.path.join(repository, 'crates', crate))
+    crate = os.path.join(repository, 'crates', name)
+    for place, text in sources.items():
+        to = os.path.join(crate, place)
+        os.makedirs(os.path.dirname(to), exist_ok=True)
+        with open(to, 'w') as out:
+            out.write(text)
+    print('building the program from its proofs', file=sys.stderr)
+    done = subprocess.run(['rt', 'run', '--', *words], cwd=crate, stdout=subprocess.PIPE, stderr=subprocess.STDOUT)
+    if done.returncode != 0:
+        sys.exit(done.stdout.decode())
+    return os.path.join(crate, 'out', name)
 
 
 def timed(words, stdin=None, check=True):

@@ -40,9 +40,9 @@ fn finish_lines(alloc: Global, lines: &[u8]) -> Result<Text, Memory> {
 
 #[test]
 fn finishes_lines(rt: HostRuntime) -> Result<(), Memory> {
-    for (lines, sealed) in finished() {
+    for (row, (lines, sealed)) in finished().iter().enumerate() {
         let text = finish_lines(rt.alloc(), *lines)?;
-        assert_eq!(rt; text.bytes(), *sealed);
+        assert_eq!(rt; text.bytes(), *sealed, "row {row}");
     }
     Ok(())
 }

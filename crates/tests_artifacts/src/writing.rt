@@ -73,9 +73,9 @@ fn rewritten(alloc: Global, text: &[u8]) -> Result<Text, Memory> {
 
 #[test]
 fn writes_each_kind_in_one_form(rt: HostRuntime) -> Result<(), Memory> {
-    for (text, want) in texts() {
+    for (row, (text, want)) in texts().iter().enumerate() {
         let found = rewritten(rt.alloc(), *text)?;
-        assert_eq!(rt; found.bytes(), *want);
+        assert_eq!(rt; found.bytes(), *want, "row {row}");
     }
     Ok(())
 }

@@ -61,8 +61,8 @@ fn requests() -> &'static [(&'static [u8], u16)] {
 // Where two tests fail, the status is that of the first.
 #[test]
 fn requests_by_their_first_fault(rt: HostRuntime) -> Result<(), Fail> {
-    for (bytes, status) in requests() {
-        assert_eq!(rt; status_of(rt.alloc(), *bytes, &[])?, *status);
+    for (row, (bytes, status)) in requests().iter().enumerate() {
+        assert_eq!(rt; status_of(rt.alloc(), *bytes, &[])?, *status, "row {row}");
     }
     Ok(())
 }
@@ -90,9 +90,9 @@ fn rests() -> &'static [(&'static [u8], u16)] {
 // Each is the rest of a head that is good so far, and what stands behind it.
 #[test]
 fn requests_by_their_length(rt: HostRuntime) -> Result<(), Fail> {
-    for (rest, status) in rests() {
+    for (row, (rest, status)) in rests().iter().enumerate() {
         let bytes = post(rt.alloc(), *rest)?;
-        assert_eq!(rt; status_of(rt.alloc(), &bytes, &[])?, *status);
+        assert_eq!(rt; status_of(rt.alloc(), &bytes, &[])?, *status, "row {row}");
     }
     Ok(())
 }
@@ -121,8 +121,8 @@ fn heads_at_their_limits(rt: HostRuntime) -> Result<(), Fail> {
     ];
     for (size, fields, status) in table {
         let bytes = padded(rt.alloc(), size, fields)?;
-        assert_eq!(rt; bytes.len(), size + 3);
-        assert_eq!(rt; status_of(rt.alloc(), &bytes, &[])?, status);
+        assert_eq!(rt; bytes.len(), size + 3, "{size} bytes");
+        assert_eq!(rt; status_of(rt.alloc(), &bytes, &[])?, status, "{size} bytes");
     }
     Ok(())
 }
@@ -243,12 +243,20 @@ fn replies() -> &'static [(&'static [u8], u64, u64)] {
 
 #[test]
 fn exchanges_by_their_reply(rt: HostRuntime) -> Result<(), Fail> {
-    for (bytes, kind, found) in replies() {
-        assert_eq!(rt; exchanged(rt.alloc(), *bytes, &[])?, (*kind, *found));
+    for (row, (bytes, kind, found)) in replies().iter().enumerate() {
+        assert_eq!(rt;
+            exchanged(rt.alloc(), *bytes, &[])?,
+            (*kind, *found),
+            "row {row}"
+        );
     }
     // One call begins the connection, four write the request, and one reads the reply.
     for call in [1u64, 2, 6] {
-        assert_eq!(rt; exchanged(rt.alloc(), GOOD, &[call])?, (1, 1));
+        assert_eq!(rt;
+            exchanged(rt.alloc(), GOOD, &[call])?,
+            (1, 1),
+            "call {call}"
+        );
     }
     assert_eq!(rt; exchanged(rt.alloc(), GOOD, &[7])?, (0, 3));
     Ok(())

@@ -148,7 +148,7 @@ fn crashes_leave_none_or_all(rt: HostRuntime) -> Result<(), Fail> {
         let (done, (none, all)) = crashed_after(rt.alloc(), calls)?;
         assert_eq!(rt; done, calls == 9, "after {calls} calls");
         assert_eq!(rt; none.saturating_add(all), 16, "after {calls} calls");
-        assert!(rt; !done || none == 0);
+        assert!(rt; !done || none == 0, "after {calls} calls");
     }
     Ok(())
 }

@@ -32,18 +32,23 @@ const ARTIFACTS: [&[u8]; 14] = [
 ];
 
 /// They stand behind a call without a contract, which keeps them out of the proof.
-fn artifacts() -> &'static [&'static [u8]] {
+pub(crate) fn artifacts() -> &'static [&'static [u8]] {
     &ARTIFACTS
 }
 
 /// Numbers that look random, and are the same in each run.
 #[derive(Drop)]
-struct Dice {
+pub(crate) struct Dice {
     state: u64,
 }
 
 impl Dice {
-    fn roll(&mut self) -> u8 {
+    /// Dice whose numbers follow from this one.
+    pub(crate) fn of(state: u64) -> Dice {
+        Dice { state }
+    }
+
+    pub(crate) fn roll(&mut self) -> u8 {
         self.state = self
             .state
             .wrapping_mul(6_364_136_223_846_793_005)
@@ -133,7 +138,7 @@ enum Back {
 }
 
 /// What a disk shows that is loaded.
-fn shown_by(alloc: Global, disk: MemoryDisk) -> Result<Vec<u8>, Memory> {
+pub(crate) fn shown_by(alloc: Global, disk: MemoryDisk) -> Result<Vec<u8>, Memory> {
     match Repo::load(alloc, disk) {
         Ok(repo) => {
             let shown = printed(alloc, &repo);

@@ -4,6 +4,8 @@
 #[cfg(test)]
 mod answers;
 #[cfg(test)]
+mod crashes;
+#[cfg(test)]
 mod histories;
 #[cfg(test)]
 mod many;
@@ -13,5 +15,7 @@ mod orders;
 mod printing;
 #[cfg(test)]
 mod repo;
+#[cfg(test)]
+mod shuffled;
 #[cfg(test)]
 mod steps;

@@ -35,8 +35,8 @@ fn refuses_by_the_first_card(rt: HostRuntime) {
             None,
         ),
     ];
-    for (bytes, want) in rows {
-        assert!(rt; refused(rt.alloc(), bytes) == want);
+    for (row, (bytes, want)) in rows.into_iter().enumerate() {
+        assert!(rt; refused(rt.alloc(), bytes) == want, "row {row}");
     }
 }
 

@@ -63,9 +63,12 @@ fn grants_what_logins_prove(rt: HostRuntime) {
             Err(LoginFault::Signature { line: 2 }),
         ),
     ];
-    for (bytes, want) in rows {
-        assert!(rt; granted_whole(rt.alloc(), bytes) == Some(want));
-        assert!(rt; granted_in_turn(rt.alloc(), bytes) == Some(want));
+    for (row, (bytes, want)) in rows.into_iter().enumerate() {
+        assert!(rt; granted_whole(rt.alloc(), bytes) == Some(want), "row {row}");
+        assert!(rt;
+            granted_in_turn(rt.alloc(), bytes) == Some(want),
+            "row {row}"
+        );
     }
 }
 
@@ -101,7 +104,7 @@ fn tells_the_first_bad_line_of_a_users_file(rt: HostRuntime) {
         (b"a o s\nb i\n", Some(2)),
         (b"a o s\n\na i t", Some(3)),
     ];
-    for (bytes, want) in rows {
-        assert!(rt; first_bad_line(rt.alloc(), bytes) == want);
+    for (row, (bytes, want)) in rows.into_iter().enumerate() {
+        assert!(rt; first_bad_line(rt.alloc(), bytes) == want, "row {row}");
     }
 }

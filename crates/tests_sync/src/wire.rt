@@ -107,8 +107,8 @@ fn tells_the_first_line_that_does_not_read(rt: HostRuntime) {
         ),
         (b"file abc 3 4\n", WireFault::Args { line: 1 }),
     ];
-    for (bytes, fault) in rows {
-        assert!(rt; has_fault(rt.alloc(), bytes, fault));
+    for (row, (bytes, fault)) in rows.into_iter().enumerate() {
+        assert!(rt; has_fault(rt.alloc(), bytes, fault), "row {row}");
     }
 }
 
