@@ -87,7 +87,7 @@ fn holds_abc(state: &State<MemoryDisk>) -> bool {
 }
 
 /// Serves a new repository, where the words ask for as many workers as there are crews.
-fn seen<R: Threads + Wait + Sync>(
+fn serve_new<R: Threads + Wait + Sync>(
     rt: &R,
     alloc: Global,
     crews: Vec<TurnCrew>,
@@ -142,7 +142,7 @@ fn serves_two_at_once_and_lets_each_connection_go(rt: HostRuntime) -> Result<(),
         },
     )?;
     let mut out = MemorySink::new(alloc, Vec::new(alloc));
-    let seen = seen(&rt, alloc, crews(alloc, &signals)?, &mut out)?.ok_or("other words")?;
+    let seen = serve_new(&rt, alloc, crews(alloc, &signals)?, &mut out)?.ok_or("other words")?;
     assert_eq!(rt; seen.status, 0);
     assert!(rt; out.taken() == b"sessions 2\nstored 1\n".as_slice());
     assert!(rt; seen.holds_abc);
