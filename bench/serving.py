@@ -75,6 +75,8 @@ def replied(port, sent, patience=0, is_all=False):
 def body_of(reply):
     """The message of a reply, or None where it isn't one, or isn't whole."""
     head, found, body = reply.partition(b'\r\n\r\n')
+    if not found:
+        return None
     lines = head.split(b'\r\n')
     lengths = [int(line.split(b':')[1]) for line in lines if line.lower().startswith(b'content-length:')]
-    return body if found and b' 200 ' in lines[0] + b' ' and lengths == [len(body)] else None
+    return body if b' 200 ' in lines[0] + b' ' and lengths == [len(body)] else None
