@@ -19,6 +19,11 @@ pub mod CommitLemmas
 pub mod PullTaken
 pub mod TurnLemmas
 pub mod PullRuns
+pub mod SentLemmas
+pub mod RequestLemmas
+pub mod PushTaken
+pub mod PushTurnLemmas
+pub mod PushRuns
 pub mod LocalTaken
 pub mod LocalSync
 pub mod LocalMore

@@ -33,16 +33,16 @@ use Rattle.fsl_pull.proofs.CommitLemmas.{stored_more, carried, kept, uncommitted
 abbrev Names : Type 0
 Names = List (List ℕ)
 
-abbrev ok_unit : Result (Unit {0}) CommitFault
+abbrev pub ok_unit : Result (Unit {0}) CommitFault
 ok_unit = Ok tt
 
-abbrev err_unit : CommitFault → Result (Unit {0}) CommitFault
+abbrev pub err_unit : CommitFault → Result (Unit {0}) CommitFault
 err_unit e = Err e
 
-no_fault : ok_unit ≡ Err commit_fault.Disk → ⊥
+pub no_fault : ok_unit ≡ Err commit_fault.Disk → ⊥
 no_fault e = cc
 
-no_ok : (e : CommitFault) → err_unit e ≡ Ok tt → ⊥
+pub no_ok : (e : CommitFault) → err_unit e ≡ Ok tt → ⊥
 no_ok e is = cc
 
 within : (s : Seen) → IsWhole s → s.loaded ≤ length s.state.records

@@ -112,6 +112,10 @@ IsPushCall login old new d IsKept result = IsCall (a_push login old) old new d I
 abbrev pub IsPulledOver : Option Login → LinkState → LinkState → DiskState → DiskState → Seen → Seen → Result Pulled PullFault → Type 0
 IsPulledOver login d e before after old new result = IsPullCall login old.state new.state (dialled d e) (IsKeptAtAnyMoment (front old.state) before after) result
 
+-- one call of `push`, by the same
+abbrev pub IsPushedOver : Option Login → LinkState → LinkState → DiskState → DiskState → Seen → Seen → Result Pulled PullFault → Type 0
+IsPushedOver login d e before after old new result = IsPushCall login old.state new.state (dialled d e) (IsKeptAtAnyMoment (front old.state) before after) result
+
 -- one call of `pull_local`: the peer is what it was
 abbrev pub IsLocalEnd : State → State → State → Option PullFault → Option Pulled → Type 0
 IsLocalEnd old peer new why pulled =

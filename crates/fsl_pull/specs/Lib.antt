@@ -15,4 +15,6 @@ pub mod Asking
 pub mod Turns
 pub mod Steps
 pub mod PullTurns
+pub mod Sent
+pub mod PushTurns
 pub mod LocalTurns

@@ -1,18 +1,22 @@
 //! The client of a sync. A sync is a list of rounds: a request goes out, a reply comes in, its files arrive in the
-//! repository, and one commit follows. [`pull`] asks for names until no file comes and none is new.
+//! repository, and one commit follows. [`pull`] asks for names until no file comes and none is new. [`push`] announces names
+//! and sends the files that are asked for.
 //!
 //! Each round over a network has a connection of its own. The contract of a call says which rounds the connections of its
 //! dial are, what each of them asks, and that the answer is the one that these replies come to.
 #![tactic(auto)]
 
 mod asking;
+mod choosing;
 mod committing;
 mod laws;
 mod local;
 mod next;
 mod pulling;
+mod pushing;
 mod replies;
 mod requests;
+mod sent;
 mod taking;
 
 use fsl_name::Name;
@@ -23,6 +27,7 @@ pub use laws::{
 };
 pub use local::pull_local;
 pub use pulling::pull;
+pub use pushing::push;
 
 /// Who asks.
 #[derive(Debug, Drop)]

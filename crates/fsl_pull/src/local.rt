@@ -1,5 +1,5 @@
 //! A pull from another repository.
-ghost use Rattle.std.specs.Prelude.{◌≡◌, ◌≤◌, ◌++◌, None, OnOk, IfOk, map, filter_map};
+ghost use Rattle.std.specs.Prelude.{◌≡◌, ◌≤◌, ◌++◌, None, IsSome, OnOk, IfOk, map, filter_map};
 ghost use Rattle.std.specs.List.Sorted.{IsStrictlySortedBy};
 ghost use Rattle.fsl_order.specs.Names.{bytes_cmp};
 ghost use Rattle.fsl_disk.specs.Disk.{Keeps};
@@ -161,6 +161,8 @@ pub fn pull_local<D: Disk, P: Disk, L: Ledger>(
         repo.old.seen repo.new.seen peer.old.seen peer.new.seen result }
     ensures loaded { repo.new.seen.loaded ≡ repo.old.seen.loaded }
     ensures keeps { Keeps (D.state repo.old.disk) (D.state repo.new.disk) }
+    // A stopped repository calls no device.
+    ensures idle { IsSome repo.old.seen.state.stopped → repo.new.disk ≡ repo.old.disk }
     ensures peer { peer.new ≡ peer.old }
 {
     match other_project(repo, peer) {

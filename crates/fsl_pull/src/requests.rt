@@ -1,15 +1,20 @@
 //! The bodies of requests.
-ghost use Rattle.std.specs.Prelude.{◌≡◌, ◌∷◌, ◌++◌, [], map, IfOk, OnOk};
+ghost use Rattle.std.specs.Prelude.{◌≡◌, ◌∷◌, ◌++◌, [], map, filter_map, option_to_list, IfOk, OnOk};
 ghost use Rattle.fsl_name.specs.Name.{name_text};
 ghost use Rattle.fsl_wire.specs.declared.WireCard.TheVariants as card_is;
 ghost use Rattle.fsl_wire.specs.Writing.{card_bytes, message_bytes};
-ghost use Rattle.fsl_pull.specs.Requests.{signature_of, login_line, signed_bytes};
+ghost use Rattle.fsl_repo.specs.Machine.{now};
+ghost use Rattle.fsl_pull.specs.Requests.{signature_of, login_line, signed_bytes, request_bytes, push_cards, igot_card, file_card};
+ghost use Rattle.fsl_pull.specs.Pushes.{public_file};
 
 use crate::Login;
+use fsl_blobs::BlobState;
+use fsl_disk::Disk;
 use fsl_name::Name;
 use fsl_record::Config;
+use fsl_repo::Repo;
 use fsl_text::{Memory, Text, escape};
-use fsl_wire::{append_gimme, append_line};
+use fsl_wire::{append_file, append_gimme, append_igot, append_line};
 use std::alloc::Global;
 
 /// The signature of a message with this nonce: the name of the nonce and the secret, in digits.
@@ -72,5 +77,73 @@ pub(crate) fn pull_request(
     let project = config.project.text();
     append_line(&mut message, &[b"pull", &server, &project])?;
     append_gimmes(&mut message, names)?;
+    signed(alloc, login, message)
+}
+
+/// Puts an igot card for each public name at the end of a message.
+fn append_igots(into: &mut Text, names: &[Name]) -> Result<(), Memory>
+    ensures { OnOk result (into.new ≡ into.old ++ message_bytes (map igot_card names.now)) }
+{
+    for name in names {
+        append_igot(into, name, false)?;
+    }
+    Ok(())
+}
+
+/// The front of a push: the codes of the repository, and the names that it announces.
+fn push_front(alloc: Global, config: &Config, names: &[Name]) -> Result<Text, Memory>
+    ensures { IfOk result (λ text. text ≡
+        message_bytes (card_is.Push (name_text config.now.server) (name_text config.now.project) ∷ map igot_card names.now)) }
+{
+    let mut message = Text::empty(alloc);
+    let server = config.server.text();
+    let project = config.project.text();
+    append_line(&mut message, &[b"push", &server, &project])?;
+    append_igots(&mut message, names)?;
+    Ok(message)
+}
+
+/// Puts the file of a name at the end of a message, where it is held as public.
+fn append_public<D: Disk>(into: &mut Text, repo: &mut Repo<D>, name: Name) -> Result<(), Memory>
+    ensures file { OnOk result (into.new ≡ into.old
+        ++ message_bytes (map file_card (option_to_list (public_file (now repo.old.seen.state) name)))) }
+    ensures repo { repo.new ≡ repo.old }
+{
+    match repo.state(name) {
+        BlobState::Public { .. } => {}
+        _ => return Ok(()),
+    }
+    match repo.content(name) {
+        Ok(bytes) => append_file(into, &name, bytes.bytes()),
+        Err(_) => Err(Memory),
+    }
+}
+
+/// Puts the files of those of some names that are held as public at the end of a message.
+fn append_files<D: Disk>(into: &mut Text, repo: &mut Repo<D>, names: &[Name]) -> Result<(), Memory>
+    ensures files { OnOk result (into.new ≡ into.old
+        ++ message_bytes (map file_card (filter_map (public_file (now repo.old.seen.state)) names.now))) }
+    ensures repo { repo.new ≡ repo.old }
+{
+    for name in names {
+        append_public(into, repo, *name)?;
+    }
+    Ok(())
+}
+
+/// The request of a push: the codes of the repository, the names that it announces, and the files of names that it sends.
+pub(crate) fn push_request<D: Disk>(
+    alloc: Global,
+    login: &Option<Login>,
+    repo: &mut Repo<D>,
+    names: &[Name],
+    due: &[Name],
+) -> Result<Text, Memory>
+    ensures request { IfOk result (λ text. text ≡ request_bytes login.now
+        (push_cards (now repo.old.seen.state) names.now (filter_map (public_file (now repo.old.seen.state)) due.now))) }
+    ensures repo { repo.new ≡ repo.old }
+{
+    let mut message = push_front(alloc, repo.config(), names)?;
+    append_files(&mut message, repo, due)?;
     signed(alloc, login, message)
 }
