@@ -1,13 +1,13 @@
 -- Cards with the tails that the bytes behind the lines of logins have.
 use Rattle.std.proofs.Common.{◌≡◌, ℕ, zero, suc, ◌+◌, ◌<◌, ◌≤◌, Bool, true, false, if◌then◌else◌, Result, Ok, Err, OnOk, List, [], ◌∷◌, ◌++◌, length, drop, refl, ap, sym, ◌∙◌, arith}
-use Rattle.std.specs.Prelude.{slice_set, slice_index_or}
+use Rattle.std.specs.Prelude.{slice_set, slice_index_or, map}
 use Rattle.std.specs.Borrow.{Bor}
 use mir.Val.{bool_byte}
 use Rattle.std.proofs.lemmas.List.{drop-drop, length-append}
 use Rattle.std.proofs.Common.{append-nil}
 use Rattle.fsl_wire.specs.declared.WireCard.{WireCard}
 use Rattle.fsl_wire.specs.declared.WireCard.TheVariants.{Login, Push, Pull, Clone, CloneSeqno, File, Private, Igot, Gimme, Error, Message, SendPrivate}
-use Rattle.fsl_wire.specs.Drafts.{with_tail, with_tails, drafted, is_login, login_count, logins_of, first_bytes}
+use Rattle.fsl_wire.specs.Drafts.{with_tail, with_tails, drafted, is_login, login_count, logins_of, first_bytes, bare}
 
 -- one more card, with the bytes behind it where it is a login
 tails_more : (cards : List WireCard) (behind more : List (Bor (List ℕ))) (c : WireCard) → length behind ≡ logins_of cards
@@ -135,3 +135,32 @@ settled_next n place h more cards behind shown old new bytes login message p lt 
     let count : more ≡ login_count (slice_index_or cards n old) = m ∙ ap bool_byte l ∙ one_login old ∙ ap login_count here in
     let next : n + 1 ≡ suc n = omega arith in
     (λ i. drafted (slice_set cards (p i) (card i)) behind (next i) (h + count i)) ∙ one_settled n cards behind h old lt ∙ e
+
+-- a tail that a card was given makes no difference to it when it is bare
+bare_tail : (b : List ℕ) (c : WireCard) → with_tail [] c ≡ bare (with_tail b c)
+bare_tail b (Login u n s t l) = refl
+bare_tail b (Push s p) = refl
+bare_tail b (Pull s p) = refl
+bare_tail b (Clone f) = refl
+bare_tail b (CloneSeqno n) = refl
+bare_tail b (File n c) = refl
+bare_tail b Private = refl
+bare_tail b (Igot n p) = refl
+bare_tail b (Gimme n) = refl
+bare_tail b (Error t) = refl
+bare_tail b (Message t) = refl
+bare_tail b SendPrivate = refl
+
+abbrev nothing : List (Bor (List ℕ))
+nothing = []
+
+no_bytes : (n : ℕ) → drop n nothing ≡ nothing
+no_bytes zero = refl
+no_bytes (suc n) = refl
+
+-- cards with no bytes behind their logins are bare
+pub bare_tails : (cards : List WireCard) (behind : List (Bor (List ℕ))) → with_tails cards [] ≡ map bare (with_tails cards behind)
+bare_tails [] behind = refl
+bare_tails (c ∷ cards) behind =
+    (λ i. bare_tail (first_bytes behind) c i ∷ with_tails cards (no_bytes (login_count c) i))
+    ∙ ap (λ (w : List WireCard). bare (with_tail (first_bytes behind) c) ∷ w) (bare_tails cards (drop (login_count c) behind))

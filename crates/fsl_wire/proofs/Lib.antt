@@ -7,3 +7,4 @@ mod ReadLemmas
 mod CountLemmas
 mod WriteLemmas
 mod DraftLemmas
+pub mod BareLemmas

@@ -1,9 +1,10 @@
 -- Messages that were read, whose logins wait for their tails.
-use Rattle.std.specs.Prelude.{ℕ, ◌+◌, Bool, true, false, List, [], ◌∷◌, ◌++◌, take, drop, if◌then◌else◌}
+use Rattle.std.specs.Prelude.{◌≡◌, ℕ, ◌+◌, Bool, true, false, List, [], ◌∷◌, ◌++◌, map, take, drop, if◌then◌else◌}
 use Rattle.std.specs.Borrow.{Bor}
 use Rattle.fsl_name.specs.Name.{name_of}
 use Rattle.fsl_wire.specs.declared.WireCard.{WireCard}
 use Rattle.fsl_wire.specs.declared.WireCard.TheVariants.{Login}
+use Rattle.fsl_wire.specs.Messages.{IsMessage}
 
 -- a message that was read, and how many of its first cards have their tails
 pub record Drafted : Type 0 where
@@ -41,3 +42,13 @@ with_tails (card ∷ cards) behind = with_tail (first_bytes behind) card ∷ wit
 -- the message of cards, of which the first n, so many of them logins, have their tails
 abbrev pub drafted : List WireCard → List (Bor (List ℕ)) → ℕ → ℕ → List WireCard
 drafted cards behind n logins = take n cards ++ with_tails (drop n cards) (drop logins behind)
+
+-- ---- messages whose logins nobody looks at
+
+-- the card without what a reader hashed for it: a login has the tail of no bytes, and every other card is as it was
+abbrev pub bare : WireCard → WireCard
+bare card = with_tail [] card
+
+-- these are the cards of the message, bare
+abbrev pub IsBareMessage : List ℕ → List WireCard → Type 0
+IsBareMessage bytes cards = (whole : List WireCard) × IsMessage bytes whole × (cards ≡ map bare whole)

@@ -2,7 +2,8 @@
 //!
 //! `read` reads the cards of a message, or tells the first line that doesn't read and why. `write` writes a message
 //! that reads back, and `line_of` tells on which line a card stands. Each reads its bytes once from front to back. A `Draft`
-//! is a message that was read without the tails of its logins, which are made one by one as they are asked for.
+//! is a message that was read without the tails of its logins, which are made one by one as they are asked for, and
+//! `read_bare` reads for those who look at no login.
 #![tactic(auto)]
 
 ghost use Rattle.std.specs.Prelude.{◌≡◌};
@@ -27,7 +28,7 @@ use fsl_name::Name;
 use fsl_text::{List, Text};
 pub use laws::{reads_back, reads_one_way};
 pub use places::line_of;
-pub use reading::read;
+pub use reading::{read, read_bare};
 use std::marker::Model;
 pub use tokens::first_token;
 pub use writing::{

@@ -2,7 +2,7 @@
 ghost use Rattle.std.specs.Prelude.{◌≡◌, [], IfOk, IfErr, OnOk};
 ghost use Rattle.fsl_wire.specs.declared.WireFault.TheVariants as wire_fault;
 ghost use Rattle.fsl_wire.specs.Messages.{IsMessage, IsReadFault};
-ghost use Rattle.fsl_wire.specs.Drafts.{with_tails};
+ghost use Rattle.fsl_wire.specs.Drafts.{with_tails, IsBareMessage};
 
 use super::cards::add_card;
 use super::drafts::Draft;
@@ -92,4 +92,20 @@ pub fn read(alloc: Global, bytes: &[u8]) -> Result<Message, WireFault>
     ensures fault { IfErr result (IsReadFault bytes.now) }
 {
     Ok(Draft::read(alloc, bytes)?.into_message())
+}
+
+/// Reads the cards of a message, as [`read`], for those who look at no login: each has the tail of no bytes, and nothing
+/// behind its line is hashed, so that many logins cost no more than other cards.
+///
+/// # Errors
+///
+/// The fault of the first line that doesn't read, or `Memory`.
+pub fn read_bare(alloc: Global, bytes: &[u8]) -> Result<Message, WireFault>
+    ensures message { IfOk result (IsBareMessage bytes.now) }
+    ensures fault { IfErr result (IsReadFault bytes.now) }
+{
+    let mut cards = Vec::new(alloc);
+    let mut behinds = Vec::new(alloc);
+    read_cards(alloc, bytes, &mut cards, &mut behinds)?;
+    Ok(Draft::of(cards, Vec::new(alloc)).into_message())
 }

@@ -1,7 +1,7 @@
 //! Messages, read and written. Digits are those of `sha1sum`.
 use fsl_name::Name;
 use fsl_text::{List, Memory, Text};
-use fsl_wire::{Draft, Message, WireCard, WireFault, line_of, read, write};
+use fsl_wire::{Draft, Message, WireCard, WireFault, line_of, read, read_bare, write};
 use std::alloc::Global;
 
 /// A message with a comment, blanks, two files, a cookie, and a last line without a newline.
@@ -71,6 +71,45 @@ fn settles_a_login(rt: HostRuntime) {
     let want = Name::read(b"057a7bfbd78975f1bc6dde15b95e3af7a16ca86c");
     assert!(rt; tail_of_first(rt.alloc(), b"login u n s\nclone\n") == want.ok());
     assert!(rt; tail_of_first(rt.alloc(), b"clone\nlogin u n s\n") == None);
+}
+
+/// The tail of the first card of a bare message.
+fn bare_tail(alloc: Global, bytes: &[u8]) -> Option<Name> {
+    match read_bare(alloc, bytes) {
+        Ok(message) => match message.cards().first() {
+            Some(card) => login_tail(card),
+            None => None,
+        },
+        Err(_) => None,
+    }
+}
+
+/// So many lines of a login.
+fn login_lines(alloc: Global, count: u64) -> Result<Text, Memory> {
+    let mut text = Text::empty(alloc);
+    for _ in 0..count {
+        text.append(b"login u n s\n")?;
+    }
+    Ok(text)
+}
+
+/// How many cards that many logins are, read bare. With a hash behind each line this would take their square.
+fn bare_logins(alloc: Global, count: u64) -> Option<usize> {
+    let Ok(text) = login_lines(alloc, count) else {
+        return None;
+    };
+    match read_bare(alloc, text.bytes()) {
+        Ok(message) => Some(message.cards().len()),
+        Err(_) => None,
+    }
+}
+
+#[test]
+fn reads_bare_logins(rt: HostRuntime) {
+    let none = Name::read(b"da39a3ee5e6b4b0d3255bfef95601890afd80709");
+    assert!(rt; bare_tail(rt.alloc(), b"login u n s\nclone\n") == none.ok());
+    assert!(rt; bare_tail(rt.alloc(), b"clone\nlogin u n s\n") == None);
+    assert!(rt; bare_logins(rt.alloc(), 20_000) == Some(20_000));
 }
 
 fn has_fault(alloc: Global, bytes: &[u8], fault: WireFault) -> bool {
