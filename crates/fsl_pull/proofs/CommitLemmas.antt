@@ -1,5 +1,5 @@
 -- The commit of a round.
-use Rattle.std.specs.Prelude.{◌≡◌, ℕ, ◌+◌, ◌≤◌, ◌⊎◌, List, [], ◌∷◌, ◌++◌, length, take, drop, Option, None, Some, Result, Ok, Err}
+use Rattle.std.specs.Prelude.{◌≡◌, ◌≢◌, ℕ, ◌+◌, ◌≤◌, List, [], ◌∷◌, ◌++◌, length, take, drop, Option, None, Some, Result, Ok, Err}
 use Rattle.std.proofs.Common.{refl, sym, ap, subst, ◌∙◌, inl, inr, arith, append_assoc}
 use Rattle.std.proofs.lemmas.List.{append-nil, drop-append-le, take-append-le, take-append-drop, take_all}
 use Rattle.fsl_order.specs.Causes.{Rose}
@@ -9,6 +9,7 @@ use Rattle.fsl_record.specs.declared.Record.{Record}
 use Rattle.fsl_journal.specs.File.{IsFileOf}
 use Rattle.fsl_journal.specs.Log.{BeforeOrAll}
 use Rattle.fsl_journal.specs.declared.CommitFault.{CommitFault}
+use Rattle.fsl_journal.specs.declared.CommitFault.TheVariants as commit_fault
 use Rattle.fsl_repo.specs.declared.Arrival.{Arrival}
 use Rattle.fsl_repo.specs.Machine.{State, IsCommit}
 use Rattle.fsl_repo.specs.Whole.{Seen, front, stored, blobs, IsWhole}
@@ -17,7 +18,7 @@ use Rattle.fsl_pull.specs.Arrivals.{stored_in, committed, with_commit, commits_w
 use Rattle.fsl_pull.specs.Kept.{all_of_them, StandsForSome}
 use Rattle.fsl_pull.specs.Taking.{Appends}
 use Rattle.fsl_pull.specs.Steps.{IsCommitted, log_in}
-use Rattle.fsl_pull.specs.Turns.{commits_of, count_of, AreCommitted, IsKeptBy, IsCarried, IsUncommitted}
+use Rattle.fsl_pull.specs.Turns.{commits_of, AreCommitted, IsKeptBy, IsUncommitted}
 use Rattle.fsl_pull.proofs.KeptLemmas.{all_some, some_more, of_both}
 use Rattle.fsl_pull.proofs.TakingLemmas.{blobs_both}
 
@@ -27,7 +28,7 @@ with_longer commits [] = ([], sym (append-nil commits))
 with_longer commits (r ∷ more) = ((r ∷ more) ∷ [], refl)
 
 -- and their records are those before it and these
-with_records : (commits : List (List Record)) (more : List Record) → all_of_them (with_commit commits more) ≡ all_of_them commits ++ more
+pub with_records : (commits : List (List Record)) (more : List Record) → all_of_them (with_commit commits more) ≡ all_of_them commits ++ more
 with_records commits [] = sym (append-nil (all_of_them commits))
 with_records commits (r ∷ more) = of_both commits ((r ∷ more) ∷ []) ∙ ap (λ (x : List Record). all_of_them commits ++ x) (append-nil (r ∷ more))
 
@@ -73,11 +74,13 @@ module _ {M : Type 0} (p : Point M) (before after : DiskState) (old mid new : Se
       (weaker before after (BeforeOrAll (log_in mid.state)) (StandsForSome base (commits_with p.commits mid.state)) (λ c. stands base c are) (k.moments model)))
 
   -- a commit that failed
-  pub uncommitted_by : (step : Then M) → state_of step ≡ committed mid.state → Rose (mid.state).faults (new.state).faults → new.state ≡ record mid.state { stopped = Some (new.state).faults; faults = (new.state).faults } → IsUncommitted p step new.state
-  uncommitted_by step is_state rose is =
+  pub uncommitted_by : (step : Then M) → state_of step ≡ committed mid.state → Rose (mid.state).faults (new.state).faults → new.state ≡ record mid.state { stopped = Some (new.state).faults; faults = (new.state).faults }
+      → (mid.state).committed ≢ length (mid.state).records → IsUncommitted p step new.state
+  uncommitted_by step is_state rose is some =
       record {
         rose = subst (λ (n : ℕ). Rose n (new.state).faults) (h.faults ∙ ap (λ (s : State). s.faults) (sym at)) rose;
         is_due = ap (λ (s : State). s.committed) is_state ∙ ap (λ (s : State). length s.records) (sym is_state);
+        some = λ none. some (h.committed ∙ ap (λ (s : State). s.committed) (sym at) ∙ none ∙ ap (λ (s : State). length s.records) is_state);
         state =
             is ∙ (λ i. record mid.state { committed = (h.committed ∙ ap (λ (s : State). s.committed) (sym at)) i; stopped = Some (new.state).faults; faults = (new.state).faults })
             ∙ ap (λ (s : State). record s { committed = (p.state).committed; stopped = Some (new.state).faults; faults = (new.state).faults }) (sym is_state);
@@ -88,3 +91,24 @@ pub commit_later : (o : Option ℕ) (old : State) (r : Result ℕ CommitFault) (
 commit_later (Some faults) old r new h = (h.1).faults
 commit_later None old r new (inl h) = (h.2).faults
 commit_later None old r new (inr h) = subst (λ (s : State). old.faults ≤ s.faults) (sym h.1) (omega arith)
+
+-- ---- a commit that failed had something to commit
+
+no_some : (f : ℕ) → Some f ≡ None → ⊥
+no_some f e = cc
+
+not_ok : (e : CommitFault) (n : ℕ) → Err e ≡ Ok n → ⊥
+not_ok e n h = cc
+
+fault_is : (e d : CommitFault) {r : Result ℕ CommitFault} → r ≡ Err e → r ≡ Err d → e ≡ d
+fault_is e d h k = cc
+
+pub commit_failed : (before after : DiskState) (old new : Seen) (r : Result ℕ CommitFault) (e : CommitFault) (o : Option ℕ) → r ≡ Err e → o ≡ None → IsCommit o old.state r new.state → new.loaded ≡ old.loaded
+    → (IsModelled before → LeavesOnly before after (BeforeOrAll (log_in old.state))) → (old.state.committed ≡ length old.state.records → r ≡ Ok (length old.state.records)) → IsCommitted before after old new (Err e)
+commit_failed before after old new r e (Some f) is runs step loaded moments nothing = absurd (no_some f runs)
+commit_failed before after old new r e None is runs (inl h) loaded moments nothing = record {
+  loaded = loaded;
+  state = inr (ap (λ (f : CommitFault). Err f) (fault_is e commit_fault.Disk is h.0), h.1, h.2.state, λ all. not_ok e (length old.state.records) (sym is ∙ nothing all));
+  moments = moments;
+}
+commit_failed before after old new r e None is runs (inr h) loaded moments nothing = absurd (not_ok e (length old.state.records) (sym is ∙ h.0))

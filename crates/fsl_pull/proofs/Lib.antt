@@ -10,6 +10,7 @@ pub mod LocalEnds
 pub mod ClonesLaw
 pub mod RoundLemmas
 pub mod DialLemmas
+pub mod DialCounts
 pub mod KeptLemmas
 pub mod AskLemmas
 pub mod RisingLemmas
@@ -24,6 +25,15 @@ pub mod RequestLemmas
 pub mod PushTaken
 pub mod PushTurnLemmas
 pub mod PushRuns
+pub mod CloneCounts
+pub mod CloneTaken
+pub mod CloneTurnLemmas
+pub mod CloneAnswers
+pub mod CloneLoop
+pub mod CloneTexts
+pub mod CloneMaking
+pub mod CloneWhole
 pub mod LocalTaken
 pub mod LocalSync
 pub mod LocalMore
+pub mod CommitsLaw

@@ -1,13 +1,11 @@
 -- A pull from another repository as a loop of rounds.
-use Rattle.std.specs.Prelude.{◌≡◌, ℕ, ◌+◌, ◌-◌, ◌≤◌, ◌<◌, ◌^◌, ◌⊎◌, min, Bool, true, false, List, [], ◌∷◌, ◌++◌, length, drop, Option, Some, None, Result, Ok, Err, MatchBool, MatchOption, if◌then◌else◌, IsTrue}
+use Rattle.std.specs.Prelude.{◌≡◌, ℕ, ◌+◌, ◌-◌, ◌≤◌, ◌<◌, ◌^◌, ◌⊎◌, min, Bool, true, false, List, [], ◌∷◌, ◌++◌, length, drop, Option, Some, None, Result, Ok, Err, MatchBool, MatchOption, if◌then◌else◌}
 use Rattle.std.proofs.Common.{refl, sym, ap, subst, ◌∙◌, inl, inr, arith, append_assoc}
 use Rattle.std.proofs.lemmas.List.{append-nil}
-use Rattle.std.specs.Str.{bytes_eq}
 use Rattle.fsl_order.specs.Causes.{Rose}
-use Rattle.fsl_disk.specs.Disk.{DiskState, IsModelled, Keeps, LeavesOnly}
-use Rattle.fsl_disk.proofs.Moments.{started, weaker, and_then, keeps_on, modelled_after}
+use Rattle.fsl_disk.specs.Disk.{DiskState, Keeps}
+use Rattle.fsl_disk.proofs.Moments.{weaker, and_then, keeps_on, modelled_after}
 use Rattle.fsl_record.specs.declared.Record.{Record}
-use Rattle.fsl_journal.specs.File.{IsFileOf}
 use Rattle.fsl_wire.specs.declared.WireCard.{WireCard}
 use Rattle.fsl_blobs.specs.Fold.{Contents}
 use Rattle.fsl_repo.specs.Machine.{State, Leaves, AreItems, now, wants, unclustered_names}
@@ -15,22 +13,22 @@ use Rattle.fsl_repo.specs.Whole.{Seen, front, stored}
 use Rattle.fsl_pull.specs.declared.Pulled.{Pulled}
 use Rattle.fsl_pull.specs.declared.PullFault.{PullFault}
 use Rattle.fsl_pull.specs.declared.PullFault.TheVariants as fault
-use Rattle.fsl_pull.specs.Rounds.{Round, Point, End, Then, goes_on, ends, GoOn, EndsIn, CommitFailed, state_of}
+use Rattle.fsl_pull.specs.Rounds.{Round, Point, End, Then, goes_on, ends, GoOn, EndsIn}
 use Rattle.fsl_pull.specs.Replies.{announced_in}
 use Rattle.fsl_pull.specs.Arrivals.{Taken, AreWants, AreUnclustered, commits_with, IsPartlyTaken}
 use Rattle.fsl_pull.specs.Pulls.{next_names, is_end, behind, ended, uncommitted, stopped_end, pull_start}
 use Rattle.fsl_pull.specs.Locals.{local_reply, local_then, LocalRound, AreLocalRounds, IsLocalPull, project_code, other_project_end}
 use Rattle.fsl_pull.specs.Kept.{StandsForSome, IsKeptAtAnyMoment}
 use Rattle.fsl_pull.specs.Taking.{IsRefusal}
-use Rattle.fsl_pull.specs.Turns.{commits_of, AreCommitted, IsKeptBy, IsCarried, ComesTo, IsUncommitted}
+use Rattle.fsl_pull.specs.Turns.{commits_of, AreCommitted, IsKeptBy, IsCarried, ComesTo}
 use Rattle.fsl_pull.specs.PullTurns.{none_missing, IsTaken, SameNames, IsReplied}
-use Rattle.fsl_pull.specs.Calls.{Ended, MayBegin, IsLocalEnd, IsLocalAnswer, IsLocalShort, IsLocalCut, IsLocalFailed}
+use Rattle.fsl_pull.specs.Calls.{MayBegin, IsLocalEnd, IsLocalAnswer}
 use Rattle.fsl_pull.specs.LocalTurns.{IsPulledFrom}
 use Rattle.fsl_pull.proofs.EndsWell.{one_wants}
 use Rattle.fsl_pull.proofs.OneEnd.{local_round_one, one_unclustered}
 use Rattle.fsl_pull.proofs.RoundLemmas.{go_behind, end_behind, length_behind}
 use Rattle.fsl_pull.proofs.CommitLemmas.{with_longer}
-use Rattle.fsl_pull.proofs.KeptLemmas.{all_some, some_more}
+use Rattle.fsl_pull.proofs.KeptLemmas.{some_more}
 use Rattle.fsl_pull.proofs.LocalEnds.{local_pulls_end}
 use Rattle.fsl_pull.proofs.SyncLoop.{Longer, leaves_same}
 
@@ -321,7 +319,7 @@ module _ {D : Type 0} (disk : D → DiskState) (peer : Seen) (d0 : D) (s0 : Seen
                       are,
                       (
                         h.rounds ++ made ∷ [],
-                        record { front = h.rounds; last = made; whole = refl; point = h.point; go = h.go; step = step; is_round = is_round; is_due = un.is_due; state = un.state },
+                        record { front = h.rounds; last = made; whole = refl; point = h.point; go = h.go; step = step; is_round = is_round; is_due = un.is_due; some = un.some; state = un.state },
                       ),
                     ),
                   ),

@@ -124,7 +124,7 @@ body_one text a b (inl h) (inr k) = no_lines text h.0 k.0 h.1 k.1
 body_one text a b (inr h) (inl k) = no_lines text k.0 h.0 k.1 h.1
 body_one text a b (inr h) (inr k) = k.2 ∙ ap cards_read (one_numbered text k.0 h.0 k.1 h.1) ∙ sym h.2
 
-read_one : (r : Exchanged) (a b : Result (List WireCard) PeerFault) → IsReplyRead r a → IsReplyRead r b → b ≡ a
+pub read_one : (r : Exchanged) (a b : Result (List WireCard) PeerFault) → IsReplyRead r a → IsReplyRead r b → b ≡ a
 read_one no_head a b h k = k ∙ sym h
 read_one (status n) a b h k = k ∙ sym h
 read_one (long n) a b h k = k ∙ sym h

@@ -1,5 +1,5 @@
 -- The cards of a reply to a pull were taken, and committed.
-use Rattle.std.specs.Prelude.{◌≡◌, ℕ, ◌+◌, ◌≤◌, ◌⊎◌, ◌||◌, ◌&&◌, Bool, true, false, not, List, [], ◌∷◌, ◌++◌, length, Option, Some, None, Result, Ok, Err, MatchOption, if◌then◌else◌}
+use Rattle.std.specs.Prelude.{◌≡◌, ◌≢◌, ℕ, ◌+◌, ◌≤◌, ◌⊎◌, ◌||◌, ◌&&◌, Bool, true, false, not, List, [], length, Option, Some, None, Result, Ok, Err, if◌then◌else◌}
 use Rattle.std.specs.List.{list_all}
 use Rattle.std.specs.Option.{option_map_or}
 use Rattle.std.proofs.Common.{refl, sym, ap, subst, ◌∙◌, inl, inr, arith}
@@ -7,12 +7,10 @@ use Rattle.std.proofs.lemmas.List.{append-nil}
 use Rattle.fsl_order.specs.Names.{has}
 use Rattle.fsl_order.specs.Causes.{Rose}
 use Rattle.fsl_disk.specs.Disk.{DiskState}
-use Rattle.fsl_record.specs.declared.Record.{Record}
 use Rattle.fsl_journal.specs.declared.CommitFault.{CommitFault}
 use Rattle.fsl_journal.specs.declared.CommitFault.TheVariants as commit_fault
 use Rattle.fsl_wire.specs.declared.WireCard.{WireCard}
-use Rattle.fsl_repo.specs.declared.Arrival.{Arrival}
-use Rattle.fsl_repo.specs.Machine.{State, AreItems, Leaves, now, wants}
+use Rattle.fsl_repo.specs.Machine.{State, AreItems, now, wants}
 use Rattle.fsl_repo.specs.Whole.{Seen, stored, IsWhole}
 use Rattle.fsl_pull.specs.declared.PullFault.{PullFault}
 use Rattle.fsl_pull.specs.declared.PullFault.TheVariants as fault
@@ -20,11 +18,11 @@ use Rattle.fsl_pull.specs.declared.next.Step.{Step}
 use Rattle.fsl_pull.specs.declared.next.Step.TheVariants as step_is
 use Rattle.fsl_pull.specs.Rounds.{Point, End, Then, goes_on, ends, state_of}
 use Rattle.fsl_pull.specs.Replies.{announced_in}
-use Rattle.fsl_pull.specs.Arrivals.{Taken, Takes, AreWants, stored_in, any_moved, committed, commits_with, IsPartlyTaken}
-use Rattle.fsl_pull.specs.Pulls.{next_names, is_end, missing, missing_fault, behind, ended, uncommitted}
-use Rattle.fsl_pull.specs.Taking.{IsRefusal, Appends, TakesSome, TakesUpTo, TakesFront, TakesAll}
+use Rattle.fsl_pull.specs.Arrivals.{Taken, Takes, stored_in, committed, commits_with, IsPartlyTaken}
+use Rattle.fsl_pull.specs.Pulls.{next_names, missing, missing_fault, behind, ended, uncommitted}
+use Rattle.fsl_pull.specs.Taking.{IsRefusal, TakesSome, TakesUpTo, TakesFront, TakesAll}
 use Rattle.fsl_pull.specs.Steps.{step_of, answer_by, IsCommitted}
-use Rattle.fsl_pull.specs.Turns.{commits_of, count_of, IsKeptBy, IsCarried, IsUncommitted, ComesTo}
+use Rattle.fsl_pull.specs.Turns.{commits_of, count_of, IsKeptBy, IsCarried, ComesTo}
 use Rattle.fsl_pull.specs.PullTurns.{SameNames, Finish, then_with, IsReplied, IsTaken}
 use Rattle.fsl_pull.proofs.SyncLoop.{leaves_same}
 use Rattle.fsl_pull.proofs.TakingLemmas.{whole_taken, front_taken}
@@ -175,8 +173,8 @@ module _ (finish : Finish) (asked : Names) (cards : List WireCard) (before after
             ))
 
     by_err : (moves all : Bool) (absent : Option (List ℕ)) → then_with finish p cards t wanted ≡ then_by moves all absent → IsCommitted before after mid new (Err commit_fault.Disk) → Rose (mid.state).faults (new.state).faults
-        → new.state ≡ record mid.state { stopped = Some (new.state).faults; faults = (new.state).faults } → Comes p (Err fault.Disk)
-    by_err moves all absent is k rose same = inl (inr (refl, (then_by moves all absent, (says (then_by moves all absent) (sym is), keeps (Err commit_fault.Disk) (then_by moves all absent) (commits_by moves all) k), uncommitted_by p before after old mid new h.done at whole h.appends (then_by moves all absent) (state_by moves all) rose same)))
+        → new.state ≡ record mid.state { stopped = Some (new.state).faults; faults = (new.state).faults } → (mid.state).committed ≢ length (mid.state).records → Comes p (Err fault.Disk)
+    by_err moves all absent is k rose same some = inl (inr (refl, (then_by moves all absent, (says (then_by moves all absent) (sym is), keeps (Err commit_fault.Disk) (then_by moves all absent) (commits_by moves all) k), uncommitted_by p before after old mid new h.done at whole h.appends (then_by moves all absent) (state_by moves all) rose same some)))
       where
         commits_by : (moves all : Bool) → commits_of (then_by moves all absent) ≡ commits_with p.commits mid.state
         commits_by true all = refl
@@ -193,7 +191,7 @@ module _ (finish : Finish) (asked : Names) (cards : List WireCard) (before after
   committed_turn mid moved due step fine h whole items is k p at m = subst (λ (s : Step). Comes p (answer_by finish s)) (sym is) (by k.state)
     where
       by : ((ok_unit ≡ Ok tt) × (new.state ≡ record mid.state { committed = length mid.state.records }))
-          ⊎ ((ok_unit ≡ Err commit_fault.Disk) × Rose mid.state.faults new.state.faults × (new.state ≡ record mid.state { stopped = Some new.state.faults; faults = new.state.faults }))
+          ⊎ ((ok_unit ≡ Err commit_fault.Disk) × Rose mid.state.faults new.state.faults × (new.state ≡ record mid.state { stopped = Some new.state.faults; faults = new.state.faults }) × (mid.state.committed ≢ length mid.state.records))
           → Comes p (answer_by finish (step_of asked moved (announced_in cards) mid))
       by (inl (ok, same)) =
           by_ok mid moved due fine h whole items p at m moved (list_all (has asked) (next_names (now mid.state) (wants (now mid.state) mid.items) (announced_in cards)))
@@ -206,13 +204,13 @@ module _ (finish : Finish) (asked : Names) (cards : List WireCard) (before after
   failed_turn mid moved due e fine h whole items k p at m = by k.state
     where
       by : ((err_unit e ≡ Ok tt) × (new.state ≡ record mid.state { committed = length mid.state.records }))
-          ⊎ ((err_unit e ≡ Err commit_fault.Disk) × Rose mid.state.faults new.state.faults × (new.state ≡ record mid.state { stopped = Some new.state.faults; faults = new.state.faults }))
+          ⊎ ((err_unit e ≡ Err commit_fault.Disk) × Rose mid.state.faults new.state.faults × (new.state ≡ record mid.state { stopped = Some new.state.faults; faults = new.state.faults }) × (mid.state.committed ≢ length mid.state.records))
           → Comes p (Err fault.Disk)
       by (inl (ok, same)) = absurd (no_ok e ok)
-      by (inr (is, rose, same)) =
+      by (inr (is, rose, same, some)) =
           by_err mid moved due fine h whole items p at m moved (list_all (has asked) (next_names (now mid.state) (wants (now mid.state) mid.items) (announced_in cards)))
           (missing (next_names (now mid.state) (wants (now mid.state) mid.items) (announced_in cards)) (announced_in cards))
-          (then_is mid moved due fine h whole items p at m) (subst (IsCommitted before after mid new) is k) rose same
+          (then_is mid moved due fine h whole items p at m) (subst (IsCommitted before after mid new) is k) rose same some
 
 -- what is missing at the end of a pull is a refusal
 pub missing_refused : (absent : Option (List ℕ)) (why : PullFault) → missing_fault absent ≡ Some why → IsRefusal why

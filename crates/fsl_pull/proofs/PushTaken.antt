@@ -1,5 +1,5 @@
 -- The cards of a reply to a push were taken, and committed.
-use Rattle.std.specs.Prelude.{◌≡◌, ℕ, ◌+◌, ◌≤◌, ◌⊎◌, Bool, true, false, List, [], ◌∷◌, ◌++◌, length, map, Option, Some, None, Result, Ok, Err, if◌then◌else◌}
+use Rattle.std.specs.Prelude.{◌≡◌, ◌≢◌, ℕ, ◌+◌, ◌⊎◌, Bool, true, false, List, [], ◌∷◌, ◌++◌, length, map, Option, Some, None, Result, Ok, Err, if◌then◌else◌}
 use Rattle.std.specs.List.{list_all}
 use Rattle.std.proofs.Common.{refl, sym, ap, subst, ◌∙◌, inl, inr, arith, length-append}
 use Rattle.std.proofs.lemmas.List.{append-nil, length-map}
@@ -21,10 +21,10 @@ use Rattle.fsl_pull.specs.Rounds.{Point, End, Then, goes_on, ends, state_of}
 use Rattle.fsl_pull.specs.Replies.{asked_in}
 use Rattle.fsl_pull.specs.Arrivals.{Taken, Takes, committed, commits_with, IsPartlyTaken}
 use Rattle.fsl_pull.specs.Pushes.{Sending, names_of, asked_here, sent_on, push_ended, quiet_then, push_then, push_uncommitted, IsPushReply}
-use Rattle.fsl_pull.specs.Taking.{IsRefusal, TakesSome, TakesUpTo, TakesFront, TakesAll}
+use Rattle.fsl_pull.specs.Taking.{TakesSome, TakesUpTo, TakesFront, TakesAll}
 use Rattle.fsl_pull.specs.Steps.{IsCommitted}
-use Rattle.fsl_pull.specs.Turns.{commits_of, count_of, IsKeptBy, IsCarried, IsUncommitted, ComesTo}
-use Rattle.fsl_pull.specs.PushTurns.{sending, Remembers, quiet_by, push_by, push_step, push_answer, IsPushTaken}
+use Rattle.fsl_pull.specs.Turns.{commits_of, count_of, IsKeptBy, IsCarried, ComesTo}
+use Rattle.fsl_pull.specs.PushTurns.{Remembers, quiet_by, push_by, push_step, push_answer, IsPushTaken}
 use Rattle.fsl_pull.proofs.SyncLoop.{leaves_same}
 use Rattle.fsl_pull.proofs.TakingLemmas.{whole_taken, front_taken}
 use Rattle.fsl_pull.proofs.CommitLemmas.{carried, kept, uncommitted_by}
@@ -212,15 +212,15 @@ module _ (due : Names) (cards : List WireCard) (before after : DiskState) (old n
         ∙ ap (λ (n : ℕ). length sent.order + n) (ap (λ (ns : Names). length ns) (sym is) ∙ length-map files (λ (f : List ℕ × List ℕ). f.0))
 
     by_err : IsCommitted before after mid new (Err commit_fault.Disk) → Rose (mid.state).faults (new.state).faults
-        → new.state ≡ record mid.state { stopped = Some (new.state).faults; faults = (new.state).faults } → Comes (Err fault.Disk)
-    by_err k rose same =
+        → new.state ≡ record mid.state { stopped = Some (new.state).faults; faults = (new.state).faults } → (mid.state).committed ≢ length (mid.state).records → Comes (Err fault.Disk)
+    by_err k rose same some =
         let all = list_all (has sent.order) here in
         inl (inr (
           refl,
           (
             step_to files here all,
             (says (step_to files here all) step_then, keeps (Err commit_fault.Disk) (step_to files here all) (commits_by files here all) k),
-            uncommitted_by p before after old mid new h.done at whole h.appends (step_to files here all) (state_by files here all) rose same,
+            uncommitted_by p before after old mid new h.done at whole h.appends (step_to files here all) (state_by files here all) rose same some,
           ),
         ))
 
@@ -229,7 +229,7 @@ module _ (due : Names) (cards : List WireCard) (before after : DiskState) (old n
   committed_turn mid moved left step h whole e more k p files at m is = subst (λ (s : PushStep). Comes mid moved left h whole p files at m is (push_answer s)) (sym (e ∙ step_code mid moved left h whole p files at m is)) (by k.state)
     where
       by : ((ok_unit ≡ Ok tt) × (new.state ≡ record mid.state { committed = length mid.state.records }))
-          ⊎ ((ok_unit ≡ Err commit_fault.Disk) × Rose mid.state.faults new.state.faults × (new.state ≡ record mid.state { stopped = Some new.state.faults; faults = new.state.faults }))
+          ⊎ ((ok_unit ≡ Err commit_fault.Disk) × Rose mid.state.faults new.state.faults × (new.state ≡ record mid.state { stopped = Some new.state.faults; faults = new.state.faults }) × (mid.state.committed ≢ length mid.state.records))
           → Comes mid moved left h whole p files at m is (push_answer (code mid moved left h whole p files at m is files (asked_here (now mid.state) cards) (list_all (has sent.order) (asked_here (now mid.state) cards))))
       by (inl (ok, same)) =
           by_ok mid moved left h whole p files at m is files (asked_here (now mid.state) cards) (list_all (has sent.order) (asked_here (now mid.state) cards))
@@ -240,7 +240,7 @@ module _ (due : Names) (cards : List WireCard) (before after : DiskState) (old n
   failed_turn mid moved left e h whole k p files at m is = by k.state
     where
       by : ((err_unit e ≡ Ok tt) × (new.state ≡ record mid.state { committed = length mid.state.records }))
-          ⊎ ((err_unit e ≡ Err commit_fault.Disk) × Rose mid.state.faults new.state.faults × (new.state ≡ record mid.state { stopped = Some new.state.faults; faults = new.state.faults }))
+          ⊎ ((err_unit e ≡ Err commit_fault.Disk) × Rose mid.state.faults new.state.faults × (new.state ≡ record mid.state { stopped = Some new.state.faults; faults = new.state.faults }) × (mid.state.committed ≢ length mid.state.records))
           → Comes mid moved left h whole p files at m is (Err fault.Disk)
       by (inl (ok, same)) = absurd (no_ok e ok)
-      by (inr (f, rose, same)) = by_err mid moved left h whole p files at m is (subst (IsCommitted before after mid new) f k) rose same
+      by (inr (f, rose, same, some)) = by_err mid moved left h whole p files at m is (subst (IsCommitted before after mid new) f k) rose same some

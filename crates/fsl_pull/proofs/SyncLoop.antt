@@ -59,7 +59,7 @@ pub record IsAt {D M : Type 0} (disk : D → DiskState) (R : Course M (List ℕ)
   pub faults : s0.state.faults ≤ s.state.faults
   pub dial : l0.faults ≤ l.faults
 
-rose_since : (before mid now : ℕ) → before ≤ mid → Rose mid now → Rose before now
+pub rose_since : (before mid now : ℕ) → before ≤ mid → Rose mid now → Rose before now
 rose_since before mid now le rose =
     let r : min (mid + 1) (2 ^ 64 - 1) ≤ now = rose in
     let g : min (before + 1) (2 ^ 64 - 1) ≤ now = omega (arith, r, le) in g
@@ -237,6 +237,7 @@ module _ {D M : Type 0} (disk : D → DiskState) (R : Course M (List ℕ) Exchan
                     step = step;
                     is_round = made.2;
                     is_due = un.is_due;
+                    some = un.some;
                     state = un.state;
                   }),
             )

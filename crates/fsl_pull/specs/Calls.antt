@@ -1,10 +1,8 @@
 -- What the calls of the client say of their answers, of the repository and of the rounds.
-use Rattle.std.specs.Prelude.{◌≡◌, ℕ, ◌+◌, ◌≤◌, ◌⊎◌, ⊤, false, IsTrue, List, [], ◌∷◌, ◌++◌, length, flat_map, Option, Some, None, Result, Ok, Err}
+use Rattle.std.specs.Prelude.{◌≡◌, ℕ, ◌⊎◌, IsTrue, List, [], length, Option, Some, None, Result, Ok, Err}
 use Rattle.fsl_order.specs.Causes.{Rose}
 use Rattle.fsl_record.specs.declared.Record.{Record}
-use Rattle.fsl_journal.specs.File.{IsFileOf}
-use Rattle.fsl_http.specs.Responses.{Exchanged, IsBrokenOff, IsLeft}
-use Rattle.fsl_pull.specs.Clones.{Cloning, IsClone, CloneAsks, CloneRound, CloneSoFar, clone_start, project_in, first_record}
+use Rattle.fsl_http.specs.Responses.{IsBrokenOff, IsLeft}
 use Rattle.std.specs.Str.{bytes_eq}
 use Rattle.fsl_outside.specs.Connections.{Connection, LinkState, listed}
 use Rattle.fsl_wire.specs.declared.WireCard.{WireCard}
@@ -16,9 +14,8 @@ use Rattle.fsl_pull.specs.declared.Login.{Login}
 use Rattle.fsl_pull.specs.declared.Pulled.{Pulled}
 use Rattle.fsl_pull.specs.declared.PullFault.{PullFault}
 use Rattle.fsl_pull.specs.declared.PullFault.TheVariants as fault
-use Rattle.fsl_pull.specs.Rounds.{Round, Point, End, Then, GoOn, CommitFailed, most_rounds}
+use Rattle.fsl_pull.specs.Rounds.{Round, Point, End, GoOn, CommitFailed}
 use Rattle.fsl_pull.specs.Dialled.{Rounds, HasRounds, HasSent, Breaks}
-use Rattle.fsl_pull.specs.Replies.{IsReplyRead}
 use Rattle.fsl_pull.specs.Pulls.{IsPull, PullAsks, IsPullLeftOff, IsPullBroken, IsPullFailed, PullSoFar, pull_start}
 use Rattle.fsl_pull.specs.Pushes.{IsPush, PushAsks, IsPushLeftOff, IsPushBroken, IsPushFailed, PushSoFar}
 use Rattle.fsl_pull.specs.Locals.{IsLocalPull, LocalRound, local_reply, project_code}
@@ -155,86 +152,3 @@ abbrev pub IsLocalCall : State → State → State → State → (List (List Rec
 IsLocalCall old new peer left IsKept result =
     IsLocalAnswer old new peer left result
     × ((rounds : List (Round (List (List ℕ)) (List WireCard))) (e : End) → IsLocalPull old peer rounds e → IsKept e.commits)
-
--- ---- one call of `clone_from`
-
--- what a file is left as: as it was, or the records of the commits
-abbrev pub IsFileBy : List ℕ → List (List Record) → List ℕ → Type 0
-IsFileBy before [] bytes = bytes ≡ before
-IsFileBy before (commit ∷ commits) bytes = IsFileOf bytes (flat_map (λ c. c) (commit ∷ commits))
-
-abbrev pub IsFileLeft : Option (List ℕ) → Option (List ℕ) → List (List Record) → Type 0
-IsFileLeft before after commits = (bytes held : List ℕ) → before ≡ Some bytes → after ≡ Some held → IsFileBy bytes commits held
-
--- the number of the file's bytes, where they are told
-abbrev pub HasLength : Option (List ℕ) → ℕ → Type 0
-HasLength None len = ⊤
-HasLength (Some bytes) len = len ≡ length bytes
-
-abbrev pub IsCloneEnd : List ℕ → List (List ℕ) → Option Login → Option (List ℕ) → Option (List ℕ) → (List (List Record) → Type 0) → Option PullFault → Option ℕ → Rounds → List Connection → Type 0
-IsCloneEnd server fields login before after IsStable why stored rounds broken =
-    (broken ≡ [])
-    × ((len : ℕ) × HasLength before len × ((e : End) × IsClone server fields login len 0 rounds e × (e.fault ≡ why) × (stored ≡ None ⊎ (stored ≡ Some e.count)) × IsFileLeft before after e.commits × IsStable e.commits))
-
--- the rounds went on, nothing of a further one was taken, and the file has their commits
-pub record IsCloneLeftOff (server : List ℕ) (fields : List (List ℕ)) (login : Option Login) (before after : Option (List ℕ)) (BreaksOff : Breaks) (more : ℕ) (rounds : Rounds) (broken : List Connection) : Type 0 where
-  pub empty : HasLength before 0
-  pub point : Point Cloning
-  pub go : GoOn (CloneRound server fields login) (clone_start 0) rounds point
-  pub few : length rounds + more ≤ most_rounds
-  pub sent : HasSent BreaksOff broken (CloneAsks login point)
-  pub file : IsFileLeft before after point.commits
-
--- the commits before a round's own: those of the rounds before it, and of the first reply that of the Config, once the file was made
-pub data AreBegun (server : List ℕ) (fields : List (List ℕ)) (point : Point Cloning) (reply : List WireCard) (commits : List (List Record)) : Type 0 where
-  as_before : commits ≡ point.commits → AreBegun server fields point reply commits
-  made : (project : List ℕ) → point.memory.begun ≡ false → project_in reply ≡ Some project → commits ≡ (first_record project server fields ∷ []) ∷ [] → AreBegun server fields point reply commits
-
--- the last of the rounds was read whole, and its commit wasn't reached
-pub record IsCloneBroken (server : List ℕ) (fields : List (List ℕ)) (login : Option Login) (before after : Option (List ℕ)) (rounds : Rounds) : Type 0 where
-  pub empty : HasLength before 0
-  pub front : Rounds
-  pub last : Round (List ℕ) Exchanged
-  pub whole : rounds ≡ front ++ last ∷ []
-  pub few : length rounds ≤ most_rounds
-  pub point : Point Cloning
-  pub go : GoOn (CloneRound server fields login) (clone_start 0) front point
-  pub asked : CloneAsks login point last.request
-  pub reply : List WireCard
-  pub read : IsReplyRead last.reply (Ok reply)
-  pub commits : List (List Record)
-  pub begun : AreBegun server fields point reply commits
-  pub file : IsFileLeft before after commits
-
--- a device failed before the first round, or within the last of the rounds, which was read whole; what that leaves of the file is said of its images
-abbrev pub IsCloneFailed : List ℕ → List (List ℕ) → Option Login → Option (List ℕ) → Rounds → Type 0
-IsCloneFailed server fields login before rounds =
-    (rounds ≡ [])
-    ⊎ (HasLength before 0 × (length rounds ≤ most_rounds)
-    × ((front : Rounds) × (last : Round (List ℕ) Exchanged) × (rounds ≡ front ++ last ∷ [])
-    × ((point : Point Cloning) × GoOn (CloneRound server fields login) (clone_start 0) front point
-    × CloneAsks login point last.request × ((reply : List WireCard) × IsReplyRead last.reply (Ok reply)))))
-
-abbrev pub IsCloned : List ℕ → List (List ℕ) → Option Login → Option (List ℕ) → Option (List ℕ) → ℕ → ℕ → Dialled → (List (List Record) → Type 0) → Result Pulled PullFault → Rounds → List Connection → Type 0
-IsCloned server fields login before after disk_before disk_after d IsStable (Ok pulled) rounds broken =
-    (pulled.rounds ≡ length rounds) × IsCloneEnd server fields login before after IsStable None (Some pulled.stored) rounds broken
-IsCloned server fields login before after disk_before disk_after d IsStable (Err fault.Link) rounds broken =
-    Rose d.faults_before d.faults_after × IsCloneLeftOff server fields login before after IsBrokenOff 1 rounds broken
-IsCloned server fields login before after disk_before disk_after d IsStable (Err fault.Disk) rounds broken =
-    Rose disk_before disk_after × (broken ≡ []) × IsCloneFailed server fields login before rounds
-IsCloned server fields login before after disk_before disk_after d IsStable (Err fault.Memory) rounds broken =
-    ((rounds ≡ []) × (broken ≡ []) × (after ≡ before))
-    ⊎ (IsCloneLeftOff server fields login before after IsLeft (length broken) rounds broken
-    ⊎ ((broken ≡ []) × IsCloneBroken server fields login before after rounds))
-IsCloned server fields login before after disk_before disk_after d IsStable (Err (fault.NotRepository at)) rounds broken =
-    (after ≡ None) × (broken ≡ []) × IsCloneBroken server fields login before after rounds × (length rounds ≡ 1)
-IsCloned server fields login before after disk_before disk_after d IsStable (Err why) rounds broken =
-    IsCloneEnd server fields login before after IsStable (Some why) None rounds broken
-
--- where the file is told, `NotRepository` never comes. IsKept: what the file's images are at each moment of the call, by the commits that its rounds come to; what a fault of the disk leaves of it is said there alone. IsStable: what they are behind the call, where the last commit succeeded
-abbrev pub IsCloneCall : List ℕ → List (List ℕ) → Option Login → Option (List ℕ) → Option (List ℕ) → ℕ → ℕ → Dialled → (List (List Record) → Type 0) → (List (List Record) → Type 0) → Result Pulled PullFault → Type 0
-IsCloneCall server fields login before after disk_before disk_after d IsKept IsStable result =
-    HasRounds d.before d.after
-    (λ rounds broken.
-    IsCloned server fields login before after disk_before disk_after d IsStable result rounds broken
-    × ((commits : List (List Record)) → AreCommitsOf (IsClone server fields login 0 0) (CloneSoFar server fields login) rounds commits → IsKept commits))

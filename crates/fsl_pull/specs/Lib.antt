@@ -17,4 +17,6 @@ pub mod Steps
 pub mod PullTurns
 pub mod Sent
 pub mod PushTurns
+pub mod CloneCalls
+pub mod CloneTurns
 pub mod LocalTurns

@@ -6,6 +6,7 @@ use Rattle.fsl_wire.specs.declared.WireCard.TheVariants as cards
 use Rattle.fsl_wire.specs.declared.WireFault.{WireFault}
 use Rattle.fsl_wire.specs.declared.WireFault.TheVariants.{Unknown, Args, Delta, Size, Short, Memory}
 use Rattle.fsl_wire.specs.Messages.{IsNumberedMessage, IsFirstFault}
+use Rattle.fsl_wire.specs.Drafts.{bare}
 use Rattle.fsl_answer.specs.Contents.{first_of}
 use Rattle.fsl_http.specs.Responses.{Exchanged, no_head, status, long, short, body}
 use Rattle.fsl_pull.specs.declared.PeerFault.{PeerFault}
@@ -36,12 +37,12 @@ error_of card = None
 abbrev pub error_text : List WireCard → Option (List ℕ)
 error_text reply = first_of (filter_map error_of reply)
 
--- a private card is wrong wherever it stands, and then an error card is
+-- a private card is wrong wherever it stands, and then an error card is; a client looks at no login, so the cards are bare
 abbrev pub cards_read : List (ℕ × WireCard) → Result (List WireCard) PeerFault
 cards_read lines =
     option_map_or (λ n. Err (peer.Line n))
     (private_line lines)
-    (option_map_or (λ text. Err (peer.Error text)) (error_text (map (λ l. l.1) lines)) (Ok (map (λ l. l.1) lines)))
+    (option_map_or (λ text. Err (peer.Error text)) (error_text (map (λ l. l.1) lines)) (Ok (map bare (map (λ l. l.1) lines))))
 
 -- the first line that doesn't read is wrong, and else what its cards say
 abbrev pub IsBodyRead : List ℕ → Result (List WireCard) PeerFault → Type 0

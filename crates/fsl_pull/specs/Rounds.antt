@@ -1,5 +1,5 @@
 -- A sync as a list of rounds: what a round is, when the rounds go on, and when they are at their end.
-use Rattle.std.specs.Prelude.{◌≡◌, ℕ, ◌+◌, ◌<◌, ◌≤◌, ◌⊎◌, List, [], ◌∷◌, ◌++◌, length, Option, Some}
+use Rattle.std.specs.Prelude.{◌≡◌, ◌≢◌, ℕ, ◌+◌, ◌≤◌, ◌⊎◌, List, [], ◌∷◌, ◌++◌, length, Option, Some}
 use Rattle.fsl_record.specs.declared.Record.{Record}
 use Rattle.fsl_repo.specs.Machine.{State, Leaves}
 use Rattle.fsl_pull.specs.declared.PullFault.{PullFault}
@@ -82,6 +82,8 @@ pub record CommitFailed {M Q A : Type 0} (R : Course M Q A) (p : Point M) (round
   pub is_round : R point last step
   -- the commit is behind all arrivals: a round that a fault ended before its commit has none
   pub is_due : (state_of step).committed ≡ length (state_of step).records
+  -- and there is something to commit
+  pub some : point.state.committed ≢ length (state_of step).records
   pub state : left ≡ record (state_of step) { committed = point.state.committed; stopped = Some left.faults; faults = left.faults }
 
 -- the rounds went on, and nothing of a further one was taken. `Sent` is said of what was asked in that one; a further one is within the limit

@@ -1,5 +1,5 @@
 -- What the code says of the names that are next, of an end, and of a commit.
-use Rattle.std.specs.Prelude.{◌≡◌, ◌⊎◌, ℕ, ◌||◌, Bool, not, List, length, Option, Some, None, Result, Ok, Err, ⊤, if◌then◌else◌}
+use Rattle.std.specs.Prelude.{◌≡◌, ◌≢◌, ◌⊎◌, ℕ, ◌||◌, Bool, not, List, length, Option, Some, None, Result, Ok, Err, ⊤, if◌then◌else◌}
 use Rattle.std.specs.List.{list_all}
 use Rattle.std.specs.Option.{option_map_or}
 use Rattle.std.specs.List.Sorted.{IsStrictlySortedBy}
@@ -12,7 +12,6 @@ use Rattle.fsl_journal.specs.declared.CommitFault.TheVariants as commit_fault
 use Rattle.fsl_repo.specs.Machine.{State, now, wants}
 use Rattle.fsl_repo.specs.Whole.{Seen}
 use Rattle.fsl_pull.specs.declared.PullFault.{PullFault}
-use Rattle.fsl_pull.specs.declared.PullFault.TheVariants as fault
 use Rattle.fsl_pull.specs.declared.next.Step.{Step}
 use Rattle.fsl_pull.specs.declared.next.Step.TheVariants as step_is
 use Rattle.fsl_pull.specs.Pulls.{next_names, missing, missing_fault}
@@ -52,10 +51,11 @@ local_answer (step_is.End _) = None
 abbrev pub log_in : State → Log
 log_in s = record { records = s.records; stable = s.committed; stopped = s.stopped; place = 0 }
 
--- a commit of a repository that runs: all records are committed, or the disk failed and it is stopped; and at each moment the file stands for those committed before or for all
+-- a commit of a repository that runs: all records are committed, or there are some to commit, the disk failed, and it is stopped; and at each moment the file stands for those committed before or for all
 pub record IsCommitted (before after : DiskState) (old new : Seen) (result : Result (Unit {0}) CommitFault) : Type 0 where
   pub loaded : new.loaded ≡ old.loaded
   pub state : ((result ≡ Ok tt) × (new.state ≡ record old.state { committed = length old.state.records }))
       ⊎ ((result ≡ Err commit_fault.Disk) × Rose old.state.faults new.state.faults
-      × (new.state ≡ record old.state { stopped = Some new.state.faults; faults = new.state.faults }))
+      × (new.state ≡ record old.state { stopped = Some new.state.faults; faults = new.state.faults })
+      × (old.state.committed ≢ length old.state.records))
   pub moments : IsModelled before → LeavesOnly before after (BeforeOrAll (log_in old.state))

@@ -14,6 +14,8 @@ use Rattle.fsl_pull.specs.Arrivals.{Taken, Takes, stopped_by, is_onward, stored_
 
 -- a fault that is the end of a sync: what is wrong with what came, or what the repository says of it
 abbrev pub IsRefusal : PullFault → Type 0
+IsRefusal (fault.NotEmpty len) = ⊥
+IsRefusal (fault.NotRepository at) = ⊥
 IsRefusal fault.Link = ⊥
 IsRefusal fault.Disk = ⊥
 IsRefusal fault.Memory = ⊥

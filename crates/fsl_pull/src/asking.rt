@@ -1,6 +1,6 @@
 //! One request and its reply.
 ghost use Rattle.std.specs.Prelude.{◌≤◌, IfOk, IfErr};
-ghost use Rattle.fsl_pull.specs.Asking.{IsAsked, IsUnasked};
+ghost use Rattle.fsl_pull.specs.Asking.{IsAsked, IsUnasked, IsAskCounted};
 
 use crate::PeerFault;
 use crate::replies::read_body;
@@ -28,6 +28,7 @@ pub(crate) fn ask<N: Dial>(
     ensures asked { IfOk result (IsAsked (N.state dial.old) (N.state dial.new) request.now) }
     ensures unasked { IfErr result (IsUnasked (N.state dial.old) (N.state dial.new) request.now) }
     ensures later { (N.state dial.old).faults ≤ (N.state dial.new).faults }
+    ensures counts { IsAskCounted (N.state dial.old) (N.state dial.new) result }
 {
     match exchange(alloc, dial, request) {
         Ok(body) => match read_body(alloc, body.bytes()) {

@@ -1,5 +1,5 @@
 //! Laws of syncs.
-ghost use Rattle.fsl_pull.specs.Laws.{SyncsHaveOneEnd, SyncsHaveSomeEnd, LocalPullsEnd, PullsEndWell, LocalPullsLeaveAll, ClonesHoldTheFiles};
+ghost use Rattle.fsl_pull.specs.Laws.{SyncsHaveOneEnd, SyncsHaveSomeEnd, LocalPullsEnd, PullsEndWell, LocalPullsLeaveAll, ClonesHoldTheFiles, ClonesCountNoFaults, SyncsCommit};
 
 /// A law and no code: of replies that begin alike one sync needs no more than another, and has the same end.
 pub fn syncs_have_one_end()
@@ -32,4 +32,15 @@ pub fn local_pulls_leave_all()
 /// under the project code of the first reply.
 pub fn clones_hold_the_files()
     ensures { ClonesHoldTheFiles }
+{}
+
+/// A law and no code: a clone comes to the same whatever the disk's count of faults is.
+pub fn clones_count_no_faults()
+    ensures { ClonesCountNoFaults }
+{}
+
+/// A law and no code: the committed records behind a sync are those before it followed by the records of its commits; those
+/// behind a clone are the records of its commits.
+pub fn syncs_commit()
+    ensures { SyncsCommit }
 {}

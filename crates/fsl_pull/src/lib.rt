@@ -1,6 +1,6 @@
 //! The client of a sync. A sync is a list of rounds: a request goes out, a reply comes in, its files arrive in the
 //! repository, and one commit follows. [`pull`] asks for names until no file comes and none is new. [`push`] announces names
-//! and sends the files that are asked for.
+//! and sends the files that are asked for. [`clone_from`] makes a repository, and asks from place to place.
 //!
 //! Each round over a network has a connection of its own. The contract of a call says which rounds the connections of its
 //! dial are, what each of them asks, and that the answer is the one that these replies come to.
@@ -8,6 +8,7 @@
 
 mod asking;
 mod choosing;
+mod cloning;
 mod committing;
 mod laws;
 mod local;
@@ -19,11 +20,12 @@ mod requests;
 mod sent;
 mod taking;
 
+pub use cloning::clone_from;
 use fsl_name::Name;
 use fsl_text::Text;
 pub use laws::{
-    clones_hold_the_files, local_pulls_end, local_pulls_leave_all, pulls_end_well,
-    syncs_have_one_end, syncs_have_some_end,
+    clones_count_no_faults, clones_hold_the_files, local_pulls_end, local_pulls_leave_all,
+    pulls_end_well, syncs_commit, syncs_have_one_end, syncs_have_some_end,
 };
 pub use local::pull_local;
 pub use pulling::pull;

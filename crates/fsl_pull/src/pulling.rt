@@ -8,6 +8,7 @@ ghost use Rattle.fsl_pull.specs.Replies.{announced_in};
 ghost use Rattle.fsl_pull.specs.Pulls.{missing_fault};
 ghost use Rattle.fsl_pull.specs.PullTurns.{IsTaken, IsTurned};
 ghost use Rattle.fsl_pull.specs.Calls.{IsPulledOver};
+ghost use Rattle.fsl_pull.specs.Asking.{IsDialCounted};
 
 use crate::asking::{Unasked, ask};
 use crate::committing::commit;
@@ -108,6 +109,7 @@ fn pull_round<D: Disk, N: Dial, L: Ledger>(
     ensures loaded { repo.new.seen.loaded ≡ repo.old.seen.loaded }
     ensures keeps { Keeps (D.state repo.old.disk) (D.state repo.new.disk) }
     ensures dialled { (N.state dial.old).faults ≤ (N.state dial.new).faults }
+    ensures counts { IsDialCounted (N.state dial.old) (N.state dial.new) result }
 {
     let request = match pull_request(alloc, login, repo.config(), asked) {
         Ok(request) => request,
@@ -141,6 +143,7 @@ pub fn pull<D: Disk, N: Dial, L: Ledger>(
         (D.state repo.old.disk) (D.state repo.new.disk) repo.old.seen repo.new.seen result }
     ensures loaded { repo.new.seen.loaded ≡ repo.old.seen.loaded }
     ensures keeps { Keeps (D.state repo.old.disk) (D.state repo.new.disk) }
+    ensures counts { IsDialCounted (N.state dial.old) (N.state dial.new) result }
     // A stopped repository calls no device.
     ensures idle { IsSome repo.old.seen.state.stopped → repo.new.disk ≡ repo.old.disk }
 {

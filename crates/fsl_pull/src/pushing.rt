@@ -3,6 +3,7 @@ ghost use Rattle.std.specs.Prelude.{◌≡◌, ◌≤◌, ◌++◌, None, IsSome
 ghost use Rattle.fsl_disk.specs.Disk.{Keeps};
 ghost use Rattle.fsl_pull.specs.PushTurns.{quiet_by, push_step, push_answer, IsPushTaken, IsPushTurned};
 ghost use Rattle.fsl_pull.specs.Calls.{IsPushedOver};
+ghost use Rattle.fsl_pull.specs.Asking.{IsDialCounted};
 
 use crate::asking::{Unasked, ask};
 use crate::choosing::{asked, due, public_ordered};
@@ -147,6 +148,7 @@ fn push_round<D: Disk, N: Dial, L: Ledger>(
     ensures loaded { repo.new.seen.loaded ≡ repo.old.seen.loaded }
     ensures keeps { Keeps (D.state repo.old.disk) (D.state repo.new.disk) }
     ensures dialled { (N.state dial.old).faults ≤ (N.state dial.new).faults }
+    ensures counts { IsDialCounted (N.state dial.old) (N.state dial.new) result }
 {
     repo.is_whole();
     let names = match unclustered(alloc, repo) {
@@ -190,6 +192,7 @@ pub fn push<D: Disk, N: Dial, L: Ledger>(
         (D.state repo.old.disk) (D.state repo.new.disk) repo.old.seen repo.new.seen result }
     ensures loaded { repo.new.seen.loaded ≡ repo.old.seen.loaded }
     ensures keeps { Keeps (D.state repo.old.disk) (D.state repo.new.disk) }
+    ensures counts { IsDialCounted (N.state dial.old) (N.state dial.new) result }
     // A stopped repository calls no device.
     ensures idle { IsSome repo.old.seen.state.stopped → repo.new.disk ≡ repo.old.disk }
 {

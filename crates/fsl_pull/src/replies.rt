@@ -1,12 +1,13 @@
 //! What the body of a reply is: its cards, or the first thing that is wrong with it.
 ghost use Rattle.std.specs.Prelude.{◌≡◌, position, option_map, IfOk};
 ghost use Rattle.std.specs.Option.{option_map_or};
-ghost use Rattle.fsl_wire.specs.Messages.{IsMessage, IsReadFault};
+ghost use Rattle.fsl_wire.specs.Messages.{IsReadFault};
+ghost use Rattle.fsl_wire.specs.Drafts.{IsBareMessage};
 ghost use Rattle.fsl_pull.specs.Replies.{IsBodyRead, is_private, error_of, error_text};
 
 use crate::PeerFault;
 use fsl_text::{Memory, Text};
-use fsl_wire::{Message, WireCard, WireFault, line_of, read};
+use fsl_wire::{Message, WireCard, WireFault, line_of, read_bare};
 use std::alloc::Global;
 
 /// The place of the first private card.
@@ -57,7 +58,7 @@ fn unread(body: &[u8], fault: WireFault) -> Result<PeerFault, Memory>
 
 /// What is wrong with the cards of a body, if anything is: a private card, or else an error card.
 fn wrong_card(alloc: Global, body: &[u8], cards: &[WireCard]) -> Result<Option<PeerFault>, Memory>
-    requires { IsMessage body.now cards.now }
+    requires { IsBareMessage body.now cards.now }
     ensures { IfOk result (λ wrong. IsBodyRead body.now (option_map_or (λ why. Err why) wrong (Ok cards.now))) }
 {
     if let Some(place) = private_card(cards) {
@@ -77,7 +78,7 @@ fn wrong_card(alloc: Global, body: &[u8], cards: &[WireCard]) -> Result<Option<P
 pub(crate) fn read_body(alloc: Global, body: &[u8]) -> Result<Result<Message, PeerFault>, Memory>
     ensures { IfOk result (IsBodyRead body.now) }
 {
-    let message = match read(alloc, body) {
+    let message = match read_bare(alloc, body) {
         Ok(message) => message,
         Err(fault) => return Ok(Err(unread(body, fault)?)),
     };

@@ -4,7 +4,7 @@ ghost use Rattle.fsl_name.specs.Name.{name_text};
 ghost use Rattle.fsl_wire.specs.declared.WireCard.TheVariants as card_is;
 ghost use Rattle.fsl_wire.specs.Writing.{card_bytes, message_bytes};
 ghost use Rattle.fsl_repo.specs.Machine.{now};
-ghost use Rattle.fsl_pull.specs.Requests.{signature_of, login_line, signed_bytes, request_bytes, push_cards, igot_card, file_card};
+ghost use Rattle.fsl_pull.specs.Requests.{signature_of, login_line, signed_bytes, request_bytes, push_cards, clone_cards, igot_card, file_card};
 ghost use Rattle.fsl_pull.specs.Pushes.{public_file};
 
 use crate::Login;
@@ -13,8 +13,8 @@ use fsl_disk::Disk;
 use fsl_name::Name;
 use fsl_record::Config;
 use fsl_repo::Repo;
-use fsl_text::{Memory, Text, escape};
-use fsl_wire::{append_file, append_gimme, append_igot, append_line};
+use fsl_text::{List, Memory, Text, escape};
+use fsl_wire::{Message, WireCard, append_file, append_gimme, append_igot, append_line, write};
 use std::alloc::Global;
 
 /// The signature of a message with this nonce: the name of the nonce and the secret, in digits.
@@ -145,5 +145,17 @@ pub(crate) fn push_request<D: Disk>(
 {
     let mut message = push_front(alloc, repo.config(), names)?;
     append_files(&mut message, repo, due)?;
+    signed(alloc, login, message)
+}
+
+/// The request of a clone: the files from a place on.
+pub(crate) fn clone_request(alloc: Global, login: &Option<Login>, from: u64) -> Result<Text, Memory>
+    ensures { IfOk result (λ text. text ≡ request_bytes login.now (clone_cards from)) }
+{
+    let mut cards = Vec::new(alloc);
+    cards.push(WireCard::Clone {
+        from: Some((3, from)),
+    })?;
+    let message = write(alloc, &Message::of(List::from_vec(cards)))?;
     signed(alloc, login, message)
 }

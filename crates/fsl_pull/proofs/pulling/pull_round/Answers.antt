@@ -2,6 +2,7 @@ use Rattle.std.proofs.Common.{◌≡◌, List, refl, subst, ◌∙◌}
 use Rattle.fsl_wire.specs.declared.WireCard.{WireCard}
 use Rattle.fsl_pull.specs.Pulls.{missing_fault}
 use Rattle.fsl_pull.specs.PullTurns.{IsTaken}
+use Rattle.fsl_pull.proofs.DialCounts.{taken_counts}
 use Rattle.fsl_pull.proofs.TurnLemmas.{taken_turn, unread_turn}
 use Rattle.fsl_pull.proofs.pulling.pull_round.Goals as goal
 
@@ -21,3 +22,8 @@ returns-in-Ok-Err-clause-round g c =
     let old = c.args.repo.now.seen in
     unread_turn c.args.login.now c.args.asked.now (g.N.Link.state c.args.dial.now) (g.N.Link.state c.ask.new.dial) before before old old (c.args.repo.now.disk ≡ c.args.repo.now.disk) c.bytes.result.now c.config.result.now c.config.ensures (c.bytes.ensures ∙ c.in-Ok.ensures)
     c.in-Ok-Err.why (rw c.in-Ok-Err.field-0-is at c.in-Ok-Err.ensures.asked) refl refl
+
+pub returns-in-Ok-Ok-clause-counts : goal.returns-in-Ok-Ok-clause-counts
+returns-in-Ok-Ok-clause-counts g c =
+    taken_counts missing_fault c.args.asked.now c.cards.result.now (g.D.Disk.state c.args.repo.now.disk) (g.D.Disk.state c.take_reply.new.repo.disk) c.args.repo.now.seen c.take_reply.new.repo.seen (c.take_reply.new.repo.disk ≡ c.args.repo.now.disk) c.take_reply.result
+    (g.N.Link.state c.args.dial.now) (g.N.Link.state c.ask.new.dial) c.take_reply.ensures.step c.in-Ok-Ok.ensures.counts

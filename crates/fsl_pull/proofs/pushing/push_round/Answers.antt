@@ -3,6 +3,7 @@ use Rattle.fsl_disk.specs.Disk.{Keeps}
 use Rattle.fsl_wire.specs.declared.WireCard.{WireCard}
 use Rattle.fsl_repo.specs.Whole.{Seen}
 use Rattle.fsl_pull.specs.PushTurns.{IsPushTaken}
+use Rattle.fsl_pull.proofs.DialCounts.{push_counts}
 use Rattle.fsl_pull.proofs.PushTurnLemmas.{taken_turn, unread_turn, lost_turn, left_turn, no_turn}
 use Rattle.fsl_pull.proofs.pushing.push_round.Goals as goal
 
@@ -59,3 +60,8 @@ returns-clause-round g c =
     left_turn c.args.login.now c.args.gimmes.now (g.N.Link.state c.args.dial.now) (g.N.Link.state c.ask.new.dial) (g.D.Disk.state c.args.repo.now.disk) (g.D.Disk.state c.push_request.new.repo.disk) c.args.repo.now.seen c.push_request.new.repo.seen c.args.sent.now c.args.sent.now (c.push_request.new.repo.disk ≡ c.args.repo.now.disk)
     c.bytes.result.now c.items.result.now c.deref.result.now (c.is_whole.ensures.seen).items (c.items.ensures ∙ c.in-Ok.ensures) (c.deref.ensures.value ∙ c.in-Ok-due.ensures) (c.bytes.ensures ∙ c.in-Ok-push_request.ensures.request)
     (rw c.in-Err-Memory.field-0-is at c.in-Err-Memory.ensures.unasked) (ap (λ r. r.seen.state) c.push_request.ensures.repo) (ap (λ r. r.disk) c.push_request.ensures.repo)
+
+pub returns-in-Ok-Ok-clause-counts : goal.returns-in-Ok-Ok-clause-counts
+returns-in-Ok-Ok-clause-counts g c =
+    push_counts c.deref-in-Ok-Ok.result.now c.cards.result.now (g.D.Disk.state c.push_request.new.repo.disk) (g.D.Disk.state c.take_reply.new.repo.disk) c.push_request.new.repo.seen c.take_reply.new.repo.seen c.args.sent.now c.take_reply.new.sent
+    (c.take_reply.new.repo.disk ≡ c.push_request.new.repo.disk) c.take_reply.result (g.N.Link.state c.args.dial.now) (g.N.Link.state c.ask.new.dial) c.take_reply.ensures.step c.in-Ok-Ok.ensures.counts
