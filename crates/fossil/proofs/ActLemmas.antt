@@ -22,13 +22,13 @@ use Rattle.fossil.proofs.FileLemmas.{both, Loads, agrees, left_failed, loaded_le
 use Rattle.fossil.proofs.SomeOutcome.{some_said_outcome}
 
 pub put_loads : Loads (Some command_of.Put)
-put_loads = record { opened = refl; begun = λ begun. cc; old = λ old bytes are. are; refused = λ bytes refused. refused; fails = λ read bytes at fails. inl (at, fails, refl) }
+put_loads = record { opened = refl; begun = λ begun. cc; old = λ old bytes are. are; refused = λ bytes refused. refused; fails = λ read bytes at fails. inl (at, fails, refl); alone = refl }
 
 pub shun_loads : (name : List ℕ) → Loads (Some (command_of.Shun name))
-shun_loads name = record { opened = refl; begun = λ begun. cc; old = λ old bytes are. are; refused = λ bytes refused. refused; fails = λ read bytes at fails. inl (at, fails, refl) }
+shun_loads name = record { opened = refl; begun = λ begun. cc; old = λ old bytes are. are; refused = λ bytes refused. refused; fails = λ read bytes at fails. inl (at, fails, refl); alone = refl }
 
 pub ask_loads : (question : Question) → Loads (Some (command_of.Ask question))
-ask_loads question = record { opened = refl; begun = λ begun. cc; old = λ old bytes are. are; refused = λ bytes refused. refused; fails = λ read bytes at fails. inl (at, fails, refl) }
+ask_loads question = record { opened = refl; begun = λ begun. cc; old = λ old bytes are. are; refused = λ bytes refused. refused; fails = λ read bytes at fails. inl (at, fails, refl); alone = refl }
 
 -- ---- faults, by what was read
 
@@ -131,7 +131,7 @@ module _ (command : Option Command) (loads : Loads command) (source : SourceStat
     held = some_bytes file.contents
 
     outcome : (o : Outcome) × IsSaidOutcome command read.0 held.0 o
-    outcome = some_said_outcome command read.0 held.0
+    outcome = some_said_outcome command read.0 held.0 loads.alone
 
     touches : Touches command (both file left) held.0 outcome.0
     touches = loaded_touches command loads file left held.0 outcome.0 un.unreadable un.any_moment un.keeps

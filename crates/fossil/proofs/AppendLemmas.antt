@@ -59,7 +59,7 @@ module _ (command : Option Command) (loads : Loads command) (input : Input) (fil
   pub unread_acted : (fault : Fault) → IsUnread fault input → IsTrue (reads command) → HasActed command input (both file mid) (Err fault)
   unread_acted fault un reads_it =
       let read = some_bytes input.before.left in
-      let o = some_said_outcome command read.0 bytes in (
+      let o = some_said_outcome command read.0 bytes loads.alone in (
         read.0,
         bytes,
         o.0,
@@ -71,7 +71,7 @@ module _ (command : Option Command) (loads : Loads command) (input : Input) (fil
   pub memory_acted : HasActed command input (both file mid) (Err fault_is.Memory)
   memory_acted =
       let read = some_bytes input.before.left in
-      let o = some_said_outcome command read.0 bytes in (
+      let o = some_said_outcome command read.0 bytes loads.alone in (
         read.0,
         bytes,
         o.0,

@@ -16,7 +16,7 @@ use Rattle.fossil.specs.Printed.{Printed}
 use Rattle.fossil.specs.Printed as printing
 use Rattle.fossil.specs.Gen.{IsGenPrinted}
 use Rattle.fossil.specs.Ingest as ingest
-use Rattle.fossil.specs.Outcome.{Outcome, without_commit, printed_of, usage, IsSaidOutcome}
+use Rattle.fossil.specs.Outcome.{Outcome, without_commit, printed_of, usage, meets, IsSaidOutcome}
 use Rattle.fossil.specs.Run.{Input, Output, Agrees, reads, opens, IsSaid, IsTold, cut_off_status, HasRun}
 use Rattle.fossil.specs.Acts.{HasActed, IsCaused, IsUnread, IsIngestRun, fault_status}
 use Rattle.fossil.proofs.InputLemmas.{some_bytes}
@@ -63,11 +63,11 @@ module _ (command : Option Command) (input : Input) (file : DiskState) (no_other
       )
 
   -- a fault before anything was done
-  idle_fault : (fault : Fault) → (fault ≡ fault_is.Disk → ⊥) → ((bytes : List ℕ) (o : Outcome) → IsCaused command input (both file file) bytes o fault) → Acted (Err fault)
-  idle_fault fault other cause =
+  idle_fault : meets command ≡ false → (fault : Fault) → (fault ≡ fault_is.Disk → ⊥) → ((bytes : List ℕ) (o : Outcome) → IsCaused command input (both file file) bytes o fault) → Acted (Err fault)
+  idle_fault plain fault other cause =
       let read = some_bytes input.before.left in
       let bytes = some_bytes file.contents in
-      let o = some_said_outcome command read.0 bytes.0 in (
+      let o = some_said_outcome command read.0 bytes.0 plain in (
         read.0,
         bytes.0,
         o.0,
@@ -86,13 +86,13 @@ module _ (command : Option Command) (input : Input) (file : DiskState) (no_other
         },
       )
 
-  pub idle_memory : Acted (Err fault_is.Memory)
-  idle_memory = idle_fault fault_is.Memory (λ e. cc) (λ bytes o. tt)
+  pub idle_memory : meets command ≡ false → Acted (Err fault_is.Memory)
+  idle_memory plain = idle_fault plain fault_is.Memory (λ e. cc) (λ bytes o. tt)
 
-  pub idle_unread : (fault : Fault) → IsUnread fault input → IsTrue (reads command) → (IsTrue (opens command) → ⊥) → Acted (Err fault)
-  idle_unread fault_is.Disk un reads_it closed = absurd un
-  idle_unread fault_is.Input un reads_it closed = idle_fault fault_is.Input (λ e. cc) (λ bytes o. record { read = reads_it; rose = un; file = λ opened. absurd (closed opened) })
-  idle_unread fault_is.Memory un reads_it closed = idle_memory
+  pub idle_unread : meets command ≡ false → (fault : Fault) → IsUnread fault input → IsTrue (reads command) → (IsTrue (opens command) → ⊥) → Acted (Err fault)
+  idle_unread plain fault_is.Disk un reads_it closed = absurd un
+  idle_unread plain fault_is.Input un reads_it closed = idle_fault plain fault_is.Input (λ e. cc) (λ bytes o. record { read = reads_it; rose = un; file = λ opened. absurd (closed opened) })
+  idle_unread plain fault_is.Memory un reads_it closed = idle_memory plain
 
 -- what opens no file and comes to the usage
 usage_of : (command : Option Command) → (IsTrue (opens command) → ⊥) → ((read bytes : List ℕ) → IsSaidOutcome command read bytes usage) → (input : Input) (file : DiskState)
@@ -130,7 +130,7 @@ pub ingest_acted : (input : Input) (file : DiskState) → (IsTrue file.is_model 
     → IfOk result (IsIngestRun input) → IfErr result (λ fault. IsUnread fault input) → HasActed (Some command_of.Ingest) input (both file file) result
 ingest_acted input file no_other (Ok answer) run un =
     idle_acted (Some command_of.Ingest) input file no_other (λ opened. cc) run.read (without_commit answer) run.told (answer, run.ingested, refl) (small_ingest run.read (nat_lt (2 ^ 27) (length run.read)) answer run.ingested) (λ z reads. run.end z) refl
-ingest_acted input file no_other (Err fault) run un = idle_unread (Some command_of.Ingest) input file no_other fault un refl (λ e. cc)
+ingest_acted input file no_other (Err fault) run un = idle_unread (Some command_of.Ingest) input file no_other refl fault un refl (λ e. cc)
 
 -- ---- gen
 
@@ -143,4 +143,4 @@ gen_acted count reversed input file no_other made (Ok answer) is ok err =
     let small : answer.status ≤ 3 = let z = ap (λ (a : Printed). a.status) printed.2 in omega (arith, z) in
     idle_acted (Some (command_of.Gen count reversed)) input file no_other (λ opened. cc) read.0 (without_commit answer) read.1 (answer, printed, refl) small (λ z reads. absurd (cc)) refl
 gen_acted count reversed input file no_other made (Err fault) is ok err =
-    subst (λ (f : Fault). HasActed (Some (command_of.Gen count reversed)) input (both file file) (Err f)) (sym err) (idle_memory (Some (command_of.Gen count reversed)) input file no_other)
+    subst (λ (f : Fault). HasActed (Some (command_of.Gen count reversed)) input (both file file) (Err f)) (sym err) (idle_memory (Some (command_of.Gen count reversed)) input file no_other refl)

@@ -12,7 +12,7 @@ use Rattle.fsl_journal.proofs.Unique.{one_file}
 use Rattle.fsl_words.specs.declared.Command.{Command}
 use Rattle.fossil.specs.declared.fault.Fault.{Fault}
 use Rattle.fossil.specs.declared.fault.Fault.TheVariants as fault_is
-use Rattle.fossil.specs.Outcome.{Outcome, one_commit, not_repository, IsSaidOutcome}
+use Rattle.fossil.specs.Outcome.{Outcome, one_commit, not_repository, meets, IsSaidOutcome}
 use Rattle.fossil.specs.Run.{File, Agrees, opens, begins, StandsFor, StandsForAll, StandsForSome, AreOldBy, AreOld, AreImages, is_done, IsLeft, IsFileLeft, IsNoRepository, IsRefused, IsWholeAtAnyMoment, lasts, IsDurable, after_commits}
 use Rattle.fossil.specs.Acts.{KeepsContents, KeepsImages, KeepsUnreadable, Touches, fault_status}
 
@@ -155,6 +155,7 @@ pub record Loads (command : Option Command) : Type 0 where
   pub old : (old : List Record) (bytes : List ℕ) → AreOld command old bytes → IsFileOf bytes old
   pub refused : (bytes : List ℕ) → IsRefused command bytes → IsNoRepository bytes
   pub fails : (read bytes : List ℕ) (at : ℕ) → FailsAt bytes at → IsSaidOutcome command read bytes (not_repository at)
+  pub alone : meets command ≡ false
 
 module _ (command : Option Command) (loads : Loads command) (file left : DiskState) (bytes : List ℕ) (o : Outcome) where
   -- what the contents stand for stays

@@ -24,3 +24,15 @@ pub mod QuestionLemmas
 pub mod AskedLemmas
 pub mod ServeLemmas
 pub mod UsersLemmas
+pub mod TakenLemmas
+pub mod SoundLemmas
+pub mod PushLemmas
+pub mod SyncedLemmas
+pub mod SyncLemmas
+pub mod ComeLemmas
+pub mod UnopenedLemmas
+pub mod CountLemmas
+pub mod CloneLemmas
+pub mod CloneOutcomes
+pub mod OneSync
+pub mod SomeSync

@@ -9,7 +9,9 @@ use Rattle.fsl_wire.specs.declared.WireCard.TheVariants as wire_card
 use Rattle.fsl_wire.specs.declared.WireFault.{WireFault}
 use Rattle.fsl_wire.specs.declared.WireFault.TheVariants as faults
 use Rattle.fsl_wire.specs.Messages.{IsNumberedMessage, IsMessage, IsLineOf, IsFirstFault, IsReadFault}
+use Rattle.fsl_wire.specs.Drafts.{bare, IsBareMessage}
 use Rattle.fsl_wire.proofs.OneWay.{reads_one_way}
+use Rattle.fsl_wire.proofs.BareLemmas.{position_bare}
 use Rattle.fossil.specs.declared.message.Sent.{Sent}
 use Rattle.fossil.specs.declared.message.MessageFault.TheVariants as fault_is
 use Rattle.fossil.specs.Printed.{Printed, bad_line, not_a_file}
@@ -109,17 +111,57 @@ some_in i n m h = grind (arith)
 pub place_in : (cards : List WireCard) (place : ℕ) → position is_other cards ≡ Some place → place < length cards
 place_in cards place e = some_in (position_or_len is_other cards) (length cards) place e
 
-pub other_fault : (message : List ℕ) (cards : List WireCard) (place n : ℕ) → IsMessage message cards → position is_other cards ≡ Some place → IsLineOf message place n → IsFaultOf message (fault_is.NotFile n)
-other_fault message cards place n is found (lines, numbered, here) =
+whole_other : (message : List ℕ) (cards : List WireCard) (place n : ℕ) → IsMessage message cards → position is_other cards ≡ Some place → IsLineOf message place n → IsFaultOf message (fault_is.NotFile n)
+whole_other message cards place n is found (lines, numbered, here) =
     let same : is.0 ≡ lines = reads_one_way.one_numbering message is.0 lines is.1 numbered in
     let of_lines : cards ≡ cards_in lines = is.2 ∙ ap cards_in same in
     let at : place ≡ first_of lines = some_at _ _ place (sym (ap (position is_other) of_lines) ∙ found) in
     (lines, numbered, at_first lines n (ap (slice_get (map (λ l. l.0) lines)) (sym at) ∙ here))
 
-pub files_read : (message : List ℕ) (cards : List WireCard) (files : List Sent) → IsMessage message cards → position is_other cards ≡ None → files ≡ files_of false cards → IsFileList message files
-files_read message cards files is none e =
+whole_files : (message : List ℕ) (cards : List WireCard) (files : List Sent) → IsMessage message cards → position is_other cards ≡ None → files ≡ files_of false cards → IsFileList message files
+whole_files message cards files is none e =
     let past = none_past (first_of is.0) (length (cards_in is.0)) (sym (ap (position is_other) is.2) ∙ none) in
     (is.0, is.1, past_all is.0 past, e ∙ ap (files_of false) is.2)
+
+-- a login is none of files, whatever its tail
+other_bare : (c : WireCard) → is_other (bare c) ≡ is_other c
+other_bare (wire_card.Login u n s t l) = refl
+other_bare (wire_card.Push s p) = refl
+other_bare (wire_card.Pull s p) = refl
+other_bare (wire_card.Clone f) = refl
+other_bare (wire_card.CloneSeqno n) = refl
+other_bare (wire_card.File n b) = refl
+other_bare wire_card.Private = refl
+other_bare (wire_card.Igot n p) = refl
+other_bare (wire_card.Gimme n) = refl
+other_bare (wire_card.Error t) = refl
+other_bare (wire_card.Message t) = refl
+other_bare wire_card.SendPrivate = refl
+
+files_bare : (marked : Bool) (cards : List WireCard) → files_of marked (map bare cards) ≡ files_of marked cards
+files_bare marked [] = refl
+files_bare marked (wire_card.Login u n s t l ∷ cards) = files_bare marked cards
+files_bare marked (wire_card.Push s p ∷ cards) = files_bare marked cards
+files_bare marked (wire_card.Pull s p ∷ cards) = files_bare marked cards
+files_bare marked (wire_card.Clone f ∷ cards) = files_bare marked cards
+files_bare marked (wire_card.CloneSeqno n ∷ cards) = files_bare marked cards
+files_bare marked (wire_card.File n b ∷ cards) = ap (λ (fs : List Sent). record { name = n; bytes = b; private = marked } ∷ fs) (files_bare false cards)
+files_bare marked (wire_card.Private ∷ cards) = files_bare true cards
+files_bare marked (wire_card.Igot n p ∷ cards) = files_bare marked cards
+files_bare marked (wire_card.Gimme n ∷ cards) = files_bare marked cards
+files_bare marked (wire_card.Error t ∷ cards) = files_bare marked cards
+files_bare marked (wire_card.Message t ∷ cards) = files_bare marked cards
+files_bare marked (wire_card.SendPrivate ∷ cards) = files_bare marked cards
+
+-- the same place in the bare message and in the whole one
+other_in : (cards whole : List WireCard) (place : Option ℕ) → cards ≡ map bare whole → position is_other cards ≡ place → position is_other whole ≡ place
+other_in cards whole place e at = sym (position_bare is_other other_bare whole) ∙ sym (ap (position is_other) e) ∙ at
+
+pub other_fault : (message : List ℕ) (cards : List WireCard) (place n : ℕ) → IsBareMessage message cards → position is_other cards ≡ Some place → IsLineOf message place n → IsFaultOf message (fault_is.NotFile n)
+other_fault message cards place n (whole, is, e) found line = whole_other message whole place n is (other_in cards whole (Some place) e found) line
+
+pub files_read : (message : List ℕ) (cards : List WireCard) (files : List Sent) → IsBareMessage message cards → position is_other cards ≡ None → files ≡ files_of false cards → IsFileList message files
+files_read message cards files (whole, is, e) none f = whole_files message whole files is (other_in cards whole None e none) (f ∙ ap (files_of false) e ∙ files_bare false whole)
 
 pub read_fault : (message : List ℕ) (fault : WireFault) → IsReadFault message fault → IsFaultOf message (unread_as fault)
 read_fault message (faults.Unknown n) is = (faults.Unknown n, is, refl)

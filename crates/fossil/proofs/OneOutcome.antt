@@ -108,6 +108,10 @@ one_command_outcome (command_of.Shun name) input bytes a b h k = one_loaded (IsS
 one_command_outcome (command_of.Ask question) input bytes a b h k = one_loaded (IsAnswered question) bytes (one_answered question) a b h k
 one_command_outcome (command_of.Serve address users workers requests) input bytes a b h k = h ∙ sym k
 one_command_outcome (command_of.Gen count reversed) input bytes a b h k = one_gen count reversed a b h k
+one_command_outcome (command_of.Pull address login) input bytes a b h k = absurd h
+one_command_outcome (command_of.Push address login) input bytes a b h k = absurd h
+one_command_outcome (command_of.Clone address server fields) input bytes a b h k = absurd h
+one_command_outcome (command_of.PullLocal path) input bytes a b h k = absurd h
 
 pub one_said_outcome : (command : Option Command) (input bytes : List ℕ) (a b : Outcome) → IsSaidOutcome command input bytes a → IsSaidOutcome command input bytes b → a ≡ b
 one_said_outcome None input bytes a b h k = h ∙ sym k

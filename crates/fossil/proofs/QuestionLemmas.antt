@@ -84,7 +84,7 @@ module _ (question : Question) (source : SourceState) (file left : DiskState) wh
     pub no_memory : Acted (Err fault_is.Memory)
     no_memory =
         let read = some_bytes source.left in
-        let o = some_said_outcome command read.0 bytes in
+        let o = some_said_outcome command read.0 bytes refl in
         (read.0, bytes, o.0, memory_by command (ask_loads question) input file left read.0 bytes o.0 read.1 file_told o.1 (touches o.0) opened.contents)
 
     answer_acted : (a : Printed) → IsAnswered question l.blobs.records (without_commit a) → Acted (Ok a)

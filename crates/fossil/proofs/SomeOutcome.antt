@@ -22,7 +22,7 @@ use Rattle.fossil.specs.Printed as printing
 use Rattle.fossil.specs.Gen.{public_record}
 use Rattle.fossil.specs.Ingest as ingest
 use Rattle.fossil.specs.Put.{IsPutRead, printed_by, appended_by}
-use Rattle.fossil.specs.Outcome.{Outcome, without_commit, with_commit, init_outcome, report_outcome, not_repository, usage, IsAnswered, IsPutOfFiles, shun_outcome, IsShunOf, IsLoaded, IsCommandOutcome, said, IsSaidOutcome, HasSomeOutcome}
+use Rattle.fossil.specs.Outcome.{Outcome, without_commit, with_commit, init_outcome, report_outcome, not_repository, usage, IsAnswered, IsPutOfFiles, shun_outcome, IsShunOf, IsLoaded, IsCommandOutcome, said, meets, command_meets, IsSaidOutcome, HasSomeOutcome}
 use Rattle.fossil.proofs.MessageLemmas.{IsSomeMessage, some_message}
 use Rattle.fsl_repo.proofs.SomeArrival.{some_items}
 use Rattle.fossil.proofs.ArrivalLemmas.{some_arrive}
@@ -75,22 +75,26 @@ some_loaded : (bytes : List ℕ) (ByRecords : List Record → Outcome → Type 0
 some_loaded bytes ByRecords some (inl fails) = (not_repository fails.0, inl (fails.0, fails.1, refl))
 some_loaded bytes ByRecords some (inr is) = let o = some is.0 in (o.0, inr (is.0, is.1, o.1))
 
-some_command : (command : Command) (input bytes : List ℕ) → (o : Outcome) × IsCommandOutcome command input bytes o
-some_command (command_of.Init project server fields) input bytes = (init_outcome project server fields (length bytes), refl)
-some_command command_of.Ingest input bytes = let o = some_ingested input (nat_lt (2 ^ 27) (length input)) in (without_commit o.0, (o.0, o.1, refl))
-some_command command_of.Put input bytes =
+some_command : (command : Command) (input bytes : List ℕ) → command_meets command ≡ false → (o : Outcome) × IsCommandOutcome command input bytes o
+some_command (command_of.Init project server fields) input bytes plain = (init_outcome project server fields (length bytes), refl)
+some_command command_of.Ingest input bytes plain = let o = some_ingested input (nat_lt (2 ^ 27) (length input)) in (without_commit o.0, (o.0, o.1, refl))
+some_command command_of.Put input bytes plain =
     some_loaded bytes (IsPutOfFiles input) (λ old. let o = some_put old input (nat_lt (2 ^ 27) (length input)) in (with_commit o.0 o.1, (o.0, o.1, o.2, refl))) (some_file bytes)
-some_command (command_of.Shun name) input bytes = some_loaded bytes (IsShunOf name) (λ old. (shun_outcome name old, refl)) (some_file bytes)
-some_command (command_of.Serve address users workers requests) input bytes = (usage, refl)
-some_command (command_of.Gen count reversed) input bytes =
+some_command (command_of.Shun name) input bytes plain = some_loaded bytes (IsShunOf name) (λ old. (shun_outcome name old, refl)) (some_file bytes)
+some_command (command_of.Serve address users workers requests) input bytes plain = (usage, refl)
+some_command (command_of.Gen count reversed) input bytes plain =
     let i = some_items (contents (map public_record (generated count reversed))).held in
     let printed : Printed = record { status = 0; text = summary (tables [] i.0) i.0 } in (without_commit printed, (printed, (i.0, i.1, refl), refl))
-some_command (command_of.Ask question) input bytes =
+some_command (command_of.Ask question) input bytes plain =
     some_loaded bytes (IsAnswered question) (λ records. let r = some_report (contents records) question in (report_outcome r.0, (r.0, r.1, refl))) (some_file bytes)
+some_command (command_of.Pull address login) input bytes plain = absurd (cc)
+some_command (command_of.Push address login) input bytes plain = absurd (cc)
+some_command (command_of.Clone address server fields) input bytes plain = absurd (cc)
+some_command (command_of.PullLocal path) input bytes plain = absurd (cc)
 
-pub some_said_outcome : (command : Option Command) (input bytes : List ℕ) → (o : Outcome) × IsSaidOutcome command input bytes o
-some_said_outcome None input bytes = (usage, refl)
-some_said_outcome (Some command) input bytes = some_command command input bytes
+pub some_said_outcome : (command : Option Command) (input bytes : List ℕ) → meets command ≡ false → (o : Outcome) × IsSaidOutcome command input bytes o
+some_said_outcome None input bytes plain = (usage, refl)
+some_said_outcome (Some command) input bytes plain = some_command command input bytes plain
 
 pub some_outcome : HasSomeOutcome
-some_outcome words input bytes = some_said_outcome (said words) input bytes
+some_outcome words input bytes plain = some_said_outcome (said words) input bytes plain

@@ -13,7 +13,7 @@ use Rattle.fsl_words.specs.declared.Question.{Question}
 use Rattle.fsl_words.specs.declared.Command.{Command}
 use Rattle.fsl_words.specs.declared.Command.TheVariants as command_of
 use Rattle.fsl_words.specs.declared.Words.{Words}
-use Rattle.fsl_words.specs.Grammar.{words_in, parts_in, command_in, plain_command, question_in, init_command, serve_command, gen_command, number_in, is_up_to, fields_in, are_fields, all_differ, is_word}
+use Rattle.fsl_words.specs.Grammar.{words_in, parts_in, command_in, plain_command, question_in, init_command, serve_command, gen_command, clone_command, served_in, number_in, is_up_to, fields_in, are_fields, all_differ, is_word}
 use Rattle.fossil.specs.Outcome.{said}
 use Rattle.fossil.specs.Acts.{IsObeyable}
 
@@ -85,7 +85,7 @@ plain_obeyed : (command : List ℕ) (words : List (List ℕ)) → Obeyed (plain_
 plain_obeyed command [] =
     command_by (bytes_eq command (codes "ingest")) _ _ tt
     (command_by (bytes_eq command (codes "put")) _ _ tt (command_by (bytes_eq command (codes "leaves")) _ _ tt (command_by (bytes_eq command (codes "phantoms")) _ _ tt tt)))
-plain_obeyed command (word ∷ []) = command_by (bytes_eq command (codes "shun")) _ _ (shunned (name_in word)) (asked (question_in command word))
+plain_obeyed command (word ∷ []) = command_by (bytes_eq command (codes "shun")) _ _ (shunned (name_in word)) (command_by (bytes_eq command (codes "pull-local")) _ _ tt (asked (question_in command word)))
 plain_obeyed command (word ∷ other ∷ words) = tt
 
 at_least : (n : ℕ) → nat_le 1 n ≡ true → 0 < n
@@ -130,6 +130,31 @@ gen_obeyed (count ∷ []) = gen_by false (number_in 100000 count) (number_by 100
 gen_obeyed (count ∷ order ∷ []) = command_by (bytes_eq order (codes "reversed")) _ _ (gen_by true (number_in 100000 count) (number_by 100000 count (is_up_to 100000 count) refl)) tt
 gen_obeyed (count ∷ order ∷ other ∷ words) = tt
 
+cloned_by : (address server : List ℕ) (fields : List (List ℕ)) (fit : Bool) → are_fields fields ≡ fit → Obeyed (option_map (command_of.Clone address server) (cond fit (Some fields) None))
+cloned_by address server fields true e = fields_fit fields e
+cloned_by address server fields false e = tt
+
+coded_by : (address : List ℕ) (fields : List (List ℕ)) (server : Option (List ℕ)) → Obeyed (option_and_then (λ s. option_map (command_of.Clone address s) (fields_in fields)) server)
+coded_by address fields None = tt
+coded_by address fields (Some server) = cloned_by address server fields (are_fields fields) refl
+
+clone_obeyed : (words : List (List ℕ)) → Obeyed (clone_command words)
+clone_obeyed [] = tt
+clone_obeyed (address ∷ []) = tt
+clone_obeyed (address ∷ server ∷ fields) = coded_by address fields (name_in server)
+
+-- an address and a login
+abbrev Served : Type 0
+Served = List ℕ × Option (List ℕ × List ℕ)
+
+pull_by : (o : Option Served) → Obeyed (option_map (λ (s : Served). command_of.Pull s.0 s.1) o)
+pull_by None = tt
+pull_by (Some s) = tt
+
+push_by : (o : Option Served) → Obeyed (option_map (λ (s : Served). command_of.Push s.0 s.1) o)
+push_by None = tt
+push_by (Some s) = tt
+
 named_by : (repository : List ℕ) (o : Option Command) → Obeyed o → IfSome {T = Words} (option_map (λ c. record { repository = repository; command = c }) o) (λ w. IsObeyable w.command)
 named_by repository None h = tt
 named_by repository (Some command) h = h
@@ -139,7 +164,7 @@ parts_obeyed [] = tt
 parts_obeyed (repository ∷ []) = tt
 parts_obeyed (repository ∷ command ∷ words) =
     named_by repository (command_in command words)
-    (command_by (bytes_eq command (codes "init")) _ _ (init_obeyed words) (command_by (bytes_eq command (codes "serve")) _ _ (serve_obeyed words) (command_by (bytes_eq command (codes "gen")) _ _ (gen_obeyed words) (plain_obeyed command words))))
+    (command_by (bytes_eq command (codes "init")) _ _ (init_obeyed words) (command_by (bytes_eq command (codes "serve")) _ _ (serve_obeyed words) (command_by (bytes_eq command (codes "gen")) _ _ (gen_obeyed words) (command_by (bytes_eq command (codes "pull")) _ _ (pull_by (served_in words)) (command_by (bytes_eq command (codes "push")) _ _ (push_by (served_in words)) (command_by (bytes_eq command (codes "clone")) _ _ (clone_obeyed words) (plain_obeyed command words)))))))
 
 words_by : (fit : Bool) (o : Option Words) → IfSome o (λ w. IsObeyable w.command) → IfSome (cond fit o None) (λ w. IsObeyable w.command)
 words_by true o h = h

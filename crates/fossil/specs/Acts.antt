@@ -13,7 +13,7 @@ use Rattle.fsl_journal.specs.declared.LoadFault.TheVariants as load_fault
 use Rattle.fsl_repo.specs.Whole.{Whole, log_of}
 use Rattle.fsl_words.specs.declared.Question.{Question}
 use Rattle.fsl_words.specs.declared.Command.{Command}
-use Rattle.fsl_words.specs.declared.Command.TheVariants.{Init, Ingest, Put, Shun, Ask, Serve, Gen}
+use Rattle.fsl_words.specs.declared.Command.TheVariants.{Init, Ingest, Put, Shun, Ask, Serve, Gen, Pull, Push, Clone, PullLocal}
 use Rattle.fossil.specs.declared.fault.Fault.{Fault}
 use Rattle.fossil.specs.declared.fault.Fault.TheVariants as fault_is
 use Rattle.fossil.specs.declared.load.Loaded.{Loaded}
@@ -183,6 +183,10 @@ IsObeyable (Shun name) = ⊤
 IsObeyable (Ask question) = ⊤
 IsObeyable (Serve address users workers requests) = (0 < workers) × (workers ≤ 16) × (requests ≤ 65536)
 IsObeyable (Gen count reversed) = (1 ≤ count) × (count ≤ 100000)
+IsObeyable (Pull address login) = ⊤
+IsObeyable (Push address login) = ⊤
+IsObeyable (Clone address server fields) = AreFields fields
+IsObeyable (PullLocal path) = ⊤
 
 -- ---- messages
 

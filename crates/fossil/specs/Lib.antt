@@ -12,3 +12,9 @@ pub mod Served
 pub mod Serving
 pub mod ServeCall
 pub mod Taking
+pub mod Syncs
+pub mod Synced
+pub mod Cloned
+pub mod Syncing
+pub mod SyncLaws
+pub mod CloneLaws

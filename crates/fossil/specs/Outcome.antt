@@ -1,12 +1,13 @@
 -- The outcome of a run: the status, the text, and the commits that the command appends to the file.
-use Rattle.std.specs.Prelude.{◌≡◌, ℕ, Bool, ◌==◌, ◌⊎◌, List, [], ◌∷◌, ◌++◌, length, Option, Some, None, option_map, Result, Ok, Err, if◌then◌else◌, codes, decimal}
+use Rattle.std.specs.Prelude.{◌≡◌, ℕ, Bool, true, false, ◌==◌, ◌||◌, ◌⊎◌, List, [], ◌∷◌, ◌++◌, length, Option, Some, None, option_map, Result, Ok, Err, if◌then◌else◌, codes, decimal}
+use Rattle.std.specs.Option.{option_map_or}
 use Rattle.fsl_record.specs.declared.Record.{Record}
 use Rattle.fsl_record.specs.declared.Record.TheVariants as record_of
 use Rattle.fsl_journal.specs.File.{IsFileOf, FailsAt}
 use Rattle.fsl_blobs.specs.Fold.{contents}
 use Rattle.fsl_words.specs.declared.Question.{Question}
 use Rattle.fsl_words.specs.declared.Command.{Command}
-use Rattle.fsl_words.specs.declared.Command.TheVariants.{Init, Ingest, Put, Shun, Ask, Serve, Gen}
+use Rattle.fsl_words.specs.declared.Command.TheVariants.{Init, Ingest, Put, Shun, Ask, Serve, Gen, Pull, Push, Clone, PullLocal}
 use Rattle.fsl_words.specs.Grammar.{words_in}
 use Rattle.fsl_query.specs.declared.Refused.{Refused}
 use Rattle.fsl_query.specs.Refusals.{refusal_text}
@@ -92,7 +93,30 @@ IsLoaded ByRecords bytes o =
 
 -- ---- a run
 
--- the outcome of a command over its input and the bytes of the file: `init` looks at their number alone, `ingest` at none, and `gen` at neither; `serve` is no command of a run
+-- whether a command syncs with a peer; its outcome is told by what it read of the peer, too
+abbrev pub command_syncs : Command → Bool
+command_syncs (Init project server fields) = false
+command_syncs Ingest = false
+command_syncs Put = false
+command_syncs (Shun name) = false
+command_syncs (Ask question) = false
+command_syncs (Serve address users workers requests) = false
+command_syncs (Gen count reversed) = false
+command_syncs (Pull address login) = true
+command_syncs (Push address login) = true
+command_syncs (Clone address server fields) = false
+command_syncs (PullLocal path) = true
+
+-- whether it clones; that has no outcome of a command that syncs, since it begins the file
+abbrev pub command_clones : Command → Bool
+command_clones (Clone address server fields) = true
+command_clones command = false
+
+-- whether it meets a peer: it syncs or clones
+abbrev pub command_meets : Command → Bool
+command_meets command = command_syncs command || command_clones command
+
+-- the outcome of a command that meets none, over its input and the bytes of the file: `init` looks at their number alone, `ingest` at none, and `gen` at neither; `serve` is no command of a run
 abbrev pub IsCommandOutcome : Command → List ℕ → List ℕ → Outcome → Type 0
 IsCommandOutcome (Init project server fields) input bytes o = o ≡ init_outcome project server fields (length bytes)
 IsCommandOutcome Ingest input bytes o = IsIngestOfFiles input o
@@ -101,10 +125,18 @@ IsCommandOutcome (Shun name) input bytes o = IsLoaded (IsShunOf name) bytes o
 IsCommandOutcome (Ask question) input bytes o = IsLoaded (IsAnswered question) bytes o
 IsCommandOutcome (Serve address users workers requests) input bytes o = o ≡ usage
 IsCommandOutcome (Gen count reversed) input bytes o = IsGen count reversed o
+IsCommandOutcome (Pull address login) input bytes o = ⊥
+IsCommandOutcome (Push address login) input bytes o = ⊥
+IsCommandOutcome (Clone address server fields) input bytes o = ⊥
+IsCommandOutcome (PullLocal path) input bytes o = ⊥
 
 -- the command that words say, where they are in the grammar
 abbrev pub said : List (List ℕ) → Option Command
 said words = option_map (λ w. w.command) (words_in words)
+
+-- whether words say a command that meets a peer
+abbrev pub meets : Option Command → Bool
+meets command = option_map_or command_meets command false
 
 -- the outcome of what words say, if anything
 abbrev pub IsSaidOutcome : Option Command → List ℕ → List ℕ → Outcome → Type 0
@@ -119,6 +151,6 @@ IsOutcome words input bytes o = IsSaidOutcome (said words) input bytes o
 abbrev pub HasOneOutcome : Type 0
 HasOneOutcome = (words : List (List ℕ)) (input bytes : List ℕ) (a b : Outcome) → IsOutcome words input bytes a → IsOutcome words input bytes b → a ≡ b
 
--- Law. And they have one
+-- Law. And they have one, where the words say no command that meets a peer
 abbrev pub HasSomeOutcome : Type 0
-HasSomeOutcome = (words : List (List ℕ)) (input bytes : List ℕ) → (o : Outcome) × IsOutcome words input bytes o
+HasSomeOutcome = (words : List (List ℕ)) (input bytes : List ℕ) → meets (said words) ≡ false → (o : Outcome) × IsOutcome words input bytes o

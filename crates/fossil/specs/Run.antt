@@ -8,8 +8,8 @@ use Rattle.fsl_record.specs.declared.Record.{Record}
 use Rattle.fsl_disk.specs.Disk.{DiskState, IsModelled, Keeps, Quiet, LeavesOnly}
 use Rattle.fsl_journal.specs.File.{IsFileOf, FailsAt}
 use Rattle.fsl_words.specs.declared.Command.{Command}
-use Rattle.fsl_words.specs.declared.Command.TheVariants.{Init, Ingest, Put, Shun, Ask, Serve, Gen}
-use Rattle.fossil.specs.Outcome.{Outcome, said, IsSaidOutcome}
+use Rattle.fsl_words.specs.declared.Command.TheVariants.{Init, Ingest, Put, Shun, Ask, Serve, Gen, Pull, Push, Clone, PullLocal}
+use Rattle.fossil.specs.Outcome.{Outcome, said, meets, IsSaidOutcome}
 
 -- ---- what a run is handed and leaves
 
@@ -43,6 +43,10 @@ command_reads (Shun name) = false
 command_reads (Ask question) = false
 command_reads (Serve address users workers requests) = false
 command_reads (Gen count reversed) = false
+command_reads (Pull address login) = false
+command_reads (Push address login) = false
+command_reads (Clone address server fields) = false
+command_reads (PullLocal path) = false
 
 abbrev pub command_opens : Command → Bool
 command_opens (Init project server fields) = true
@@ -52,6 +56,10 @@ command_opens (Shun name) = true
 command_opens (Ask question) = true
 command_opens (Serve address users workers requests) = false
 command_opens (Gen count reversed) = false
+command_opens (Pull address login) = true
+command_opens (Push address login) = true
+command_opens (Clone address server fields) = true
+command_opens (PullLocal path) = true
 
 abbrev pub command_begins : Command → Bool
 command_begins (Init project server fields) = true
@@ -61,6 +69,10 @@ command_begins (Shun name) = false
 command_begins (Ask question) = false
 command_begins (Serve address users workers requests) = false
 command_begins (Gen count reversed) = false
+command_begins (Pull address login) = false
+command_begins (Push address login) = false
+command_begins (Clone address server fields) = true
+command_begins (PullLocal path) = false
 
 -- whether a command reads the input
 abbrev pub reads : Option Command → Bool
@@ -194,6 +206,10 @@ IsRefused (Some (Shun name)) bytes = IsNoRepository bytes
 IsRefused (Some (Ask question)) bytes = IsNoRepository bytes
 IsRefused (Some (Serve address users workers requests)) bytes = ⊥
 IsRefused (Some (Gen count reversed)) bytes = ⊥
+IsRefused (Some (Pull address login)) bytes = IsNoRepository bytes
+IsRefused (Some (Push address login)) bytes = IsNoRepository bytes
+IsRefused (Some (Clone address server fields)) bytes = bytes ≢ []
+IsRefused (Some (PullLocal path)) bytes = IsNoRepository bytes
 
 -- a file that is refused stays as it is, at each moment and whatever the status
 abbrev pub IsRefusedKept : Option Command → File → List ℕ → Type 0
@@ -249,3 +265,7 @@ HasRun command input out file status = (read bytes : List ℕ) × (o : Outcome) 
 abbrev pub Runs : List (List ℕ) → SourceState × SourceState → SinkState × SinkState → DiskState × DiskState → ℕ → Type 0
 Runs words input out file status =
     HasRun (said words) (record { before = input.0; after = input.1 }) (record { before = out.0; after = out.1 }) (record { before = file.0; after = file.1 }) status
+
+-- the same where they say no command that meets a peer
+abbrev pub RunsAlone : List (List ℕ) → SourceState × SourceState → SinkState × SinkState → DiskState × DiskState → ℕ → Type 0
+RunsAlone words input out file status = meets (said words) ≡ false → Runs words input out file status

@@ -79,7 +79,7 @@ pub fn too_long(alloc: Global) -> Result<Answer, Memory>
 }
 
 /// The refusal of a file by its name and its size.
-fn too_large(alloc: Global, name: Name, size: u64) -> Result<Answer, Memory>
+pub fn too_large(alloc: Global, name: Name, size: u64) -> Result<Answer, Memory>
     ensures { IfOk result (λ a. a ≡ printing.too_large name size) }
 {
     let mut reason = Text::of(alloc, b"too large ")?;
@@ -99,7 +99,7 @@ fn wrong_name(alloc: Global, name: Name, found: Name) -> Result<Answer, Memory>
 }
 
 /// The refusal of a file for which there is no room, by its name.
-fn full(alloc: Global, name: Name) -> Result<Answer, Memory>
+pub fn full(alloc: Global, name: Name) -> Result<Answer, Memory>
     ensures { IfOk result (λ a. a ≡ printing.full name) }
 {
     refusal_of(alloc, b"full ", name.text().as_slice())

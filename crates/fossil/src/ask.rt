@@ -3,7 +3,7 @@ ghost use Rattle.fsl_outside.specs.Streams.{SourceState};
 ghost use Rattle.fossil.specs.Acts.{RunsQuestion};
 
 use super::cat::cat;
-use super::ran::Ran;
+use super::ran::Done;
 use super::reporting::report;
 use super::say::print;
 use fsl_disk::Disk;
@@ -12,19 +12,24 @@ use fsl_words::Question;
 use std::alloc::Global;
 
 /// Prints the report on a question, and gives the status and the disk; `cat` writes the content where it lies.
-pub fn ask<K: Sink, D: Disk>(alloc: Global, question: &Question, out: &mut K, repo: D) -> Ran<D>
+pub(crate) fn ask<K: Sink, D: Disk>(
+    alloc: Global,
+    question: &Question,
+    out: &mut K,
+    repo: D,
+) -> Done<D>
     ensures { (input : SourceState) → RunsQuestion question.now (input, input) (K.state out.old, K.state out.new) (D.state repo, D.state result.repo) result.status }
 {
     match question {
         Question::Cat { prefix } => {
             let mut repo = repo;
             let status = cat(alloc, prefix.bytes(), out, &mut repo);
-            Ran { status, repo }
+            Done { status, repo }
         }
         _ => {
             let (answer, repo) = report(alloc, question, repo);
             let status = print(out, answer);
-            Ran { status, repo }
+            Done { status, repo }
         }
     }
 }

@@ -5,7 +5,10 @@
 //! and what it changed, `wiki TITLE` the versions of a page, `ticket ID` the fields of a ticket, `thread NAME` the posts of
 //! a thread, and `phantoms` the names that are referred to and neither held nor shunned. `ingest` reads a message of files
 //! into a set of its own, and prints which of its names stand in no cluster and which are named and not there. `serve
-//! ADDRESS USERS WORKERS N` serves the repository to the users of a file. `gen N` and `gen N reversed` take so many generated
+//! ADDRESS USERS WORKERS N` serves the repository to the users of a file. `pull ADDRESS [USER SECRET]` pulls artifacts from
+//! the repository that is served at an address, `push ADDRESS [USER SECRET]` sends it those that it asks for, and `pull-local PEER`
+//! pulls from the repository of another file. `clone ADDRESS SERVER [FIELD ...]` makes a file of its own of the repository
+//! that is served at an address. `gen N` and `gen N reversed` take so many generated
 //! artifacts one after another into a set of their own, and print how many of each sort there are.
 #![tactic(auto)]
 
@@ -14,6 +17,7 @@ mod arrivals;
 mod ask;
 mod cat;
 mod checking;
+mod clone;
 mod due;
 mod fault;
 mod gathering;
@@ -23,6 +27,7 @@ mod init;
 mod input;
 mod load;
 mod message;
+mod pull_local;
 mod put;
 mod ran;
 mod report;
@@ -31,6 +36,9 @@ mod say;
 mod serving;
 mod shun;
 mod status;
+mod sync;
+mod sync_due;
+mod sync_text;
 mod top;
 mod users;
 mod worked;

@@ -1,13 +1,13 @@
 //! Messages of files.
 ghost use Rattle.std.specs.Prelude.{◌≡◌, ◌++◌, ◌∷◌, List as Items, false, position, IfOk, IfErr};
 ghost use Rattle.fsl_wire.specs.declared.WireCard.{WireCard as Card};
-ghost use Rattle.fsl_wire.specs.Messages.{IsMessage};
+ghost use Rattle.fsl_wire.specs.Drafts.{IsBareMessage};
 ghost use Rattle.fossil.specs.declared.message.MessageFault.TheVariants as fault_is;
 ghost use Rattle.fossil.specs.Messages.{is_other, files_of, unread_as, IsFileList, IsFaultOf};
 
 use fsl_name::Name;
 use fsl_text::{List, Memory, Text};
-use fsl_wire::{WireCard, WireFault, line_of, read};
+use fsl_wire::{WireCard, WireFault, line_of, read_bare};
 use std::alloc::Global;
 
 /// A file as it was sent, under a name that may be wrong.
@@ -105,7 +105,7 @@ fn files_among(
     message: &[u8],
     cards: List<WireCard>,
 ) -> Result<List<Sent>, MessageFault>
-    requires { IsMessage message.now cards }
+    requires { IsBareMessage message.now cards }
     ensures files { IfOk result (IsFileList message.now) }
     ensures fault { IfErr result (IsFaultOf message.now) }
 {
@@ -122,7 +122,7 @@ pub fn read_files(alloc: Global, message: Text) -> Result<List<Sent>, MessageFau
     ensures files { IfOk result (IsFileList message) }
     ensures fault { IfErr result (IsFaultOf message) }
 {
-    match read(alloc, message.bytes()) {
+    match read_bare(alloc, message.bytes()) {
         Ok(cards) => files_among(alloc, message.bytes(), cards.into_cards()),
         Err(fault) => Err(unread(fault)),
     }

@@ -1,8 +1,16 @@
 //! What a run ends with.
 
-/// What a run ends with: the status, and the disk that it was handed.
+/// What a command ends with that asks no peer: the status, and the disk that it was handed.
 #[derive(Drop)]
-pub struct Ran<D> {
+pub(crate) struct Done<D> {
     pub status: u8,
     pub repo: D,
+}
+
+/// What a run ends with: the status, and the disks of the repository and of the peer that it was handed.
+#[derive(Drop)]
+pub struct Ran<D, P> {
+    pub status: u8,
+    pub repo: D,
+    pub peer: P,
 }

@@ -16,5 +16,11 @@ pub const INPUT_FAULT: u8 = 5;
 pub const OUTPUT_FAULT: u8 = 6;
 /// A connection failed, or none could be taken.
 pub const LINK_FAULT: u8 = 7;
+/// A reply of the peer is wrong.
+pub const WRONG_REPLY: u8 = 8;
 /// There was no memory.
 pub const NO_MEMORY: u8 = 9;
+/// A name that the peer announced isn't sent.
+pub const MISSING: u8 = 10;
+/// A sync wasn't at its end behind the rounds that it may have.
+pub const TOO_MANY_ROUNDS: u8 = 11;

@@ -1,34 +1,43 @@
 //! The program over whatever source, sink and disk it is handed.
-ghost use Rattle.std.specs.Prelude.{◌≡◌, false, map, string_bytes};
+ghost use Rattle.std.specs.Prelude.{◌≡◌, false, map, string_bytes, IsTrue, Some};
 ghost use Rattle.fsl_artifact.specs.Kind.{IsKind, IsOneAtMost};
-ghost use Rattle.fossil.specs.Outcome.{HasOneOutcome, HasSomeOutcome};
-ghost use Rattle.fossil.specs.Run.{Runs, reads_input, opens_file, command_reads, command_opens};
+ghost use Rattle.fossil.specs.Outcome.{HasOneOutcome, HasSomeOutcome, command_meets, command_syncs};
+ghost use Rattle.fossil.specs.Run.{RunsAlone, reads_input, opens_file, command_reads, command_opens};
 ghost use Rattle.fossil.specs.Acts.{IsObeyable, RunsCommand};
+ghost use Rattle.fossil.specs.SyncLaws.{HasOneSyncOutcome, HasSomeSyncOutcome};
+ghost use Rattle.fossil.specs.Cloned.{ClonesAs, ClonesIf};
+ghost use Rattle.fossil.specs.CloneLaws.{HasOneCloneOutcome, HasSomeCloneOutcome};
+ghost use Rattle.fossil.specs.Synced.{Syncs, SyncsAs, command_asks_peer, command_dials, asks_peer, dials};
 
 use super::ask::ask;
+use super::clone::clone_onto;
+use super::due::print_due;
 use super::fault::Fault;
 use super::generating::generate;
 use super::ingest::ingest;
 use super::init::init;
+use super::pull_local::pull_local;
 use super::put::put;
-use super::ran::Ran;
+use super::ran::{Done, Ran};
 use super::say::{made, print, say_usage};
 use super::shun::shun;
+use super::sync::{Way, sync};
 use fsl_disk::Disk;
-use fsl_outside::{Sink, Source};
+use fsl_outside::{Dial, Sink, Source};
 use fsl_record::Config;
 use fsl_words::{Command, WordsFault, read};
 use std::alloc::Global;
 
-/// Does what a command says, prints what it comes to, and gives the status and the disk.
+/// Does what a command says that meets no peer, prints what it comes to, and gives the status and the disk.
 fn obey<S: Source, K: Sink, D: Disk>(
     alloc: Global,
     command: Command,
     input: &mut S,
     out: &mut K,
     repo: D,
-) -> Ran<D>
-    requires { IsObeyable command }
+) -> Done<D>
+    requires obeyable { IsObeyable command }
+    requires alone { command_meets command ≡ false }
     ensures runs { RunsCommand command (S.state input.old, S.state input.new) (K.state out.old, K.state out.new) (D.state repo, D.state result.repo) result.status }
     ensures unread { command_reads command ≡ false → input.new ≡ input.old }
     ensures untouched { command_opens command ≡ false → result.repo ≡ repo }
@@ -46,91 +55,176 @@ fn obey<S: Source, K: Sink, D: Disk>(
                 fields,
             };
             let status = print(out, init(alloc, &config, &mut repo));
-            Ran { status, repo }
+            Done { status, repo }
         }
         Command::Ingest => {
             let status = print(out, ingest(alloc, input));
-            Ran { status, repo }
+            Done { status, repo }
         }
         Command::Put => {
             let (answer, repo) = put(alloc, input, repo);
             let status = print(out, answer);
-            Ran { status, repo }
+            Done { status, repo }
         }
         Command::Shun { name } => {
             let (answer, repo) = shun(alloc, name, repo);
             let status = print(out, answer);
-            Ran { status, repo }
+            Done { status, repo }
         }
         Command::Ask(question) => ask(alloc, &question, out, repo),
         Command::Serve { .. } => {
             let status = say_usage(out);
-            Ran { status, repo }
+            Done { status, repo }
         }
         Command::Gen { count, reversed } => {
             let status = print(out, made(generate(alloc, count, reversed)));
-            Ran { status, repo }
+            Done { status, repo }
+        }
+        Command::Pull { .. } => unreachable!(),
+        Command::Push { .. } => unreachable!(),
+        Command::Clone { .. } => unreachable!(),
+        Command::PullLocal { .. } => unreachable!(),
+    }
+}
+
+/// Does what a command says, prints what it comes to, and gives the status and the disks.
+fn start<S: Source, K: Sink, D: Disk, P: Disk, N: Dial>(
+    alloc: Global,
+    command: Command,
+    input: &mut S,
+    out: &mut K,
+    repo: D,
+    peer: P,
+    dial: &mut N,
+) -> Ran<D, P>
+    requires { IsObeyable command }
+    ensures runs { command_meets command ≡ false → RunsCommand command (S.state input.old, S.state input.new)
+        (K.state out.old, K.state out.new) (D.state repo, D.state result.repo) result.status }
+    ensures syncs { IsTrue (command_syncs command) → Syncs command (D.state repo, D.state result.repo)
+        (P.state peer, P.state result.peer) (N.state dial.old, N.state dial.new) (K.state out.old, K.state out.new) result.status }
+    ensures cloned { ClonesIf (Some command) D.state repo result.repo (N.state dial.old, N.state dial.new)
+        (K.state out.old, K.state out.new) result.status }
+    ensures unread { command_reads command ≡ false → input.new ≡ input.old }
+    ensures untouched { command_opens command ≡ false → result.repo ≡ repo }
+    ensures unasked { command_asks_peer command ≡ false → result.peer ≡ peer }
+    ensures undialled { command_dials command ≡ false → dial.new ≡ dial.old }
+{
+    match command {
+        Command::Pull { login, .. } => {
+            let (due, repo) = sync(alloc, Way::Pull, login, repo, dial);
+            let status = print_due(out, &due);
+            Ran { status, repo, peer }
+        }
+        Command::Push { login, .. } => {
+            let (due, repo) = sync(alloc, Way::Push, login, repo, dial);
+            let status = print_due(out, &due);
+            Ran { status, repo, peer }
+        }
+        Command::Clone {
+            address: _address,
+            server,
+            fields,
+        } => {
+            let (due, repo) = clone_onto(alloc, server, &fields, repo, dial);
+            let status = print_due(out, &due);
+            Ran { status, repo, peer }
+        }
+        Command::PullLocal { .. } => {
+            let (due, repo, peer) = pull_local(alloc, repo, peer);
+            let status = print_due(out, &due);
+            Ran { status, repo, peer }
+        }
+        command => {
+            let Done { status, repo } = obey(alloc, command, input, out, repo);
+            Ran { status, repo, peer }
         }
     }
 }
 
 /// Does what the words say.
-fn run_words<S: Source, K: Sink, D: Disk>(
+fn run_words<S: Source, K: Sink, D: Disk, P: Disk, N: Dial>(
     alloc: Global,
     words: &[String],
     input: &mut S,
     out: &mut K,
     repo: D,
-) -> Ran<D>
-    ensures runs { Runs (map string_bytes words.now) (S.state input.old, S.state input.new) (K.state out.old, K.state out.new) (D.state repo, D.state result.repo) result.status }
+    peer: P,
+    dial: &mut N,
+) -> Ran<D, P>
+    ensures runs { RunsAlone (map string_bytes words.now) (S.state input.old, S.state input.new) (K.state out.old, K.state out.new)
+        (D.state repo, D.state result.repo) result.status }
+    ensures synced { SyncsAs (map string_bytes words.now) (D.state repo, D.state result.repo) (P.state peer, P.state result.peer)
+        (N.state dial.old, N.state dial.new) (K.state out.old, K.state out.new) result.status }
+    ensures cloned { ClonesAs (map string_bytes words.now) D.state repo result.repo (N.state dial.old, N.state dial.new)
+        (K.state out.old, K.state out.new) result.status }
     ensures unread { reads_input (map string_bytes words.now) ≡ false → input.new ≡ input.old }
     ensures untouched { opens_file (map string_bytes words.now) ≡ false → result.repo ≡ repo }
+    ensures unasked { asks_peer (map string_bytes words.now) ≡ false → result.peer ≡ peer }
+    ensures undialled { dials (map string_bytes words.now) ≡ false → dial.new ≡ dial.old }
 {
     match read(alloc, words) {
-        Ok(words) => obey(alloc, words.command, input, out, repo),
+        Ok(words) => start(alloc, words.command, input, out, repo, peer, dial),
         Err(WordsFault::Usage) => {
             let status = say_usage(out);
-            Ran { status, repo }
+            Ran { status, repo, peer }
         }
         Err(WordsFault::Memory) => {
             let status = print(out, Err(Fault::Memory));
-            Ran { status, repo }
+            Ran { status, repo, peer }
         }
     }
 }
 
 /// Runs the command that the words say over the input and the repository's disk, prints to the output, and gives the
-/// status and the disk: 0 after a report, 1 for words outside the grammar and for `serve`, 2 where the file isn't a repository, 3 where
-/// the command or its input is refused, 4, 5 and 6 where the disk, the input or the output failed, 9 for want of memory.
-/// A command that reads no input leaves it, and so `ingest` leaves the disk; `gen` and words outside the grammar leave both. Where
-/// the line of a refusal or of a fault can't be written, the status stays.
+/// status and the disks: 0 after a report, 1 for words outside the grammar and for `serve`, 2 where a file isn't a repository, 3 where
+/// the command or its input is refused, 4, 5, 6 and 7 where a disk, the input, the output or the dial failed, 8 where a reply of the
+/// peer is wrong, 9 for want of memory, 10 where a name that the peer announced isn't sent, 11 after 100,000 rounds of a sync.
+/// A command that reads no input leaves it, and so `ingest` leaves the disk; `gen` and words outside the grammar leave both. Only
+/// `pull-local` uses the peer's disk, and only `pull`, `push` and `clone` use the dial. Where the line of a refusal or of a fault can't be
+/// written, the status stays.
 ///
 /// The file is loaded first, then the input is read, then what it appends is committed, then the text is printed. After
 /// status 0 and 6 the file stands for the records that it stood for and those of the command, after 4 for the old ones,
 /// with all or none of the command's, and after each other status for the old ones. Whatever moment a crash comes at, what
 /// it leaves stands for the old ones with all or none of the command's; after status 0 and 6, for all, whatever a crash
-/// before the run might have left.
-pub fn run<S: Source, K: Sink, D: Disk>(
+/// before the run might have left. A sync has one commit for each round that stores an artifact: after 7 and each status of its end all
+/// of them stand there, and after 4 and 9 the first ones. A clone refuses a file with bytes, which stays as it is; into an empty one
+/// the commit of its first reply writes the record of the repository too. The peer's file stands for what it stood for.
+pub fn run<S: Source, K: Sink, D: Disk, P: Disk, N: Dial>(
     alloc: Global,
     words: &[String],
     input: &mut S,
     out: &mut K,
     repo: D,
-) -> Ran<D>
-    ensures runs { Runs (map string_bytes words.now) (S.state input.old, S.state input.new) (K.state out.old, K.state out.new) (D.state repo, D.state result.repo) result.status }
+    peer: P,
+    dial: &mut N,
+) -> Ran<D, P>
+    ensures runs { RunsAlone (map string_bytes words.now) (S.state input.old, S.state input.new) (K.state out.old, K.state out.new)
+        (D.state repo, D.state result.repo) result.status }
+    ensures synced { SyncsAs (map string_bytes words.now) (D.state repo, D.state result.repo) (P.state peer, P.state result.peer)
+        (N.state dial.old, N.state dial.new) (K.state out.old, K.state out.new) result.status }
+    ensures cloned { ClonesAs (map string_bytes words.now) D.state repo result.repo (N.state dial.old, N.state dial.new)
+        (K.state out.old, K.state out.new) result.status }
     ensures unread { reads_input (map string_bytes words.now) ≡ false → input.new ≡ input.old }
     ensures untouched { opens_file (map string_bytes words.now) ≡ false → result.repo ≡ repo }
+    ensures unasked { asks_peer (map string_bytes words.now) ≡ false → result.peer ≡ peer }
+    ensures undialled { dials (map string_bytes words.now) ≡ false → dial.new ≡ dial.old }
 {
-    run_words(alloc, words, input, out, repo)
+    run_words(alloc, words, input, out, repo, peer, dial)
 }
 
-/// A law and no code: words, an input and a file have one outcome at most.
+/// A law and no code: words, an input and a file have one outcome at most, and so have a sync and a clone by what they read.
 pub fn one_outcome()
     ensures kinds { IsOneAtMost IsKind }
     ensures outcome { HasOneOutcome }
+    ensures synced { HasOneSyncOutcome }
+    ensures cloned { HasOneCloneOutcome }
 {}
 
-/// A law and no code: words, an input and a file have an outcome.
+/// A law and no code: words, an input and a file have an outcome, where the words say no command that meets a peer. A sync
+/// has one over any files and of as many replies as it may have, and so has a clone.
 pub fn some_outcome()
-    ensures { HasSomeOutcome }
+    ensures outcome { HasSomeOutcome }
+    ensures synced { HasSomeSyncOutcome }
+    ensures cloned { HasSomeCloneOutcome }
 {}

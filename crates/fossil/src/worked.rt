@@ -39,7 +39,12 @@ fn has_failed(works: &[Work]) -> bool
 }
 
 /// Puts words and a number on a line at the end.
-fn append_line(alloc: Global, text: &mut Text, words: &[u8], number: u64) -> Result<(), Memory>
+pub(crate) fn append_line(
+    alloc: Global,
+    text: &mut Text,
+    words: &[u8],
+    number: u64,
+) -> Result<(), Memory>
     ensures { OnOk result (text.new ≡ text.old ++ line_of (words.now ++ decimal number)) }
 {
     let digits = number.to_string(alloc)?;

@@ -7,33 +7,48 @@ mod sockets;
 
 use fossil::{NO_MEMORY, run};
 use fsl_disk::FileDisk;
-use fsl_outside::{StdSink, StdSource};
+use fsl_outside::{StdSink, StdSource, TcpDial};
 use fsl_words::{Command, WordsFault, read};
-use open::{listen, open, open_users};
+use open::{dial, listen, open, open_peer, open_users};
 use sockets::serve_at;
 use std::io;
 use std::io::ErrorKind;
 use std::process::ExitCode;
 
-/// Runs a command over the real input, the real output and its file, and gives the status.
+/// Runs a command over the real input, the real output, its files and its dial, and gives the status.
 fn over_file(rt: &HostRuntime, words: &[String], command: &Command) -> u8 {
     let mut input = StdSource::new(rt.stdin());
     let mut out = StdSink::new(io::writer(rt));
+    let Some(mut dial) = dial(rt, words, command) else {
+        return NO_MEMORY;
+    };
     run(
         rt.alloc(),
         words,
         &mut input,
         &mut out,
         open(rt, words, command),
+        open_peer(rt, words, command),
+        &mut dial,
     )
     .status
 }
 
-/// Runs words outside the grammar, which get no input and no file.
+/// Runs words outside the grammar, which get no input, no file and no dial.
 fn over_nothing(rt: &HostRuntime, words: &[String]) -> u8 {
     let mut input: StdSource<io::Empty> = StdSource::none();
     let mut out = StdSink::new(io::writer(rt));
-    run(rt.alloc(), words, &mut input, &mut out, FileDisk::none()).status
+    let mut dial: TcpDial<HostRuntime> = TcpDial::none();
+    run(
+        rt.alloc(),
+        words,
+        &mut input,
+        &mut out,
+        FileDisk::none(),
+        FileDisk::none(),
+        &mut dial,
+    )
+    .status
 }
 
 /// The words behind the program's name, or none where there is no memory for them. A word that isn't UTF-8 is outside the grammar, as no

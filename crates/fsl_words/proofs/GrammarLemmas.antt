@@ -3,7 +3,7 @@ use Rattle.std.proofs.Common.{◌≡◌, ℕ, ◌<◌, ◌≤◌, Bool, true, fa
 use Rattle.std.specs.List.{list_all}
 use Rattle.std.proofs.lemmas.List.{length-map}
 use Rattle.std.proofs.lemmas.List.Folds.{list_all-map, list_all_at, list_all_more}
-use Rattle.fsl_words.specs.Grammar.{init_command, plain_command, parts_in}
+use Rattle.fsl_words.specs.Grammar.{init_command, clone_command, served_in, plain_command, parts_in}
 
 short_init : (words : List (List ℕ)) → length words < 2 → init_command words ≡ None
 short_init [] short = refl
@@ -13,6 +13,23 @@ short_init (project ∷ server ∷ fields) short = absurd (omega arith)
 -- `init` without two codes
 pub no_codes : {A : Type 0} (f : A → List ℕ) (words : List A) → length words < 2 → init_command (map f words) ≡ None
 no_codes f words short = short_init (map f words) (simp length-map short)
+
+short_clone : (words : List (List ℕ)) → length words < 2 → clone_command words ≡ None
+short_clone [] short = refl
+short_clone (address ∷ []) short = refl
+short_clone (address ∷ server ∷ fields) short = absurd (omega arith)
+
+-- `clone` without an address or a server code
+pub no_server : {A : Type 0} (f : A → List ℕ) (words : List A) → length words < 2 → clone_command (map f words) ≡ None
+no_server f words short = short_clone (map f words) (simp length-map short)
+
+short_served : (words : List (List ℕ)) → length words < 1 → served_in words ≡ None
+short_served [] short = refl
+short_served (address ∷ words) short = absurd (omega arith)
+
+-- no address
+pub no_address : {A : Type 0} (f : A → List ℕ) (words : List A) → length words < 1 → served_in (map f words) ≡ None
+no_address f words short = short_served (map f words) (simp length-map short)
 
 long_plain : (command : List ℕ) (words : List (List ℕ)) → 2 ≤ length words → plain_command command words ≡ None
 long_plain command [] long = absurd (omega arith)

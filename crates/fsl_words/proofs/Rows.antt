@@ -2,7 +2,7 @@
 use Rattle.std.specs.Prelude.{◌≡◌, ℕ, true, false, List, [], ◌∷◌, Option, Some, None, replicate, refl, codes}
 use Rattle.fsl_words.specs.declared.Question.TheVariants.{Cat, Timeline, Leaves, Tip, Ticket, Phantoms}
 use Rattle.fsl_words.specs.declared.Command.{Command}
-use Rattle.fsl_words.specs.declared.Command.TheVariants.{Init, Put, Shun, Ask, Serve, Gen}
+use Rattle.fsl_words.specs.declared.Command.TheVariants.{Init, Put, Shun, Ask, Serve, Gen, Pull, Push, Clone, PullLocal}
 use Rattle.fsl_words.specs.declared.Words.{Words}
 use Rattle.fsl_words.specs.Grammar.{words_in}
 
@@ -122,3 +122,60 @@ gen_nothing = refl
 
 gen_more : words_in (r ∷ codes "gen" ∷ codes "1" ∷ codes "reversed" ∷ codes "x" ∷ []) ≡ None
 gen_more = refl
+
+pull : words_in (r ∷ codes "pull" ∷ codes "127.0.0.1:8080" ∷ []) ≡ read (Pull (codes "127.0.0.1:8080") None)
+pull = refl
+
+pull_as : words_in (r ∷ codes "pull" ∷ codes "a:1" ∷ codes "alice" ∷ codes "s3cret" ∷ []) ≡ read (Pull (codes "a:1") (Some (codes "alice", codes "s3cret")))
+pull_as = refl
+
+pull_nowhere : words_in (r ∷ codes "pull" ∷ []) ≡ None
+pull_nowhere = refl
+
+pull_half : words_in (r ∷ codes "pull" ∷ codes "a:1" ∷ codes "alice" ∷ []) ≡ None
+pull_half = refl
+
+pull_more : words_in (r ∷ codes "pull" ∷ codes "a:1" ∷ codes "alice" ∷ codes "s3cret" ∷ codes "x" ∷ []) ≡ None
+pull_more = refl
+
+push : words_in (r ∷ codes "push" ∷ codes "127.0.0.1:8080" ∷ []) ≡ read (Push (codes "127.0.0.1:8080") None)
+push = refl
+
+push_as : words_in (r ∷ codes "push" ∷ codes "a:1" ∷ codes "alice" ∷ codes "s3cret" ∷ []) ≡ read (Push (codes "a:1") (Some (codes "alice", codes "s3cret")))
+push_as = refl
+
+push_nowhere : words_in (r ∷ codes "push" ∷ []) ≡ None
+push_nowhere = refl
+
+push_half : words_in (r ∷ codes "push" ∷ codes "a:1" ∷ codes "alice" ∷ []) ≡ None
+push_half = refl
+
+push_more : words_in (r ∷ codes "push" ∷ codes "a:1" ∷ codes "alice" ∷ codes "s3cret" ∷ codes "x" ∷ []) ≡ None
+push_more = refl
+
+clone : words_in (r ∷ codes "clone" ∷ codes "a:1" ∷ twos ∷ []) ≡ read (Clone (codes "a:1") (replicate 20 34) [])
+clone = refl
+
+clone_fields : words_in (r ∷ codes "clone" ∷ codes "a:1" ∷ twos ∷ codes "comment" ∷ codes "status" ∷ []) ≡ read (Clone (codes "a:1") (replicate 20 34) (codes "comment" ∷ codes "status" ∷ []))
+clone_fields = refl
+
+clone_nowhere : words_in (r ∷ codes "clone" ∷ []) ≡ None
+clone_nowhere = refl
+
+clone_no_server : words_in (r ∷ codes "clone" ∷ codes "a:1" ∷ []) ≡ None
+clone_no_server = refl
+
+clone_turned : words_in (r ∷ codes "clone" ∷ twos ∷ codes "a:1" ∷ []) ≡ None
+clone_turned = refl
+
+clone_same_field : words_in (r ∷ codes "clone" ∷ codes "a:1" ∷ twos ∷ codes "status" ∷ codes "status" ∷ []) ≡ None
+clone_same_field = refl
+
+pull_local : words_in (r ∷ codes "pull-local" ∷ codes "p" ∷ []) ≡ read (PullLocal (codes "p"))
+pull_local = refl
+
+pull_local_nothing : words_in (r ∷ codes "pull-local" ∷ []) ≡ None
+pull_local_nothing = refl
+
+pull_local_more : words_in (r ∷ codes "pull-local" ∷ codes "p" ∷ codes "q" ∷ []) ≡ None
+pull_local_more = refl

@@ -10,7 +10,7 @@ use Rattle.fsl_record.specs.Records.{is_field}
 use Rattle.fsl_words.specs.declared.Question.{Question}
 use Rattle.fsl_words.specs.declared.Question.TheVariants.{Cat, Timeline, Leaves, Tags, Tip, Files, Wiki, Ticket, Thread, Phantoms}
 use Rattle.fsl_words.specs.declared.Command.{Command}
-use Rattle.fsl_words.specs.declared.Command.TheVariants.{Init, Ingest, Put, Shun, Ask, Serve, Gen}
+use Rattle.fsl_words.specs.declared.Command.TheVariants.{Init, Ingest, Put, Shun, Ask, Serve, Gen, Pull, Push, Clone, PullLocal}
 use Rattle.fsl_words.specs.declared.Words.{Words}
 
 -- a word has a byte, and doesn't begin with `-` unless it is `-` alone
@@ -66,6 +66,30 @@ gen_command (count ∷ []) = gen_of false count
 gen_command (count ∷ order ∷ []) = if bytes_eq order (codes "reversed") then gen_of true count else None
 gen_command words = None
 
+-- the user and the secret of a login stand together or not at all
+abbrev pub login_in : List (List ℕ) → Option (Option (List ℕ × List ℕ))
+login_in [] = Some None
+login_in (user ∷ secret ∷ []) = Some (Some (user, secret))
+login_in words = None
+
+-- ADDRESS [USER SECRET]
+abbrev pub served_in : List (List ℕ) → Option (List ℕ × Option (List ℕ × List ℕ))
+served_in [] = None
+served_in (address ∷ words) = option_map (λ login. (address, login)) (login_in words)
+
+-- pull ADDRESS [USER SECRET]
+abbrev pub pull_command : List (List ℕ) → Option Command
+pull_command words = option_map (λ (s : List ℕ × Option (List ℕ × List ℕ)). Pull s.0 s.1) (served_in words)
+
+-- push ADDRESS [USER SECRET]
+abbrev pub push_command : List (List ℕ) → Option Command
+push_command words = option_map (λ (s : List ℕ × Option (List ℕ × List ℕ)). Push s.0 s.1) (served_in words)
+
+-- clone ADDRESS SERVER [FIELD ...]
+abbrev pub clone_command : List (List ℕ) → Option Command
+clone_command (address ∷ server ∷ fields) = option_and_then (λ s. option_map (Clone address s) (fields_in fields)) (name_in server)
+clone_command words = None
+
 -- a command without words
 abbrev pub bare_command : List ℕ → Option Command
 bare_command command =
@@ -88,9 +112,12 @@ question_in command word =
     else if bytes_eq command (codes "thread") then option_map Thread (name_in word)
     else None
 
--- `shun`, or a report command with one word
+-- `shun`, `pull-local`, or a report command with one word
 abbrev pub worded_command : List ℕ → List ℕ → Option Command
-worded_command command word = if bytes_eq command (codes "shun") then option_map Shun (name_in word) else option_map Ask (question_in command word)
+worded_command command word =
+    if bytes_eq command (codes "shun") then option_map Shun (name_in word)
+    else if bytes_eq command (codes "pull-local") then Some (PullLocal word)
+    else option_map Ask (question_in command word)
 
 -- a command by its first word and the words behind it
 abbrev pub plain_command : List ℕ → List (List ℕ) → Option Command
@@ -98,12 +125,15 @@ plain_command command [] = bare_command command
 plain_command command (word ∷ []) = worded_command command word
 plain_command command words = None
 
--- `init`, `serve`, `gen`, or another command
+-- `init`, `serve`, `gen`, `pull`, `push`, `clone`, or another command
 abbrev pub command_in : List ℕ → List (List ℕ) → Option Command
 command_in command words =
     if bytes_eq command (codes "init") then init_command words
     else if bytes_eq command (codes "serve") then serve_command words
     else if bytes_eq command (codes "gen") then gen_command words
+    else if bytes_eq command (codes "pull") then pull_command words
+    else if bytes_eq command (codes "push") then push_command words
+    else if bytes_eq command (codes "clone") then clone_command words
     else plain_command command words
 
 -- a repository and a command

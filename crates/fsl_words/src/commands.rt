@@ -1,6 +1,6 @@
 //! Commands with their words.
 ghost use Rattle.std.specs.Prelude.{◌≡◌, map, string_bytes};
-ghost use Rattle.fsl_words.specs.Grammar.{init_command, serve_command, gen_of, gen_command, bare_command, question_in, worded_command, plain_command, command_in};
+ghost use Rattle.fsl_words.specs.Grammar.{init_command, serve_command, gen_of, gen_command, login_in, served_in, pull_command, push_command, clone_command, bare_command, question_in, worded_command, plain_command, command_in};
 ghost use Rattle.fsl_words.specs.Answers.{IsAnswer};
 
 use crate::fields::fields;
@@ -71,6 +71,63 @@ fn gen_command(words: &[String]) -> Result<Command, WordsFault>
     }
 }
 
+/// The user and the secret of a login, or that there is none.
+fn login(alloc: Global, words: &[String]) -> Result<Option<(Text, Text)>, WordsFault>
+    ensures { IsAnswer (login_in (map string_bytes words.now)) result }
+{
+    match words {
+        [] => Ok(None),
+        [user, secret] => {
+            let user = Text::of(alloc, user.as_bytes())?;
+            let secret = Text::of(alloc, secret.as_bytes())?;
+            Ok(Some((user, secret)))
+        }
+        _ => Err(WordsFault::Usage),
+    }
+}
+
+/// The address of a server and the login, which stand behind `pull` and `push`.
+fn served(alloc: Global, words: &[String]) -> Result<(Text, Option<(Text, Text)>), WordsFault>
+    ensures { IsAnswer (served_in (map string_bytes words.now)) result }
+{
+    let [address, rest @ ..] = words else {
+        return Err(WordsFault::Usage);
+    };
+    let login = login(alloc, rest)?;
+    let address = Text::of(alloc, address.as_bytes())?;
+    Ok((address, login))
+}
+
+/// `pull` with its words.
+fn pull_command(alloc: Global, words: &[String]) -> Result<Command, WordsFault>
+    ensures { IsAnswer (pull_command (map string_bytes words.now)) result }
+{
+    let (address, login) = served(alloc, words)?;
+    Ok(Command::Pull { address, login })
+}
+
+/// `push` with its words.
+fn push_command(alloc: Global, words: &[String]) -> Result<Command, WordsFault>
+    ensures { IsAnswer (push_command (map string_bytes words.now)) result }
+{
+    let (address, login) = served(alloc, words)?;
+    Ok(Command::Push { address, login })
+}
+
+/// `clone` with its words.
+fn clone_command(alloc: Global, words: &[String]) -> Result<Command, WordsFault>
+    ensures { IsAnswer (clone_command (map string_bytes words.now)) result }
+{
+    let [address, server, rest @ ..] = words else {
+        return Err(WordsFault::Usage);
+    };
+    Ok(Command::Clone {
+        server: name(server.as_bytes())?,
+        fields: fields(alloc, rest)?,
+        address: Text::of(alloc, address.as_bytes())?,
+    })
+}
+
 /// A command without words.
 fn bare_command(command: &str) -> Result<Command, WordsFault>
     ensures { IsAnswer (bare_command command.now) result }
@@ -117,10 +174,13 @@ fn question(alloc: Global, command: &str, word: &[u8]) -> Result<Question, Words
 fn worded_command(alloc: Global, command: &str, word: &[u8]) -> Result<Command, WordsFault>
     ensures { IsAnswer (worded_command command.now word.now) result }
 {
-    if command == "shun" {
-        return Ok(Command::Shun { name: name(word)? });
+    match command {
+        "shun" => Ok(Command::Shun { name: name(word)? }),
+        "pull-local" => Ok(Command::PullLocal {
+            peer: Text::of(alloc, word)?,
+        }),
+        _ => Ok(Command::Ask(question(alloc, command, word)?)),
     }
-    Ok(Command::Ask(question(alloc, command, word)?))
 }
 
 /// A command with at most one word.
@@ -142,6 +202,9 @@ pub fn command(alloc: Global, command: &str, words: &[String]) -> Result<Command
         "init" => init_command(alloc, words),
         "serve" => serve_command(alloc, words),
         "gen" => gen_command(words),
+        "pull" => pull_command(alloc, words),
+        "push" => push_command(alloc, words),
+        "clone" => clone_command(alloc, words),
         _ => plain_command(alloc, command, words),
     }
 }

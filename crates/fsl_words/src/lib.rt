@@ -72,6 +72,29 @@ pub enum Command {
         count: u64,
         reversed: bool,
     },
+    /// `pull ADDRESS [USER SECRET]`: artifacts are pulled from the repository that is served at an address, under a login, its
+    /// user and its secret, or under none.
+    Pull {
+        address: Text,
+        login: Option<(Text, Text)>,
+    },
+    /// `push ADDRESS [USER SECRET]`: artifacts are pushed to the repository that is served at an address, under a login, its
+    /// user and its secret, or under none.
+    Push {
+        address: Text,
+        login: Option<(Text, Text)>,
+    },
+    /// `clone ADDRESS SERVER [FIELD ...]`: a new repository with this server code and these configured ticket fields, of the
+    /// project and with the artifacts of the one that is served at an address.
+    Clone {
+        address: Text,
+        server: Name,
+        fields: List<Text>,
+    },
+    /// `pull-local PEER`: artifacts are pulled from the repository of another file.
+    PullLocal {
+        peer: Text,
+    },
 }
 
 /// A repository's path and a command.

@@ -12,7 +12,11 @@ mod many;
 #[cfg(test)]
 mod orders;
 #[cfg(test)]
+mod peer;
+#[cfg(test)]
 mod printing;
+#[cfg(test)]
+mod pulls;
 #[cfg(test)]
 mod repo;
 #[cfg(test)]

@@ -1,7 +1,7 @@
 //! Runs whose disk, input or output fails, what a crash leaves, and a message too long for a transcript.
 use fossil::{Ran, one_outcome, run, some_outcome};
 use fsl_disk::{Disk, FileDisk, FuseDisk, MemoryDisk};
-use fsl_outside::{MemorySink, MemorySource};
+use fsl_outside::{MemoryDial, MemorySink, MemorySource};
 use std::alloc::{AllocError, Global};
 use std::test::Fail;
 
@@ -19,14 +19,14 @@ const CAT: [&str; 3] = ["r", "cat", "a999"];
 const INGEST: [&str; 2] = ["r", "ingest"];
 
 // A new repository's file.
-const NEW_FILE: &[u8] =
+pub(crate) const NEW_FILE: &[u8] =
     b"fossil-blobs-1\nO\0\0\0\0\0\0\0\x2BC\x11\x11\x11\x11\x11\x11\x11\x11\x11\x11\x11\x11\x11\x11\x11\x11\x11\x11\x11\x11\x22\x22\x22\x22\x22\x22\x22\x22\x22\x22\x22\x22\x22\x22\x22\x22\x22\x22\x22\x22\0\0C";
 
 // A message of the file `abc`.
 const ABC: &[u8] = b"file a9993e364706816aba3e25717850c26c9cd0d89d 3\nabc\n";
 
 /// Words as the program has them.
-fn owned(alloc: Global, words: &[&str]) -> Result<Vec<String>, AllocError> {
+pub(crate) fn owned(alloc: Global, words: &[&str]) -> Result<Vec<String>, AllocError> {
     let mut owned = Vec::new(alloc);
     for word in words {
         owned.push(word.to_string(alloc)?)?;
@@ -35,23 +35,32 @@ fn owned(alloc: Global, words: &[&str]) -> Result<Vec<String>, AllocError> {
 }
 
 /// A disk with these bytes.
-fn disk_of(alloc: Global, bytes: &[u8]) -> Result<MemoryDisk, AllocError> {
+pub(crate) fn disk_of(alloc: Global, bytes: &[u8]) -> Result<MemoryDisk, AllocError> {
     Ok(MemoryDisk::new(alloc, bytes.to_vec(alloc)?, Vec::new(alloc)))
 }
 
-/// Runs over a disk, where this call of the input fails.
+/// Runs over a disk, where this call of the input fails. There is no peer.
 fn ran<D: Disk + Drop>(
     alloc: Global,
     words: &[&str],
     input: (&[u8], u64),
     sink: &mut MemorySink,
     repo: D,
-) -> Result<Ran<D>, AllocError> {
+) -> Result<Ran<D, FileDisk>, AllocError> {
     let words = owned(alloc, words)?;
     let bytes = input.0.to_vec(alloc)?;
     let fails = vec![in alloc; input.1]?;
     let mut source = MemorySource::new(bytes, fails);
-    Ok(run(alloc, words.as_slice(), &mut source, sink, repo))
+    let mut dial = MemoryDial::new(alloc, Vec::new(alloc), Vec::new(alloc));
+    Ok(run(
+        alloc,
+        words.as_slice(),
+        &mut source,
+        sink,
+        repo,
+        FileDisk::none(),
+        &mut dial,
+    ))
 }
 
 /// The status, and what was printed.
@@ -63,7 +72,11 @@ fn end<D: Disk + Drop>(
     repo: D,
 ) -> Result<(u8, Vec<u8>), AllocError> {
     let mut sink = MemorySink::new(alloc, vec![in alloc; fails.1]?);
-    let Ran { status, repo: _ } = ran(alloc, words, (input, fails.0), &mut sink, repo)?;
+    let Ran {
+        status,
+        repo: _,
+        peer: _,
+    } = ran(alloc, words, (input, fails.0), &mut sink, repo)?;
     Ok((status, sink.taken().to_vec(alloc)?))
 }
 
@@ -92,7 +105,11 @@ fn count_others(alloc: Global, disk: &MemoryDisk) -> Result<u64, Fail> {
 fn put_after(alloc: Global, calls: u64) -> Result<(u8, u64), Fail> {
     let mut sink = MemorySink::new(alloc, Vec::new(alloc));
     let disk = FuseDisk::new(disk_of(alloc, NEW_FILE)?, calls);
-    let Ran { status, repo } = ran(alloc, &PUT, (ABC, 0), &mut sink, disk)?;
+    let Ran {
+        status,
+        repo,
+        peer: _,
+    } = ran(alloc, &PUT, (ABC, 0), &mut sink, disk)?;
     let others = count_others(alloc, &repo.inner())?;
     Ok((status, others))
 }

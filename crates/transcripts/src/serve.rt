@@ -7,32 +7,15 @@ use crate::files::Files;
 use crate::line::Part;
 use crate::staffing::is_for_one;
 use crate::stop::Trouble;
+use crate::takings::Takings;
 use fossil::{Served, State, serve};
 use fsl_disk::{FuseDisk, MemoryDisk};
 use fsl_outside::{MemoryDoor, MemorySink, MemorySource, NoGate};
 use fsl_serve::Crew;
-use fsl_text::{Memory, Text};
+use fsl_text::Text;
 use std::alloc::{AllocError, Global};
 use std::sync::Wait;
 use std::thread::Threads;
-
-/// What a connection has to take: a text, or a front of it.
-#[derive(Drop)]
-struct Wanted {
-    text: Text,
-    is_front: bool,
-}
-
-impl Wanted {
-    /// Compares what a connection took with it.
-    fn compare(&self, alloc: Global, taken: &[u8]) -> Result<(), Trouble> {
-        let wanted = self.text.bytes();
-        if self.is_front && wanted.starts_with(taken) {
-            return Ok(());
-        }
-        compare(alloc, wanted, taken)
-    }
-}
 
 /// A server with one worker: what its connections bring, which calls fail, and what has to come.
 #[derive(Drop)]
@@ -40,7 +23,7 @@ pub struct Serve {
     alloc: Global,
     words: Vec<String>,
     connections: Vec<Text>,
-    answers: Vec<Wanted>,
+    answers: Takings,
     printed: Text,
     faults: Faults,
     part: Part,
@@ -53,7 +36,7 @@ impl Serve {
             alloc,
             words,
             connections: Vec::new(alloc),
-            answers: Vec::new(alloc),
+            answers: Takings::new(alloc),
             printed: Text::empty(alloc),
             faults: Faults::none(alloc),
             part: Part::Printed,
@@ -62,26 +45,23 @@ impl Serve {
 
     /// Begins a part, to which the next data belong.
     pub fn begin(&mut self, part: Part) -> Result<(), Trouble> {
-        let text = Text::empty(self.alloc);
         match part {
-            Part::Connection => self.connections.push(text)?,
-            Part::Answer => self.answers.push(Wanted {
-                text,
-                is_front: false,
-            })?,
-            Part::Front => self.answers.push(Wanted {
-                text,
-                is_front: true,
-            })?,
+            Part::Connection => self.connections.push(Text::empty(self.alloc))?,
+            Part::Answer => self.answers.begin(false)?,
+            Part::Front => self.answers.begin(true)?,
             Part::Printed => {}
+            Part::Reply | Part::Request => return Err(Trouble::Unknown),
         }
         self.part = part;
         Ok(())
     }
 
     /// Lets the call of this number fail.
-    pub fn fail(&mut self, device: Device, call: u64) -> Result<(), AllocError> {
-        self.faults.add(device, call)
+    pub fn fail(&mut self, device: Device, call: u64) -> Result<(), Trouble> {
+        match device {
+            Device::Input | Device::Peer => Err(Trouble::Unknown),
+            device => Ok(self.faults.add(device, call)?),
+        }
     }
 
     /// Adds to what the last connection brings.
@@ -94,10 +74,10 @@ impl Serve {
 
     /// Adds to what has to come.
     pub fn want(&mut self, bytes: &[u8]) -> Result<(), Trouble> {
-        match (self.part, self.answers.last_mut()) {
-            (Part::Printed, _) => Ok(self.printed.append(bytes)?),
-            (Part::Answer | Part::Front, Some(answer)) => Ok(answer.text.append(bytes)?),
-            _ => Err(Trouble::Unknown),
+        match self.part {
+            Part::Printed => Ok(self.printed.append(bytes)?),
+            Part::Answer | Part::Front => self.answers.want(bytes),
+            Part::Connection | Part::Reply | Part::Request => Err(Trouble::Unknown),
         }
     }
 
@@ -112,24 +92,10 @@ impl Serve {
         let mut out = MemorySink::new(alloc, self.faults.output.to_vec(alloc)?);
         let (status, crews) = self.start(rt, files, &mut out)?;
         if let Some(crew) = crews.first() {
-            self.compare_answers(&crew.door)?;
+            self.answers.compare(&crew.door)?;
         }
         compare(alloc, self.printed.bytes(), out.taken())?;
         compare_status(alloc, wanted, status)
-    }
-
-    /// Compares what each connection took. Each one that was accepted has its answer.
-    fn compare_answers(&self, door: &MemoryDoor) -> Result<(), Trouble> {
-        let mut number = 0u64;
-        for answer in &self.answers {
-            let taken = door.sent(number).unwrap_or(b"no connection");
-            answer.compare(self.alloc, taken)?;
-            number = number.saturating_add(1);
-        }
-        match door.sent(number) {
-            Some(taken) => compare(self.alloc, b"no connection", taken),
-            None => Ok(()),
-        }
     }
 
     /// Serves over the file that the first word names, to the users of the one that the fourth names.

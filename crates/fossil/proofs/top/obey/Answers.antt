@@ -9,7 +9,7 @@ use Rattle.fossil.proofs.PrintedLemmas.{written}
 use Rattle.fossil.proofs.top.obey.Goals as goal
 
 pub init-requires : goal.init-requires
-init-requires g c = subst IsObeyable c.in-Init.is c.requires
+init-requires g c = subst IsObeyable c.in-Init.is c.requires.obeyable
 
 pub returns-in-Init-clause-runs : goal.returns-in-Init-clause-runs
 returns-in-Init-clause-runs g c =
@@ -62,10 +62,10 @@ returns-in-Serve-clause-runs g c =
     c.say_usage-status.ensures.status c.say_usage-status.ensures.said)
 
 pub generate-requires : goal.generate-requires
-generate-requires g c = let fit = subst IsObeyable c.in-Gen.is c.requires in record { some = fit.0; few = fit.1 }
+generate-requires g c = let fit = subst IsObeyable c.in-Gen.is c.requires.obeyable in record { some = fit.0; few = fit.1 }
 
-pub returns-clause-runs : goal.returns-clause-runs
-returns-clause-runs g c =
+pub returns-in-Gen-clause-runs : goal.returns-in-Gen-clause-runs
+returns-in-Gen-clause-runs g c =
     let input : SourceState × SourceState = (g.S.Source.state c.args.input.now, g.S.Source.state c.args.input.now) in
     let out : SinkState × SinkState = (g.K.Sink.state c.args.out.now, g.K.Sink.state c.print-status-in-Gen.new.out) in
     let file : DiskState × DiskState = (g.D.Disk.state c.args.repo, g.D.Disk.state c.args.repo) in

@@ -1,27 +1,45 @@
-use Rattle.std.proofs.Common.{Option, map, string_bytes, sym, ap, subst, ◌∙◌, refl, Err}
+use Rattle.std.proofs.Common.{false, Option, map, string_bytes, sym, ap, subst, ◌∙◌, refl, Err, IsTrue}
+use Rattle.std.specs.Option.{option_map_or}
+use Rattle.fsl_outside.specs.Connections.{LinkState}
+use Rattle.fsl_outside.specs.Streams.{SinkState}
+use Rattle.fsl_disk.specs.Disk.{DiskState}
 use Rattle.fsl_words.specs.declared.Command.{Command}
+use Rattle.fsl_words.specs.declared.Command.TheVariants as command_of
 use Rattle.fossil.specs.declared.fault.Fault.TheVariants as fault_is
-use Rattle.fossil.specs.Outcome.{said}
+use Rattle.fossil.specs.Outcome.{said, meets, command_syncs}
 use Rattle.fossil.specs.Run.{reads, opens, HasRun}
 use Rattle.fossil.specs.Acts.{input_of, output_of, file_of}
+use Rattle.fossil.specs.Cloned.{ClonesIf}
+use Rattle.fossil.specs.Synced.{Syncs, command_asks_peer, command_dials}
 use Rattle.fossil.proofs.CommandLemmas.{usage_run, idle_memory}
 use Rattle.fossil.proofs.PrintedLemmas.{written}
+use Rattle.fossil.proofs.CloneLemmas.{idle_cloned}
+use Rattle.fossil.proofs.SyncedLemmas.{said_one, none_or_some}
+use Rattle.fossil.proofs.UnopenedLemmas.{idle_synced}
 use Rattle.fossil.proofs.WordsLemmas.{obeyable, said_is, none_said}
 use Rattle.fossil.proofs.top.run_words.Goals as goal
 
-pub obey-requires : goal.obey-requires
-obey-requires g c = obeyable (map string_bytes c.args.words.now) c.in-Ok.words c.in-Ok.ensures.ok
+pub start-requires : goal.start-requires
+start-requires g c = obeyable (map string_bytes c.args.words.now) c.in-Ok.words c.in-Ok.ensures.ok
 
 pub returns-in-Ok : goal.returns-in-Ok
 returns-in-Ok g c =
     let e = said_is (map string_bytes c.args.words.now) c.in-Ok.words c.in-Ok.ensures.ok in
-    let input = input_of (g.S.Source.state c.args.input.now, g.S.Source.state c.obey.new.input) in
-    let out = output_of (g.K.Sink.state c.args.out.now, g.K.Sink.state c.obey.new.out) in
-    let file = file_of (g.D.Disk.state c.args.repo, g.D.Disk.state c.obey.result.repo) in
+    let input = input_of (g.S.Source.state c.args.input.now, g.S.Source.state c.start.new.input) in
+    let outs : SinkState × SinkState = (g.K.Sink.state c.args.out.now, g.K.Sink.state c.start.new.out) in
+    let files : DiskState × DiskState = (g.D.Disk.state c.args.repo, g.D.Disk.state c.start.result.repo) in
+    let peers : DiskState × DiskState = (g.P.Disk.state c.args.peer, g.P.Disk.state c.start.result.peer) in
+    let dials : LinkState × LinkState = (g.N.Link.state c.args.dial.now, g.N.Link.state c.start.new.dial) in
     record {
-      runs = subst (λ (o : Option Command). HasRun o input out file c.obey.result.status) (sym e) c.obey.ensures.runs;
-      unread = λ h. c.obey.ensures.unread (sym (ap reads e) ∙ h);
-      untouched = λ h. c.obey.ensures.untouched (sym (ap opens e) ∙ h);
+      runs = λ alone. subst (λ (o : Option Command). HasRun o input (output_of outs) (file_of files) c.start.result.status) (sym e) (c.start.ensures.runs (sym (ap meets e) ∙ alone));
+      synced = λ command is asks.
+          let same = said_one (c.in-Ok.words).command command (sym e ∙ is) in
+          subst (λ (x : Command). Syncs x files peers dials outs c.start.result.status) same (c.start.ensures.syncs (subst (λ (x : Command). IsTrue (command_syncs x)) (sym same) asks));
+      cloned = subst (λ (o : Option Command). ClonesIf o g.D.Disk.state c.args.repo c.start.result.repo dials outs c.start.result.status) (sym e) c.start.ensures.cloned;
+      unread = λ h. c.start.ensures.unread (sym (ap reads e) ∙ h);
+      untouched = λ h. c.start.ensures.untouched (sym (ap opens e) ∙ h);
+      unasked = λ h. c.start.ensures.unasked (sym (ap (λ (o : Option Command). option_map_or command_asks_peer o false) e) ∙ h);
+      undialled = λ h. c.start.ensures.undialled (sym (ap (λ (o : Option Command). option_map_or command_dials o false) e) ∙ h);
     }
 
 pub returns-in-Err-Usage : goal.returns-in-Err-Usage
@@ -32,11 +50,15 @@ returns-in-Err-Usage g c =
     let out = output_of (g.K.Sink.state c.args.out.now, g.K.Sink.state c.say_usage-status.new.out) in
     let file = file_of (g.D.Disk.state c.args.repo, g.D.Disk.state c.args.repo) in
     record {
-      runs =
+      runs = λ alone.
           subst (λ (o : Option Command). HasRun o input out file c.say_usage-status.result) (sym none)
           (usage_run input (g.D.Disk.state c.args.repo) (λ model f left. g.met.D.Disk.only_now c.args.repo f model left) out c.say_usage-status.result c.say_usage-status.ensures.status c.say_usage-status.ensures.said);
+      synced = λ command is asks. absurd (none_or_some command (sym none ∙ is));
+      cloned = λ address server fields is. absurd (none_or_some (command_of.Clone address server fields) (sym none ∙ is));
       unread = λ h. refl {a = c.args.input.now};
       untouched = λ h. refl {a = c.args.repo};
+      unasked = λ h. refl {a = c.args.peer};
+      undialled = λ h. refl {a = c.args.dial.now};
     }
 
 pub returns-in-Err-Memory : goal.returns-in-Err-Memory
@@ -46,9 +68,16 @@ returns-in-Err-Memory g c =
     let out = output_of (g.K.Sink.state c.args.out.now, g.K.Sink.state c.print-status.new.out) in
     let file = file_of (g.D.Disk.state c.args.repo, g.D.Disk.state c.args.repo) in
     record {
-      runs =
+      runs = λ alone.
           written (said words) input file (Err fault_is.Memory) out c.print-status.result
-          (idle_memory (said words) input (g.D.Disk.state c.args.repo) (λ model f left. g.met.D.Disk.only_now c.args.repo f model left)) c.print-status.ensures;
+          (idle_memory (said words) input (g.D.Disk.state c.args.repo) (λ model f left. g.met.D.Disk.only_now c.args.repo f model left) alone) c.print-status.ensures;
+      synced = λ command is asks.
+          idle_synced command (g.D.Disk.state c.args.repo) (g.P.Disk.state c.args.peer) (g.N.Link.state c.args.dial.now) out c.print-status.result (λ model f left. g.met.D.Disk.only_now c.args.repo f model left)
+          (λ model f left. g.met.P.Disk.only_now c.args.peer f model left) c.print-status.ensures;
+      cloned = λ address server fields is.
+          idle_cloned g.D.Disk.state server fields c.args.repo (g.N.Link.state c.args.dial.now) (λ f model left. g.met.D.Disk.only_now c.args.repo f model left) out c.print-status.result c.print-status.ensures;
       unread = λ h. refl {a = c.args.input.now};
       untouched = λ h. refl {a = c.args.repo};
+      unasked = λ h. refl {a = c.args.peer};
+      undialled = λ h. refl {a = c.args.dial.now};
     }

@@ -1,5 +1,7 @@
 use Rattle.fossil.proofs.SomeOutcome.{some_outcome}
+use Rattle.fossil.proofs.SomeSync.{some_sync_outcome}
+use Rattle.fossil.proofs.CloneOutcomes.{some_clone_outcome}
 use Rattle.fossil.proofs.top.some_outcome.Goals as goal
 
 pub returns : goal.returns
-returns c = some_outcome
+returns c = record { outcome = some_outcome; synced = some_sync_outcome; cloned = some_clone_outcome }

@@ -1,0 +1,256 @@
+-- What `pull`, `push` and `pull-local` come to.
+use Rattle.std.proofs.Common.{◌≡◌, ◌⊎◌, inl, inr, ℕ, List, [], length, Option, Some, None, Result, Ok, Err, IsTrue, refl, sym, ap, subst, ◌∙◌}
+use Rattle.std.specs.Prelude.{IfSome}
+use Rattle.fsl_order.specs.Causes.{Rose}
+use Rattle.fsl_outside.specs.Connections.{LinkState}
+use Rattle.fsl_record.specs.declared.Record.{Record}
+use Rattle.fsl_disk.specs.Disk.{DiskState, IsModelled, Keeps, LeavesOnly}
+use Rattle.fsl_journal.specs.Journal.{HeldOrSame, IsSpared}
+use Rattle.fsl_wire.specs.declared.WireCard.{WireCard}
+use Rattle.fsl_repo.specs.Machine.{State, now}
+use Rattle.fsl_repo.specs.Whole.{Whole, IsWholeOn, front, opened}
+use Rattle.fsl_pull.specs.declared.Login.{Login}
+use Rattle.fsl_pull.specs.declared.Pulled.{Pulled}
+use Rattle.fsl_pull.specs.declared.PullFault.{PullFault}
+use Rattle.fsl_pull.specs.declared.PullFault.TheVariants as fault
+use Rattle.fsl_pull.specs.Rounds.{Round, Point, End, GoOn, EndsIn}
+use Rattle.fsl_pull.specs.Arrivals.{AreWants, AreUnclustered}
+use Rattle.fsl_pull.specs.Pulls.{IsPull, PullSoFar, pull_start}
+use Rattle.fsl_pull.specs.Pushes.{IsPush, PushSoFar}
+use Rattle.fsl_pull.specs.Locals.{LocalRound, IsLocalPull}
+use Rattle.fsl_pull.specs.Kept.{IsKeptAtAnyMoment}
+use Rattle.fsl_pull.specs.Asking.{IsDialCounted}
+use Rattle.fsl_pull.specs.Calls.{Ended, a_pull, a_push, IsPulledOver, IsPushedOver, IsLocalEnd, MayBegin, IsLocalShort, IsLocalAnswer}
+use Rattle.fsl_pull.proofs.EndsWell.{one_wants}
+use Rattle.fsl_pull.proofs.OneEnd.{one_unclustered}
+use Rattle.fsl_pull.proofs.LocalSync.{rest_of}
+use Rattle.fsl_pull.proofs.LocalEnds.{local_pulls_end}
+use Rattle.fsl_pull.proofs.SyncLoop.{Longer}
+use Rattle.fsl_words.specs.declared.Command.{Command}
+use Rattle.fsl_words.specs.declared.Command.TheVariants as command_of
+use Rattle.fossil.specs.declared.due.Due.{Due}
+use Rattle.fossil.specs.declared.sync.Way.{Way}
+use Rattle.fossil.specs.declared.sync.Way.TheVariants as way
+use Rattle.fossil.specs.Printed.{Printed}
+use Rattle.fossil.specs.Outcome.{Outcome}
+use Rattle.fossil.specs.Run.{Agrees, disk_fault}
+use Rattle.fossil.specs.Served.{with_text, no_memory}
+use Rattle.fossil.specs.Serving.{printed, IsDue}
+use Rattle.fossil.specs.Syncs.{fault_printed, end_printed, with_commits, IsEndOutcome, login_of}
+use Rattle.fossil.specs.Synced.{Read, IsSyncOutcome, AreCommits, command_asks_peer, IsAnswer, IsPeerKept, SyncsBy, objects_of}
+use Rattle.fossil.specs.Syncing.{IsSyncDue, ComesTo, IsReady, HasMade, HasPulledFrom, command_by}
+use Rattle.fossil.proofs.InputLemmas.{some_bytes}
+use Rattle.fossil.proofs.FileLemmas.{both, agrees, readable}
+use Rattle.fossil.proofs.TakenLemmas.{IsAt, leaves_at, IsEndAt, goes_at, ends_at, partly_at}
+use Rattle.fossil.proofs.SoundLemmas.{PullIsDue, pull_sound, local_keeps, local_rounds, local_end_at}
+use Rattle.fossil.proofs.PushLemmas.{PushIsDue, push_sound}
+use Rattle.fossil.proofs.SyncedLemmas.{Holds, holds, none_grown}
+use Rattle.fossil.proofs.SyncLemmas.{fresh, came, ended_by, synced_by, some_printed, due_ok, due_err, rose_file, moments_by}
+
+-- ---- a sync over a dial
+
+module _ {D : Type 0} (login : Option (List ℕ × List ℕ)) (address : List ℕ) (peer : DiskState) (dial dial_left : LinkState) (file mid left : DiskState) (old new : Whole D) (ready : IsReady file mid old) (whole : IsWholeOn left new) (keeps : Keeps mid left)
+    (file_reads : (held : List ℕ) → IsTrue file.is_model → file.contents ≡ Some held → file.images held) (left_reads : (held : List ℕ) → IsTrue left.is_model → left.contents ≡ Some held → left.images held) (d : Due) where
+  abbrev mine : State
+  mine = old.seen.state
+
+  abbrev user : Option Login
+  user = login_of login
+
+  abbrev bytes : List ℕ
+  bytes = ready.loaded.stands.0
+
+  abbrev held : (b : List ℕ) × Agrees peer.contents b
+  held = some_bytes peer.contents
+
+  abbrev Comes : Way → Type 0
+  Comes w = ComesTo (command_by w address login) (file, left) (peer, peer) (dial, dial_left) d
+
+  -- the repository is at its start
+  begun : (w : Way) → IsAt mine.records mine []
+  begun w = fresh (command_by w address login) peer peer dial dial_left file mid left old new ready whole keeps file_reads left_reads held.0 held.1 d
+
+  pull_comes : (result : Result Pulled PullFault) → IsPulledOver user dial dial_left mid left old.seen new.seen result → IsDialCounted dial dial_left result → IsSyncDue result d → Comes way.Pull
+  pull_comes result (rounds, broken, grows, (is, kept)) counted due =
+      let c =
+      came (command_of.Pull address login) peer peer dial dial_left file mid left old new ready whole keeps file_reads left_reads held.0 held.1 d (λ asks. absurd (cc))
+      (a_pull user mine) (PullIsDue user mine) (pull_sound user mine mine.records (begun way.Pull))
+      (λ rs e o pulled end. inr (mine.records, ready.loaded.stands.2, (ready.faults, e, subst (λ (t : State). IsPull user t rs e) ready.state pulled, end)))
+      (λ rs commits so_far. (mine.records, ready.loaded.stands.2, (ready.faults, subst (λ (t : State). PullSoFar user t rs commits) ready.state so_far)))
+      (λ rs body asks. (mine.records, ready.loaded.stands.2, (ready.faults, subst (λ (t : State). PullIsDue user t rs body) ready.state asks)))
+      rounds broken kept result is counted due in
+      (rounds, broken, grows, (record { file = bytes; peer = held.0; rounds = rounds }, c.0, c.1))
+
+  push_comes : (result : Result Pulled PullFault) → IsPushedOver user dial dial_left mid left old.seen new.seen result → IsDialCounted dial dial_left result → IsSyncDue result d → Comes way.Push
+  push_comes result (rounds, broken, grows, (is, kept)) counted due =
+      let c =
+      came (command_of.Push address login) peer peer dial dial_left file mid left old new ready whole keeps file_reads left_reads held.0 held.1 d (λ asks. absurd (cc))
+      (a_push user mine) (PushIsDue user mine) (push_sound user mine mine.records (begun way.Push))
+      (λ rs e o pushed end. inr (mine.records, ready.loaded.stands.2, (ready.faults, e, subst (λ (t : State). IsPush user t rs e) ready.state pushed, end)))
+      (λ rs commits so_far. (mine.records, ready.loaded.stands.2, (ready.faults, subst (λ (t : State). PushSoFar user t rs commits) ready.state so_far)))
+      (λ rs body asks. (mine.records, ready.loaded.stands.2, (ready.faults, subst (λ (t : State). PushIsDue user t rs body) ready.state asks)))
+      rounds broken kept result is counted due in
+      (rounds, broken, grows, (record { file = bytes; peer = held.0; rounds = rounds }, c.0, c.1))
+
+  pub over_comes : (w : Way) → HasMade w user (dial, dial_left) (mid, left) old.seen new.seen d → Comes w
+  over_comes way.Pull h = pull_comes h.result h.made h.counted h.says
+  over_comes way.Push h = push_comes h.result h.made h.counted h.says
+
+-- ---- a pull from another repository
+
+module _ {D P : Type 0} (path : List ℕ) (dial : LinkState) (file mid left : DiskState) (old new : Whole D) (ready : IsReady file mid old) (whole : IsWholeOn left new) (keeps : Keeps mid left)
+    (file_reads : (held : List ℕ) → IsTrue file.is_model → file.contents ≡ Some held → file.images held) (left_reads : (held : List ℕ) → IsTrue left.is_model → left.contents ≡ Some held → left.images held)
+    (peer peer_left : DiskState) (there : Whole P) (ready_peer : IsReady peer peer_left there) (spared : IsSpared peer peer_left) (harmless : IsModelled peer → LeavesOnly peer peer_left (HeldOrSame peer)) (d : Due) where
+  abbrev Names : Type 0
+  Names = List (List ℕ)
+
+  abbrev Gives : Type 0
+  Gives = List (Round Names (List WireCard))
+
+  abbrev command : Command
+  command = command_of.PullLocal path
+
+  abbrev s : State
+  s = old.seen.state
+
+  abbrev t : State
+  t = there.seen.state
+
+  abbrev peer_bytes : List ℕ
+  peer_bytes = ready_peer.loaded.stands.0
+
+  peer_told : Agrees peer.contents peer_bytes
+  peer_told = agrees peer.contents peer_bytes ready_peer.loaded.stands.1
+
+  abbrev read : Read
+  read = record { file = ready.loaded.stands.0; peer = peer_bytes; rounds = [] }
+
+  peer_kept : IsTrue (command_asks_peer command) → IsPeerKept (both peer peer_left)
+  peer_kept asks = record {
+    contents = inr ready_peer.loaded.contents;
+    spared = spared;
+    any_moment = ready_peer.loaded.any_moment;
+    harmless = harmless;
+    unreadable = readable peer peer_left (peer_bytes, ready_peer.loaded.stands.1, (t.records, ready_peer.loaded.stands.2));
+    keeps = ready_peer.loaded.keeps;
+  }
+
+  start : IsAt s.records s []
+  start = fresh command peer peer_left dial dial file mid left old new ready whole keeps file_reads left_reads peer_bytes peer_told d
+
+  outcome : (rounds : Gives) (e : End) → IsLocalPull s t rounds e → (o : Outcome) → IsEndOutcome (length rounds) e o → IsSyncOutcome command read o
+  outcome rounds e is o end = (
+    refl,
+    inr (
+      s.records,
+      ready.loaded.stands.2,
+      inr (
+        t.records,
+        ready_peer.loaded.stands.2,
+        (
+          ready.faults,
+          ready_peer.faults,
+          rounds,
+          (e, subst (λ (u : State). IsLocalPull (opened s.records ready.faults) u rounds e) ready_peer.state (subst (λ (u : State). IsLocalPull u t rounds e) ready.state is), end),
+        ),
+      ),
+    ),
+  )
+
+  -- ---- its end
+
+  end_at : (rounds : Gives) (e : End) → IsLocalPull s t rounds e → IsEndAt s.records [] e
+  end_at rounds e is = local_end_at s t s.records start rounds e is
+
+  module _ (kept : (rounds : Gives) (e : End) → IsLocalPull s t rounds e → IsKeptAtAnyMoment (front s) mid left e.commits) where
+    abbrev Came : Type 0
+    Came = (commits : List (List Record)) × SyncsBy command (objects_of (file, left) (peer, peer_left) (dial, dial)) (λ o. printed d ≡ o) (printed d).status [] [] read commits
+
+    whole_by : (why : Option PullFault) (pulled : Option Pulled) → IsLocalEnd s t new.seen.state why pulled
+        → ((n : ℕ) (e : End) (p : Printed) → Ended e n new.seen.state why pulled → end_printed e.fault n e.count ≡ Some p → IsDue p d) → Came
+    whole_by why pulled (rounds, (e, is, ended)) due = (
+      e.commits,
+      ended_by command peer peer_left dial dial file mid left old new ready whole keeps file_reads left_reads peer_bytes peer_told d peer_kept [] [] (length rounds) e why pulled refl
+          (end_at rounds e is) ended (outcome rounds e is) (kept rounds e is) (λ p text. due (length rounds) e p ended text) refl,
+    )
+
+    -- the end to which it would have come
+    all : (rounds : Gives) × (e : End) × IsLocalPull s t rounds e
+    all = local_pulls_end s t
+
+    led : AreCommits command read (all.1).commits
+    led =
+        let text = some_printed (all.1).fault (length all.0) (all.1).count (end_at all.0 all.1 all.2).told in
+        let o = with_commits text.0 (all.1).commits in inl (o, outcome all.0 all.1 all.2 o (text.0, text.1, refl), refl)
+
+    by_text : (o : Printed) → printed d ≡ o → IsAnswer command read [] (all.1).commits (objects_of (file, left) (peer, peer_left) (dial, dial)) (λ p. o ≡ p)
+        → Holds left s.records (all.1).commits ⊎ (((o.status ≡ 9) × ((done : List (List Record)) × Longer done (all.1).commits × Holds left s.records done)) ⊎ (o.status ≡ 4)) → Came
+    by_text o told answer left_so = (
+      (all.1).commits,
+      synced_by command peer peer_left dial dial file mid left old new ready whole keeps file_reads left_reads peer_bytes peer_told d [] [] (all.1).commits o told (inl led) answer left_so
+          (moments_by command peer peer_left dial dial file mid left old new ready whole keeps file_reads left_reads peer_bytes peer_told d (all.1).commits (kept all.0 all.1 all.2)) peer_kept (λ other. refl),
+    )
+
+    failed : (Rose s.faults new.seen.state.faults) ⊎ (Rose t.faults t.faults) → printed d ≡ with_text 4 disk_fault → Came
+    failed (inl rose) told =
+        by_text (with_text 4 disk_fault) told
+        (inr (inl (refl, inl (rose_file command peer peer_left dial dial file mid left old new ready whole keeps file_reads left_reads peer_bytes peer_told d rose), inl refl, refl))) (inr (inr refl))
+    failed (inr rose) told =
+        let same = ready_peer.whole.faults in
+        let rose_peer : Rose peer.faults peer_left.faults =
+        subst (λ (n : ℕ). Rose n peer_left.faults) (same ∙ ready_peer.loaded.faults) (subst (λ (n : ℕ). Rose t.faults n) same rose) in
+        by_text (with_text 4 disk_fault) told (inr (inl (refl, inr (refl, rose_peer), inl refl, refl))) (inr (inr refl))
+
+    -- the whole of it goes on from where it was cut off
+    cut_longer : MayBegin s t → (u w : Names) → AreUnclustered t u → AreWants s w → (rounds : Gives) (p : Point Names) → GoOn (LocalRound (now t) u) (pull_start s w) rounds p → Longer p.commits (all.1).commits
+    cut_longer may u w are_u are_w rounds p go =
+        let is = local_rounds s t all.0 all.1 may all.2 in
+        let ends : EndsIn (LocalRound (now t) u) (pull_start s w) all.0 all.1 =
+        subst (λ (x : Names). EndsIn (LocalRound (now t) u) (pull_start s x) all.0 all.1) (one_wants s is.2.0 w is.2.1 are_w)
+        (subst (λ (x : Names). EndsIn (LocalRound (now t) x) (pull_start s is.2.0) all.0 all.1) (one_unclustered t is.0 u is.1 are_u) is.2.2) in
+        let rest = rest_of (now t) u (pull_start s w) rounds all.0 p all.1 go ends in
+        let stood = goes_at (LocalRound (now t) u) (local_keeps (now t) u) s.records (pull_start s w) rounds p start go in
+        (ends_at (LocalRound (now t) u) (local_keeps (now t) u) s.records p rest.0 all.1 stood.0 rest.1).longer
+
+    short : IsLocalShort s t new.seen.state → printed d ≡ no_memory → Came
+    short (inl leaves) told =
+        by_text no_memory told (inr (inr (inr (inl refl, refl))))
+        (inr (inl (refl, ([], ((all.1).commits, refl), holds left new s.records [] whole (leaves_at s.records s s new.seen.state [] leaves start)))))
+    short (inr (may, (u, w, are_u, are_w, (rounds, (p, go, partly))))) told =
+        let stood = goes_at (LocalRound (now t) u) (local_keeps (now t) u) s.records (pull_start s w) rounds p start go in
+        by_text no_memory told (inr (inr (inr (inl refl, refl))))
+        (inr (inl (refl, (p.commits, cut_longer may u w are_u are_w rounds p go, holds left new s.records p.commits whole (partly_at s.records p stood.0 _ new.seen.state partly)))))
+
+    ok : (pulled : Pulled) → IsLocalEnd s t new.seen.state None (Some pulled) → IsSyncDue (Ok pulled) d → Came
+    ok pulled is due = whole_by None (Some pulled) is (λ n e p ended text. due_ok n new.seen.state e d p text pulled ended due)
+
+    refused : (why : PullFault) → IsLocalEnd s t new.seen.state (Some why) None → IfSome (fault_printed why) (λ o. IsDue o d) → Came
+    refused why is due = whole_by (Some why) None is (λ n e p ended text. due_err n new.seen.state e d p text why ended due)
+
+    -- a fault of the dial has no line, so that no end has it
+    no_link : (n : ℕ) (e : End) (p : Printed) → Ended e n new.seen.state (Some fault.Link) None → end_printed e.fault n e.count ≡ Some p → ⊥
+    no_link n e p ended text = let none = ap (λ (f : Option PullFault). end_printed f n e.count) (sym ended.fault) ∙ text in no_text p none
+      where
+        no_text : (q : Printed) → None ≡ Some q → ⊥
+        no_text q h = cc
+
+    came_by : (result : Result Pulled PullFault) → IsLocalAnswer s new.seen.state t t result → IsSyncDue result d → Came
+    came_by (Ok pulled) is due = ok pulled is.0 due
+    came_by (Err (fault.NotEmpty len)) is due = refused (fault.NotEmpty len) is.0 due
+    came_by (Err (fault.NotRepository at)) is due = refused (fault.NotRepository at) is.0 tt
+    came_by (Err (fault.Project found)) is due = refused (fault.Project found) is.0 due
+    came_by (Err (fault.Stopped faults)) is due = refused (fault.Stopped faults) is.0 tt
+    came_by (Err fault.Link) is due = whole_by (Some fault.Link) None is.0 (λ n e p ended text. absurd (no_link n e p ended text))
+    came_by (Err fault.Disk) (inl (rose, is), leaves) due = failed (inl rose) due
+    came_by (Err fault.Disk) (inr (rose, may, is), leaves) due = failed (inr rose) due
+    came_by (Err (fault.Peer why)) is due = refused (fault.Peer why) is.0 due
+    came_by (Err (fault.TooLarge name size)) is due = refused (fault.TooLarge name size) is.0 due
+    came_by (Err (fault.Full name)) is due = refused (fault.Full name) is.0 due
+    came_by (Err (fault.Missing name)) is due = refused (fault.Missing name) is.0 due
+    came_by (Err fault.Rounds) is due = refused fault.Rounds is.0 due
+    came_by (Err fault.Memory) is due = short is.0 due
+
+  pub local_comes : HasPulledFrom (mid, left) old.seen new.seen there.seen d → ComesTo (command_of.PullLocal path) (file, left) (peer, peer_left) (dial, dial) d
+  local_comes (result, (is, kept), due) =
+      let c = came_by kept result is due in
+      ([], [], none_grown _, (record { file = ready.loaded.stands.0; peer = peer_bytes; rounds = [] }, c.0, c.1))

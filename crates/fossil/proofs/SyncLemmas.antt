@@ -1,0 +1,241 @@
+-- What the commands that sync come to, once the repository was loaded or wasn't.
+use Rattle.std.proofs.Common.{◌≡◌, ◌≢◌, ◌⊎◌, inl, inr, ℕ, true, List, [], length, take, Option, Some, None, is_some, Result, Ok, Err, IsTrue, refl, sym, ap, subst, ◌∙◌, arith}
+use Rattle.std.specs.Prelude.{IfSome}
+use Rattle.std.proofs.lemmas.List.{append-nil, take_all}
+use Rattle.fsl_order.specs.Causes.{Rose}
+use Rattle.fsl_outside.specs.Connections.{Connection, LinkState}
+use Rattle.fsl_record.specs.declared.Record.{Record}
+use Rattle.fsl_disk.specs.Disk.{DiskState, Keeps}
+use Rattle.fsl_disk.proofs.Moments.{keeps_on}
+use Rattle.fsl_journal.specs.File.{IsFileOf}
+use Rattle.fsl_journal.proofs.Failing.{no_file}
+use Rattle.fsl_repo.specs.Machine.{State, Leaves}
+use Rattle.fsl_repo.specs.Whole.{Whole, IsWholeOn, front}
+use Rattle.fsl_http.specs.Responses.{IsBrokenOff, IsLeft}
+use Rattle.fsl_pull.specs.declared.Pulled.{Pulled}
+use Rattle.fsl_pull.specs.declared.PullFault.{PullFault}
+use Rattle.fsl_pull.specs.declared.PullFault.TheVariants as fault
+use Rattle.fsl_pull.specs.Rounds.{End}
+use Rattle.fsl_pull.specs.Dialled.{Rounds}
+use Rattle.fsl_pull.specs.Kept.{IsKeptAtAnyMoment}
+use Rattle.fsl_pull.specs.Asking.{IsDialCounted}
+use Rattle.fsl_pull.specs.Calls.{Kind, Ended, IsWhole, IsSynced, AreCommitsOf}
+use Rattle.fsl_words.specs.declared.Command.{Command}
+use Rattle.fossil.specs.declared.due.Due.{Due}
+use Rattle.fossil.specs.Printed.{Printed}
+use Rattle.fossil.specs.Outcome.{Outcome, printed_of}
+use Rattle.fossil.specs.Run.{Agrees, disk_fault}
+use Rattle.fossil.specs.Served.{with_text, link_fault, no_memory}
+use Rattle.fossil.specs.Serving.{printed, IsDue}
+use Rattle.fossil.specs.Syncs.{synced, fault_printed, end_printed, with_commits, IsEndOutcome}
+use Rattle.fossil.specs.Synced.{Read, Objects, IsSyncOutcome, AreCommitsSoFar, AreCommits, IsDue as IsAsked, command_asks_peer, IsAnswer, IsWholeAtAnyMoment, IsPeerKept, SyncsBy, objects_of}
+use Rattle.fossil.specs.Syncing.{IsSyncDue, IsReady}
+use Rattle.fossil.proofs.FileLemmas.{both, agrees}
+use Rattle.fossil.proofs.TakenLemmas.{IsTellable, IsAt, leaves_at, IsEndAt}
+use Rattle.fossil.proofs.SoundLemmas.{IsSound, sent_as}
+use Rattle.fossil.proofs.SyncedLemmas.{Holds, holds, IsLeftSo, contents_left, durable_left, moments_left}
+
+-- ---- ends
+
+some_of : (o : Option Printed) → is_some o ≡ true → (p : Printed) × (o ≡ Some p)
+some_of None e = absurd (cc)
+some_of (Some p) e = (p, refl)
+
+-- an end whose fault has a line has its text
+pub some_printed : (f : Option PullFault) (rounds stored : ℕ) → IsTellable f → (p : Printed) × (end_printed f rounds stored ≡ Some p)
+some_printed None rounds stored told = (synced rounds stored, refl)
+some_printed (Some why) rounds stored told = some_of (fault_printed why) told
+
+pub printed_one : (a b : Printed) → Some a ≡ Some b → a ≡ b
+printed_one a b e = cc
+
+pulled_one : (a b : Pulled) → (Some a ≡ None) ⊎ (Some a ≡ Some b) → a ≡ b
+pulled_one a b (inl e) = absurd (cc)
+pulled_one a b (inr e) = cc
+
+module _ (rounds : ℕ) (new : State) (e : End) (d : Due) (p : Printed) (text : end_printed e.fault rounds e.count ≡ Some p) where
+  -- what is due is the text of the end, or want of memory in its place
+  pub due_ok : (pulled : Pulled) → Ended e rounds new None (Some pulled) → IsDue (synced pulled.rounds pulled.stored) d → IsDue p d
+  due_ok pulled ended due =
+      let numbers : pulled ≡ record { rounds = rounds; stored = e.count } = pulled_one pulled (record { rounds = rounds; stored = e.count }) ended.numbers in
+      let same : synced rounds e.count ≡ p = printed_one (synced rounds e.count) p (ap (λ (f : Option PullFault). end_printed f rounds e.count) (sym ended.fault) ∙ text) in
+      subst (λ (o : Printed). IsDue o d) (ap (λ (q : Pulled). synced q.rounds q.stored) numbers ∙ same) due
+
+  pub due_err : (why : PullFault) → Ended e rounds new (Some why) None → IfSome (fault_printed why) (λ o. IsDue o d) → IsDue p d
+  due_err why ended due =
+      let same : fault_printed why ≡ Some p = ap (λ (f : Option PullFault). end_printed f rounds e.count) (sym ended.fault) ∙ text in
+      subst (λ (o : Option Printed). IfSome o (λ x. IsDue x d)) same due
+
+-- ---- a repository that was loaded
+
+module _ {D : Type 0} (command : Command) (peer peer_left : DiskState) (dial dial_left : LinkState) (file mid left : DiskState) (old new : Whole D) (ready : IsReady file mid old) (whole : IsWholeOn left new) (keeps : Keeps mid left)
+    (file_reads : (held : List ℕ) → IsTrue file.is_model → file.contents ≡ Some held → file.images held) (left_reads : (held : List ℕ) → IsTrue left.is_model → left.contents ≡ Some held → left.images held)
+    (peer_bytes : List ℕ) (peer_told : Agrees peer.contents peer_bytes) (d : Due) where
+  abbrev pub base : List Record
+  base = old.seen.state.records
+
+  abbrev pub bytes : List ℕ
+  bytes = ready.loaded.stands.0
+
+  abbrev pub read : Rounds → Read
+  read rounds = record { file = bytes; peer = peer_bytes; rounds = rounds }
+
+  abbrev x : Objects
+  x = objects_of (file, left) (peer, peer_left) (dial, dial_left)
+
+  stands : IsFileOf bytes base
+  stands = ready.loaded.stands.2
+
+  file_told : Agrees file.contents bytes
+  file_told = agrees file.contents bytes ready.loaded.stands.1
+
+  all_keeps : Keeps file left
+  all_keeps = keeps_on file mid left ready.loaded.keeps keeps
+
+  -- the loaded repository is at its start
+  committed_is : old.seen.state.committed ≡ length base
+  committed_is = ap (λ (s : State). s.committed) ready.state
+
+  front_is : front old.seen.state ≡ base
+  front_is = (λ i. take (committed_is i) base) ∙ take_all (length base) base (omega arith)
+
+  pub fresh : IsAt base old.seen.state []
+  fresh = record { runs = ap (λ (s : State). s.stopped) ready.state; stands = front_is ∙ sym (append-nil base); within = omega (arith, committed_is) }
+
+  pub moments_by : (commits : List (List Record)) → IsKeptAtAnyMoment (front old.seen.state) mid left commits → IsWholeAtAnyMoment (both file left) commits
+  moments_by commits kept =
+      moments_left file left bytes base file_told stands all_keeps mid commits ready.loaded.keeps ready.loaded.any_moment
+      (λ modelled c image. subst (λ (rs : List Record). IsFileOf c rs) front_is (ready.whole.exact fresh.runs modelled c image)) file_reads
+      (subst (λ (rs : List Record). IsKeptAtAnyMoment rs mid left commits) front_is kept)
+
+  abbrev Tells : Printed → Type 0
+  Tells o = printed d ≡ o
+
+  -- by what is printed
+  pub synced_by : (rounds : Rounds) (broken : List Connection) (commits : List (List Record)) (o : Printed) → printed d ≡ o → AreCommits command (read rounds) commits ⊎ ((rounds ≡ []) × (commits ≡ []))
+      → IsAnswer command (read rounds) broken commits x (λ p. o ≡ p) → IsLeftSo left base o.status commits → IsWholeAtAnyMoment (both file left) commits → (IsTrue (command_asks_peer command) → IsPeerKept (both peer peer_left))
+      → (o.status ≢ 7 → dial_left.faults ≡ dial.faults) → SyncsBy command x Tells (printed d).status rounds broken (read rounds) commits
+  synced_by rounds broken commits o is led answer left_so moments peer_kept dial_kept =
+      subst (λ (p : Printed). SyncsBy command x (λ q. p ≡ q) p.status rounds broken (read rounds) commits) (sym is)
+      (record {
+        file_told = file_told;
+        peer_told = peer_told;
+        rounds_are = refl;
+        led = led;
+        answer = answer;
+        contents = contents_left file left bytes base file_told stands all_keeps left_reads o.status commits left_so moments;
+        kept = λ told refused. absurd (no_file bytes refused.0 base refused.1 stands);
+        any_moment = moments;
+        durable = durable_left file left bytes base file_told stands all_keeps o.status commits left_so;
+        keeps = all_keeps;
+        peer = peer_kept;
+        dial = dial_kept;
+      })
+
+  pub rose_file : Rose old.seen.state.faults new.seen.state.faults → Rose file.faults left.faults
+  rose_file rose =
+      subst (λ (n : ℕ). Rose n left.faults) (ready.whole.faults ∙ ready.loaded.faults) (subst (λ (n : ℕ). Rose old.seen.state.faults n) whole.faults rose)
+
+  module _ (peer_kept : IsTrue (command_asks_peer command) → IsPeerKept (both peer peer_left)) where
+    -- a whole sync, of so many rounds that were counted
+    pub ended_by : (rounds : Rounds) (broken : List Connection) (n : ℕ) (e : End) (why : Option PullFault) (pulled : Option Pulled) → broken ≡ [] → IsEndAt base [] e → Ended e n new.seen.state why pulled
+        → ((o : Outcome) → IsEndOutcome n e o → IsSyncOutcome command (read rounds) o) → IsKeptAtAnyMoment (front old.seen.state) mid left e.commits → ((p : Printed) → end_printed e.fault n e.count ≡ Some p → IsDue p d)
+        → dial_left.faults ≡ dial.faults → SyncsBy command x Tells (printed d).status rounds broken (read rounds) e.commits
+    ended_by rounds broken n e why pulled none at_end ended outcome kept due same_count =
+        let text = some_printed e.fault n e.count at_end.told in
+        let o = with_commits text.0 e.commits in
+        let is : IsSyncOutcome command (read rounds) o = outcome o (text.0, text.1, refl) in
+        let h : Holds left base e.commits = holds left new base e.commits whole (leaves_at base e.state e.state new.seen.state e.commits ended.state at_end.stands) in
+        by_due text.0 o is h refl refl (due text.0 text.1)
+      where
+        by_due : (text : Printed) (o : Outcome) → IsSyncOutcome command (read rounds) o → Holds left base e.commits → text ≡ printed_of o → o.commits ≡ e.commits → IsDue text d → SyncsBy command x Tells (printed d).status rounds broken (read rounds) e.commits
+        by_due text o is h same commits (inl told) =
+            synced_by rounds broken e.commits text told (inl (inl (o, is, sym commits))) (inl (o, none, is, commits, same)) (inl h) (moments_by e.commits kept) peer_kept (λ other. same_count)
+        by_due text o is h same commits (inr told) =
+            synced_by rounds broken e.commits no_memory told (inl (inl (o, is, sym commits))) (inr (inr (inr (inl none, refl)))) (inl h) (moments_by e.commits kept) peer_kept (λ other. same_count)
+
+    -- ---- a sync over the dial, of whatever kind
+
+    module _ (k : Kind) (IsDueK : Rounds → List ℕ → Type 0) (sound : IsSound k IsDueK base)
+        (outcome : (rounds : Rounds) (e : End) (o : Outcome) → k.Is rounds e → IsEndOutcome (length rounds) e o → IsSyncOutcome command (read rounds) o)
+        (so_far : (rounds : Rounds) (commits : List (List Record)) → k.SoFar rounds commits → AreCommitsSoFar command (read rounds) commits)
+        (asked : (rounds : Rounds) (body : List ℕ) → IsDueK rounds body → IsAsked command (read rounds) body)
+        (rounds : Rounds) (broken : List Connection)
+        (kept : (commits : List (List Record)) → AreCommitsOf k.Is k.SoFar rounds commits → IsKeptAtAnyMoment (front old.seen.state) mid left commits) where
+      abbrev pub Came : Type 0
+      Came = (commits : List (List Record)) × SyncsBy command x Tells (printed d).status rounds broken (read rounds) commits
+
+      led_by : (commits : List (List Record)) → AreCommitsOf k.Is k.SoFar rounds commits → AreCommits command (read rounds) commits
+      led_by commits (inl (e, is, same)) =
+          let text = some_printed e.fault (length rounds) e.count (sound.whole rounds e is).told in
+          let o = with_commits text.0 e.commits in inl (o, outcome rounds e o is (text.0, text.1, refl), same)
+      led_by commits (inr h) = inr (so_far rounds commits h)
+
+      whole_by : (why : Option PullFault) (pulled : Option Pulled) → IsWhole k.Is new.seen.state why pulled rounds broken
+          → ((e : End) (p : Printed) → Ended e (length rounds) new.seen.state why pulled → end_printed e.fault (length rounds) e.count ≡ Some p → IsDue p d) → dial_left.faults ≡ dial.faults → Came
+      whole_by why pulled (none, (e, is, ended)) due same_count = (
+        e.commits,
+        ended_by rounds broken (length rounds) e why pulled none (sound.whole rounds e is) ended (λ o end. outcome rounds e o is end) (kept e.commits (inl (e, is, refl))) (λ p text. due e p ended text) same_count,
+      )
+
+      refused_by : (why : PullFault) → IsWhole k.Is new.seen.state (Some why) None rounds broken → IfSome (fault_printed why) (λ o. IsDue o d) → dial_left.faults ≡ dial.faults → Came
+      refused_by why is due same_count = whole_by (Some why) None is (λ e p ended text. due_err (length rounds) new.seen.state e d p text why ended due) same_count
+
+      lost : Rose dial.faults dial_left.faults → k.IsLeftOff IsBrokenOff broken 1 rounds new.seen.state → printed d ≡ with_text 7 link_fault → Came
+      lost rose off told =
+          let l = sound.left_off IsBrokenOff broken 1 rounds new.seen.state off in (
+            l.commits,
+            synced_by rounds broken l.commits (with_text 7 link_fault) told (inl (led_by l.commits (inr l.so_far)))
+                (inr (inr (inl (rose, record { due = (l.due.0, asked rounds l.due.0 l.due.1); few = l.few; sent = sent_as IsBrokenOff broken (IsDueK rounds) (IsAsked command (read rounds)) (asked rounds) l.sent }, refl))))
+                (inl (holds left new base l.commits whole l.stands)) (moments_by l.commits (kept l.commits (inr l.so_far))) peer_kept (λ other. absurd (other refl)),
+          )
+
+      failed : Rose old.seen.state.faults new.seen.state.faults → broken ≡ [] → k.IsFailed rounds new.seen.state → printed d ≡ with_text 4 disk_fault → dial_left.faults ≡ dial.faults → Came
+      failed rose none is told same_count =
+          let c = sound.failed rounds new.seen.state is in (
+            c.0,
+            synced_by rounds broken c.0 (with_text 4 disk_fault) told (inl (led_by c.0 c.1)) (inr (inl (none, inl (rose_file rose), inr c.2, refl))) (inr (inr refl)) (moments_by c.0 (kept c.0 c.1)) peer_kept (λ other. same_count),
+          )
+
+      -- no memory before the first round, behind some rounds, or in the midst of a reply
+      unbegun : rounds ≡ [] → broken ≡ [] → Leaves old.seen.state old.seen.state new.seen.state → printed d ≡ no_memory → dial_left.faults ≡ dial.faults → Came
+      unbegun first none leaves told same_count =
+          let are : AreCommitsOf k.Is k.SoFar rounds [] = inr (subst (λ (rs : Rounds). k.SoFar rs []) (sym first) sound.none) in (
+            [],
+            synced_by rounds broken [] no_memory told (inl (led_by [] are)) (inr (inr (inr (inl none, refl)))) (inl (holds left new base [] whole (leaves_at base old.seen.state old.seen.state new.seen.state [] leaves fresh)))
+                (moments_by [] (kept [] are)) peer_kept (λ other. same_count),
+          )
+
+      left_off : k.IsLeftOff IsLeft broken (length broken) rounds new.seen.state → printed d ≡ no_memory → dial_left.faults ≡ dial.faults → Came
+      left_off off told same_count =
+          let l = sound.left_off IsLeft broken (length broken) rounds new.seen.state off in (
+            l.commits,
+            synced_by rounds broken l.commits no_memory told (inl (led_by l.commits (inr l.so_far)))
+                (inr (inr (inr (inr (record { due = (l.due.0, asked rounds l.due.0 l.due.1); few = l.few; sent = sent_as IsLeft broken (IsDueK rounds) (IsAsked command (read rounds)) (asked rounds) l.sent }), refl))))
+                (inl (holds left new base l.commits whole l.stands)) (moments_by l.commits (kept l.commits (inr l.so_far))) peer_kept (λ other. same_count),
+          )
+
+      in_part : broken ≡ [] → k.IsBroken rounds new.seen.state → printed d ≡ no_memory → dial_left.faults ≡ dial.faults → Came
+      in_part none is told same_count =
+          let b = sound.broken rounds new.seen.state is in (
+            b.commits,
+            synced_by rounds broken b.commits no_memory told (inl (led_by b.commits b.are)) (inr (inr (inr (inl none, refl)))) (inr (inl (refl, (b.done, b.longer, holds left new base b.done whole b.stands))))
+                (moments_by b.commits (kept b.commits b.are)) peer_kept (λ other. same_count),
+          )
+
+      pub came : (result : Result Pulled PullFault) → IsSynced k old.seen.state new.seen.state dial.faults dial_left.faults result rounds broken → IsDialCounted dial dial_left result → IsSyncDue result d → Came
+      came (Ok pulled) is same due = whole_by None (Some pulled) is (λ e p ended text. due_ok (length rounds) new.seen.state e d p text pulled ended due) same
+      came (Err (fault.NotEmpty len)) is same due = refused_by (fault.NotEmpty len) is due same
+      came (Err (fault.NotRepository at)) is same due = refused_by (fault.NotRepository at) is tt same
+      came (Err (fault.Project found)) is same due = refused_by (fault.Project found) is due same
+      came (Err (fault.Stopped faults)) is same due = refused_by (fault.Stopped faults) is tt same
+      came (Err fault.Link) is same due = lost is.0 is.1 due
+      came (Err fault.Disk) is same due = failed is.0 is.1 is.2 due same
+      came (Err (fault.Peer why)) is same due = refused_by (fault.Peer why) is due same
+      came (Err (fault.TooLarge name size)) is same due = refused_by (fault.TooLarge name size) is due same
+      came (Err (fault.Full name)) is same due = refused_by (fault.Full name) is due same
+      came (Err (fault.Missing name)) is same due = refused_by (fault.Missing name) is due same
+      came (Err fault.Rounds) is same due = refused_by fault.Rounds is due same
+      came (Err fault.Memory) (inl (first, none, leaves)) same due = unbegun first none leaves due same
+      came (Err fault.Memory) (inr (inl off)) same due = left_off off due same
+      came (Err fault.Memory) (inr (inr (none, is))) same due = in_part none is due same

@@ -1,0 +1,327 @@
+-- What a run of a command that syncs says of its files, and of what it prints.
+use Rattle.std.proofs.Common.{◌≡◌, ◌⊎◌, inl, inr, ⊎_elim, ℕ, Bool, true, false, not, List, [], ◌++◌, length, Option, Some, None, is_some, IsTrue, refl, sym, ap, subst, ◌∙◌, arith}
+use Rattle.std.specs.Prelude.{◌==◌, ◌||◌, MatchBool, cond}
+use Rattle.std.proofs.lemmas.List.{append-nil}
+use Rattle.fsl_record.specs.declared.Record.{Record}
+use Rattle.fsl_outside.specs.Connections.{Connection, LinkState}
+use Rattle.fsl_disk.specs.Disk.{DiskState, IsModelled, Told, Keeps, LeavesOnly}
+use Rattle.fsl_disk.proofs.Moments.{started, weaker, and_then, modelled_after, told_contents}
+use Rattle.fsl_journal.specs.File.{IsFileOf}
+use Rattle.fsl_journal.specs.Journal.{HeldOrSame}
+use Rattle.fsl_journal.proofs.Unique.{one_file}
+use Rattle.fsl_repo.specs.Whole.{Whole, IsWholeOn}
+use Rattle.fsl_http.specs.Responses.{IsBrokenOff, IsLeft}
+use Rattle.fsl_pull.specs.Dialled.{Rounds, Breaks, Grows}
+use Rattle.fsl_pull.specs.Kept.{all_of_them, StandsForSome, IsKeptAtAnyMoment}
+use Rattle.fsl_pull.proofs.KeptLemmas.{all_some, some_more, none_of_them}
+use Rattle.fsl_pull.proofs.SyncLoop.{Longer}
+use Rattle.fsl_words.specs.declared.Command.{Command}
+use Rattle.fsl_words.specs.declared.Command.TheVariants as command_of
+use Rattle.fossil.specs.declared.due.Due.{Due}
+use Rattle.fossil.specs.declared.sync.Way.{Way}
+use Rattle.fossil.specs.declared.sync.Way.TheVariants as way
+use Rattle.fossil.specs.Printed.{Printed}
+use Rattle.fossil.specs.Outcome.{Outcome, without_commit, printed_of, command_syncs, command_clones, command_meets}
+use Rattle.fossil.specs.Run.{Output, Agrees, IsTold}
+use Rattle.fossil.specs.Acts.{KeepsImages}
+use Rattle.fossil.specs.Served.{IsPrinted, all, front}
+use Rattle.fossil.specs.Serving.{printed}
+use Rattle.fossil.specs.Synced.{Read, Objects, IsSyncOutcome, AreCommitsSoFar, AreCommits, IsDue, IsCutOff, command_asks_peer, HasFailed, objects_of, IsAnswer, IsFaulted, is_cut, StandsForAll, IsFileLeft, IsWholeAtAnyMoment, IsDurable, IsPeerKept, SyncsBy, HasSynced}
+use Rattle.fossil.specs.Syncing.{command_by}
+use Rattle.fossil.proofs.InputLemmas.{some_bytes}
+use Rattle.fossil.proofs.FileLemmas.{both, some_same, agreed, quiet_none}
+use Rattle.fossil.proofs.TakenLemmas.{IsAt}
+use Rattle.fossil.proofs.SoundLemmas.{sent_as}
+
+-- ---- what a file stands for
+
+-- it stands for the records that were there and these commits, and so does each image
+pub record Holds (left : DiskState) (base : List Record) (commits : List (List Record)) : Type 0 where
+  pub contents : Told left (λ held. IsFileOf held (base ++ all_of_them commits))
+  pub durable : IsModelled left → (c : List ℕ) → left.images c → IsFileOf c (base ++ all_of_them commits)
+
+-- the file of a repository that runs
+pub holds : {D : Type 0} (left : DiskState) (r : Whole D) (base : List Record) (commits : List (List Record)) → IsWholeOn left r → IsAt base r.seen.state commits → Holds left base commits
+holds left r base commits whole h = record {
+  contents = λ held told. subst (λ (rs : List Record). IsFileOf held rs) h.stands (whole.belongs.reads h.runs held told).0.file;
+  durable = λ modelled c image. subst (λ (rs : List Record). IsFileOf c rs) h.stands (whole.exact h.runs modelled c image);
+}
+
+-- it stands for all commits, or for the first of them where there was no memory, or the disk failed
+abbrev pub IsLeftSo : DiskState → List Record → ℕ → List (List Record) → Type 0
+IsLeftSo left base status commits =
+    Holds left base commits ⊎ (((status ≡ 9) × ((done : List (List Record)) × Longer done commits × Holds left base done)) ⊎ (status ≡ 4))
+
+pub all_left : (b : Bool) (old : List Record) (commits : List (List Record)) (held : List ℕ) → StandsForAll old commits held → MatchBool b (StandsForSome old commits held) (StandsForAll old commits held)
+all_left true old commits held h = all_some old commits held h
+all_left false old commits held h = h
+
+abbrev pub LeftBy : List Record → List (List Record) → List ℕ → ℕ → Type 0
+LeftBy old commits held status = MatchBool (is_cut status) (StandsForSome old commits held) (StandsForAll old commits held)
+
+abbrev pub IsLasting : ℕ → Type 0
+IsLasting status = IsTrue (not (is_cut status))
+
+pub no_nine : IsLasting 9 → ⊥
+no_nine h = cc
+
+pub no_four : IsLasting 4 → ⊥
+no_four h = cc
+
+module _ (file left : DiskState) (bytes : List ℕ) (base : List Record) (told : Agrees file.contents bytes) (stands : IsFileOf bytes base) (keeps : Keeps file left) where
+  base_is : (old : List Record) → IsFileOf bytes old → base ≡ old
+  base_is old are = one_file bytes base old stands are
+
+  as_old : (old : List Record) (commits : List (List Record)) (held : List ℕ) → IsFileOf bytes old → IsFileOf held (base ++ all_of_them commits) → StandsForAll old commits held
+  as_old old commits held are h = subst (λ (b : List Record). IsFileOf held (b ++ all_of_them commits)) (base_is old are) h
+
+  pub contents_left : (left_reads : (held : List ℕ) → IsTrue left.is_model → left.contents ≡ Some held → left.images held) (status : ℕ) (commits : List (List Record)) → IsLeftSo left base status commits → IsWholeAtAnyMoment (both file left) commits
+      → IsFileLeft (both file left) bytes status commits
+  contents_left left_reads status commits (inl h) moments old held file_told left_told are known = all_left (is_cut status) old commits held (as_old old commits held are (h.contents held left_told))
+  contents_left left_reads status commits (inr (inl (nine, (done, longer, h)))) moments old held file_told left_told are known =
+      subst (LeftBy old commits held) (sym nine)
+      (subst (λ (cs : List (List Record)). StandsForSome old cs held) (sym longer.1) (some_more old done longer.0 held (all_some old done held (as_old old done held are (h.contents held left_told)))))
+  contents_left left_reads status commits (inr (inr four)) moments old held file_told left_told are known =
+      let k = known four in
+      let modelled : IsModelled file = record { tells = ap is_some file_told; model = k.0 } in
+      subst (LeftBy old commits held) (sym four) ((moments modelled old k.1).now held (left_reads held (keeps.model ∙ k.0) left_told))
+
+  pub durable_left : (status : ℕ) (commits : List (List Record)) → IsLeftSo left base status commits → IsLasting status → IsDurable (both file left) bytes commits
+  durable_left status commits (inl h) lasting modelled file_told old are c image = as_old old commits c are (h.durable (modelled_after file left keeps modelled) c image)
+  durable_left status commits (inr (inl cut)) lasting modelled file_told old are c image = absurd (no_nine (subst IsLasting cut.0 lasting))
+  durable_left status commits (inr (inr four)) lasting modelled file_told old are c image = absurd (no_four (subst IsLasting four lasting))
+
+  -- the moments of the load, and those of the sync behind it
+  pub moments_left : (mid : DiskState) (commits : List (List Record)) → Keeps file mid → KeepsImages file mid → (IsModelled mid → (c : List ℕ) → mid.images c → IsFileOf c base)
+      → ((held : List ℕ) → IsTrue file.is_model → file.contents ≡ Some held → file.images held) → IsKeptAtAnyMoment base mid left commits → IsWholeAtAnyMoment (both file left) commits
+  moments_left mid commits keeps_mid stays exact file_reads kept modelled old are =
+      let t = told_contents file modelled in
+      let same : bytes ≡ t.0 = agreed file.contents bytes t.0 told t.1 in
+      let old_is : base ≡ old = one_file t.0 base old (subst (λ (b : List ℕ). IsFileOf b base) same stands) (are t.0 (file_reads t.0 modelled.model t.1)) in
+      let after : IsModelled mid = modelled_after file mid keeps_mid modelled in
+      and_then file mid left (StandsForSome old commits)
+      (weaker file mid (λ c. IsFileOf c old) (StandsForSome old commits) (none_of_them old commits) (stays modelled old are))
+      (subst (λ (b : List Record). LeavesOnly mid left (StandsForSome b commits)) old_is (kept after (exact after)))
+
+-- the moments of the load alone
+pub moments_loaded : (file left : DiskState) (commits : List (List Record)) → KeepsImages file left → IsWholeAtAnyMoment (both file left) commits
+moments_loaded file left commits stays modelled old are = weaker file left (λ c. IsFileOf c old) (StandsForSome old commits) (none_of_them old commits) (stays modelled old are)
+
+-- ---- a dial and a peer that aren't used
+
+pub none_grown : (o : Option (List Connection)) → Grows o o [] []
+none_grown None = refl
+none_grown (Some connections) = ([], sym (append-nil connections), ([], refl, tt, tt))
+
+pub peer_idle : (peer : DiskState) → (IsTrue peer.is_model → (c : List ℕ) → peer.since peer.moment c → peer.images c) → IsPeerKept (both peer peer)
+peer_idle peer no_other = record {
+  contents = inr (λ bytes told old are held held_told. subst (λ (b : List ℕ). IsFileOf b old) (some_same (sym told ∙ held_told)) are);
+  spared = inl refl;
+  any_moment = λ modelled old are. started peer (λ c. IsFileOf c old) (no_other modelled.model) are;
+  harmless = λ modelled. started peer (HeldOrSame peer) (no_other modelled.model) (λ c image. inl image);
+  unreadable = λ bytes told at fails. quiet_none peer;
+  keeps = record { tells = refl; model = refl };
+}
+
+-- ---- the printing
+
+pub told_printed : (o : Printed) (out : Output) (status : ℕ) → IsPrinted o out status → IsTold (without_commit o) status out
+told_printed o out status (all e appended quiet) = inl (e, appended)
+told_printed o out status (front e cut) = inr (e, cut)
+
+-- the status stays, or a report is cut off
+zero_or : (n : ℕ) (zero : Bool) → (n == 0) ≡ zero → (status : ℕ) → status ≡ cond zero 6 n → (status ≡ n) ⊎ ((n ≡ 0) × (status ≡ 6))
+zero_or n true z status e = let is : n ≡ 0 = grind (arith) in inr (is, e)
+zero_or n false z status e = inl e
+
+ends : (o : Printed) (out : Output) (status : ℕ) → IsPrinted o out status → (status ≡ o.status) ⊎ ((o.status ≡ 0) × (status ≡ 6))
+ends o out status (all e appended quiet) = inl e
+ends o out status (front e cut) = zero_or o.status (o.status == 0) refl status e
+
+module _ (command : Command) (x : Objects) (broken : List Connection) (r : Read) (commits : List (List Record)) (P Q : Printed → Type 0) (turn : (o : Printed) → P o → Q o) where
+  faulted_as : IsFaulted command r broken commits x P → IsFaulted command r broken commits x Q
+  faulted_as (inl (none, failed, due, tells)) = inl (none, failed, due, turn _ tells)
+  faulted_as (inr (inl (rose, cut, tells))) = inr (inl (rose, cut, turn _ tells))
+  faulted_as (inr (inr (cut, tells))) = inr (inr (cut, turn _ tells))
+
+  answered_as : IsAnswer command r broken commits x P → IsAnswer command r broken commits x Q
+  answered_as (inl (o, none, is, same, tells)) = inl (o, none, is, same, turn (printed_of o) tells)
+  answered_as (inr fault) = inr (faulted_as fault)
+
+module _ (command : Command) (x : Objects) (rounds : Rounds) (broken : List Connection) (r : Read) (commits : List (List Record)) (P Q : Printed → Type 0) (turn : (o : Printed) → P o → Q o) where
+  same_status : (n status : ℕ) → status ≡ n → SyncsBy command x P n rounds broken r commits → SyncsBy command x Q status rounds broken r commits
+  same_status n status e s = subst (λ (m : ℕ). SyncsBy command x Q m rounds broken r commits) (sym e) (record {
+    file_told = s.file_told;
+    peer_told = s.peer_told;
+    rounds_are = s.rounds_are;
+    led = s.led;
+    answer = answered_as command x broken r commits P Q turn s.answer;
+    contents = s.contents;
+    kept = s.kept;
+    any_moment = s.any_moment;
+    durable = s.durable;
+    keeps = s.keeps;
+    peer = s.peer;
+    dial = s.dial;
+  })
+
+  cut_status : (n status : ℕ) → n ≡ 0 → status ≡ 6 → SyncsBy command x P n rounds broken r commits → SyncsBy command x Q status rounds broken r commits
+  cut_status n status z six s =
+      let at_zero : SyncsBy command x P 0 rounds broken r commits = subst (λ (m : ℕ). SyncsBy command x P m rounds broken r commits) z s in
+      subst (λ (m : ℕ). SyncsBy command x Q m rounds broken r commits) (sym six)
+      (record {
+        file_told = at_zero.file_told;
+        peer_told = at_zero.peer_told;
+        rounds_are = at_zero.rounds_are;
+        led = at_zero.led;
+        answer = answered_as command x broken r commits P Q turn at_zero.answer;
+        contents = λ old held file_told left_told are known. at_zero.contents old held file_told left_told are (λ four. absurd (cc));
+        kept = at_zero.kept;
+        any_moment = at_zero.any_moment;
+        durable = λ lasting. at_zero.durable refl;
+        keeps = at_zero.keeps;
+        peer = at_zero.peer;
+        dial = λ other. at_zero.dial (λ seven. absurd (cc));
+      })
+
+-- what is due was printed
+pub synced_printed : (command : Command) (x : Objects) (d : Due) (out : Output) (status : ℕ) → HasSynced command x (λ o. printed d ≡ o) (printed d).status → IsPrinted (printed d) out status
+    → HasSynced command x (λ o. IsTold (without_commit o) status out) status
+synced_printed command x d out status (rounds, broken, grows, (r, commits, s)) written =
+    let turn : (o : Printed) → printed d ≡ o → IsTold (without_commit o) status out = λ o e. subst (λ (p : Printed). IsTold (without_commit p) status out) e (told_printed (printed d) out status written) in (
+      rounds,
+      broken,
+      grows,
+      (
+        r,
+        commits,
+        ⊎_elim (λ e. same_status command x rounds broken r commits (λ o. printed d ≡ o) (λ o. IsTold (without_commit o) status out) turn (printed d).status status e s)
+            (λ p. cut_status command x rounds broken r commits (λ o. printed d ≡ o) (λ o. IsTold (without_commit o) status out) turn (printed d).status status p.0 p.1 s) (ends (printed d) out status written),
+      ),
+    )
+
+-- ---- a sync over a dial, which uses no peer's file
+
+-- a reading with other bytes in the place of the peer's
+abbrev pub with_peer : List ℕ → Read → Read
+with_peer bytes r = record { file = r.file; peer = bytes; rounds = r.rounds }
+
+-- nothing that is said of a command speaks of the peer's file
+pub record IsApart (command : Command) : Type 0 where
+  pub alone : IsTrue (command_asks_peer command) → ⊥
+  pub outcome : (bytes : List ℕ) (r : Read) (o : Outcome) → IsSyncOutcome command r o → IsSyncOutcome command (with_peer bytes r) o
+  pub so_far : (bytes : List ℕ) (r : Read) (commits : List (List Record)) → AreCommitsSoFar command r commits → AreCommitsSoFar command (with_peer bytes r) commits
+  pub due : (bytes : List ℕ) (r : Read) (body : List ℕ) → IsDue command r body → IsDue command (with_peer bytes r) body
+
+pub apart_by : (w : Way) (address : List ℕ) (login : Option (List ℕ × List ℕ)) → IsApart (command_by w address login)
+apart_by way.Pull address login = record { alone = λ asks. absurd (cc); outcome = λ bytes r o h. h; so_far = λ bytes r commits h. h; due = λ bytes r body h. h }
+apart_by way.Push address login = record { alone = λ asks. absurd (cc); outcome = λ bytes r o h. h; so_far = λ bytes r commits h. h; due = λ bytes r body h. h }
+
+module _ (command : Command) (apart : IsApart command) (file peer other : DiskState × DiskState) (dial : LinkState × LinkState) (Tells : Printed → Type 0) where
+  abbrev there : List ℕ
+  there = (some_bytes (other.0).contents).0
+
+  -- no disk but that of its own file fails
+  own_failed : HasFailed command (objects_of file peer dial) → HasFailed command (objects_of file other dial)
+  own_failed (inl rose) = inl rose
+  own_failed (inr (asks, rose)) = absurd (apart.alone asks)
+
+  own_cut : (r : Read) (BreaksOff : Breaks) (broken : List Connection) (more : ℕ) → IsCutOff command r BreaksOff broken more → IsCutOff command (with_peer there r) BreaksOff broken more
+  own_cut r BreaksOff broken more h = record {
+    due = ((h.due).0, apart.due there r (h.due).0 (h.due).1);
+    few = h.few;
+    sent = sent_as BreaksOff broken (IsDue command r) (IsDue command (with_peer there r)) (apart.due there r) h.sent;
+  }
+
+  own_faulted : (r : Read) (broken : List Connection) (commits : List (List Record)) → IsFaulted command r broken commits (objects_of file peer dial) Tells → IsFaulted command (with_peer there r) broken commits (objects_of file other dial) Tells
+  own_faulted r broken commits (inl (none, failed, due, tells)) = inl (none, own_failed failed, due, tells)
+  own_faulted r broken commits (inr (inl (rose, cut, tells))) = inr (inl (rose, own_cut r IsBrokenOff broken 1 cut, tells))
+  own_faulted r broken commits (inr (inr (inl none, tells))) = inr (inr (inl none, tells))
+  own_faulted r broken commits (inr (inr (inr cut, tells))) = inr (inr (inr (own_cut r IsLeft broken (length broken) cut), tells))
+
+  own_answer : (r : Read) (broken : List Connection) (commits : List (List Record)) → IsAnswer command r broken commits (objects_of file peer dial) Tells → IsAnswer command (with_peer there r) broken commits (objects_of file other dial) Tells
+  own_answer r broken commits (inl (o, none, is, same, tells)) = inl (o, none, apart.outcome there r o is, same, tells)
+  own_answer r broken commits (inr fault) = inr (own_faulted r broken commits fault)
+
+  own_commits : (r : Read) (commits : List (List Record)) → AreCommits command r commits → AreCommits command (with_peer there r) commits
+  own_commits r commits (inl (o, is, same)) = inl (o, apart.outcome there r o is, same)
+  own_commits r commits (inr so_far) = inr (apart.so_far there r commits so_far)
+
+  own_led : (r : Read) (rounds : Rounds) (commits : List (List Record)) → AreCommits command r commits ⊎ ((rounds ≡ []) × (commits ≡ [])) → AreCommits command (with_peer there r) commits ⊎ ((rounds ≡ []) × (commits ≡ []))
+  own_led r rounds commits (inl are) = inl (own_commits r commits are)
+  own_led r rounds commits (inr none) = inr none
+
+  -- so what is said of it is said beside whatever peer
+  pub other_peer : (status : ℕ) → HasSynced command (objects_of file peer dial) Tells status → HasSynced command (objects_of file other dial) Tells status
+  other_peer status (rounds, broken, grows, (r, commits, s)) = (
+    rounds,
+    broken,
+    grows,
+    (
+      with_peer there r,
+      commits,
+      record {
+        file_told = s.file_told;
+        peer_told = (some_bytes (other.0).contents).1;
+        rounds_are = s.rounds_are;
+        led = own_led r rounds commits s.led;
+        answer = own_answer r broken commits s.answer;
+        contents = s.contents;
+        kept = s.kept;
+        any_moment = s.any_moment;
+        durable = s.durable;
+        keeps = s.keeps;
+        peer = λ asks. absurd (apart.alone asks);
+        dial = s.dial;
+      },
+    ),
+  )
+
+-- ---- words
+
+pub said_one : (a b : Command) → Some a ≡ Some b → a ≡ b
+said_one a b e = cc
+
+pub none_or_some : (a : Command) → None ≡ Some a → ⊥
+none_or_some a e = cc
+
+-- a command that meets a peer isn't one that meets none
+pub alone_meets : (a b : Command) → a ≡ b → command_meets b ≡ true → command_meets a ≡ false → ⊥
+alone_meets a b same is not_so = let e : true ≡ false = sym is ∙ ap command_meets (sym same) ∙ not_so in cc
+
+-- a clone doesn't sync
+pub clone_alone : (a : Command) (address server : List ℕ) (fields : List (List ℕ)) → a ≡ command_of.Clone address server fields → IsTrue (command_syncs a) → ⊥
+clone_alone a address server fields same asks = let e : true ≡ false = sym asks ∙ ap command_syncs same in cc
+
+-- a command other than these meets no peer
+abbrev pub IsNoPull : Command → Type 0
+IsNoPull command = (address : List ℕ) (login : Option (List ℕ × List ℕ)) → command ≡ command_of.Pull address login → ⊥
+
+abbrev pub IsNoPush : Command → Type 0
+IsNoPush command = (address : List ℕ) (login : Option (List ℕ × List ℕ)) → command ≡ command_of.Push address login → ⊥
+
+abbrev pub IsNoClone : Command → Type 0
+IsNoClone command = (address server : List ℕ) (fields : List (List ℕ)) → command ≡ command_of.Clone address server fields → ⊥
+
+abbrev pub IsNoLocal : Command → Type 0
+IsNoLocal command = (path : List ℕ) → command ≡ command_of.PullLocal path → ⊥
+
+pub is_alone : (command : Command) → IsNoPull command → IsNoPush command → IsNoClone command → IsNoLocal command → command_meets command ≡ false
+is_alone (command_of.Init project server fields) no_pull no_push no_clone no_local = refl
+is_alone command_of.Ingest no_pull no_push no_clone no_local = refl
+is_alone command_of.Put no_pull no_push no_clone no_local = refl
+is_alone (command_of.Shun name) no_pull no_push no_clone no_local = refl
+is_alone (command_of.Ask question) no_pull no_push no_clone no_local = refl
+is_alone (command_of.Serve address users workers requests) no_pull no_push no_clone no_local = refl
+is_alone (command_of.Gen count reversed) no_pull no_push no_clone no_local = refl
+is_alone (command_of.Pull address login) no_pull no_push no_clone no_local = absurd (no_pull address login refl)
+is_alone (command_of.Push address login) no_pull no_push no_clone no_local = absurd (no_push address login refl)
+is_alone (command_of.Clone address server fields) no_pull no_push no_clone no_local = absurd (no_clone address server fields refl)
+is_alone (command_of.PullLocal path) no_pull no_push no_clone no_local = absurd (no_local path refl)
+
+-- one that syncs meets a peer
+syncs_meets : (command : Command) → IsTrue (command_syncs command) → command_meets command ≡ true
+syncs_meets command asks = (λ i. (asks i) || command_clones command)
+
+pub not_alone : (command : Command) → IsNoPull command → IsNoPush command → IsNoClone command → IsNoLocal command → IsTrue (command_syncs command) → ⊥
+not_alone command no_pull no_push no_clone no_local asks = let e : true ≡ false = sym (syncs_meets command asks) ∙ is_alone command no_pull no_push no_clone no_local in cc

@@ -1,0 +1,223 @@
+-- What the commands that sync come to where a file isn't loaded, or words can't be read for want of memory.
+use Rattle.std.proofs.Common.{◌≡◌, ◌⊎◌, inl, inr, ℕ, List, [], Option, Some, is_some, Err, IsTrue, refl, sym, ap, subst, ◌∙◌}
+use Rattle.std.proofs.lemmas.List.{append-nil}
+use Rattle.fsl_order.specs.Causes.{Rose}
+use Rattle.fsl_outside.specs.Connections.{LinkState}
+use Rattle.fsl_disk.specs.Disk.{DiskState, IsModelled, Keeps, LeavesOnly}
+use Rattle.fsl_disk.proofs.Moments.{started}
+use Rattle.fsl_journal.specs.File.{IsFileOf, FailsAt}
+use Rattle.fsl_journal.specs.Journal.{HeldOrSame, IsSpared}
+use Rattle.fsl_journal.specs.declared.LoadFault.{LoadFault}
+use Rattle.fsl_journal.specs.declared.LoadFault.TheVariants as load_fault
+use Rattle.fsl_journal.proofs.Failing.{no_file}
+use Rattle.fsl_repo.specs.Whole.{Whole, IsWholeOn}
+use Rattle.fsl_repo.specs.Opening as opening
+use Rattle.fsl_pull.specs.Kept.{StandsForSome}
+use Rattle.fsl_pull.proofs.KeptLemmas.{none_of_them}
+use Rattle.fsl_words.specs.declared.Command.{Command}
+use Rattle.fsl_words.specs.declared.Command.TheVariants as command_of
+use Rattle.fossil.specs.declared.due.Due.{Due}
+use Rattle.fossil.specs.declared.sync.Way.{Way}
+use Rattle.fossil.specs.declared.sync.Way.TheVariants as way
+use Rattle.fossil.specs.declared.fault.Fault.TheVariants as fault_is
+use Rattle.fossil.specs.Printed.{Printed}
+use Rattle.fossil.specs.Outcome.{without_commit, printed_of, not_repository}
+use Rattle.fossil.specs.Run.{Agrees, Output, IsTold, disk_fault}
+use Rattle.fossil.specs.Acts.{KeepsContents, IsUnopened, IsWritten}
+use Rattle.fossil.specs.Served.{with_text, no_memory}
+use Rattle.fossil.specs.Serving.{printed}
+use Rattle.fossil.specs.Syncs.{with_commits, no_peer}
+use Rattle.fossil.specs.Synced.{Read, Objects, IsSyncOutcome, command_asks_peer, IsAnswer, is_cut, IsFileLeft, IsDurable, IsPeerKept, SyncsBy, HasSynced, objects_of}
+use Rattle.fossil.specs.Syncing.{IsUnopenedDue, IsNoPeerDue, ComesTo, IsReady, command_by}
+use Rattle.fossil.proofs.InputLemmas.{some_bytes}
+use Rattle.fossil.proofs.FileLemmas.{both, agrees, some_same, quiet_none}
+use Rattle.fossil.proofs.LoadLemmas.{KeepsBetween}
+use Rattle.fossil.proofs.RepoLemmas.{repo_opened}
+use Rattle.fossil.proofs.SyncedLemmas.{IsLasting, holds, all_left, LeftBy, moments_loaded, none_grown, peer_idle, no_four, no_nine}
+use Rattle.fossil.proofs.SyncLemmas.{fresh, synced_by}
+
+-- a repository that was loaded just now
+pub ready_of : {D : Type 0} (file left : DiskState) (r : Whole D) → opening.IsOpened file left r → IsWholeOn left r → KeepsBetween file left → Keeps file left → IsReady file left r
+ready_of file left r is whole between keeps = record { loaded = repo_opened file left r is whole between keeps; faults = file.faults; state = is.state; whole = whole }
+
+-- ---- the repository's file
+
+module _ (command : Command) (no_repository : (r : Read) (at : ℕ) → FailsAt r.file at → r.rounds ≡ [] → IsSyncOutcome command r (not_repository at)) (file left peer : DiskState) (dial : LinkState)
+    (peer_kept : IsTrue (command_asks_peer command) → IsPeerKept (both peer peer)) (left_reads : (held : List ℕ) → IsTrue left.is_model → left.contents ≡ Some held → left.images held) (d : Due) where
+  abbrev x : Objects
+  x = objects_of (file, left) (peer, peer) (dial, dial)
+
+  abbrev read : List ℕ → Read
+  read bytes = record { file = bytes; peer = (some_bytes peer.contents).0; rounds = [] }
+
+  abbrev Comes : Type 0
+  Comes = ComesTo command (file, left) (peer, peer) (dial, dial) d
+
+  module _ (fault : LoadFault) (un : IsUnopened file left fault) where
+    by_text : (bytes : List ℕ) (o : Printed) → Agrees file.contents bytes → printed d ≡ o → IsAnswer command (read bytes) [] [] x (λ p. o ≡ p) → IsFileLeft (both file left) bytes o.status []
+        → (IsLasting o.status → IsDurable (both file left) bytes []) → Comes
+    by_text bytes o told is answer contents durable = (
+      [],
+      [],
+      none_grown _,
+      (
+        read bytes,
+        [],
+        subst (λ (p : Printed). SyncsBy command x (λ q. p ≡ q) p.status [] [] (read bytes) []) (sym is)
+            (record {
+              file_told = told;
+              peer_told = (some_bytes peer.contents).1;
+              rounds_are = refl;
+              led = inr (refl, refl);
+              answer = answer;
+              contents = contents;
+              kept = λ file_told refused. un.unreadable bytes file_told refused.0 refused.1;
+              any_moment = moments_loaded file left [] un.any_moment;
+              durable = durable;
+              keeps = un.keeps;
+              peer = peer_kept;
+              dial = λ other. refl;
+            }),
+      ),
+    )
+
+    -- what it stands for stays
+    contents_by : (fault ≡ load_fault.Disk → ⊥) → (bytes : List ℕ) (status : ℕ) → IsFileLeft (both file left) bytes status []
+    contents_by other bytes status old held file_told left_told are known =
+        all_left (is_cut status) old [] held (subst (IsFileOf held) (sym (append-nil old)) (un.contents other bytes file_told old are held left_told))
+
+    memory : (fault ≡ load_fault.Disk → ⊥) → printed d ≡ no_memory → Comes
+    memory other told =
+        let bytes = some_bytes file.contents in
+        by_text bytes.0 no_memory bytes.1 told (inr (inr (inr (inl refl, refl)))) (contents_by other bytes.0 9) (λ lasting. absurd (no_nine lasting))
+
+    disk : Rose file.faults left.faults → printed d ≡ with_text 4 disk_fault → Comes
+    disk rose told =
+        let bytes = some_bytes file.contents in
+        by_text bytes.0 (with_text 4 disk_fault) bytes.1 told (inr (inl (refl, inl rose, inl refl, refl)))
+        (λ old held file_told left_told are known.
+        let k = known refl in
+        let modelled : IsModelled file = record { tells = ap is_some file_told; model = k.0 } in
+        none_of_them old [] held ((un.any_moment modelled old k.1).now held (left_reads held (un.keeps.model ∙ k.0) left_told)))
+        (λ lasting. absurd (no_four lasting))
+
+    nowhere : (fault ≡ load_fault.Disk → ⊥) → (bytes : List ℕ) (at : ℕ) → Agrees file.contents bytes → FailsAt bytes at → printed d ≡ printed_of (not_repository at) → Comes
+    nowhere other bytes at agree fails told =
+        by_text bytes (printed_of (not_repository at)) agree told (inl (not_repository at, refl, no_repository (read bytes) at fails refl, refl, refl)) (contents_by other bytes 2)
+        (λ lasting modelled file_told old are c image. absurd (no_file bytes at old fails are))
+
+  -- it wasn't loaded
+  pub unopened_comes : (fault : LoadFault) → IsUnopened file left fault → IsUnopenedDue fault d → Comes
+  unopened_comes load_fault.Disk un due = disk load_fault.Disk un un.cause due
+  unopened_comes (load_fault.NotRepository at) un (inl due) =
+      nowhere (load_fault.NotRepository at) un (λ e. cc) un.cause.0 at (agrees file.contents un.cause.0 un.cause.1) un.cause.2 due
+  unopened_comes (load_fault.NotRepository at) un (inr due) = memory (load_fault.NotRepository at) un (λ e. cc) due
+  unopened_comes load_fault.Memory un due = memory load_fault.Memory un (λ e. cc) due
+
+pull_unopened : (address : List ℕ) (login : Option (List ℕ × List ℕ)) (r : Read) (at : ℕ) → FailsAt r.file at → r.rounds ≡ [] → IsSyncOutcome (command_of.Pull address login) r (not_repository at)
+pull_unopened address login r at fails none = inl (at, fails, none, refl)
+
+push_unopened : (address : List ℕ) (login : Option (List ℕ × List ℕ)) (r : Read) (at : ℕ) → FailsAt r.file at → r.rounds ≡ [] → IsSyncOutcome (command_of.Push address login) r (not_repository at)
+push_unopened address login r at fails none = inl (at, fails, none, refl)
+
+pub over_unopened : (w : Way) (address : List ℕ) (login : Option (List ℕ × List ℕ)) (r : Read) (at : ℕ) → FailsAt r.file at → r.rounds ≡ [] → IsSyncOutcome (command_by w address login) r (not_repository at)
+over_unopened way.Pull address login r at fails none = pull_unopened address login r at fails none
+over_unopened way.Push address login r at fails none = push_unopened address login r at fails none
+
+-- neither of them reads a peer's file
+pub over_alone : (w : Way) (address : List ℕ) (login : Option (List ℕ × List ℕ)) (peer : DiskState) → IsTrue (command_asks_peer (command_by w address login)) → IsPeerKept (both peer peer)
+over_alone way.Pull address login peer asks = absurd (cc)
+over_alone way.Push address login peer asks = absurd (cc)
+
+pub local_unopened : (path : List ℕ) (r : Read) (at : ℕ) → FailsAt r.file at → r.rounds ≡ [] → IsSyncOutcome (command_of.PullLocal path) r (not_repository at)
+local_unopened path r at fails none = (none, inl (at, fails, none, refl))
+
+-- ---- the peer's file
+
+module _ {D : Type 0} (path : List ℕ) (file mid : DiskState) (old : Whole D) (ready : IsReady file mid old) (peer peer_left : DiskState) (dial : LinkState)
+    (file_reads : (held : List ℕ) → IsTrue file.is_model → file.contents ≡ Some held → file.images held) (mid_reads : (held : List ℕ) → IsTrue mid.is_model → mid.contents ≡ Some held → mid.images held)
+    (spared : IsSpared peer peer_left) (harmless : IsModelled peer → LeavesOnly peer peer_left (HeldOrSame peer)) (d : Due) where
+  abbrev local : Command
+  local = command_of.PullLocal path
+
+  abbrev Locals : Type 0
+  Locals = ComesTo local (file, mid) (peer, peer_left) (dial, dial) d
+
+  same_keeps : Keeps mid mid
+  same_keeps = record { tells = refl; model = refl }
+
+  module _ (fault : LoadFault) (un : IsUnopened peer peer_left fault) where
+    peer_by : (bytes : List ℕ) (o : Printed) → Agrees peer.contents bytes → printed d ≡ o → IsAnswer local (record { file = ready.loaded.stands.0; peer = bytes; rounds = [] }) [] [] (objects_of (file, mid) (peer, peer_left) (dial, dial)) (λ p. o ≡ p)
+        → Rose peer.faults peer_left.faults ⊎ KeepsContents peer peer_left → Locals
+    peer_by bytes o told is answer contents = (
+      [],
+      [],
+      none_grown _,
+      (
+        record { file = ready.loaded.stands.0; peer = bytes; rounds = [] },
+        [],
+        synced_by local peer peer_left dial dial file mid mid old old ready ready.whole same_keeps file_reads mid_reads bytes told d [] [] [] o is (inr (refl, refl)) answer
+            (inl (holds mid old old.seen.state.records [] ready.whole (fresh local peer peer_left dial dial file mid mid old old ready ready.whole same_keeps file_reads mid_reads bytes told d)))
+            (moments_loaded file mid [] ready.loaded.any_moment)
+            (λ asks. record { contents = contents; spared = spared; any_moment = un.any_moment; harmless = harmless; unreadable = un.unreadable; keeps = un.keeps })
+            (λ other. refl),
+      ),
+    )
+
+    peer_memory : (fault ≡ load_fault.Disk → ⊥) → printed d ≡ no_memory → Locals
+    peer_memory other told = let bytes = some_bytes peer.contents in peer_by bytes.0 no_memory bytes.1 told (inr (inr (inr (inl refl, refl)))) (inr (un.contents other))
+
+    peer_disk : Rose peer.faults peer_left.faults → printed d ≡ with_text 4 disk_fault → Locals
+    peer_disk rose told =
+        let bytes = some_bytes peer.contents in
+        peer_by bytes.0 (with_text 4 disk_fault) bytes.1 told (inr (inl (refl, inr (refl, rose), inl refl, refl))) (inl rose)
+
+    peer_nowhere : (fault ≡ load_fault.Disk → ⊥) → (bytes : List ℕ) (at : ℕ) → Agrees peer.contents bytes → FailsAt bytes at → printed d ≡ no_peer at → Locals
+    peer_nowhere other bytes at agree fails told =
+        peer_by bytes (no_peer at) agree told
+        (inl (with_commits (no_peer at) [], refl, (refl, inr (old.seen.state.records, ready.loaded.stands.2, inl (at, fails, refl))), refl, refl)) (inr (un.contents other))
+
+  -- it wasn't loaded
+  pub no_peer_comes : (fault : LoadFault) → IsUnopened peer peer_left fault → IsNoPeerDue fault d → Locals
+  no_peer_comes load_fault.Disk un due = peer_disk load_fault.Disk un un.cause due
+  no_peer_comes (load_fault.NotRepository at) un (inl due) =
+      peer_nowhere (load_fault.NotRepository at) un (λ e. cc) un.cause.0 at (agrees peer.contents un.cause.0 un.cause.1) un.cause.2 due
+  no_peer_comes (load_fault.NotRepository at) un (inr due) = peer_memory (load_fault.NotRepository at) un (λ e. cc) due
+  no_peer_comes load_fault.Memory un due = peer_memory load_fault.Memory un (λ e. cc) due
+
+-- ---- words for which there was no memory
+
+pub told_memory : (out : Output) (status : ℕ) → IsWritten (Err fault_is.Memory) status out → IsTold (without_commit no_memory) status out
+told_memory out status (e, inl appended) = inl (e, appended)
+told_memory out status (e, inr cut) = inr (e, cut)
+
+pub idle_synced : (command : Command) (file peer : DiskState) (dial : LinkState) (out : Output) (status : ℕ) → (IsTrue file.is_model → (c : List ℕ) → file.since file.moment c → file.images c)
+    → (IsTrue peer.is_model → (c : List ℕ) → peer.since peer.moment c → peer.images c) → IsWritten (Err fault_is.Memory) status out
+    → HasSynced command (objects_of (file, file) (peer, peer) (dial, dial)) (λ o. IsTold (without_commit o) status out) status
+idle_synced command file peer dial out status no_other no_other_peer written =
+    let bytes = some_bytes file.contents in
+    let there = some_bytes peer.contents in
+    let nine : status ≡ 9 = written.0 in (
+      [],
+      [],
+      none_grown _,
+      (
+        record { file = bytes.0; peer = there.0; rounds = [] },
+        [],
+        record {
+          file_told = bytes.1;
+          peer_told = there.1;
+          rounds_are = refl;
+          led = inr (refl, refl);
+          answer = inr (inr (inr (inl refl, told_memory out status written)));
+          contents = λ old held file_told left_told are known.
+              subst (LeftBy old [] held) (sym nine) (none_of_them old [] held (subst (λ (b : List ℕ). IsFileOf b old) (some_same (sym file_told ∙ left_told)) are));
+          kept = λ told refused. quiet_none file;
+          any_moment = λ modelled old are. started file (StandsForSome old []) (no_other modelled.model) (λ c image. none_of_them old [] c (are c image));
+          durable = λ lasting. absurd (no_nine (subst IsLasting nine lasting));
+          keeps = record { tells = refl; model = refl };
+          peer = λ asks. peer_idle peer no_other_peer;
+          dial = λ other. refl;
+        },
+      ),
+    )

@@ -1,0 +1,103 @@
+use Rattle.std.proofs.Common.{◌≡◌, sym, subst, refl}
+use Rattle.fsl_disk.specs.Disk.{DiskState}
+use Rattle.fsl_outside.specs.Connections.{LinkState}
+use Rattle.fsl_outside.specs.Streams.{SinkState}
+use Rattle.fsl_words.specs.declared.Command.{Command}
+use Rattle.fsl_words.specs.declared.Command.TheVariants as command_of
+use Rattle.fossil.specs.declared.sync.Way.TheVariants as way
+use Rattle.fossil.specs.Acts.{IsObeyable, output_of}
+use Rattle.fossil.specs.Serving.{printed}
+use Rattle.fossil.specs.Synced.{Syncs, objects_of}
+use Rattle.fossil.proofs.SyncedLemmas.{synced_printed, apart_by, other_peer, alone_meets, clone_alone, not_alone, is_alone}
+use Rattle.fossil.proofs.CloneLemmas.{cloned_printed, cloned_if, not_cloned, other_command}
+use Rattle.fossil.proofs.top.start.Goals as goal
+
+pub returns-in-Pull-clause-runs : goal.returns-in-Pull-clause-runs
+returns-in-Pull-clause-runs g c = λ alone. absurd (alone_meets c.args.command (command_of.Pull c.in-Pull.address c.in-Pull.login) c.in-Pull.is refl alone)
+
+pub returns-in-Pull-clause-syncs : goal.returns-in-Pull-clause-syncs
+returns-in-Pull-clause-syncs g c = λ asks.
+    let file : DiskState × DiskState = (g.D.Disk.state c.args.repo, g.D.Disk.state c.sync-due.result.1) in
+    let peer : DiskState × DiskState = (g.P.Disk.state c.args.peer, g.P.Disk.state c.args.peer) in
+    let dial : LinkState × LinkState = (g.N.Link.state c.args.dial.now, g.N.Link.state c.sync-due.new.dial) in
+    let out : SinkState × SinkState = (g.K.Sink.state c.args.out.now, g.K.Sink.state c.print_due-status.new.out) in
+    let command = command_of.Pull c.in-Pull.address c.in-Pull.login in
+    let due = c.sync-due.result.0 in
+    subst (λ (x : Command). Syncs x file peer dial out c.print_due-status.result) (sym c.in-Pull.is)
+    (synced_printed command (objects_of file peer dial) due (output_of out) c.print_due-status.result
+    (other_peer command (apart_by way.Pull c.in-Pull.address c.in-Pull.login) file (file.0, file.0) peer dial (λ o. printed due ≡ o) (printed due).status (c.sync-due.ensures c.in-Pull.address)) c.print_due-status.ensures)
+
+pub returns-in-Pull-clause-cloned : goal.returns-in-Pull-clause-cloned
+returns-in-Pull-clause-cloned g c =
+    let dial : LinkState × LinkState = (g.N.Link.state c.args.dial.now, g.N.Link.state c.sync-due.new.dial) in
+    let out : SinkState × SinkState = (g.K.Sink.state c.args.out.now, g.K.Sink.state c.print_due-status.new.out) in
+    not_cloned g.D.Disk.state c.args.command c.args.repo c.sync-due.result.1 dial out c.print_due-status.result (other_command c.args.command (command_of.Pull c.in-Pull.address c.in-Pull.login) c.in-Pull.is refl)
+
+pub returns-in-Push-clause-runs : goal.returns-in-Push-clause-runs
+returns-in-Push-clause-runs g c = λ alone. absurd (alone_meets c.args.command (command_of.Push c.in-Push.address c.in-Push.login) c.in-Push.is refl alone)
+
+pub returns-in-Push-clause-syncs : goal.returns-in-Push-clause-syncs
+returns-in-Push-clause-syncs g c = λ asks.
+    let file : DiskState × DiskState = (g.D.Disk.state c.args.repo, g.D.Disk.state c.sync-due-in-Push.result.1) in
+    let peer : DiskState × DiskState = (g.P.Disk.state c.args.peer, g.P.Disk.state c.args.peer) in
+    let dial : LinkState × LinkState = (g.N.Link.state c.args.dial.now, g.N.Link.state c.sync-due-in-Push.new.dial) in
+    let out : SinkState × SinkState = (g.K.Sink.state c.args.out.now, g.K.Sink.state c.print_due-status-in-Push.new.out) in
+    let command = command_of.Push c.in-Push.address c.in-Push.login in
+    let due = c.sync-due-in-Push.result.0 in
+    subst (λ (x : Command). Syncs x file peer dial out c.print_due-status-in-Push.result) (sym c.in-Push.is)
+    (synced_printed command (objects_of file peer dial) due (output_of out) c.print_due-status-in-Push.result
+    (other_peer command (apart_by way.Push c.in-Push.address c.in-Push.login) file (file.0, file.0) peer dial (λ o. printed due ≡ o) (printed due).status (c.sync-due-in-Push.ensures c.in-Push.address)) c.print_due-status-in-Push.ensures)
+
+pub returns-in-Push-clause-cloned : goal.returns-in-Push-clause-cloned
+returns-in-Push-clause-cloned g c =
+    let dial : LinkState × LinkState = (g.N.Link.state c.args.dial.now, g.N.Link.state c.sync-due-in-Push.new.dial) in
+    let out : SinkState × SinkState = (g.K.Sink.state c.args.out.now, g.K.Sink.state c.print_due-status-in-Push.new.out) in
+    not_cloned g.D.Disk.state c.args.command c.args.repo c.sync-due-in-Push.result.1 dial out c.print_due-status-in-Push.result (other_command c.args.command (command_of.Push c.in-Push.address c.in-Push.login) c.in-Push.is refl)
+
+pub clone_onto-due-requires : goal.clone_onto-due-requires
+clone_onto-due-requires g c = subst IsObeyable c.in-Clone.is c.requires
+
+pub returns-in-Clone-clause-runs : goal.returns-in-Clone-clause-runs
+returns-in-Clone-clause-runs g c = λ alone. absurd (alone_meets c.args.command (command_of.Clone c.in-Clone._address c.in-Clone.server c.in-Clone.fields) c.in-Clone.is refl alone)
+
+pub returns-in-Clone-clause-syncs : goal.returns-in-Clone-clause-syncs
+returns-in-Clone-clause-syncs g c = λ asks. absurd (clone_alone c.args.command c.in-Clone._address c.in-Clone.server c.in-Clone.fields c.in-Clone.is asks)
+
+pub returns-in-Clone-clause-cloned : goal.returns-in-Clone-clause-cloned
+returns-in-Clone-clause-cloned g c =
+    let dial : LinkState × LinkState = (g.N.Link.state c.args.dial.now, g.N.Link.state c.clone_onto-due.new.dial) in
+    let out : SinkState × SinkState = (g.K.Sink.state c.args.out.now, g.K.Sink.state c.print_due-status-in-Clone.new.out) in
+    let left = c.clone_onto-due.result.1 in
+    cloned_if g.D.Disk.state c.args.command c.args.repo left dial out c.print_due-status-in-Clone.result c.in-Clone._address c.in-Clone.server c.in-Clone.fields c.in-Clone.is
+    (cloned_printed g.D.Disk.state c.in-Clone.server c.in-Clone.fields c.args.repo left dial c.clone_onto-due.result.0 (output_of out) c.print_due-status-in-Clone.result c.clone_onto-due.ensures c.print_due-status-in-Clone.ensures)
+
+pub returns-in-PullLocal-clause-runs : goal.returns-in-PullLocal-clause-runs
+returns-in-PullLocal-clause-runs g c = λ alone. absurd (alone_meets c.args.command (command_of.PullLocal c.in-PullLocal.peer) c.in-PullLocal.is refl alone)
+
+pub returns-in-PullLocal-clause-syncs : goal.returns-in-PullLocal-clause-syncs
+returns-in-PullLocal-clause-syncs g c = λ asks.
+    let file : DiskState × DiskState = (g.D.Disk.state c.args.repo, g.D.Disk.state c.pull_local-due.result.1) in
+    let peer : DiskState × DiskState = (g.P.Disk.state c.args.peer, g.P.Disk.state c.pull_local-due.result.2) in
+    let dial : LinkState × LinkState = (g.N.Link.state c.args.dial.now, g.N.Link.state c.args.dial.now) in
+    let out : SinkState × SinkState = (g.K.Sink.state c.args.out.now, g.K.Sink.state c.print_due-status-in-PullLocal.new.out) in
+    subst (λ (x : Command). Syncs x file peer dial out c.print_due-status-in-PullLocal.result) (sym c.in-PullLocal.is)
+    (synced_printed (command_of.PullLocal c.in-PullLocal.peer) (objects_of file peer dial) c.pull_local-due.result.0 (output_of out) c.print_due-status-in-PullLocal.result
+    (c.pull_local-due.ensures c.in-PullLocal.peer (g.N.Link.state c.args.dial.now)) c.print_due-status-in-PullLocal.ensures)
+
+pub returns-in-PullLocal-clause-cloned : goal.returns-in-PullLocal-clause-cloned
+returns-in-PullLocal-clause-cloned g c =
+    let dial : LinkState × LinkState = (g.N.Link.state c.args.dial.now, g.N.Link.state c.args.dial.now) in
+    let out : SinkState × SinkState = (g.K.Sink.state c.args.out.now, g.K.Sink.state c.print_due-status-in-PullLocal.new.out) in
+    not_cloned g.D.Disk.state c.args.command c.args.repo c.pull_local-due.result.1 dial out c.print_due-status-in-PullLocal.result (other_command c.args.command (command_of.PullLocal c.in-PullLocal.peer) c.in-PullLocal.is refl)
+
+pub obey-status-requires-clause-alone : goal.obey-status-requires-clause-alone
+obey-status-requires-clause-alone g c = is_alone c.args.command c.in_default.not-Pull c.in_default.not-Push c.in_default.not-Clone c.in_default.not-PullLocal
+
+pub returns-in_default-clause-syncs : goal.returns-in_default-clause-syncs
+returns-in_default-clause-syncs g c = λ asks. absurd (not_alone c.args.command c.in_default.not-Pull c.in_default.not-Push c.in_default.not-Clone c.in_default.not-PullLocal asks)
+
+pub returns-in_default-clause-cloned : goal.returns-in_default-clause-cloned
+returns-in_default-clause-cloned g c =
+    let dial : LinkState × LinkState = (g.N.Link.state c.args.dial.now, g.N.Link.state c.args.dial.now) in
+    let out : SinkState × SinkState = (g.K.Sink.state c.args.out.now, g.K.Sink.state c.obey-status.new.out) in
+    not_cloned g.D.Disk.state c.args.command c.args.repo c.obey-status.result.repo dial out c.obey-status.result.status c.in_default.not-Clone

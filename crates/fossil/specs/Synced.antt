@@ -1,0 +1,203 @@
+-- What a run of a command that syncs says of its status, its output, its files and its dial, by one reading of all that it read.
+use Rattle.std.specs.Prelude.{◌≡◌, ◌≢◌, ℕ, ◌+◌, ◌≤◌, ◌⊎◌, ◌==◌, ◌||◌, not, Bool, true, false, List, [], ◌++◌, length, Some, IsTrue, MatchBool}
+use Rattle.std.specs.Option.{option_map_or}
+use Rattle.fsl_order.specs.Causes.{Rose}
+use Rattle.fsl_outside.specs.Connections.{Connection, LinkState}
+use Rattle.fsl_outside.specs.Streams.{SinkState}
+use Rattle.fsl_record.specs.declared.Record.{Record}
+use Rattle.fsl_disk.specs.Disk.{DiskState, IsModelled, Keeps, Quiet, LeavesOnly}
+use Rattle.fsl_journal.specs.File.{IsFileOf, FailsAt}
+use Rattle.fsl_journal.specs.Journal.{HeldOrSame, IsSpared}
+use Rattle.fsl_http.specs.Responses.{IsBrokenOff, IsLeft}
+use Rattle.fsl_pull.specs.Rounds.{most_rounds}
+use Rattle.fsl_pull.specs.Dialled.{Rounds, HasRounds, HasSent, Breaks}
+use Rattle.fsl_pull.specs.Kept.{all_of_them, StandsForSome}
+use Rattle.fsl_pull.specs.Calls.{Dialled, dialled}
+use Rattle.fsl_words.specs.declared.Command.{Command}
+use Rattle.fsl_words.specs.declared.Command.TheVariants.{Pull, Push, Clone, PullLocal}
+use Rattle.fossil.specs.Printed.{Printed}
+use Rattle.fossil.specs.Outcome.{Outcome, without_commit, said, printed_of, not_repository, command_syncs}
+use Rattle.fossil.specs.Run.{File, Agrees, IsNoRepository, IsTold, disk_fault}
+use Rattle.fossil.specs.Acts.{file_of, output_of, KeepsContents, KeepsImages, KeepsUnreadable}
+use Rattle.fossil.specs.Served.{with_text, link_fault, no_memory}
+use Rattle.fossil.specs.Syncs.{IsPullOutcome, PullCommits, PullDue, IsPushOutcome, PushCommits, PushDue, IsLocalOutcome}
+
+-- ---- the outcome
+
+-- what was read: the bytes of the file and of the peer's, and the rounds of the sync
+pub record Read : Type 0 where
+  pub file : List ℕ
+  pub peer : List ℕ
+  pub rounds : Rounds
+
+-- the file stands for records, by which the outcome is told; or the place at which it doesn't is told, and there is no round
+abbrev pub IsLoadedBy : (List Record → Outcome → Type 0) → Read → Outcome → Type 0
+IsLoadedBy ByRecords r o =
+    ((at : ℕ) × FailsAt r.file at × (r.rounds ≡ []) × (o ≡ not_repository at)) ⊎ ((records : List Record) × IsFileOf r.file records × ByRecords records o)
+
+-- the outcome of a command that syncs
+abbrev pub IsSyncOutcome : Command → Read → Outcome → Type 0
+IsSyncOutcome (Pull address login) r o = IsLoadedBy (IsPullOutcome login r.rounds) r o
+IsSyncOutcome (Push address login) r o = IsLoadedBy (IsPushOutcome login r.rounds) r o
+IsSyncOutcome (PullLocal path) r o = (r.rounds ≡ []) × IsLoadedBy (IsLocalOutcome r.peer) r o
+IsSyncOutcome command r o = ⊥
+
+-- the commits of rounds that all went on
+abbrev pub AreCommitsSoFar : Command → Read → List (List Record) → Type 0
+AreCommitsSoFar (Pull address login) r commits = (records : List Record) × IsFileOf r.file records × PullCommits login r.rounds records commits
+AreCommitsSoFar (Push address login) r commits = (records : List Record) × IsFileOf r.file records × PushCommits login r.rounds records commits
+AreCommitsSoFar command r commits = ⊥
+
+-- the commits that a run comes to, whether its sync has its end or was cut off: of an outcome, or of rounds that all went on
+abbrev pub AreCommits : Command → Read → List (List Record) → Type 0
+AreCommits command r commits = ((o : Outcome) × IsSyncOutcome command r o × (commits ≡ o.commits)) ⊎ AreCommitsSoFar command r commits
+
+-- behind these rounds, which all went on, this body is asked
+abbrev pub IsDue : Command → Read → List ℕ → Type 0
+IsDue (Pull address login) r body = (records : List Record) × IsFileOf r.file records × PullDue login r.rounds records body
+IsDue (Push address login) r body = (records : List Record) × IsFileOf r.file records × PushDue login r.rounds records body
+IsDue command r body = ⊥
+
+-- ---- what a command uses
+
+-- whether it reads the peer's file
+abbrev pub command_asks_peer : Command → Bool
+command_asks_peer (PullLocal path) = true
+command_asks_peer command = false
+
+-- whether it uses the dial
+abbrev pub command_dials : Command → Bool
+command_dials (Pull address login) = true
+command_dials (Push address login) = true
+command_dials (Clone address server fields) = true
+command_dials command = false
+
+-- the same of words
+abbrev pub asks_peer : List (List ℕ) → Bool
+asks_peer words = option_map_or command_asks_peer (said words) false
+
+abbrev pub dials : List (List ℕ) → Bool
+dials words = option_map_or command_dials (said words) false
+
+-- ---- what a run is handed and leaves
+
+-- the disks of the two files, and the dial
+pub record Objects : Type 1 where
+  pub file : File
+  pub peer : File
+  pub dial : Dialled
+
+-- ---- the answer
+
+-- a request is due behind the rounds, so many connections more are within the limit, and one that broke off took the request or a front of it
+pub record IsCutOff (command : Command) (r : Read) (BreaksOff : Breaks) (broken : List Connection) (more : ℕ) : Type 0 where
+  pub due : (body : List ℕ) × IsDue command r body
+  pub few : length r.rounds + more ≤ most_rounds
+  pub sent : HasSent BreaksOff broken (IsDue command r)
+
+-- a disk failed: that of the file, or of the peer's for a command that reads it
+abbrev pub HasFailed : Command → Objects → Type 0
+HasFailed command x =
+    Rose x.file.before.faults x.file.after.faults ⊎ (IsTrue (command_asks_peer command) × Rose x.peer.before.faults x.peer.after.faults)
+
+-- a call of a disk was due: no round was read, or there is something to commit
+abbrev pub IsDiskDue : Read → List (List Record) → Type 0
+IsDiskDue r commits = (r.rounds ≡ []) ⊎ (commits ≢ [])
+
+-- a fault has its status and its line, its object's count rose, and a call of it was due; want of memory has no cause
+abbrev pub IsFaulted : Command → Read → List Connection → List (List Record) → Objects → (Printed → Type 0) → Type 0
+IsFaulted command r broken commits x Tells =
+    ((broken ≡ []) × HasFailed command x × IsDiskDue r commits × Tells (with_text 4 disk_fault))
+    ⊎ ((Rose x.dial.faults_before x.dial.faults_after × IsCutOff command r IsBrokenOff broken 1 × Tells (with_text 7 link_fault))
+    ⊎ (((broken ≡ []) ⊎ IsCutOff command r IsLeft broken (length broken)) × Tells no_memory))
+
+-- what is told is the outcome over what was read, where no connection broke off; or a fault
+abbrev pub IsAnswer : Command → Read → List Connection → List (List Record) → Objects → (Printed → Type 0) → Type 0
+IsAnswer command r broken commits x Tells =
+    ((o : Outcome) × (broken ≡ []) × IsSyncOutcome command r o × (o.commits ≡ commits) × Tells (printed_of o))
+    ⊎ IsFaulted command r broken commits x Tells
+
+-- ---- the files
+
+-- a status behind which the commits may be there in part: the disk failed, or there was no memory
+abbrev pub is_cut : ℕ → Bool
+is_cut status = (status == 4) || (status == 9)
+
+-- the bytes stand for the old records and all commits
+abbrev pub StandsForAll : List Record → List (List Record) → List ℕ → Type 0
+StandsForAll old commits bytes = IsFileOf bytes (old ++ all_of_them commits)
+
+-- each image stands for these records
+abbrev pub AreImagesOf : List Record → (List ℕ → Type 0) → Type 0
+AreImagesOf records images = (c : List ℕ) → images c → IsFileOf c records
+
+-- where it is told, the file that is left stands for the old records and all commits, and behind a cut for these and some first commits; of a disk that failed its images must be known
+abbrev pub IsFileLeft : File → List ℕ → ℕ → List (List Record) → Type 0
+IsFileLeft file bytes status commits =
+    (old : List Record) (held : List ℕ) → file.before.contents ≡ Some bytes → file.after.contents ≡ Some held → IsFileOf bytes old →
+    (status ≡ 4 → IsTrue file.before.is_model × AreImagesOf old file.before.images) →
+    MatchBool (is_cut status) (StandsForSome old commits held) (StandsForAll old commits held)
+
+-- whatever moment a crash comes at, it leaves the old records followed by some first commits
+abbrev pub IsWholeAtAnyMoment : File → List (List Record) → Type 0
+IsWholeAtAnyMoment file commits =
+    IsModelled file.before → (old : List Record) → AreImagesOf old file.before.images → LeavesOnly file.before file.after (StandsForSome old commits)
+
+-- a crash after the run leaves the old records and all commits, whatever one before it might have left
+abbrev pub IsDurable : File → List ℕ → List (List Record) → Type 0
+IsDurable file bytes commits =
+    IsModelled file.before → file.before.contents ≡ Some bytes → (old : List Record) → IsFileOf bytes old → (c : List ℕ) → file.after.images c → StandsForAll old commits c
+
+-- a file that is no repository stays as it is, at each moment and whatever the status
+abbrev pub IsRefusedKept : File → List ℕ → Type 0
+IsRefusedKept file bytes = file.before.contents ≡ Some bytes → IsNoRepository bytes → Quiet file.before file.after
+
+-- the peer's file is loaded and nothing more, which cuts the bytes behind its closed gate: what it stands for stays, at each moment, and unless its
+-- own count rose; and one that is no repository stays as it is
+pub record IsPeerKept (peer : File) : Type 0 where
+  pub contents : Rose peer.before.faults peer.after.faults ⊎ KeepsContents peer.before peer.after
+  -- it holds what it held, or a file of the records that this stood for
+  pub spared : IsSpared peer.before peer.after
+  pub any_moment : KeepsImages peer.before peer.after
+  pub harmless : IsModelled peer.before → LeavesOnly peer.before peer.after (HeldOrSame peer.before)
+  pub unreadable : KeepsUnreadable peer.before peer.after
+  pub keeps : Keeps peer.before peer.after
+
+-- ---- a run
+
+-- a run that had these rounds: by one reading of its files, and by the commits that it comes to
+pub record SyncsBy (command : Command) (x : Objects) (Tells : Printed → Type 0) (status : ℕ) (rounds : Rounds) (broken : List Connection) (r : Read) (commits : List (List Record)) : Type 0 where
+  -- what was read is what was told
+  pub file_told : Agrees x.file.before.contents r.file
+  pub peer_told : Agrees x.peer.before.contents r.peer
+  pub rounds_are : r.rounds ≡ rounds
+  -- the rounds come to these commits, or there was none
+  pub led : AreCommits command r commits ⊎ ((rounds ≡ []) × (commits ≡ []))
+  pub answer : IsAnswer command r broken commits x Tells
+  pub contents : IsFileLeft x.file r.file status commits
+  pub kept : IsRefusedKept x.file r.file
+  pub any_moment : IsWholeAtAnyMoment x.file commits
+  pub durable : IsTrue (not (is_cut status)) → IsDurable x.file r.file commits
+  pub keeps : Keeps x.file.before x.file.after
+  pub peer : IsTrue (command_asks_peer command) → IsPeerKept x.peer
+  -- no call of the dial failed but that with which the sync ended
+  pub dial : status ≢ 7 → x.dial.faults_after ≡ x.dial.faults_before
+
+-- the connections that the dial's list grew by are the rounds, and perhaps one that broke off
+abbrev pub HasSynced : Command → Objects → (Printed → Type 0) → ℕ → Type 0
+HasSynced command x Tells status =
+    HasRounds x.dial.before x.dial.after
+    (λ rounds broken. (r : Read) × (commits : List (List Record)) × SyncsBy command x Tells status rounds broken r commits)
+
+-- each object before and after
+abbrev pub objects_of : DiskState × DiskState → DiskState × DiskState → LinkState × LinkState → Objects
+objects_of file peer dial = record { file = file_of file; peer = file_of peer; dial = dialled dial.0 dial.1 }
+
+-- what is told was written
+abbrev pub Syncs : Command → DiskState × DiskState → DiskState × DiskState → LinkState × LinkState → SinkState × SinkState → ℕ → Type 0
+Syncs command file peer dial out status = HasSynced command (objects_of file peer dial) (λ o. IsTold (without_commit o) status (output_of out)) status
+
+-- what words came to that say a command that syncs
+abbrev pub SyncsAs : List (List ℕ) → DiskState × DiskState → DiskState × DiskState → LinkState × LinkState → SinkState × SinkState → ℕ → Type 0
+SyncsAs words file peer dial out status =
+    (command : Command) → said words ≡ Some command → IsTrue (command_syncs command) → Syncs command file peer dial out status

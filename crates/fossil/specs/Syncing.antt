@@ -1,0 +1,108 @@
+-- What the parts of a sync say of what they did.
+use Rattle.std.specs.Prelude.{◌≡◌, ℕ, List, Option, Result, Ok, Err, IfSome}
+use Rattle.fsl_outside.specs.Connections.{LinkState}
+use Rattle.fsl_disk.specs.Disk.{DiskState}
+use Rattle.fsl_journal.specs.declared.LoadFault.{LoadFault}
+use Rattle.fsl_journal.specs.declared.LoadFault.TheVariants as load_fault
+use Rattle.fsl_repo.specs.Whole.{Seen, Whole, opened, IsWholeOn}
+use Rattle.fsl_pull.specs.declared.Login.{Login}
+use Rattle.fsl_pull.specs.declared.Pulled.{Pulled}
+use Rattle.fsl_pull.specs.declared.PullFault.{PullFault}
+use Rattle.fsl_pull.specs.declared.PullFault.TheVariants as fault
+use Rattle.fsl_pull.specs.Asking.{IsDialCounted}
+use Rattle.fsl_pull.specs.Calls.{IsPulledOver, IsPushedOver}
+use Rattle.fsl_pull.specs.LocalTurns.{IsPulledFrom}
+use Rattle.fsl_words.specs.declared.Command.{Command}
+use Rattle.fsl_words.specs.declared.Command.TheVariants as command_of
+use Rattle.fossil.specs.declared.due.Due.{Due}
+use Rattle.fossil.specs.declared.sync.Way.{Way}
+use Rattle.fossil.specs.declared.sync.Way.TheVariants as way
+use Rattle.fossil.specs.Printed.{Printed}
+use Rattle.fossil.specs.Outcome.{printed_of, not_repository}
+use Rattle.fossil.specs.Run.{disk_fault}
+use Rattle.fossil.specs.Acts.{loaded_of, IsOpened}
+use Rattle.fossil.specs.Served.{with_text, link_fault, no_memory}
+use Rattle.fossil.specs.Serving.{printed, IsDue}
+use Rattle.fossil.specs.Syncs.{synced, fault_printed, no_peer}
+use Rattle.fossil.specs.Synced.{HasSynced, objects_of}
+use Rattle.fossil.specs.Cloned.{ClonesBy}
+
+-- ---- what is due
+
+-- of a fault: its own line, or want of memory in its place
+abbrev pub IsFaultDue : PullFault → Due → Type 0
+IsFaultDue fault.Link d = printed d ≡ with_text 7 link_fault
+IsFaultDue fault.Disk d = printed d ≡ with_text 4 disk_fault
+IsFaultDue fault.Memory d = printed d ≡ no_memory
+IsFaultDue (fault.NotRepository at) d = IsDue (printed_of (not_repository at)) d
+IsFaultDue (fault.Stopped faults) d = printed d ≡ with_text 4 disk_fault
+IsFaultDue why d = IfSome (fault_printed why) (λ o. IsDue o d)
+
+-- of a sync that was made
+abbrev pub IsSyncDue : Result Pulled PullFault → Due → Type 0
+IsSyncDue (Ok pulled) d = IsDue (synced pulled.rounds pulled.stored) d
+IsSyncDue (Err why) d = IsFaultDue why d
+
+-- of a file that isn't loaded, by what is printed of one that is no repository
+abbrev pub IsUnloadedDue : (ℕ → Printed) → LoadFault → Due → Type 0
+IsUnloadedDue place load_fault.Disk d = printed d ≡ with_text 4 disk_fault
+IsUnloadedDue place (load_fault.NotRepository at) d = IsDue (place at) d
+IsUnloadedDue place load_fault.Memory d = printed d ≡ no_memory
+
+-- of the repository's file, and of the peer's
+abbrev pub IsUnopenedDue : LoadFault → Due → Type 0
+IsUnopenedDue why d = IsUnloadedDue (λ at. printed_of (not_repository at)) why d
+
+abbrev pub IsNoPeerDue : LoadFault → Due → Type 0
+IsNoPeerDue why d = IsUnloadedDue no_peer why d
+
+-- ---- what was done
+
+-- what a command came to before its text is printed
+abbrev pub ComesTo : Command → DiskState × DiskState → DiskState × DiskState → LinkState × LinkState → Due → Type 0
+ComesTo command file peer dial due = HasSynced command (objects_of file peer dial) (λ o. printed due ≡ o) (printed due).status
+
+-- a repository that was loaded just now, and its file before and behind that
+pub record IsReady {D : Type 0} (file left : DiskState) (r : Whole D) : Type 0 where
+  pub loaded : IsOpened file left (loaded_of r)
+  pub faults : ℕ
+  pub state : r.seen.state ≡ opened r.seen.state.records faults
+  pub whole : IsWholeOn left r
+
+-- one call of the client, by the way that artifacts go
+abbrev pub IsMadeOver : Way → Option Login → LinkState × LinkState → DiskState × DiskState → Seen → Seen → Result Pulled PullFault → Type 0
+IsMadeOver way.Pull login dial disk old new result = IsPulledOver login dial.0 dial.1 disk.0 disk.1 old new result
+IsMadeOver way.Push login dial disk old new result = IsPushedOver login dial.0 dial.1 disk.0 disk.1 old new result
+
+-- a sync was made, and this is due
+pub record HasMade (w : Way) (login : Option Login) (dial : LinkState × LinkState) (disk : DiskState × DiskState) (old new : Seen) (due : Due) : Type 0 where
+  pub result : Result Pulled PullFault
+  pub made : IsMadeOver w login dial disk old new result
+  pub counted : IsDialCounted dial.0 dial.1 result
+  pub says : IsSyncDue result due
+
+-- the same of a pull from a peer, which stays as it is
+abbrev pub HasPulledFrom : DiskState × DiskState → Seen → Seen → Seen → Due → Type 0
+HasPulledFrom disk old new peer due =
+    (result : Result Pulled PullFault) × IsPulledFrom disk.0 disk.1 old new peer peer result × IsSyncDue result due
+
+-- a way as a command
+abbrev pub command_by : Way → List ℕ → Option (List ℕ × List ℕ) → Command
+command_by way.Pull address login = command_of.Pull address login
+command_by way.Push address login = command_of.Push address login
+
+-- what `pull` or `push` came to, at whatever address. It uses no peer's file: the repository's own stands in the place of one
+abbrev pub SyncsOver : Way → Option (List ℕ × List ℕ) → DiskState × DiskState → LinkState × LinkState → Due → Type 0
+SyncsOver w login file dial due = (address : List ℕ) → ComesTo (command_by w address login) file (file.0, file.0) dial due
+
+-- what `pull-local` came to, whatever the peer's path and the dial
+abbrev pub PullsLocal : DiskState × DiskState → DiskState × DiskState → Due → Type 0
+PullsLocal file peer due = (path : List ℕ) (dial : LinkState) → ComesTo (command_of.PullLocal path) file peer (dial, dial) due
+
+-- the same of a repository that was loaded from whatever disk
+abbrev pub PullsInto : {D : Type 0} → (D → DiskState) → Whole D → Whole D → DiskState × DiskState → Due → Type 0
+PullsInto state old new peer due = (disk : _) → IsReady (state disk) (state old.disk) old → PullsLocal (state disk, state new.disk) peer due
+
+-- a clone onto a disk, and this is due
+abbrev pub HasCloned : {D : Type 0} → (D → DiskState) → List ℕ → List (List ℕ) → D → D → LinkState × LinkState → Due → Type 0
+HasCloned disk server fields before after dial due = ClonesBy disk server fields before after dial (λ o. printed due ≡ o)

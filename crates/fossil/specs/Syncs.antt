@@ -1,0 +1,157 @@
+-- The outcomes of the commands that sync: by the rounds that were read, and by the peer's file.
+use Rattle.std.specs.Prelude.{◌≡◌, ℕ, ◌⊎◌, List, [], ◌∷◌, ◌++◌, length, Option, Some, None, option_map, codes, decimal}
+use Rattle.fsl_text.specs.Escapes.{escape}
+use Rattle.fsl_name.specs.Name.{name_text}
+use Rattle.fsl_record.specs.declared.Record.{Record}
+use Rattle.fsl_journal.specs.File.{IsFileOf, FailsAt}
+use Rattle.fsl_repo.specs.Whole.{opened}
+use Rattle.fsl_wire.specs.declared.WireCard.{WireCard}
+use Rattle.fsl_pull.specs.declared.Login.{Login}
+use Rattle.fsl_pull.specs.declared.PeerFault.{PeerFault}
+use Rattle.fsl_pull.specs.declared.PeerFault.TheVariants as peer
+use Rattle.fsl_pull.specs.declared.PullFault.{PullFault}
+use Rattle.fsl_pull.specs.declared.PullFault.TheVariants as fault
+use Rattle.fsl_pull.specs.Rounds.{Round, Point, End, GoOn}
+use Rattle.fsl_pull.specs.Dialled.{Rounds}
+use Rattle.fsl_pull.specs.Arrivals.{AreWants}
+use Rattle.fsl_pull.specs.Pulls.{IsPull, PullAsks, PullRound, PullSoFar, pull_start}
+use Rattle.fsl_pull.specs.Pushes.{Sending, IsPush, PushAsks, PushRound, PushSoFar, push_start}
+use Rattle.fsl_pull.specs.Locals.{IsLocalPull}
+use Rattle.fossil.specs.Printed.{Printed, refused, full, too_large}
+use Rattle.fossil.specs.Outcome.{Outcome}
+use Rattle.fossil.specs.Served.{line_of, with_text}
+
+-- ---- texts
+
+-- how many rounds there were, and how many artifacts were stored, or files sent
+abbrev pub sync_text : ℕ → ℕ → List ℕ
+sync_text rounds stored = line_of (codes "rounds " ++ decimal rounds) ++ line_of (codes "stored " ++ decimal stored)
+
+-- a file under a wrong name: the name that it was sent under, and that of its bytes
+abbrev pub wrong_name_text : List ℕ → List ℕ → List ℕ
+wrong_name_text name found = codes "wrong name " ++ name_text name ++ 32 ∷ name_text found
+
+-- the text of an error card, escaped
+abbrev pub error_text : List ℕ → List ℕ
+error_text text = codes "error " ++ escape text
+
+-- what is wrong with a reply
+abbrev pub peer_text : PeerFault → List ℕ
+peer_text peer.Head = codes "head"
+peer_text (peer.Http n) = codes "http " ++ decimal n
+peer_text (peer.Long n) = codes "long " ++ decimal n
+peer_text (peer.Short n) = codes "short " ++ decimal n
+peer_text (peer.Line n) = codes "line " ++ decimal n
+peer_text (peer.Error text) = error_text text
+peer_text (peer.WrongName name found) = wrong_name_text name found
+peer_text peer.NoPush = codes "no push card"
+peer_text peer.NoSequence = codes "no sequence"
+peer_text (peer.Sequence n) = codes "sequence " ++ decimal n
+peer_text (peer.Again name) = codes "asked again " ++ name_text name
+
+-- a status and a line
+abbrev pub with_line : ℕ → List ℕ → Printed
+with_line status text = with_text status (line_of text)
+
+-- a sync that ended well
+abbrev pub synced : ℕ → ℕ → Printed
+synced rounds stored = with_text 0 (sync_text rounds stored)
+
+-- a wrong reply
+abbrev pub wrong_reply : PeerFault → Printed
+wrong_reply why = with_line 8 (codes "peer: " ++ peer_text why)
+
+-- a name that was asked for and isn't sent
+abbrev pub missing : List ℕ → Printed
+missing name = with_line 10 (codes "missing " ++ name_text name)
+
+-- a sync that was given up
+abbrev pub too_many_rounds : Printed
+too_many_rounds = with_line 11 (codes "too many rounds")
+
+-- a peer of another project, by its code
+abbrev pub other_project : List ℕ → Printed
+other_project found = refused (codes "other project " ++ name_text found)
+
+-- a peer's file that isn't a repository, from the place at which it fails
+abbrev pub no_peer : ℕ → Printed
+no_peer at = with_line 2 (codes "not a repository: peer " ++ decimal at)
+
+-- ---- outcomes
+
+-- what is printed, with these commits
+abbrev pub with_commits : Printed → List (List Record) → Outcome
+with_commits printed commits = record { status = printed.status; text = printed.text; commits = commits }
+
+-- what is printed of a fault with which a sync ends; the other faults come from outside, and no repository that was just loaded is stopped
+abbrev pub fault_printed : PullFault → Option Printed
+fault_printed (fault.NotEmpty len) = Some (refused (codes "file not empty " ++ decimal len))
+fault_printed (fault.NotRepository at) = None
+fault_printed (fault.Project found) = Some (other_project found)
+fault_printed (fault.Stopped faults) = None
+fault_printed fault.Link = None
+fault_printed fault.Disk = None
+fault_printed (fault.Peer why) = Some (wrong_reply why)
+fault_printed (fault.TooLarge name size) = Some (too_large name size)
+fault_printed (fault.Full name) = Some (full name)
+fault_printed (fault.Missing name) = Some (missing name)
+fault_printed fault.Rounds = Some too_many_rounds
+fault_printed fault.Memory = None
+
+-- what is printed of an end behind so many rounds, by its fault and its count
+abbrev pub end_printed : Option PullFault → ℕ → ℕ → Option Printed
+end_printed None rounds stored = Some (synced rounds stored)
+end_printed (Some why) rounds stored = fault_printed why
+
+-- the outcome of an end behind so many rounds
+abbrev pub IsEndOutcome : ℕ → End → Outcome → Type 0
+IsEndOutcome rounds e o = (printed : Printed) × (end_printed e.fault rounds e.count ≡ Some printed) × (o ≡ with_commits printed e.commits)
+
+-- ---- a pull
+
+-- the user and the secret of a login
+abbrev pub login_of : Option (List ℕ × List ℕ) → Option Login
+login_of login = option_map (λ l. record { user = l.0; secret = l.1 }) login
+
+-- the repository that stands for these records, whatever its disk's count of faults was
+abbrev pub IsPullOutcome : Option (List ℕ × List ℕ) → Rounds → List Record → Outcome → Type 0
+IsPullOutcome login rounds records o =
+    (faults : ℕ) × (e : End) × IsPull (login_of login) (opened records faults) rounds e × IsEndOutcome (length rounds) e o
+
+-- the commits of rounds that all went on
+abbrev pub PullCommits : Option (List ℕ × List ℕ) → Rounds → List Record → List (List Record) → Type 0
+PullCommits login rounds records commits = (faults : ℕ) × PullSoFar (login_of login) (opened records faults) rounds commits
+
+-- the body of the request that is due behind rounds that all went on
+abbrev pub PullDue : Option (List ℕ × List ℕ) → Rounds → List Record → List ℕ → Type 0
+PullDue login rounds records body =
+    (faults : ℕ)
+    × ((wanted : List (List ℕ)) × AreWants (opened records faults) wanted
+    × ((p : Point (List (List ℕ))) × GoOn (PullRound (login_of login)) (pull_start (opened records faults) wanted) rounds p × PullAsks (login_of login) p body))
+
+-- ---- a push
+
+-- its rounds bring artifacts where the peer sends files, so that it has commits as a pull has
+abbrev pub IsPushOutcome : Option (List ℕ × List ℕ) → Rounds → List Record → Outcome → Type 0
+IsPushOutcome login rounds records o =
+    (faults : ℕ) × (e : End) × IsPush (login_of login) (opened records faults) rounds e × IsEndOutcome (length rounds) e o
+
+abbrev pub PushCommits : Option (List ℕ × List ℕ) → Rounds → List Record → List (List Record) → Type 0
+PushCommits login rounds records commits = (faults : ℕ) × PushSoFar (login_of login) (opened records faults) rounds commits
+
+abbrev pub PushDue : Option (List ℕ × List ℕ) → Rounds → List Record → List ℕ → Type 0
+PushDue login rounds records body =
+    (faults : ℕ) × ((p : Point Sending) × GoOn (PushRound (login_of login)) (push_start (opened records faults)) rounds p × PushAsks (login_of login) p body)
+
+-- ---- a pull from another repository
+
+abbrev pub IsLocalOutcomeOn : List Record → List Record → Outcome → Type 0
+IsLocalOutcomeOn there records o =
+    (faults peer_faults : ℕ) × (rounds : List (Round (List (List ℕ)) (List WireCard)))
+    × ((e : End) × IsLocalPull (opened records faults) (opened there peer_faults) rounds e × IsEndOutcome (length rounds) e o)
+
+-- the peer's file stands for records, or the place at which it doesn't is told
+abbrev pub IsLocalOutcome : List ℕ → List Record → Outcome → Type 0
+IsLocalOutcome peer_bytes records o =
+    ((at : ℕ) × FailsAt peer_bytes at × (o ≡ with_commits (no_peer at) []))
+    ⊎ ((there : List Record) × IsFileOf peer_bytes there × IsLocalOutcomeOn there records o)
