@@ -1,7 +1,8 @@
 -- What the parts of a run say of what they did.
-use Rattle.std.specs.Prelude.{◌≡◌, ◌≢◌, ◌⊎◌, ◌<◌, ◌≤◌, ℕ, false, List, length, nat_lt, ◌^◌, true, Option, Some, None, Result, Ok, Err, IfOk, IfErr, IsTrue, ⊤}
+use Rattle.std.specs.Prelude.{◌≡◌, ◌≢◌, ◌⊎◌, ◌<◌, ◌≤◌, ℕ, false, List, length, nat_lt, true, Option, Some, None, Result, Ok, Err, IfOk, IfErr, IsTrue, ⊤}
 use Rattle.std.specs.Io.KnownBytes.{IsAtEnd}
 use Rattle.fsl_order.specs.Causes.{Rose}
+use Rattle.fsl_text.specs.Limits.{most_of_message}
 use Rattle.fsl_outside.specs.Streams.{SourceState, SinkState}
 use Rattle.fsl_record.specs.declared.Record.{Record}
 use Rattle.fsl_record.specs.Records.{AreRecords, AreFields}
@@ -56,8 +57,8 @@ IsCaused command input file bytes o fault_is.Memory = ⊤
 
 -- the whole input, up to its end; or it is too long
 abbrev pub IsInput : Input → Option (List ℕ) → Type 0
-IsInput input None = (read : List ℕ) × Agrees input.before.left read × (nat_lt (2 ^ 27) (length read) ≡ true)
-IsInput input (Some text) = Agrees input.before.left text × IsAtEnd input.after.left × (nat_lt (2 ^ 27) (length text) ≡ false)
+IsInput input None = (read : List ℕ) × Agrees input.before.left read × (nat_lt most_of_message (length read) ≡ true)
+IsInput input (Some text) = Agrees input.before.left text × IsAtEnd input.after.left × (nat_lt most_of_message (length text) ≡ false)
 
 -- the input wasn't read
 abbrev pub IsUnread : Fault → Input → Type 0

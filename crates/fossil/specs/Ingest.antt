@@ -1,5 +1,6 @@
 -- What `ingest` prints, by its input.
-use Rattle.std.specs.Prelude.{◌≡◌, ℕ, ◌^◌, ◌⊎◌, nat_lt, List, [], ◌++◌, length, flat_map, codes, Result, Ok, Err, MatchBool}
+use Rattle.std.specs.Prelude.{◌≡◌, ℕ, ◌⊎◌, nat_lt, List, [], ◌++◌, length, flat_map, codes, Result, Ok, Err, MatchBool}
+use Rattle.fsl_text.specs.Limits.{most_of_message}
 use Rattle.fsl_blobs.specs.Fold.{Contents}
 use Rattle.fsl_cross.specs.declared.Item.{Item}
 use Rattle.fsl_repo.specs.Machine.{State, now, AreItems, unclustered_names, wants}
@@ -36,4 +37,4 @@ IsRead input printed = IsMessageRefused input printed ⊎ ((files : List Sent) �
 
 -- what `ingest` prints: the length of the input first, and then what its message comes to
 abbrev pub IsIngested : List ℕ → Printed → Type 0
-IsIngested input printed = MatchBool (nat_lt (2 ^ 27) (length input)) (printed ≡ too_long) (IsRead input printed)
+IsIngested input printed = MatchBool (nat_lt most_of_message (length input)) (printed ≡ too_long) (IsRead input printed)

@@ -1,5 +1,6 @@
 -- What `put` prints and appends, by its input and the records of the file.
-use Rattle.std.specs.Prelude.{◌≡◌, ℕ, ◌^◌, ◌⊎◌, nat_lt, List, [], length, drop, Result, Ok, Err, MatchBool}
+use Rattle.std.specs.Prelude.{◌≡◌, ℕ, ◌⊎◌, nat_lt, List, [], length, drop, Result, Ok, Err, MatchBool}
+use Rattle.fsl_text.specs.Limits.{most_of_message}
 use Rattle.fsl_record.specs.declared.Record.{Record}
 use Rattle.fsl_repo.specs.Whole.{opened}
 use Rattle.fossil.specs.declared.message.Sent.{Sent}
@@ -32,4 +33,4 @@ IsPutRead input old printed appended =
 -- the length of the input first, and then what its message comes to
 abbrev pub IsPut : List ℕ → List Record → Printed → List Record → Type 0
 IsPut input old printed appended =
-    MatchBool (nat_lt (2 ^ 27) (length input)) ((printed ≡ printing.too_long) × (appended ≡ [])) (IsPutRead input old printed appended)
+    MatchBool (nat_lt most_of_message (length input)) ((printed ≡ printing.too_long) × (appended ≡ [])) (IsPutRead input old printed appended)

@@ -1,5 +1,5 @@
 -- What a serve answers: the first of its cases that holds, its line, and what it leaves.
-use Rattle.std.specs.Prelude.{◌≡◌, ℕ, ◌+◌, ◌^◌, ◌<◌, ◌≤◌, ◌⊎◌, List, [], ◌∷◌, ◌++◌, length, Option, Some, None, IfSome, is_some, option_and_then, if◌then◌else◌, codes, decimal}
+use Rattle.std.specs.Prelude.{◌≡◌, ℕ, ◌+◌, ◌<◌, ◌≤◌, ◌⊎◌, List, [], ◌∷◌, ◌++◌, length, Option, Some, None, IfSome, is_some, option_and_then, if◌then◌else◌, codes, decimal}
 use Rattle.std.specs.List.{list_any}
 use Rattle.std.specs.Option.{option_map_or}
 use Rattle.std.specs.Io.KnownBytes.{Appends, Consumes, IsAtEnd}
@@ -17,6 +17,7 @@ use Rattle.fsl_repo.specs.Onward.{IsLaterOn}
 use Rattle.fsl_repo.specs.Opening.{IsOpened, OpenFailed}
 use Rattle.fsl_words.specs.declared.Command.{Command}
 use Rattle.fsl_words.specs.declared.Command.TheVariants as command_of
+use Rattle.fsl_text.specs.Limits.{most_of_users}
 use Rattle.fsl_login.specs.declared.User.{User}
 use Rattle.fsl_login.specs.UserFiles.{IsUsersFile, IsFirstBadLine}
 use Rattle.fsl_serve.specs.declared.work.Work.{Work}
@@ -60,8 +61,8 @@ IsQuiet users = users.after.faults ≡ users.before.faults
 -- these bytes of the users file were read: to its end, or more than 2^20 and at most one piece of 65,536 more
 pub record IsUsersRead (users : Input) (bytes : List ℕ) : Type 0 where
   pub bytes_read : Consumes users.before.left users.after.left bytes
-  pub far : IsAtEnd users.after.left ⊎ (2 ^ 20 < length bytes)
-  pub few : length bytes ≤ 2 ^ 20 + 65536
+  pub far : IsAtEnd users.after.left ⊎ (most_of_users < length bytes)
+  pub few : length bytes ≤ most_of_users + 65536
   pub quiet : IsQuiet users
 
 -- it was read to its end, and is the file of these users

@@ -34,6 +34,7 @@ impl Model for History {
 }
 
 impl History {
+    /// The history of a file that has these bytes and no change yet. Takes no memory.
     pub fn new(alloc: Global, bytes: Vec<u8>) -> History
         ensures { result ≡ record { first = bytes.items; changes = [] } }
     {

@@ -1,5 +1,6 @@
 -- The limits of heads, of bodies and of one read.
-use Rattle.std.specs.Prelude.{ℕ, ◌^◌}
+use Rattle.std.specs.Prelude.{ℕ}
+use Rattle.fsl_text.specs.Limits.{most_of_message}
 
 -- the most bytes of a head
 abbrev pub most_head : ℕ
@@ -11,7 +12,7 @@ most_fields = 64
 
 -- the most bytes of a body
 abbrev pub most_body : ℕ
-most_body = 2 ^ 27
+most_body = most_of_message
 
 -- the most bytes that one read brings
 abbrev pub most_piece : ℕ

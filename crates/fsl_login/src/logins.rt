@@ -132,9 +132,7 @@ fn both(a: Caps, b: Caps) -> Caps
 /// The nonce of a login is the 40 digits of its tail, and its signature those of the SHA-1 of the nonce followed by the
 /// user's secret. Takes no memory. Each login costs a look over all users and one hash.
 ///
-/// # Errors
-///
-/// At the first login that isn't accepted, with its line: `Nonce` where the nonce is another one, else `NoUser` for
+/// Errors: At the first login that isn't accepted, with its line: `Nonce` where the nonce is another one, else `NoUser` for
 /// `nobody` and for a name without a line, else `Signature`.
 pub fn granted(users: &Users, message: &Message) -> Result<Caps, LoginFault>
     ensures { result ≡ granted users.now message.now }
@@ -151,9 +149,7 @@ pub fn granted(users: &Users, message: &Message) -> Result<Caps, LoginFault>
 /// that isn't accepted. To settle one makes its tail, a hash of all bytes behind its line, and the secret of an accepted one costs
 /// another, of a few bytes. Where all are accepted, all cards are settled.
 ///
-/// # Errors
-///
-/// As those of [`granted`].
+/// Errors: As those of [`granted`].
 pub fn granted_by(users: &Users, draft: &mut Draft<'_>) -> Result<Caps, LoginFault>
     ensures granted { result ≡ granted users.now draft.old.message }
     ensures message { draft.new.message ≡ draft.old.message }

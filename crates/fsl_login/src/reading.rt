@@ -51,9 +51,7 @@ impl Users {
     /// `#` have no meaning. The letters `o`, `i`, `g` and `x` in CAPS grant pull, push, clone and private, and others are
     /// ignored. The work is that of a sort of the names.
     ///
-    /// # Errors
-    ///
-    /// `Line` with the first line that has another number of tokens, names a user a second time, or reaches past 2^20
+    /// Errors: `Line` with the first line that has another number of tokens, names a user a second time, or reaches past 2^20
     /// bytes with its newline; or `Memory`.
     pub fn read(alloc: Global, bytes: &[u8]) -> Result<Users, UsersFault>
         ensures users { IfOk result (IsUsersFile bytes.now) }

@@ -76,9 +76,7 @@ impl Name {
 
     /// Reads the name that a text is: 40 digits of `0` to `9` and `a` to `f`, two for each byte, the higher half of a byte first.
     ///
-    /// # Errors
-    ///
-    /// `Length` where the text doesn't have 40 bytes, or else `Digit` at its first byte that is no such digit.
+    /// Errors: `Length` where the text doesn't have 40 bytes, or else `Digit` at its first byte that is no such digit.
     pub fn read(text: &[u8]) -> Result<Name, NameFault>
         ensures value { result ≡ name_read text.now }
         ensures named { IfOk result IsName }

@@ -33,9 +33,7 @@ fn ticket_of<D: Disk>(alloc: Global, repo: &Repo<D>, id: Name) -> Result<Text, Q
 /// The text of a report on what a repository holds. The bytes of `cat` are copied; `content` lends those of what was
 /// loaded without tables. The repository stays.
 ///
-/// # Errors
-///
-/// `Refused` where there is nothing to report; `Memory` for want of memory.
+/// Errors: `Refused` where there is nothing to report; `Memory` for want of memory.
 pub fn report<D: Disk>(
     alloc: Global,
     repo: &mut Repo<D>,

@@ -62,9 +62,7 @@ pub(crate) fn copied<D: Disk>(
 
 /// The bytes of the one held artifact, public or private, whose digits begin with a prefix.
 ///
-/// # Errors
-///
-/// `Refused` where there is none, or where there are several; `Memory` for want of memory for a refusal.
+/// Errors: `Refused` where there is none, or where there are several; `Memory` for want of memory for a refusal.
 pub fn content<'a>(alloc: Global, blobs: &'a Blobs, prefix: &[u8]) -> Result<&'a [u8], QueryFault>
     ensures ok { IfOk result (λ bytes. content (contents blobs.now.records) prefix.now ≡ Ok bytes.now) }
     ensures refused { (refused : Refused) → result ≡ Err (query_fault.Refused refused) → content (contents blobs.now.records) prefix.now ≡ Err refused }

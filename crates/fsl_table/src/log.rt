@@ -27,6 +27,7 @@ impl<K, V> Model for Log<K, V> {
 }
 
 impl<K, V> Log<K, V> {
+    /// A log of no step. Takes no memory until one is logged.
     pub fn new(alloc: Global) -> Log<K, V>
         ensures { result ≡ [] }
     {

@@ -34,6 +34,7 @@ impl<K: Ord, V> Model for Table<K, V> {
 }
 
 impl<K: Ord, V> Table<K, V> {
+    /// A table without a pair. Takes no memory until one is put.
     pub fn new(alloc: Global) -> Table<K, V>
         ensures { result.entries ≡ [] }
     {
@@ -43,6 +44,7 @@ impl<K: Ord, V> Table<K, V> {
         }
     }
 
+    /// The number of pairs.
     pub fn len(&self) -> u64
         ensures len { result ≡ length self.now.entries }
         ensures ordered { IsStrictlySortedBy K.cmp (keys_of self.now.entries) }
@@ -50,6 +52,7 @@ impl<K: Ord, V> Table<K, V> {
         (self.tree.len() + self.waiting.len()) as u64
     }
 
+    /// The value at a key, or `None` where the key isn't there. One step.
     pub fn get<L: Ledger>(&self, key: &K, steps: &mut Steps<L>) -> Option<&V>
         ensures value { option_copied result ≡ value_at K.cmp key.now self.now.entries }
         ensures cost { steps.new ≡ steps.old + 1 }
@@ -71,7 +74,8 @@ impl<K: Ord, V> Table<K, V> {
         settle_last(&mut self.tree, &mut self.waiting);
     }
 
-    /// The pair comes back for want of memory. That isn't so at a key that is there, nor where anything is spare.
+    /// Puts a value at a key, and gives the one that was there. One step. The pair comes back for want of memory, and the
+    /// table then stays: never at a key that is there, nor where anything is spare.
     pub fn put<L: Ledger>(
         &mut self,
         key: K,
@@ -132,6 +136,8 @@ impl<K: Ord, V> Table<K, V> {
         }
     }
 
+    /// Takes a key out, and gives its value, or `None` where the key isn't there. One step; takes no memory, and leaves one
+    /// more pair spare.
     pub fn remove<L: Ledger>(&mut self, key: &K, steps: &mut Steps<L>) -> Option<V>
     where
         K: Drop,
@@ -152,6 +158,7 @@ impl<K: Ord, V> Table<K, V> {
         }
     }
 
+    /// The pair with the least key, or `None` of an empty table. One step.
     pub fn first<L: Ledger>(&self, steps: &mut Steps<L>) -> Option<(&K, &V)>
         ensures entry { option_map (λ p. (p.0.now, p.1.now)) result ≡ first_of self.now.entries }
         ensures cost { steps.new ≡ steps.old + 1 }
@@ -166,6 +173,7 @@ impl<K: Ord, V> Table<K, V> {
         best
     }
 
+    /// The pair with the least key above this one, whether or not this one is there. One step.
     pub fn next_after<L: Ledger>(&self, key: &K, steps: &mut Steps<L>) -> Option<(&K, &V)>
         ensures entry { option_map (λ p. (p.0.now, p.1.now)) result ≡ first_of (entries_after K.cmp key.now self.now.entries) }
         ensures cost { steps.new ≡ steps.old + 1 }

@@ -61,9 +61,7 @@ fn read_cards<'a>(
 impl<'a> Draft<'a> {
     /// Reads the cards of a message, as [`read`], without the tails of its logins: it hashes nothing.
     ///
-    /// # Errors
-    ///
-    /// The fault of the first line that doesn't read, or `Memory`.
+    /// Errors: The fault of the first line that doesn't read, or `Memory`.
     pub fn read(alloc: Global, bytes: &'a [u8]) -> Result<Draft<'a>, WireFault>
         ensures message { IfOk result (λ draft. IsMessage bytes.now draft.message) }
         ensures none { IfOk result (λ draft. draft.settled ≡ 0) }
@@ -84,9 +82,7 @@ impl<'a> Draft<'a> {
 /// many bytes as its line says, follows the newline of that line. Each login costs a hash of all bytes behind its line.
 /// A card takes 56 bytes and its texts, and the list of them has an eighth of room to spare.
 ///
-/// # Errors
-///
-/// The fault of the first line that doesn't read, or `Memory`. A login takes some 300 bytes, each other card its 56 and its texts.
+/// Errors: The fault of the first line that doesn't read, or `Memory`. A login takes some 300 bytes, each other card its 56 and its texts.
 pub fn read(alloc: Global, bytes: &[u8]) -> Result<Message, WireFault>
     ensures message { IfOk result (IsMessage bytes.now) }
     ensures fault { IfErr result (IsReadFault bytes.now) }
@@ -97,9 +93,7 @@ pub fn read(alloc: Global, bytes: &[u8]) -> Result<Message, WireFault>
 /// Reads the cards of a message, as [`read`], for those who look at no login: each has the tail of no bytes, and nothing
 /// behind its line is hashed, so that many logins cost no more than other cards.
 ///
-/// # Errors
-///
-/// The fault of the first line that doesn't read, or `Memory`.
+/// Errors: The fault of the first line that doesn't read, or `Memory`.
 pub fn read_bare(alloc: Global, bytes: &[u8]) -> Result<Message, WireFault>
     ensures message { IfOk result (IsBareMessage bytes.now) }
     ensures fault { IfErr result (IsReadFault bytes.now) }

@@ -77,9 +77,7 @@ fn last(words: &[String], count: usize) -> &[String]
 
 /// Plain words by place.
 ///
-/// # Errors
-///
-/// `Usage` where they are fewer than two; `Memory` for want of memory.
+/// Errors: `Usage` where they are fewer than two; `Memory` for want of memory.
 pub fn by_place<'a>(alloc: Global, words: &'a [String]) -> Result<Places<'a>, WordsFault>
     requires { list_all is_word (map string_bytes words.now) ≡ true }
     ensures ok { IfOk result (λ places. map string_bytes words.now ≡ places.repository.now ∷ places.command.now ∷ map string_bytes places.words.now) }

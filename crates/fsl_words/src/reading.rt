@@ -26,9 +26,7 @@ fn are_words(words: &[String]) -> bool
 /// Reads the words behind the program's name: a repository's path, a command, and the command's words. No word is empty,
 /// and none begins with `-`, save `-` alone.
 ///
-/// # Errors
-///
-/// `Usage` exactly where the words are outside the grammar of commands; `Memory` for want of memory.
+/// Errors: `Usage` exactly where the words are outside the grammar of commands; `Memory` for want of memory.
 pub fn read(alloc: Global, words: &[String]) -> Result<Words, WordsFault>
     ensures ok { IfOk result (λ read. words_in (map string_bytes words.now) ≡ Some read) }
     ensures usage { result ≡ Err words_fault.Usage → words_in (map string_bytes words.now) ≡ None }
