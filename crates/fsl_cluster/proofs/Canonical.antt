@@ -4,7 +4,7 @@ use Rattle.std.specs.List.Sorted.{IsStrictlySortedBy}
 use Rattle.std.specs.Map.{keys_of}
 use Rattle.std.proofs.lemmas.Map.Lookups.{exact_bytes}
 use Rattle.fsl_order.specs.Names.{bytes_cmp}
-use Rattle.fsl_order.specs.Held.{Held, IsAsBefore, AreAtMost}
+use Rattle.fsl_order.specs.TableState.{TableState, IsAsBefore, AreAtMost}
 use Rattle.fsl_order.proofs.Orders.{bytes_cmp-IsTotalOrder}
 use Rattle.fsl_table.specs.Exact.{pair_cmp, exact_pair}
 use Rattle.fsl_table.specs.declared.key.Pair.{Pair}
@@ -119,7 +119,7 @@ kept_none t p q r u m = record {
 }
 
 -- as before, and then as good
-pub chain : (before : Held Fact) (mid now : Tables) → IsAsBefore before (held_of mid) → AreAsGood mid now → IsAsBefore before (held_of now)
+pub chain : (before : TableState Fact) (mid now : Tables) → IsAsBefore before (held_of mid) → AreAsGood mid now → IsAsBefore before (held_of now)
 chain before mid now b g = record {
   facts = ap facts_of g.facts.entries ∙ b.facts;
   spare = more before.spare b.spare;

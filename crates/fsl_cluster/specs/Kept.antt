@@ -7,7 +7,7 @@ use Rattle.std.specs.List.Sorted.{IsStrictlySortedBy}
 use Rattle.std.specs.Map.{keys_of}
 use Rattle.std.specs.Borrow.{Bor}
 use Rattle.fsl_order.specs.Names.{bytes_cmp, has}
-use Rattle.fsl_order.specs.Held.{Held, IsAsBefore}
+use Rattle.fsl_order.specs.TableState.{TableState, IsAsBefore}
 use Rattle.fsl_table.specs.Exact.{pair_cmp}
 use Rattle.fsl_table.specs.declared.key.Pair.{Pair}
 use Rattle.fsl_table.specs.Contents.{value_at, first_of}
@@ -31,7 +31,7 @@ facts_of es = map fact_of es
 abbrev pub entry_of : Fact → Entry
 entry_of f = record { private = f.private; members = f.members; refs = f.refs }
 
-abbrev pub held_of : Tables → Held Fact
+abbrev pub held_of : Tables → TableState Fact
 held_of t = record { facts = facts_of t.facts.entries; spare = t.facts.spare ∷ t.members.spare ∷ t.refs.spare ∷ t.unclustered.spare ∷ t.missing.spare ∷ [] }
 
 -- whether the fact is there, and has this in a list of its own
@@ -127,7 +127,7 @@ abbrev pub undone_tables : Logs → Tables → Tables
 undone_tables l t = record { facts = undone bytes_cmp l.facts t.facts; members = undone pair_cmp l.members t.members; refs = undone pair_cmp l.refs t.refs; unclustered = undone bytes_cmp l.unclustered t.unclustered; missing = undone bytes_cmp l.missing t.missing }
 
 -- the logs find their memory, and lead back
-pub record TakesBack (logs : Logs) (before : Held Fact) (now : Tables) : Type 0 where
+pub record TakesBack (logs : Logs) (before : TableState Fact) (now : Tables) : Type 0 where
   pub facts_can : CanUndo bytes_cmp logs.facts now.facts
   pub members_can : CanUndo pair_cmp logs.members now.members
   pub refs_can : CanUndo pair_cmp logs.refs now.refs

@@ -2,7 +2,7 @@
 ghost use Rattle.std.specs.Prelude.{◌≡◌, ◌+◌, ◌*◌, ◌≤◌, ◌<◌, [], ◌∷◌, length, false, true, map, Some, OnOk, OnErr, IfOk};
 ghost use Rattle.fsl_order.specs.Names.{has};
 ghost use Rattle.fsl_order.specs.Rows.{by_name, named, AreDistinct, ListsChanged};
-ghost use Rattle.fsl_order.specs.Held.{IsAsBefore};
+ghost use Rattle.fsl_order.specs.TableState.{IsAsBefore};
 ghost use Rattle.fsl_cluster.specs.Clusters.{clusters_row};
 ghost use Rattle.fsl_cluster.specs.Clusters as table;
 
@@ -26,11 +26,11 @@ pub struct Clusters {
 }
 
 impl Model for Clusters {
-    ghost use Rattle.fsl_order.specs.Held.{Held};
+    ghost use Rattle.fsl_order.specs.TableState.{TableState};
     ghost use Rattle.fsl_cluster.specs.declared.Fact.{Fact};
     ghost use Rattle.fsl_cluster.specs.Kept.{held_of, IsKept};
 
-    ghost Value = { Held Fact };
+    ghost Value = { TableState Fact };
 
     ghost view = { λ c. held_of c.tables };
 
@@ -47,7 +47,7 @@ pub struct Undo {
 }
 
 impl Model for Undo {
-    ghost use Rattle.fsl_order.specs.Held.{Change, IsAsBefore};
+    ghost use Rattle.fsl_order.specs.TableState.{Change, IsAsBefore};
     ghost use Rattle.fsl_cluster.specs.declared.Fact.{Fact};
     ghost use Rattle.fsl_cluster.specs.declared.tables.Tables as maps;
     ghost use Rattle.fsl_cluster.specs.Kept.{IsKept, held_of, TakesBack};

@@ -6,7 +6,7 @@ use Rattle.std.specs.Option.{option_map_or}
 use Rattle.std.specs.Str.{bytes_eq}
 use Rattle.std.specs.Cmp.Lexicographic.{nat_list_eq_equiv}
 use Rattle.std.proofs.lemmas.Map.Made.{length-le_from_is_member}
-use Rattle.fsl_order.specs.Held.{Held, Change}
+use Rattle.fsl_order.specs.TableState.{TableState, Change}
 use Rattle.fsl_order.specs.Names.{has}
 use Rattle.fsl_order.specs.Rows.{ascending, by_name, named}
 use Rattle.fsl_order.proofs.AscendingLemmas.{has-ascending}
@@ -229,7 +229,7 @@ module _ (items : List Item) (rise : Rise items) (x : Item) (at : named item_nam
 
   -- one change of tags whose assertions are all on the new check-in changes no other row
   pub none-retagged : OthersStay → ((q : List ℕ) → is_child items n q ≡ false) → has_own_tags x.artifact ≡ true → (f : tags.Fact) → tags_fact items x ≡ Some f
-      → (first now : Held tags.Fact) (us : List (Change tags.Fact)) → length us ≤ 1 → Leads first us now → TagsTold us → first.facts ≡ tags_facts old → now.facts ≡ tags_facts items → NoneRetagged items n us
+      → (first now : TableState tags.Fact) (us : List (Change tags.Fact)) → length us ≤ 1 → Leads first us now → TagsTold us → first.facts ≡ tags_facts old → now.facts ≡ tags_facts items → NoneRetagged items n us
   none-retagged law childless own f is first now us single lead told before after q listed = by (bytes_eq q n) refl
     where
       rise_old : Rise old

@@ -5,7 +5,7 @@ use Rattle.std.specs.List.{AllByRecursion, IsDistinct, cons_option, list_any}
 use Rattle.std.specs.Option.{option_eq, option_map_or}
 use Rattle.std.specs.Str.{bytes_eq}
 use Rattle.std.specs.Cmp.Lexicographic.{bytes_decides, nat_list_eq_equiv}
-use Rattle.fsl_order.specs.Held.{Held, Change}
+use Rattle.fsl_order.specs.TableState.{TableState, Change}
 use Rattle.fsl_order.specs.Names.{has}
 use Rattle.fsl_order.specs.Rows.{by_name, named, AreDistinct}
 use Rattle.fsl_name.specs.Name.{IsName}
@@ -20,7 +20,7 @@ use Rattle.fsl_wiki.specs.declared.Note.{Note}
 use Rattle.fsl_wiki.specs.declared.Attached as wiki
 use Rattle.fsl_wiki.specs.Laws.{NoOtherCurrent}
 use Rattle.fsl_wiki.specs.Pages as pages
-use Rattle.fsl_wiki.specs.Pages.{name_of, pages_row}
+use Rattle.fsl_wiki.specs.Pages.{fact_name, pages_row}
 use Rattle.fsl_forum.specs.Threads.{place}
 use Rattle.fsl_timeline.specs.declared.Row.{Row}
 use Rattle.fsl_timeline.specs.declared.RowKind.TheVariants as row
@@ -91,17 +91,17 @@ module _ {X : Type 0} (name : X → List ℕ) where
 
 -- ---- rows of pages
 
-page-own : (f : Fact) → IfSome (pages.as_page f) (λ p. p.name ≡ name_of f)
+page-own : (f : Fact) → IfSome (pages.as_page f) (λ p. p.name ≡ fact_name f)
 page-own (fact.Page p) = refl
 page-own (fact.Note n) = tt
 page-own (fact.Attached a) = tt
 
-note-own : (f : Fact) → IfSome (pages.as_note f) (λ n. n.name ≡ name_of f)
+note-own : (f : Fact) → IfSome (pages.as_note f) (λ n. n.name ≡ fact_name f)
 note-own (fact.Page p) = tt
 note-own (fact.Note n) = refl
 note-own (fact.Attached a) = tt
 
-attached-own : (f : Fact) → IfSome (pages.as_attached f) (λ a. a.name ≡ name_of f)
+attached-own : (f : Fact) → IfSome (pages.as_attached f) (λ a. a.name ≡ fact_name f)
 attached-own (fact.Page p) = tt
 attached-own (fact.Note n) = tt
 attached-own (fact.Attached a) = refl
@@ -121,13 +121,13 @@ current-is q None = refl
 current-is q (Some c) = refl
 
 module _ (s : List Item) (rise : Rise s) (y : Item) (found : named item_name s y.name ≡ Some y) where
-  fact-named : {F : Type 0} (sub : F → List ℕ) (as_sub : Fact → Option F) → ((f : Fact) → IfSome (as_sub f) (λ g. sub g ≡ name_of f)) → named sub (filter_map as_sub (pages_facts s)) y.name ≡ option_and_then as_sub (pages_fact y)
+  fact-named : {F : Type 0} (sub : F → List ℕ) (as_sub : Fact → Option F) → ((f : Fact) → IfSome (as_sub f) (λ g. sub g ≡ fact_name f)) → named sub (filter_map as_sub (pages_facts s)) y.name ≡ option_and_then as_sub (pages_fact y)
   fact-named sub as_sub own =
-      named-given name_of sub as_sub own (pages_facts s) (rising-given item_name name_of pages_fact pages-own s rise) y.name
-      ∙ ap (option_and_then as_sub) (named-given item_name name_of pages_fact pages-own s rise y.name ∙ ap (option_and_then pages_fact) found)
+      named-given fact_name sub as_sub own (pages_facts s) (rising-given item_name fact_name pages_fact pages-own s rise) y.name
+      ∙ ap (option_and_then as_sub) (named-given item_name fact_name pages_fact pages-own s rise y.name ∙ ap (option_and_then pages_fact) found)
 
-  fact-distinct : {F : Type 0} (sub : F → List ℕ) (as_sub : Fact → Option F) → ((f : Fact) → IfSome (as_sub f) (λ g. sub g ≡ name_of f)) → AreDistinct (map sub (filter_map as_sub (pages_facts s)))
-  fact-distinct sub as_sub own = distinct-given name_of sub as_sub own (pages_facts s) (rising-given item_name name_of pages_fact pages-own s rise)
+  fact-distinct : {F : Type 0} (sub : F → List ℕ) (as_sub : Fact → Option F) → ((f : Fact) → IfSome (as_sub f) (λ g. sub g ≡ fact_name f)) → AreDistinct (map sub (filter_map as_sub (pages_facts s)))
+  fact-distinct sub as_sub own = distinct-given fact_name sub as_sub own (pages_facts s) (rising-given item_name fact_name pages_fact pages-own s rise)
 
   row-is : pages_row (pages_facts s) y.name ≡ row_by (pages_facts s) y.name (pages_fact y)
   row-is = λ i. (page i, note i, newest i)
@@ -196,8 +196,8 @@ module _ (items : List Item) (rise : Rise items) (x : Item) (at : named item_nam
   before-found : (y : Item) → named item_name items y.name ≡ Some y → bytes_eq y.name n ≡ false → named item_name old y.name ≡ Some y
   before-found y found apart = named-out item_name x.name y.name items ∙ (λ i. cond ((nat_list_eq_equiv.symm x.name y.name ∙ apart) i) None (found i))
 
-  pages-added : pages_facts items ≡ by_name name_of (fact.Note more ∷ pages_facts old)
-  pages-added = given-added item_name name_of pages_fact pages-own items rise x at ∙ ap (λ a. by_name name_of (cons_option (pages_fact_of x.name a) (pages_facts old))) is_note
+  pages-added : pages_facts items ≡ by_name fact_name (fact.Note more ∷ pages_facts old)
+  pages-added = given-added item_name fact_name pages_fact pages-own items rise x at ∙ ap (λ a. by_name fact_name (cons_option (pages_fact_of x.name a) (pages_facts old))) is_note
 
   -- a technote that is current now was so before
   current-before : NoOtherCurrent → (y : Item) (u : Technote) → named item_name items y.name ≡ Some y → bytes_eq y.name n ≡ false → y.artifact ≡ kind.Technote u
@@ -205,7 +205,7 @@ module _ (items : List Item) (rise : Rise items) (x : Item) (at : named item_nam
   current-before law y u found apart is now =
       sym (ap (λ (r : Bool × Bool × Bool). r.1) (row-note old rise_old y (before-found y found apart) u is))
       ∙ law (pages_facts old) more y.name
-      (more-distinct x.name (map name_of (pages_facts old)) (given-absent item_name name_of pages_fact pages-own items rise x.name) (distinct-given item_name name_of pages_fact pages-own old rise_old))
+      (more-distinct x.name (map fact_name (pages_facts old)) (given-absent item_name fact_name pages_fact pages-own items rise x.name) (distinct-given item_name fact_name pages_fact pages-own old rise_old))
       (nat_list_eq_equiv.symm x.name y.name ∙ apart)
       (ap (λ fs. (pages_row fs y.name).1) (sym pages-added) ∙ ap (λ (r : Bool × Bool × Bool). r.1) (row-note items rise y found u is) ∙ now)
 
@@ -215,7 +215,7 @@ module _ (items : List Item) (rise : Rise items) (x : Item) (at : named item_nam
       (λ i. not (apart i) && option_map_or (λ (item : Item). is_rowless (pages_facts items) (forum_facts items) y.name item.artifact) (found i) false)
       ∙ ap (is_rowless (pages_facts items) (forum_facts items) y.name) is
 
-  module _ (first now : Held Fact) (us : List (Change Fact)) (lead : Leads first us now) (told : PagesTold us) (single : length us ≤ 1) (before : first.facts ≡ pages_facts old) (after : now.facts ≡ pages_facts items) where
+  module _ (first now : TableState Fact) (us : List (Change Fact)) (lead : Leads first us now) (told : PagesTold us) (single : length us ≤ 1) (before : first.facts ≡ pages_facts old) (after : now.facts ≡ pages_facts items) where
     abbrev names : List (List ℕ)
     names = all_changed us
 

@@ -4,7 +4,7 @@ use Rattle.std.specs.Prelude.{◌||◌, OnOk}
 use Rattle.std.specs.Str.{bytes_eq}
 use Rattle.std.specs.Cmp.Lexicographic.{bytes_decides}
 use Rattle.std.proofs.lemmas.List.{take_more, append_assoc}
-use Rattle.fsl_order.specs.Held.{Change}
+use Rattle.fsl_order.specs.TableState.{Change}
 use Rattle.fsl_order.specs.Names.{has}
 use Rattle.fsl_cross.specs.Mixed.{pushed, IsMixture, GoesOn, all_changed}
 use Rattle.fsl_cross.proofs.Pushing.{pushed-append, pushed-next}

@@ -1,7 +1,7 @@
 -- What is kept of a change of all tables, and what stands where memory was wanting.
 use Rattle.std.proofs.Common.{◌≡◌, ℕ, ◌≤◌, List, [], refl, sym, ◌∙◌, subst, arith}
 use Rattle.std.specs.Prelude.{filter_map, Result, Ok, Err, OnErr}
-use Rattle.fsl_order.specs.Held.{Held, Change}
+use Rattle.fsl_order.specs.TableState.{TableState, Change}
 use Rattle.fsl_table.specs.Exact.{pair_cmp}
 use Rattle.fsl_table.specs.Undo.{Undoes, undone}
 use Rattle.fsl_table.proofs.Steps.{undoes-none}
@@ -28,12 +28,12 @@ always_err (Ok x) p = tt
 always_err (Err e) p = p
 
 -- what led from nothing leads from the table that was seen
-from : {F : Type 0} (was now : Held F) (us vs : List (Change F)) (facts : List F) → us ≡ [] → was.facts ≡ facts → Led was us now vs → Leads (record { facts = facts; spare = was.spare }) vs now
+from : {F : Type 0} (was now : TableState F) (us vs : List (Change F)) (facts : List F) → us ≡ [] → was.facts ≡ facts → Led was us now vs → Leads (record { facts = facts; spare = was.spare }) vs now
 from was now us vs facts none is led =
     led (record { facts = facts; spare = was.spare }) (subst (λ l. Leads (record { facts = facts; spare = was.spare }) l was) (sym none) (record { facts = is; spare = at_most-self was.spare }))
 
 -- a table is as good as what is seen of it
-to : {F : Type 0} (first now : Held F) (us : List (Change F)) (facts : List F) → now.facts ≡ facts → Leads first us now → Leads first us (record { facts = facts; spare = now.spare })
+to : {F : Type 0} (first now : TableState F) (us : List (Change F)) (facts : List F) → now.facts ≡ facts → Leads first us now → Leads first us (record { facts = facts; spare = now.spare })
 to first now us facts is lead = leads-later first us now (record { facts = facts; spare = now.spare }) lead (record { facts = sym is; spare = at_most-self now.spare })
 
 tickets-from : (was now : ticket.Seen) (us vs : List ticket.Change) (fields : List (List ℕ)) (facts : List Fact) → us ≡ [] → was.fields ≡ fields → was.facts ≡ facts → TicketsLed was us now vs → TicketsLead (record { fields = fields; facts = facts; spare = was.spare }) vs now

@@ -6,7 +6,7 @@ use Rattle.std.specs.List.{cons_option}
 use Rattle.std.specs.Str.{bytes_eq}
 use Rattle.std.specs.Cmp.Lexicographic.{bytes_decides, nat_list_eq_equiv}
 use mathlib.Core.Bool.{true≢false}
-use Rattle.fsl_order.specs.Held.{Held, Change}
+use Rattle.fsl_order.specs.TableState.{TableState, Change}
 use Rattle.fsl_order.specs.Names.{has}
 use Rattle.fsl_order.specs.Rows.{by_name, named}
 use Rattle.fsl_order.proofs.NamedLemmas.{named-by_name}
@@ -172,7 +172,7 @@ module _ (items : List Item) (rise : Rise items) (x : Item) (at : named item_nam
           (λ h. true≢false (sym (ap (λ o. is_name o n) (ap (λ fs. primary fs q) is ∙ h) ∙ (bytes_decides f.name n).1 own) ∙ other))
 
   -- when all check-ins are changed whose primary parent came late, the facts are those of the set
-  pub tags-end : (first : Held links.Fact) (us : List (Change links.Fact)) (now : Held links.Fact) → Leads first us now → LinksTold us → first.facts ≡ links_facts old → now.facts ≡ links_facts items
+  pub tags-end : (first : TableState links.Fact) (us : List (Change links.Fact)) (now : TableState links.Fact) → Leads first us now → LinksTold us → first.facts ≡ links_facts old → now.facts ≡ links_facts items
       → tags_mixed items n (pushed (is_child items n) (all_changed us) (n ∷ [])) ≡ tags_facts items
   tags-end first us now lead told before after =
       mixed-end item_name (λ (f : tags.Fact). f.name) (tags_fact old) (tags_fact items) (tags_own old) (tags_own items) items rise (pushed (is_child items n) (all_changed us) (n ∷ []))

@@ -5,7 +5,7 @@ use Rattle.std.specs.Bool.{MatchBool}
 use Rattle.std.specs.Str.{bytes_eq}
 use Rattle.std.specs.Cmp.Lexicographic.{bytes_decides}
 use Rattle.std.proofs.lemmas.List.{take_more}
-use Rattle.fsl_order.specs.Held.{Held, Change}
+use Rattle.fsl_order.specs.TableState.{TableState, Change}
 use Rattle.fsl_order.specs.Names.{has}
 use Rattle.fsl_cross.specs.Mixed.{pushed, all_changed}
 use Rattle.fsl_cross.specs.Trails.{Leads, AreTold}
@@ -58,7 +58,7 @@ pushed-out test (x ∷ names) done q e t =
 -- ---- rows
 
 -- a row that no change tells of is as it was
-pub told-same : {F Row : Type 0} (row : List F → List ℕ → Row) (first : Held F) (us : List (Change F)) (now : Held F) → Leads first us now → AreTold row us → (q : List ℕ) → has (all_changed us) q ≡ false
+pub told-same : {F Row : Type 0} (row : List F → List ℕ → Row) (first : TableState F) (us : List (Change F)) (now : TableState F) → Leads first us now → AreTold row us → (q : List ℕ) → has (all_changed us) q ≡ false
     → row now.facts q ≡ row first.facts q
 told-same row first [] now lead told q out = ap (λ fs. row fs q) lead.facts
 told-same row first (u ∷ us) now lead told q out =

@@ -3,7 +3,7 @@ use Rattle.std.proofs.Common.{◌≡◌, ◌≤◌, ◌<◌, ◌+◌, ℕ, zero,
 use Rattle.std.specs.Prelude.{◌||◌, ◌&&◌, not, is_some, option_map, option_and_then, IfSome}
 use Rattle.std.specs.Option.{option_map_or}
 use Rattle.std.specs.Str.{bytes_eq}
-use Rattle.fsl_order.specs.Held.{Change}
+use Rattle.fsl_order.specs.TableState.{Change}
 use Rattle.fsl_order.specs.Names.{has}
 use Rattle.fsl_order.specs.Rows.{named}
 use Rattle.fsl_manifest.specs.declared.Manifest.{Manifest}

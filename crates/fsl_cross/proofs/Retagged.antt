@@ -3,7 +3,7 @@ use Rattle.std.proofs.Common.{◌≡◌, ℕ, true, false, ◌&&◌, List, [], �
 use Rattle.std.specs.Prelude.{is_some, option_map, option_and_then, unwrap_or, codes, OnOk, Result}
 use Rattle.std.specs.List.{cons_option}
 use Rattle.std.specs.Str.{bytes_eq}
-use Rattle.fsl_order.specs.Held.{Held, Change}
+use Rattle.fsl_order.specs.TableState.{TableState, Change}
 use Rattle.fsl_order.specs.Names.{has}
 use Rattle.fsl_order.specs.Rows.{by_name, named}
 use Rattle.fsl_manifest.specs.declared.Manifest.{Manifest}
@@ -109,7 +109,7 @@ module _ (items : List Item) (rise : Rise items) (x : Item) (at : named item_nam
 
   -- ---- at the end
 
-  module _ (law : EffectiveByRow) (first now : Held tags.Fact) (us : List (Change tags.Fact)) (lead : Leads first us now) (told : TagsTold us) (before : first.facts ≡ tags_facts old) (after : now.facts ≡ tags_facts items) where
+  module _ (law : EffectiveByRow) (first now : TableState tags.Fact) (us : List (Change tags.Fact)) (lead : Leads first us now) (told : TagsTold us) (before : first.facts ≡ tags_facts old) (after : now.facts ≡ tags_facts items) where
     abbrev done : List (List ℕ)
     done = pushed (is_other_checkin items n) (all_changed us) (n ∷ [])
 

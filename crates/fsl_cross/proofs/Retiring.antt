@@ -9,7 +9,7 @@ use Rattle.std.specs.Ordering.{is_eq}
 use Rattle.std.specs.declared.cmp.Ordering.TheVariants.{Less}
 use Rattle.std.specs.Str.{bytes_eq}
 use Rattle.std.specs.Cmp.Lexicographic.{texts_ties, nat_list_eq_equiv, bytes_decides}
-use Rattle.fsl_order.specs.Held.{Held, Change}
+use Rattle.fsl_order.specs.TableState.{TableState, Change}
 use Rattle.fsl_order.specs.Names.{bytes_cmp, has}
 use Rattle.fsl_order.specs.Rows.{named}
 use Rattle.fsl_order.proofs.RowLemmas.{is_some-named}
@@ -60,7 +60,7 @@ has-at (x ∷ names) (suc i) name lt is = ap (λ b. bytes_eq name x || b) (has-a
 
 -- ---- what one change tells
 
-module _ {F R : Type 0} (row_of : List F → List ℕ → R) (first now : Held F) where
+module _ {F R : Type 0} (row_of : List F → List ℕ → R) (first now : TableState F) where
   -- a row that it lists is another
   pub told-other : (us : List (Change F)) → length us ≤ 1 → Leads first us now → AreTold row_of us → (q : List ℕ) → has (all_changed us) q ≡ true → row_of now.facts q ≡ row_of first.facts q → ⊥
   told-other [] few lead told q listed same = cc

@@ -2,7 +2,7 @@
 use Rattle.std.proofs.Common.{◌≡◌, ℕ, ◌≤◌, zero, suc, List, [], ◌∷◌, All, map, length, get_or, refl, ◌∙◌, subst, arith}
 use Rattle.std.specs.List.Sorted.{IsStrictlySortedBy}
 use Rattle.fsl_order.specs.Names.{bytes_cmp}
-use Rattle.fsl_order.specs.Held.{AreAtMost}
+use Rattle.fsl_order.specs.TableState.{AreAtMost}
 use Rattle.fsl_table.specs.Trail.{AreAllAtMost}
 use Rattle.fsl_table.proofs.Trails.{all_at_most-self}
 use Rattle.fsl_cross.specs.declared.Item.{Item}

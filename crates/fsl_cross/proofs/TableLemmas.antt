@@ -8,7 +8,7 @@ use Rattle.std.specs.Str.{bytes_eq}
 use Rattle.std.specs.Cmp.Lexicographic.{texts_ties}
 use Rattle.fsl_name.specs.Name.{name_text}
 use Rattle.fsl_order.specs.Names.{bytes_cmp}
-use Rattle.fsl_order.specs.Held.{Held}
+use Rattle.fsl_order.specs.TableState.{TableState}
 use Rattle.fsl_order.specs.Rows.{by_name, AreDistinct}
 use Rattle.fsl_artifact.specs.declared.Artifact.{Artifact}
 use Rattle.fsl_artifact.specs.declared.Artifact.TheVariants.{Plain, Manifest as Checkin, Cluster, Control, Wiki, Ticket, Attachment, Technote, Forum}
@@ -16,7 +16,7 @@ use Rattle.fsl_files.specs.declared.Fact as files
 use Rattle.fsl_timeline.specs.declared.Row.{Row}
 use Rattle.fsl_wiki.specs.declared.Fact as wiki
 use Rattle.fsl_wiki.specs.Pages as pages
-use Rattle.fsl_wiki.specs.Pages.{name_of}
+use Rattle.fsl_wiki.specs.Pages.{fact_name}
 use Rattle.fsl_ticket.specs.declared.Fact as ticket
 use Rattle.fsl_ticket.specs.Seen.{Seen}
 use Rattle.fsl_forum.specs.Threads as threads
@@ -38,7 +38,7 @@ files-own item =
       | Some m ↦ refl
     ]
 
-pages-own_of : (name : List ℕ) (a : Artifact) → IfSome (pages_fact_of name a) (λ f. name_of f ≡ name)
+pages-own_of : (name : List ℕ) (a : Artifact) → IfSome (pages_fact_of name a) (λ f. fact_name f ≡ name)
 pages-own_of name Plain = tt
 pages-own_of name (Checkin m) = tt
 pages-own_of name (Cluster c) = tt
@@ -49,7 +49,7 @@ pages-own_of name (Attachment a) = refl
 pages-own_of name (Technote t) = refl
 pages-own_of name (Forum f) = tt
 
-pub pages-own : (item : Item) → IfSome (pages_fact item) (λ f. name_of f ≡ item.name)
+pub pages-own : (item : Item) → IfSome (pages_fact item) (λ f. fact_name f ≡ item.name)
 pages-own item = pages-own_of item.name item.artifact
 
 ticket-own_of : (name : List ℕ) (a : Artifact) → IfSome (ticket_fact_of name a) (λ f. f.name ≡ name)
@@ -107,8 +107,8 @@ row-own items item = row-own_of items item.name item.artifact
 pub files-by_name : (items : List Item) → Rise items → by_name (λ f. f.name) (files_facts items) ≡ files_facts items
 files-by_name items h = by_name-given item_name (λ f. f.name) files_fact files-own items h
 
-pub pages-by_name : (items : List Item) → Rise items → by_name name_of (pages_facts items) ≡ pages_facts items
-pages-by_name items h = by_name-given item_name name_of pages_fact pages-own items h
+pub pages-by_name : (items : List Item) → Rise items → by_name fact_name (pages_facts items) ≡ pages_facts items
+pages-by_name items h = by_name-given item_name fact_name pages_fact pages-own items h
 
 pub tickets-by_name : (items : List Item) → Rise items → by_name (λ f. f.name) (ticket_facts items) ≡ ticket_facts items
 tickets-by_name items h = by_name-given item_name (λ f. f.name) ticket_fact ticket-own items h
@@ -125,8 +125,8 @@ rows-by_name items h = by_name-given item_name (λ r. r.name) (row_of items) (ro
 pub files-distinct : (items : List Item) → Rise items → AreDistinct (map (λ f. f.name) (files_facts items))
 files-distinct items h = distinct-given item_name (λ f. f.name) files_fact files-own items h
 
-pub pages-distinct : (items : List Item) → Rise items → AreDistinct (map name_of (pages_facts items))
-pages-distinct items h = distinct-given item_name name_of pages_fact pages-own items h
+pub pages-distinct : (items : List Item) → Rise items → AreDistinct (map fact_name (pages_facts items))
+pages-distinct items h = distinct-given item_name fact_name pages_fact pages-own items h
 
 pub tickets-distinct : (items : List Item) → Rise items → AreDistinct (map (λ f. f.name) (ticket_facts items))
 tickets-distinct items h = distinct-given item_name (λ f. f.name) ticket_fact ticket-own items h
@@ -205,7 +205,7 @@ put-on (Err e) old new with_it key same put = tt
 
 -- ---- a table of these facts
 
-pub held-if : {F E : Type 0} (r : Result (Held F) E) (given wanted : List F) → given ≡ wanted → IfOk r (λ t. t.facts ≡ given) → IfOk r (λ t. t.facts ≡ wanted)
+pub held-if : {F E : Type 0} (r : Result (TableState F) E) (given wanted : List F) → given ≡ wanted → IfOk r (λ t. t.facts ≡ given) → IfOk r (λ t. t.facts ≡ wanted)
 held-if (Ok t) given wanted same facts = facts ∙ same
 held-if (Err e) given wanted same facts = tt
 

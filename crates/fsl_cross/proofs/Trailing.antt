@@ -1,7 +1,7 @@
 -- A change more at the end of a trail, the last one taken back, and what a call leaves of a trail.
 use Rattle.std.proofs.Common.{◌≡◌, ℕ, ◌≤◌, List, [], ◌∷◌, ◌++◌, length, refl, sym, ap, ◌∙◌, subst, arith, Result, Ok, Err}
 use Rattle.std.specs.Prelude.{OnOk, OnErr}
-use Rattle.fsl_order.specs.Held.{Held, Change, IsAsBefore}
+use Rattle.fsl_order.specs.TableState.{TableState, Change, IsAsBefore}
 use Rattle.fsl_order.specs.Rows.{ListsChanged}
 use Rattle.fsl_ticket.specs.Seen as ticket
 use Rattle.fsl_ticket.specs.declared.Fact.{Fact}
@@ -33,18 +33,18 @@ module _ {S U : Type 0} (IsGood : S → S → Type 0) (before after : U → S) w
 
 -- ---- of a table of facts
 
-pub as_before-is : {F : Type 0} (a b : Held F) → a ≡ b → IsAsBefore a b
+pub as_before-is : {F : Type 0} (a b : TableState F) → a ≡ b → IsAsBefore a b
 as_before-is a b e = subst (IsAsBefore a) e (as_before-self a)
 
-pub leads-later : {F : Type 0} (first : Held F) (us : List (Change F)) (now new : Held F) → Leads first us now → IsAsBefore now new → Leads first us new
+pub leads-later : {F : Type 0} (first : TableState F) (us : List (Change F)) (now new : TableState F) → Leads first us now → IsAsBefore now new → Leads first us new
 leads-later first us now new h e = by-later IsAsBefore (λ u. u.before) (λ u. u.after) as_before-trans first us now new h e
 
 -- a call that failed
-pub failed-led : {F : Type 0} (t0 t1 : Held F) (us : List (Change F)) → IsAsBefore t0 t1 → Led t0 us t1 us
+pub failed-led : {F : Type 0} (t0 t1 : TableState F) (us : List (Change F)) → IsAsBefore t0 t1 → Led t0 us t1 us
 failed-led t0 t1 us e first h = leads-later first us t0 t1 h e
 
 -- a change that was kept, or taken back for want of memory
-pub kept-led : {F X E : Type 0} (r : Result X E) (t0 t1 t2 : Held F) (us vs : List (Change F)) (u : Change F) → u.before ≡ t0 → u.after ≡ t1
+pub kept-led : {F X E : Type 0} (r : Result X E) (t0 t1 t2 : TableState F) (us vs : List (Change F)) (u : Change F) → u.before ≡ t0 → u.after ≡ t1
     → OnOk r (t2 ≡ t1) → OnOk r (vs ≡ us ++ u ∷ []) → OnErr r (vs ≡ us) → OnErr r (IsAsBefore u.before t2) → Led t0 us t2 vs
 kept-led (Ok x) t0 t1 t2 us vs u before after same push _ _ = λ first h.
     subst (λ l. Leads first l t2) (sym push)
@@ -53,12 +53,12 @@ kept-led (Err e) t0 t1 t2 us vs u before after _ _ same back = λ first h.
     subst (λ l. Leads first l t2) (sym same) (leads-later first us t0 t2 h (subst (λ t. IsAsBefore t t2) before back))
 
 -- .. tells of its rows
-pub kept-told : {F Row X E : Type 0} (row : List F → List ℕ → Row) (r : Result X E) (us vs : List (Change F)) (u : Change F) (old new : Held F) → u.before ≡ old → u.after ≡ new
+pub kept-told : {F Row X E : Type 0} (row : List F → List ℕ → Row) (r : Result X E) (us vs : List (Change F)) (u : Change F) (old new : TableState F) → u.before ≡ old → u.after ≡ new
     → ListsChanged (row old.facts) (row new.facts) u.changed → OnOk r (vs ≡ us ++ u ∷ []) → OnOk r (AreTold row us → AreTold row vs)
 kept-told {F = F} row (Ok x) us vs u old new before after lists push = λ told. subst (AreTold row) (sym push) (more us told)
   where
     one : ListsChanged (row u.before.facts) (row u.after.facts) u.changed
-    one = subst (λ (t : Held F). ListsChanged (row t.facts) (row u.after.facts) u.changed) (sym before) (subst (λ (t : Held F). ListsChanged (row old.facts) (row t.facts) u.changed) (sym after) lists)
+    one = subst (λ (t : TableState F). ListsChanged (row t.facts) (row u.after.facts) u.changed) (sym before) (subst (λ (t : TableState F). ListsChanged (row old.facts) (row t.facts) u.changed) (sym after) lists)
 
     more : (us : List (Change F)) → AreTold row us → AreTold row (us ++ u ∷ [])
     more [] t = (one, tt)
@@ -66,8 +66,8 @@ kept-told {F = F} row (Ok x) us vs u old new before after lists push = λ told. 
 kept-told row (Err e) us vs u old new before after lists push = tt
 
 -- the facts that a change leaves, where it was kept
-pub kept-facts : {F X E : Type 0} (r : Result X E) (t1 t2 : Held F) (fs : List F) → t1.facts ≡ fs → OnOk r (t2 ≡ t1) → OnOk r (t2.facts ≡ fs)
-kept-facts (Ok x) t1 t2 fs facts same = ap (λ (t : Held _). t.facts) same ∙ facts
+pub kept-facts : {F X E : Type 0} (r : Result X E) (t1 t2 : TableState F) (fs : List F) → t1.facts ≡ fs → OnOk r (t2 ≡ t1) → OnOk r (t2.facts ≡ fs)
+kept-facts (Ok x) t1 t2 fs facts same = ap (λ (t : TableState _). t.facts) same ∙ facts
 kept-facts (Err e) t1 t2 fs facts same = tt
 
 -- .. and is the only one, where there was none

@@ -4,7 +4,7 @@ use Rattle.std.specs.Prelude.{◌&&◌, ◌||◌, not, filter_map, is_some, is_n
 use Rattle.std.specs.List.{cons_option, list_any}
 use Rattle.std.specs.Option.{option_eq, option_map_or}
 use Rattle.std.specs.Str.{bytes_eq}
-use Rattle.fsl_order.specs.Held.{Held, Change}
+use Rattle.fsl_order.specs.TableState.{TableState, Change}
 use Rattle.fsl_order.specs.Names.{has}
 use Rattle.fsl_order.specs.Rows.{by_name, named}
 use Rattle.fsl_order.proofs.RowLemmas.{is_some-named}
@@ -14,7 +14,7 @@ use Rattle.fsl_artifact.specs.declared.Artifact.TheVariants as kind
 use Rattle.fsl_name.specs.Name.{name_text}
 use Rattle.fsl_wiki.specs.declared.Note.{Note}
 use Rattle.fsl_wiki.specs.Pages as pages
-use Rattle.fsl_wiki.specs.Pages.{name_of}
+use Rattle.fsl_wiki.specs.Pages.{fact_name}
 use Rattle.fsl_ticket.specs.declared.Fact as ticket
 use Rattle.fsl_forum.specs.declared.Fact.{Fact}
 use Rattle.fsl_forum.specs.declared.PostKind.{PostKind}
@@ -95,7 +95,7 @@ module _ (items : List Item) (rise : Rise items) (x : Item) (at : named item_nam
   tags-same = tags-stay items rise x at (ap as_manifest is_post) (ap tag_cards is_post)
 
   pages-same : pages_facts items ≡ pages_facts old
-  pages-same = facts-stay items rise x at name_of pages_fact pages-own (ap (pages_fact_of x.name) is_post)
+  pages-same = facts-stay items rise x at fact_name pages_fact pages-own (ap (pages_fact_of x.name) is_post)
 
   tickets-same : ticket_facts items ≡ ticket_facts old
   tickets-same = facts-stay items rise x at (λ (f : ticket.Fact). f.name) ticket_fact ticket-own (ap (ticket_fact_of x.name) is_post)
@@ -125,7 +125,7 @@ module _ (items : List Item) (rise : Rise items) (x : Item) (at : named item_nam
       (λ i. not (apart i) && option_map_or (λ (item : Item). is_rowless (pages_facts items) (forum_facts items) y.name item.artifact) (found i) false)
       ∙ ap (is_rowless (pages_facts items) (forum_facts items) y.name) is
 
-  module _ (first now : Held Fact) (us : List (Change Fact)) (lead : Leads first us now) (told : ThreadsTold us) (single : length us ≤ 1) (before : first.facts ≡ forum_facts old) (after : now.facts ≡ forum_facts items) where
+  module _ (first now : TableState Fact) (us : List (Change Fact)) (lead : Leads first us now) (told : ThreadsTold us) (single : length us ≤ 1) (before : first.facts ≡ forum_facts old) (after : now.facts ≡ forum_facts items) where
     abbrev names : List (List ℕ)
     names = all_changed us
 

@@ -3,7 +3,7 @@ use Rattle.std.proofs.Common.{◌≡◌, ◌≤◌, ◌+◌, ◌*◌, ℕ, suc, 
 use Rattle.std.specs.Prelude.{◌&&◌, option_map, option_and_then, slice_get, IfSome}
 use Rattle.std.specs.List.{AllByRecursion, list_any}
 use Rattle.std.specs.Option.{option_map_or}
-use Rattle.fsl_order.specs.Held.{Held, Change}
+use Rattle.fsl_order.specs.TableState.{TableState, Change}
 use Rattle.fsl_order.specs.Names.{has}
 use Rattle.fsl_order.specs.Rows.{named}
 use Rattle.fsl_manifest.specs.declared.Manifest.{Manifest}
@@ -68,7 +68,7 @@ module _ (items : List Item) (rise : Rise items) (x : Item) (at : named item_nam
   tags-step a b us vs idle cost = calm-by old x.name x.artifact kind_of (λ none bare. quiet-within a b (tags_most x.artifact) (idle bare).0) (λ m is unnamed own. cost own)
 
   pub retagged-step : OthersStay → (a b : ℕ) (us vs : List (Change tags.Fact)) → us ≡ [] → (tag_cards x.artifact ≡ None → Untouched a b us vs) → length vs ≤ 1
-      → (first now : Held tags.Fact) → Leads first vs now → TagsTold vs → first.facts ≡ tags_facts old → now.facts ≡ tags_facts items → NoneRetagged items n vs
+      → (first now : TableState tags.Fact) → Leads first vs now → TagsTold vs → first.facts ≡ tags_facts old → now.facts ≡ tags_facts items → NoneRetagged items n vs
   retagged-step law a b us vs empty idle single first now lead told before after =
       calm-by old x.name x.artifact kind_of (λ none bare. empty-of (is_other_checkin items n) vs ((idle bare).1 ∙ empty))
       (λ m is unnamed own.

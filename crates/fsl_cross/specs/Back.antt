@@ -1,6 +1,6 @@
 -- What changes of all tables lead back from.
 use Rattle.std.specs.Prelude.{◌≡◌, ℕ, ◌≤◌, List, [], true, length, get_or, filter_map, map}
-use Rattle.fsl_order.specs.Held.{Held, IsAsBefore}
+use Rattle.fsl_order.specs.TableState.{TableState, IsAsBefore}
 use Rattle.fsl_table.specs.Contents.{Contents}
 use Rattle.fsl_table.specs.Exact.{pair_cmp}
 use Rattle.fsl_table.specs.Undo.{undone, CanUndo, IsAsGood}
@@ -91,31 +91,31 @@ pub record AttachedWentBack (us : AttachedUndos) (now new : Attached) : Type 0 w
 abbrev pub room : Seen → ℕ → List ℕ
 room s i = get_or s.spare i []
 
-abbrev pub links_in : Seen → Held links.Fact
+abbrev pub links_in : Seen → TableState links.Fact
 links_in s = record { facts = links_facts s.items; spare = room s 0 }
 
-abbrev pub tags_in : Seen → Held tags.Fact
+abbrev pub tags_in : Seen → TableState tags.Fact
 tags_in s = record { facts = tags_facts s.items; spare = room s 1 }
 
-abbrev pub leaves_in : Seen → Held leaves.Fact
+abbrev pub leaves_in : Seen → TableState leaves.Fact
 leaves_in s = record { facts = leaves_facts s.items; spare = room s 2 }
 
-abbrev pub files_in : Seen → Held files.Fact
+abbrev pub files_in : Seen → TableState files.Fact
 files_in s = record { facts = files_facts s.items; spare = room s 3 }
 
-abbrev pub timeline_in : Seen → Held Row
+abbrev pub timeline_in : Seen → TableState Row
 timeline_in s = record { facts = timeline_rows s.items; spare = room s 4 }
 
-abbrev pub pages_in : Seen → Held wiki.Fact
+abbrev pub pages_in : Seen → TableState wiki.Fact
 pages_in s = record { facts = pages_facts s.items; spare = room s 5 }
 
 abbrev pub tickets_in : Seen → ticket.Seen
 tickets_in s = record { fields = s.fields; facts = ticket_facts s.items; spare = room s 6 }
 
-abbrev pub threads_in : Seen → Held forum.Fact
+abbrev pub threads_in : Seen → TableState forum.Fact
 threads_in s = record { facts = forum_facts s.items; spare = room s 7 }
 
-abbrev pub clusters_in : Seen → Held cluster.Fact
+abbrev pub clusters_in : Seen → TableState cluster.Fact
 clusters_in s = record { facts = cluster_facts s.items; spare = room s 8 }
 
 -- the tables are as good as those seen

@@ -1,7 +1,7 @@
 -- Attachments, whose kind depends on the ticket changes and the technotes of the id that is their target.
 use Rattle.std.specs.Prelude.{◌≡◌, ℕ, List, [], Bool, true, false, Option, Some, None, All, IfSome, is_some, option_and_then}
 use Rattle.std.specs.Option.{option_map_or}
-use Rattle.fsl_order.specs.Held.{Held}
+use Rattle.fsl_order.specs.TableState.{TableState}
 use Rattle.fsl_order.specs.Names.{has}
 use Rattle.fsl_order.specs.Rows.{named}
 use Rattle.fsl_name.specs.Name.{name_text}
@@ -53,7 +53,7 @@ abbrev pub KindsGo : List Item → List ℕ → List (List ℕ) → List Row →
 KindsGo items n names before now = GoesOn (rows_mixed items n) (pushed (is_attachment items) names) before now
 
 -- it holds of whatever items these are the tables of
-abbrev pub OfItems : Attached → Held wiki.Fact → (List Item → Type 0) → Type 0
+abbrev pub OfItems : Attached → TableState wiki.Fact → (List Item → Type 0) → Type 0
 OfItems attached pages P = (items : List Item) → All IsItem items → IsAttachedOf items attached → pages.facts ≡ pages_facts items → P items
 
 -- ---- what gives them their kind

@@ -4,7 +4,7 @@ use Rattle.std.specs.Str.{bytes_eq}
 use Rattle.std.specs.List.Sorted.{IsStrictlySortedBy}
 use Rattle.fsl_order.specs.Names.{bytes_cmp, has}
 use Rattle.fsl_order.specs.Rows.{named}
-use Rattle.fsl_order.specs.Held.{Held, Change}
+use Rattle.fsl_order.specs.TableState.{TableState, Change}
 use Rattle.fsl_table.specs.Pairs.{is_name}
 use Rattle.fsl_links.specs.declared.Fact as links
 use Rattle.fsl_links.specs.Links.{primary}
@@ -82,30 +82,30 @@ pub record IsIn (items : List Item) (item : Item) : Type 0 where
   pub there : named (λ i. i.name) items item.name ≡ Some item
 
 -- changes of the table of parentage led from the set without one name to the whole set
-pub record IsLinksTrail (items : List Item) (n : List ℕ) (us : List (Change links.Fact)) (now : Held links.Fact) : Type 0 where
-  pub first : Held links.Fact
+pub record IsLinksTrail (items : List Item) (n : List ℕ) (us : List (Change links.Fact)) (now : TableState links.Fact) : Type 0 where
+  pub first : TableState links.Fact
   pub before : first.facts ≡ links_facts (without n items)
   pub leads : Leads first us now
   pub told : LinksTold us
 
 -- so did changes of the table of tags
-pub record IsTagsTrail (items : List Item) (n : List ℕ) (us : List (Change tags.Fact)) (now : Held tags.Fact) : Type 0 where
-  pub first : Held tags.Fact
+pub record IsTagsTrail (items : List Item) (n : List ℕ) (us : List (Change tags.Fact)) (now : TableState tags.Fact) : Type 0 where
+  pub first : TableState tags.Fact
   pub before : first.facts ≡ tags_facts (without n items)
   pub leads : Leads first us now
   pub told : TagsTold us
 
 -- so did the change of the table of pages, where there is one
-pub record IsPagesTrail (items : List Item) (n : List ℕ) (us : List (Change wiki.Fact)) (now : Held wiki.Fact) : Type 0 where
-  pub first : Held wiki.Fact
+pub record IsPagesTrail (items : List Item) (n : List ℕ) (us : List (Change wiki.Fact)) (now : TableState wiki.Fact) : Type 0 where
+  pub first : TableState wiki.Fact
   pub before : first.facts ≡ pages_facts (without n items)
   pub leads : Leads first us now
   pub told : PagesTold us
   pub single : length us ≤ 1
 
 -- so did that of the table of posts
-pub record IsThreadsTrail (items : List Item) (n : List ℕ) (us : List (Change forum.Fact)) (now : Held forum.Fact) : Type 0 where
-  pub first : Held forum.Fact
+pub record IsThreadsTrail (items : List Item) (n : List ℕ) (us : List (Change forum.Fact)) (now : TableState forum.Fact) : Type 0 where
+  pub first : TableState forum.Fact
   pub before : first.facts ≡ forum_facts (without n items)
   pub leads : Leads first us now
   pub told : ThreadsTold us

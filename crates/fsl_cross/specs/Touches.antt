@@ -3,7 +3,7 @@ use Rattle.std.specs.Prelude.{◌≡◌, ℕ, ◌+◌, ◌*◌, List, length, fi
 use Rattle.std.specs.Prelude.{Option, Some, None, is_none}
 use Rattle.std.specs.List.{list_any, list_all}
 use Rattle.std.specs.Option.{option_map_or}
-use Rattle.fsl_order.specs.Held.{Change}
+use Rattle.fsl_order.specs.TableState.{Change}
 use Rattle.fsl_order.specs.Names.{has}
 use Rattle.fsl_grammar.specs.declared.TagCard.{TagCard}
 use Rattle.fsl_manifest.specs.declared.Manifest.{Manifest}

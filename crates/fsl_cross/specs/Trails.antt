@@ -1,8 +1,8 @@
 -- Several changes of one table, the first one first, and what they tell of its rows.
 use Rattle.std.specs.Prelude.{ℕ, List, [], ◌∷◌}
 use Rattle.std.specs.List.{AllByRecursion}
-use Rattle.fsl_order.specs.Held.{Held, IsAsBefore}
-use Rattle.fsl_order.specs.Held as held
+use Rattle.fsl_order.specs.TableState.{TableState, IsAsBefore}
+use Rattle.fsl_order.specs.TableState as held
 use Rattle.fsl_order.specs.Rows.{ListsChanged}
 use Rattle.fsl_table.specs.Contents.{Contents}
 use Rattle.fsl_table.specs.Exact.{pair_cmp}
@@ -29,10 +29,10 @@ abbrev pub LeadsOn : {S U : Type 0} → (S → S → Type 0) → (U → S) → (
 LeadsOn {S = S} IsGood before after old us new vs = (first : S) → LeadsBy IsGood before after first us old → LeadsBy IsGood before after first vs new
 
 -- .. of a table of facts
-abbrev pub Leads : {F : Type 0} → Held F → List (held.Change F) → Held F → Type 0
+abbrev pub Leads : {F : Type 0} → TableState F → List (held.Change F) → TableState F → Type 0
 Leads first us now = LeadsBy IsAsBefore (λ u. u.before) (λ u. u.after) first us now
 
-abbrev pub Led : {F : Type 0} → Held F → List (held.Change F) → Held F → List (held.Change F) → Type 0
+abbrev pub Led : {F : Type 0} → TableState F → List (held.Change F) → TableState F → List (held.Change F) → Type 0
 Led old us new vs = LeadsOn IsAsBefore (λ u. u.before) (λ u. u.after) old us new vs
 
 -- a log that takes a table of pairs back from the old state is now one that does so from the new one
@@ -63,12 +63,12 @@ abbrev pub TagsTold : List (held.Change tags.Fact) → Type 0
 TagsTold us = AreTold tags_row us
 
 -- the changes lead from some table to this one
-abbrev pub CanGoBack : {F : Type 0} → List (held.Change F) → Held F → Type 0
-CanGoBack {F = F} us now = (first : Held F) × Leads first us now
+abbrev pub CanGoBack : {F : Type 0} → List (held.Change F) → TableState F → Type 0
+CanGoBack {F = F} us now = (first : TableState F) × Leads first us now
 
 -- whichever table they led from, the new one is as good
-abbrev pub WentBack : {F : Type 0} → List (held.Change F) → Held F → Held F → Type 0
-WentBack {F = F} us now new = (first : Held F) → Leads first us now → IsAsBefore first new
+abbrev pub WentBack : {F : Type 0} → List (held.Change F) → TableState F → TableState F → Type 0
+WentBack {F = F} us now new = (first : TableState F) → Leads first us now → IsAsBefore first new
 
 abbrev pub CanTicketsGoBack : List ticket.Change → ticket.Seen → Type 0
 CanTicketsGoBack us now = (first : ticket.Seen) × TicketsLead first us now

@@ -1,6 +1,6 @@
 //! Changes of one table, which are kept so that they can be taken back.
 ghost use Rattle.std.specs.Prelude.{◌≡◌, ◌++◌, ◌∷◌, [], OnOk, OnErr, MatchOption};
-ghost use Rattle.fsl_order.specs.Held.{Held, Change, IsAsBefore};
+ghost use Rattle.fsl_order.specs.TableState.{TableState, Change, IsAsBefore};
 ghost use Rattle.fsl_cross.specs.Trails.{LeadsBy};
 ghost use Rattle.fsl_table.proofs.Trails.{as_before-trans};
 ghost use Rattle.fsl_links.specs.declared.Fact as links;
@@ -95,7 +95,7 @@ pub(crate) fn take_all_back<T: Reversible>(table: &mut T, undos: List<T::Undo>)
 impl Reversible for Links {
     type Undo = fsl_links::Undo;
 
-    ghost State = { Held links.Fact };
+    ghost State = { TableState links.Fact };
 
     ghost is_good = { IsAsBefore };
 
@@ -115,7 +115,7 @@ impl Reversible for Links {
 impl Reversible for Tags {
     type Undo = fsl_tags::Undo;
 
-    ghost State = { Held tags.Fact };
+    ghost State = { TableState tags.Fact };
 
     ghost is_good = { IsAsBefore };
 
@@ -135,7 +135,7 @@ impl Reversible for Tags {
 impl Reversible for Leaves {
     type Undo = fsl_leaves::Undo;
 
-    ghost State = { Held leaves.Fact };
+    ghost State = { TableState leaves.Fact };
 
     ghost is_good = { IsAsBefore };
 
@@ -155,7 +155,7 @@ impl Reversible for Leaves {
 impl Reversible for Timeline {
     type Undo = fsl_timeline::Undo;
 
-    ghost State = { Held timeline.Row };
+    ghost State = { TableState timeline.Row };
 
     ghost is_good = { IsAsBefore };
 
@@ -175,7 +175,7 @@ impl Reversible for Timeline {
 impl Reversible for Threads {
     type Undo = fsl_forum::Undo;
 
-    ghost State = { Held forum.Fact };
+    ghost State = { TableState forum.Fact };
 
     ghost is_good = { IsAsBefore };
 
@@ -215,7 +215,7 @@ impl Reversible for Tickets {
 impl Reversible for Files {
     type Undo = fsl_files::Undo;
 
-    ghost State = { Held files.Fact };
+    ghost State = { TableState files.Fact };
 
     ghost is_good = { IsAsBefore };
 
@@ -235,7 +235,7 @@ impl Reversible for Files {
 impl Reversible for Pages {
     type Undo = fsl_wiki::Undo;
 
-    ghost State = { Held wiki.Fact };
+    ghost State = { TableState wiki.Fact };
 
     ghost is_good = { IsAsBefore };
 
@@ -255,7 +255,7 @@ impl Reversible for Pages {
 impl Reversible for Clusters {
     type Undo = fsl_cluster::Undo;
 
-    ghost State = { Held cluster.Fact };
+    ghost State = { TableState cluster.Fact };
 
     ghost is_good = { IsAsBefore };
 

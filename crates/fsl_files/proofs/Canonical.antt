@@ -4,7 +4,7 @@ use Rattle.std.proofs.Math.Path.{transport}
 use Rattle.std.specs.List.Sorted.{IsStrictlySortedBy}
 use Rattle.std.specs.Map.{keys_of}
 use Rattle.fsl_order.specs.Names.{bytes_cmp}
-use Rattle.fsl_order.specs.Held.{Held, IsAsBefore, AreAtMost}
+use Rattle.fsl_order.specs.TableState.{TableState, IsAsBefore, AreAtMost}
 use Rattle.fsl_table.specs.Exact.{pair_cmp, exact_pair}
 use Rattle.fsl_table.specs.declared.key.Pair.{Pair}
 use Rattle.fsl_table.specs.Contents.{value_at}
@@ -70,7 +70,7 @@ kept_none r f d c =
     (record { ordered = tt; fit = λ q. tt; deltas = of-none (baseline_at []) (λ x. refl); children = of-none (parent_at []) (λ x. refl) })
 
 -- as before, and then as good
-pub chain : (before : Held Fact) (mid now : Rows) → IsAsBefore before (held_of mid) → IsAsGood mid.facts now.facts → IsAsGood mid.deltas now.deltas → IsAsGood mid.children now.children → IsAsBefore before (held_of now)
+pub chain : (before : TableState Fact) (mid now : Rows) → IsAsBefore before (held_of mid) → IsAsGood mid.facts now.facts → IsAsGood mid.deltas now.deltas → IsAsGood mid.children now.children → IsAsBefore before (held_of now)
 chain before mid now b f d c = record {
   facts = ap facts_of f.entries ∙ b.facts;
   spare = more before.spare b.spare;

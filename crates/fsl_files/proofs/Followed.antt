@@ -7,7 +7,7 @@ use Rattle.std.specs.Ordering.{is_eq}
 use Rattle.std.specs.Str.{bytes_eq}
 use Rattle.std.specs.Cmp.Lexicographic.{nat_list_eq_equiv}
 use Rattle.fsl_order.specs.Names.{bytes_cmp, has}
-use Rattle.fsl_order.specs.Held.{Held}
+use Rattle.fsl_order.specs.TableState.{TableState}
 use Rattle.fsl_table.specs.Contents.{value_at}
 use Rattle.fsl_table.specs.Pairs.{is_name, seconds}
 use Rattle.fsl_files.specs.declared.Fact.{Fact}
@@ -44,12 +44,12 @@ none_has : (ns : List (List ℕ)) → ((q : List ℕ) → has ns q ≡ false) �
 none_has [] h = refl
 none_has (x ∷ ns) h = absurd (true≢false (sym (ap (λ b. b || has ns x) (nat_list_eq_equiv.refl x)) ∙ h x))
 
-pub no_deltas : (r : Rows) (h : Held Fact) (name : List ℕ) → IsKept r → held_of r ≡ h → is_followed h.facts name ≡ false → length (seconds name r.deltas.entries) ≡ 0
+pub no_deltas : (r : Rows) (h : TableState Fact) (name : List ℕ) → IsKept r → held_of r ≡ h → is_followed h.facts name ≡ false → length (seconds name r.deltas.entries) ≡ 0
 no_deltas r h name kept is none =
     ap length (none_has (seconds name r.deltas.entries)
     (λ q. has-of (baseline_at r.facts.entries) r.deltas.entries name q kept.deltas ∙ no_baseline r.facts.entries name q (ap (λ h. is_followed h.facts name) is ∙ none)))
 
-pub no_children : (r : Rows) (h : Held Fact) (name : List ℕ) → IsKept r → held_of r ≡ h → is_followed h.facts name ≡ false → length (seconds name r.children.entries) ≡ 0
+pub no_children : (r : Rows) (h : TableState Fact) (name : List ℕ) → IsKept r → held_of r ≡ h → is_followed h.facts name ≡ false → length (seconds name r.children.entries) ≡ 0
 no_children r h name kept is none =
     ap length (none_has (seconds name r.children.entries)
     (λ q. has-of (parent_at r.facts.entries) r.children.entries name q kept.children ∙ no_parent r.facts.entries name q (ap (λ h. is_followed h.facts name) is ∙ none)))

@@ -3,7 +3,7 @@ use Rattle.std.specs.Prelude.{◌≡◌, ℕ, List, [], ◌∷◌, Bool, ◌||�
 use Rattle.std.specs.List.{list_any}
 use Rattle.std.specs.List.Sorted.{IsStrictlySortedBy}
 use Rattle.std.specs.Map.{keys_of}
-use Rattle.fsl_order.specs.Held.{Held, IsAsBefore}
+use Rattle.fsl_order.specs.TableState.{TableState, IsAsBefore}
 use Rattle.fsl_order.specs.Names.{bytes_cmp, has}
 use Rattle.fsl_table.specs.Exact.{pair_cmp}
 use Rattle.fsl_table.specs.declared.key.Pair.{Pair}
@@ -62,7 +62,7 @@ pub record Rows : Type 0 where
   pub deltas : Contents Pair (Unit {0})
   pub children : Contents Pair (Unit {0})
 
-abbrev pub held_of : Rows → Held Fact
+abbrev pub held_of : Rows → TableState Fact
 held_of r = record { facts = facts_of r.facts.entries; spare = r.facts.spare ∷ r.deltas.spare ∷ r.children.spare ∷ [] }
 
 pub record IsKept (r : Rows) : Type 0 where
@@ -90,7 +90,7 @@ undone_rows logs r = record {
 }
 
 -- the logs find their memory, and lead back
-pub record TakesBack (logs : Logs) (before : Held Fact) (now : Rows) : Type 0 where
+pub record TakesBack (logs : Logs) (before : TableState Fact) (now : Rows) : Type 0 where
   pub facts_can : CanUndo bytes_cmp logs.facts now.facts
   pub deltas_can : CanUndo pair_cmp logs.deltas now.deltas
   pub children_can : CanUndo pair_cmp logs.children now.children

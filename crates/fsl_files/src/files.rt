@@ -1,6 +1,6 @@
 //! The table of files.
 ghost use Rattle.std.specs.Prelude.{◌≡◌, ◌+◌, ◌*◌, ◌≤◌, ◌<◌, ◌∷◌, [], false, true, length, IfOk, OnOk, OnErr, All, map};
-ghost use Rattle.fsl_order.specs.Held.{IsAsBefore};
+ghost use Rattle.fsl_order.specs.TableState.{IsAsBefore};
 ghost use Rattle.fsl_order.specs.Names.{has};
 ghost use Rattle.fsl_order.specs.Rows.{by_name, AreDistinct, ListsChanged};
 ghost use Rattle.fsl_files.specs.Conditions.{IsFilesFact};
@@ -33,11 +33,11 @@ pub struct Files {
 }
 
 impl Model for Files {
-    ghost use Rattle.fsl_order.specs.Held.{Held};
+    ghost use Rattle.fsl_order.specs.TableState.{TableState};
     ghost use Rattle.fsl_files.specs.declared.Fact.{Fact};
     ghost use Rattle.fsl_files.specs.Kept.{held_of, IsKept};
 
-    ghost Value = { Held Fact };
+    ghost Value = { TableState Fact };
 
     ghost view = { λ t. held_of (record { facts = t.facts; deltas = t.deltas; children = t.children }) };
 
@@ -56,7 +56,7 @@ pub struct Undo {
 }
 
 impl Model for Undo {
-    ghost use Rattle.fsl_order.specs.Held.{Change, IsAsBefore};
+    ghost use Rattle.fsl_order.specs.TableState.{Change, IsAsBefore};
     ghost use Rattle.fsl_files.specs.declared.Fact.{Fact};
     ghost use Rattle.fsl_files.specs.Kept.{Rows, IsKept, held_of, TakesBack};
 

@@ -5,7 +5,7 @@ use Rattle.std.specs.List.Sorted.{IsStrictlySortedBy}
 use Rattle.std.specs.Map.{keys_of}
 use Rattle.std.proofs.lemmas.Map.Lookups.{exact_bytes}
 use Rattle.fsl_order.specs.Names.{bytes_cmp}
-use Rattle.fsl_order.specs.Held.{Held, IsAsBefore, AreAtMost}
+use Rattle.fsl_order.specs.TableState.{TableState, IsAsBefore, AreAtMost}
 use Rattle.fsl_order.proofs.Orders.{bytes_cmp-IsTotalOrder}
 use Rattle.fsl_table.specs.Exact.{pair_cmp, exact_pair}
 use Rattle.fsl_table.specs.declared.key.Pair.{Pair}
@@ -82,7 +82,7 @@ kept_none r p f e w =
     (record { ordered = tt; followers = of-none (next_of []) (λ x. refl); ends_ordered = tt; ends = λ x. refl; placed = of-none (place []) (λ x. refl) })
 
 -- as before, and then as good
-pub chain : (before : Held Fact) (mid now : Rows) → IsAsBefore before (held_of mid) → IsAsGood mid.posts now.posts → IsAsGood mid.followers now.followers → IsAsGood mid.ends now.ends → IsAsGood mid.placed now.placed → IsAsBefore before (held_of now)
+pub chain : (before : TableState Fact) (mid now : Rows) → IsAsBefore before (held_of mid) → IsAsGood mid.posts now.posts → IsAsGood mid.followers now.followers → IsAsGood mid.ends now.ends → IsAsGood mid.placed now.placed → IsAsBefore before (held_of now)
 chain before mid now b f c o w = record {
   facts = ap facts_of f.entries ∙ b.facts;
   spare = more before.spare b.spare;

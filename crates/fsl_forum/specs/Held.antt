@@ -2,7 +2,7 @@
 use Rattle.std.specs.Prelude.{◌≡◌, ℕ, List, [], ◌∷◌, Option, map, is_some, option_and_then}
 use Rattle.std.specs.List.Sorted.{IsStrictlySortedBy}
 use Rattle.std.specs.Map.{keys_of}
-use Rattle.fsl_order.specs.Held.{Held, IsAsBefore}
+use Rattle.fsl_order.specs.TableState.{TableState, IsAsBefore}
 use Rattle.fsl_order.specs.Names.{bytes_cmp}
 use Rattle.fsl_table.specs.Exact.{pair_cmp}
 use Rattle.fsl_table.specs.declared.key.Pair.{Pair}
@@ -33,7 +33,7 @@ pub record Rows : Type 0 where
   pub ends : Contents (List ℕ) (List ℕ)
   pub placed : Contents Pair (Unit {0})
 
-abbrev pub held_of : Rows → Held Fact
+abbrev pub held_of : Rows → TableState Fact
 held_of r = record { facts = facts_of r.posts.entries; spare = r.posts.spare ∷ r.followers.spare ∷ r.ends.spare ∷ r.placed.spare ∷ [] }
 
 -- there is a pair exactly for each name and the one to which it belongs
@@ -65,7 +65,7 @@ undone_rows logs r = record {
 }
 
 -- the logs find their memory, and lead back
-pub record TakesBack (logs : Logs) (before : Held Fact) (now : Rows) : Type 0 where
+pub record TakesBack (logs : Logs) (before : TableState Fact) (now : Rows) : Type 0 where
   pub posts_can : CanUndo bytes_cmp logs.posts now.posts
   pub followers_can : CanUndo pair_cmp logs.followers now.followers
   pub ends_can : CanUndo bytes_cmp logs.ends now.ends

@@ -1,6 +1,6 @@
 //! The table of posts.
 ghost use Rattle.std.specs.Prelude.{◌≡◌, ◌<◌, [], ◌∷◌, false, true, IfOk, OnOk, OnErr, map};
-ghost use Rattle.fsl_order.specs.Held.{IsAsBefore};
+ghost use Rattle.fsl_order.specs.TableState.{IsAsBefore};
 ghost use Rattle.fsl_order.specs.Names.{has};
 ghost use Rattle.fsl_order.specs.Rows.{by_name, AreDistinct, ListsChanged};
 ghost use Rattle.fsl_forum.specs.Threads.{threads_row};
@@ -33,11 +33,11 @@ pub struct Threads {
 }
 
 impl Model for Threads {
-    ghost use Rattle.fsl_order.specs.Held.{Held};
+    ghost use Rattle.fsl_order.specs.TableState.{TableState};
     ghost use Rattle.fsl_forum.specs.declared.Fact.{Fact};
     ghost use Rattle.fsl_forum.specs.Held.{held_of, IsKept};
 
-    ghost Value = { Held Fact };
+    ghost Value = { TableState Fact };
 
     ghost view = { λ t. held_of (record { posts = t.posts; followers = t.followers; ends = t.ends; placed = t.placed }) };
 
@@ -57,7 +57,7 @@ pub struct Undo {
 }
 
 impl Model for Undo {
-    ghost use Rattle.fsl_order.specs.Held.{Change, IsAsBefore};
+    ghost use Rattle.fsl_order.specs.TableState.{Change, IsAsBefore};
     ghost use Rattle.fsl_forum.specs.declared.Fact.{Fact};
     ghost use Rattle.fsl_forum.specs.Held.{Rows, IsKept, held_of, TakesBack};
 

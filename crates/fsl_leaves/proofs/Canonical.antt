@@ -4,7 +4,7 @@ use Rattle.std.specs.List.Sorted.{IsStrictlySortedBy}
 use Rattle.std.specs.Map.{keys_of}
 use Rattle.std.proofs.lemmas.Map.Lookups.{exact_bytes}
 use Rattle.fsl_order.specs.Names.{bytes_cmp}
-use Rattle.fsl_order.specs.Held.{Held, IsAsBefore, AreAtMost}
+use Rattle.fsl_order.specs.TableState.{TableState, IsAsBefore, AreAtMost}
 use Rattle.fsl_order.proofs.Orders.{bytes_cmp-IsTotalOrder}
 use Rattle.fsl_table.specs.Contents.{value_at}
 use Rattle.fsl_table.specs.declared.step.Step.{Step}
@@ -74,7 +74,7 @@ kept_none r p q t =
     none p b (Some c) = refl
 
 -- as before, and then as good
-pub chain : (before : Held Fact) (mid now : Rows) → IsAsBefore before (held_of mid) → IsAsGood mid.facts now.facts → IsAsGood mid.children now.children → IsAsGood mid.leaves now.leaves → IsAsBefore before (held_of now)
+pub chain : (before : TableState Fact) (mid now : Rows) → IsAsBefore before (held_of mid) → IsAsGood mid.facts now.facts → IsAsGood mid.children now.children → IsAsGood mid.leaves now.leaves → IsAsBefore before (held_of now)
 chain before mid now b f c l = record {
   facts = ap facts_of f.entries ∙ b.facts;
   spare = more before.spare b.spare;

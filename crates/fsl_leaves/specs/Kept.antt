@@ -5,7 +5,7 @@ use Rattle.std.specs.Str.{bytes_eq}
 use Rattle.std.specs.List.Sorted.{IsStrictlySortedBy}
 use Rattle.std.specs.Map.{keys_of}
 use Rattle.fsl_order.specs.Names.{bytes_cmp, has}
-use Rattle.fsl_order.specs.Held.{Held, IsAsBefore}
+use Rattle.fsl_order.specs.TableState.{TableState, IsAsBefore}
 use Rattle.fsl_table.specs.Contents.{Contents, value_at}
 use Rattle.fsl_table.specs.declared.step.Step.{Step}
 use Rattle.fsl_table.specs.Undo.{undone, CanUndo}
@@ -27,7 +27,7 @@ pub record Rows : Type 0 where
   pub children : Contents Kin (Unit {0})
   pub leaves : Contents (List ℕ) (Unit {0})
 
-abbrev pub held_of : Rows → Held Fact
+abbrev pub held_of : Rows → TableState Fact
 held_of r = record { facts = facts_of r.facts.entries; spare = r.facts.spare ∷ r.children.spare ∷ r.leaves.spare ∷ [] }
 
 -- whether the check-in is there, and this is among its parents
@@ -91,7 +91,7 @@ abbrev pub undone_rows : List (Step (List ℕ) Line) → List (Step Kin (Unit {0
 undone_rows facts children leaves r = record { facts = undone bytes_cmp facts r.facts; children = undone kin_cmp children r.children; leaves = undone bytes_cmp leaves r.leaves }
 
 -- the logs find their memory, and lead back
-pub record TakesBack (facts : List (Step (List ℕ) Line)) (children : List (Step Kin (Unit {0}))) (leaves : List (Step (List ℕ) (Unit {0}))) (before : Held Fact) (now : Rows) : Type 0 where
+pub record TakesBack (facts : List (Step (List ℕ) Line)) (children : List (Step Kin (Unit {0}))) (leaves : List (Step (List ℕ) (Unit {0}))) (before : TableState Fact) (now : Rows) : Type 0 where
   pub facts_can : CanUndo bytes_cmp facts now.facts
   pub children_can : CanUndo kin_cmp children now.children
   pub leaves_can : CanUndo bytes_cmp leaves now.leaves

@@ -3,7 +3,7 @@ ghost use Rattle.std.specs.Prelude.{◌≡◌, ◌+◌, ◌*◌, ◌≤◌, ◌<
 ghost use Rattle.std.specs.List.{list_any};
 ghost use Rattle.fsl_order.specs.Names.{has};
 ghost use Rattle.fsl_order.specs.Rows.{by_name, AreDistinct, ListsChanged};
-ghost use Rattle.fsl_order.specs.Held.{IsAsBefore};
+ghost use Rattle.fsl_order.specs.TableState.{IsAsBefore};
 ghost use Rattle.fsl_leaves.specs.Leaves.{leaves_row};
 ghost use Rattle.fsl_leaves.specs.Leaves as table;
 
@@ -32,11 +32,11 @@ pub struct Leaves {
 }
 
 impl Model for Leaves {
-    ghost use Rattle.fsl_order.specs.Held.{Held};
+    ghost use Rattle.fsl_order.specs.TableState.{TableState};
     ghost use Rattle.fsl_leaves.specs.declared.Fact.{Fact};
     ghost use Rattle.fsl_leaves.specs.Kept.{held_of, IsKept};
 
-    ghost Value = { Held Fact };
+    ghost Value = { TableState Fact };
 
     ghost view = { λ l. held_of (record { facts = l.facts; children = l.children; leaves = l.leaves }) };
 
@@ -55,7 +55,7 @@ pub struct Undo {
 }
 
 impl Model for Undo {
-    ghost use Rattle.fsl_order.specs.Held.{Change, IsAsBefore};
+    ghost use Rattle.fsl_order.specs.TableState.{Change, IsAsBefore};
     ghost use Rattle.fsl_leaves.specs.declared.Fact.{Fact};
     ghost use Rattle.fsl_leaves.specs.Kept.{Rows, IsKept, held_of, TakesBack};
 

@@ -8,7 +8,7 @@ use Rattle.fsl_table.specs.declared.key.Pair.{Pair}
 use Rattle.fsl_table.specs.Contents.{Contents, value_at}
 use Rattle.fsl_table.specs.declared.step.Step.{Step}
 use Rattle.fsl_table.specs.Undo.{IsAsGood, Undoes, undone}
-use Rattle.fsl_order.specs.Held.{Held, IsAsBefore, AreAtMost}
+use Rattle.fsl_order.specs.TableState.{TableState, IsAsBefore, AreAtMost}
 use Rattle.fsl_table.proofs.Facts.{same_facts}
 use Rattle.fsl_table.proofs.Finding.{same_found, same_units}
 use Rattle.fsl_table.proofs.Leading.{leads_back}
@@ -59,7 +59,7 @@ kept_none f c p q =
     none p (Some c) = refl
 
 -- as before, and then as good
-pub chain : (before : Held Fact) (mid now : Rows) → IsAsBefore before (held_of mid) → IsAsGood mid.facts now.facts → IsAsGood mid.children now.children → IsAsBefore before (held_of now)
+pub chain : (before : TableState Fact) (mid now : Rows) → IsAsBefore before (held_of mid) → IsAsGood mid.facts now.facts → IsAsGood mid.children now.children → IsAsBefore before (held_of now)
 chain before mid now b f c = record {
   facts = ap facts_of f.entries ∙ b.facts;
   spare = more before.spare b.spare;

@@ -4,7 +4,7 @@ use Rattle.std.specs.Str.{bytes_eq}
 use Rattle.std.specs.List.Sorted.{IsStrictlySortedBy}
 use Rattle.std.specs.Map.{keys_of}
 use Rattle.fsl_order.specs.Names.{bytes_cmp, has}
-use Rattle.fsl_order.specs.Held.{Held, IsAsBefore}
+use Rattle.fsl_order.specs.TableState.{TableState, IsAsBefore}
 use Rattle.fsl_table.specs.Exact.{pair_cmp}
 use Rattle.fsl_table.specs.declared.key.Pair.{Pair}
 use Rattle.fsl_table.specs.Contents.{Contents, value_at, with_entry}
@@ -23,7 +23,7 @@ pub record Rows : Type 0 where
   pub facts : Contents (List ℕ) (List (List ℕ))
   pub children : Contents Pair (Unit {0})
 
-abbrev pub held_of : Rows → Held Fact
+abbrev pub held_of : Rows → TableState Fact
 held_of r = record { facts = facts_of r.facts.entries; spare = r.facts.spare ∷ r.children.spare ∷ [] }
 
 -- whether the names are there, and this is among them
@@ -77,7 +77,7 @@ abbrev pub undone_rows : List (Step (List ℕ) (List (List ℕ))) → List (Step
 undone_rows facts children r = record { facts = undone bytes_cmp facts r.facts; children = undone pair_cmp children r.children }
 
 -- both logs find their memory, and lead back
-pub record TakesBack (facts : List (Step (List ℕ) (List (List ℕ)))) (children : List (Step Pair (Unit {0}))) (before : Held Fact) (now : Rows) : Type 0 where
+pub record TakesBack (facts : List (Step (List ℕ) (List (List ℕ)))) (children : List (Step Pair (Unit {0}))) (before : TableState Fact) (now : Rows) : Type 0 where
   pub facts_can : CanUndo bytes_cmp facts now.facts
   pub children_can : CanUndo pair_cmp children now.children
   pub kept : IsKept (undone_rows facts children now)

@@ -2,7 +2,7 @@
 ghost use Rattle.std.specs.Prelude.{◌≡◌, ◌+◌, ◌*◌, ◌≤◌, [], ◌∷◌, ◌<◌, length, false, true, map, OnOk, OnErr, IfOk};
 ghost use Rattle.fsl_order.specs.Names.{has};
 ghost use Rattle.fsl_order.specs.Rows.{by_name, AreDistinct, ListsChanged};
-ghost use Rattle.fsl_order.specs.Held.{IsAsBefore};
+ghost use Rattle.fsl_order.specs.TableState.{IsAsBefore};
 ghost use Rattle.fsl_links.specs.Links.{links_row, children as children_of, primary as primary_of};
 
 use super::Fact;
@@ -26,11 +26,11 @@ pub struct Links {
 }
 
 impl Model for Links {
-    ghost use Rattle.fsl_order.specs.Held.{Held};
+    ghost use Rattle.fsl_order.specs.TableState.{TableState};
     ghost use Rattle.fsl_links.specs.declared.Fact.{Fact};
     ghost use Rattle.fsl_links.specs.Kept.{held_of, IsKept};
 
-    ghost Value = { Held Fact };
+    ghost Value = { TableState Fact };
 
     ghost view = { λ l. held_of (record { facts = l.facts; children = l.children }) };
 
@@ -48,7 +48,7 @@ pub struct Undo {
 }
 
 impl Model for Undo {
-    ghost use Rattle.fsl_order.specs.Held.{Change, IsAsBefore};
+    ghost use Rattle.fsl_order.specs.TableState.{Change, IsAsBefore};
     ghost use Rattle.fsl_links.specs.declared.Fact.{Fact};
     ghost use Rattle.fsl_links.specs.Kept.{Rows, IsKept, held_of, TakesBack};
 

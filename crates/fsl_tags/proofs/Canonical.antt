@@ -4,7 +4,7 @@ use Rattle.std.proofs.Common.{◌≡◌, ℕ, List, [], ◌∷◌, option_and_th
 use Rattle.std.specs.List.Sorted.{IsStrictlySortedBy}
 use Rattle.std.specs.Map.{keys_of}
 use Rattle.fsl_table.proofs.Finding.{same_found, same_units}
-use Rattle.fsl_order.specs.Held.{Held, IsAsBefore, AreAtMost}
+use Rattle.fsl_order.specs.TableState.{TableState, IsAsBefore, AreAtMost}
 use Rattle.fsl_order.specs.Names.{bytes_cmp}
 use Rattle.fsl_order.proofs.Orders.{bytes_cmp-IsTotalOrder, bytes_cmp-IsAntisymmetric}
 use Rattle.fsl_table.specs.Exact.{pair_cmp, exact_pair}
@@ -85,7 +85,7 @@ takes_back logs before after now kb ka kn same uf uc uo ur =
     }
 
 -- as before, and then as good
-pub chain : (before : Held Fact) (mid now : Rows) → IsAsBefore before (held_of mid) → IsAsGood mid.facts now.facts → IsAsGood mid.children now.children → IsAsGood mid.own now.own → IsAsGood mid.rows now.rows → IsAsBefore before (held_of now)
+pub chain : (before : TableState Fact) (mid now : Rows) → IsAsBefore before (held_of mid) → IsAsGood mid.facts now.facts → IsAsGood mid.children now.children → IsAsGood mid.own now.own → IsAsGood mid.rows now.rows → IsAsBefore before (held_of now)
 chain before mid now b f c o w = record {
   facts = ap facts_of f.entries ∙ b.facts;
   spare = more before.spare b.spare;

@@ -13,7 +13,7 @@ use Rattle.std.specs.Map.{keys_of}
 use Rattle.std.specs.Ordering.{eq_by_cmp}
 use Rattle.std.specs.Cmp.Lexicographic.{texts_ties}
 use Rattle.std.proofs.lemmas.Map.Keys.{IsDistinct-from_sorted}
-use Rattle.fsl_order.specs.Held.{Held}
+use Rattle.fsl_order.specs.TableState.{TableState}
 use Rattle.fsl_order.specs.Names.{bytes_cmp, has}
 use Rattle.fsl_order.specs.Rows.{named, by_name, AreDistinct}
 use Rattle.fsl_order.proofs.NamedLemmas.{named-by_name}
@@ -77,7 +77,7 @@ fit_with fact facts ok absent fit = record {
 }
 
 -- the same, of facts that are kept
-pub fit_more : (fact : Fact) (r : Rows) (held : Held Fact) → held_of r ≡ held → AreTagFacts (facts_of r.facts.entries) → has (map (λ f. f.name) held.facts) fact.name ≡ false → IsTagFact (fact ∷ held.facts) fact → AreTagFacts (fact ∷ facts_of r.facts.entries)
+pub fit_more : (fact : Fact) (r : Rows) (held : TableState Fact) → held_of r ≡ held → AreTagFacts (facts_of r.facts.entries) → has (map (λ f. f.name) held.facts) fact.name ≡ false → IsTagFact (fact ∷ held.facts) fact → AreTagFacts (fact ∷ facts_of r.facts.entries)
 fit_more fact r held is ok absent fit =
     fit_with fact (facts_of r.facts.entries) ok (subst (λ h. has (map (λ f. f.name) h.facts) fact.name ≡ false) (sym is) absent) (subst (λ h. IsTagFact (fact ∷ h.facts) fact) (sym is) fit)
 
@@ -119,7 +119,7 @@ differ_of es rise =
     let ties : eq_by_cmp bytes_cmp ≡ bytes_eq = λ i x y. sym (texts_ties x y) i in
     subst AreDistinct (names-keys es) (subst (λ e. IsDistinct e (keys_of es)) ties (IsDistinct-from_sorted bytes_cmp (keys_of es) rise))
 
-pub fit_moved : (fact : Fact) (r : Rows) (held : Held Fact) → held_of r ≡ held → IsStrictlySortedBy bytes_cmp (keys_of r.facts.entries) → AreTagFacts (facts_of r.facts.entries) → IsParentChange held.facts fact → IsTagFact held.facts fact
+pub fit_moved : (fact : Fact) (r : Rows) (held : TableState Fact) → held_of r ≡ held → IsStrictlySortedBy bytes_cmp (keys_of r.facts.entries) → AreTagFacts (facts_of r.facts.entries) → IsParentChange held.facts fact → IsTagFact held.facts fact
     → AreTagFacts (by_name (λ f. f.name) (fact ∷ facts_of r.facts.entries))
 fit_moved fact r held is ordered ok change fit =
     let es = r.facts.entries in

@@ -2,7 +2,7 @@
 use Rattle.std.specs.Prelude.{◌≡◌, ℕ, List, [], ◌∷◌, map}
 use Rattle.std.specs.List.Sorted.{IsStrictlySortedBy}
 use Rattle.std.specs.Map.{keys_of}
-use Rattle.fsl_order.specs.Held.{Held, IsAsBefore}
+use Rattle.fsl_order.specs.TableState.{TableState, IsAsBefore}
 use Rattle.fsl_order.specs.Names.{bytes_cmp}
 use Rattle.fsl_order.specs.Rows.{named}
 use Rattle.fsl_table.specs.Exact.{pair_cmp}
@@ -28,7 +28,7 @@ pub record Rows : Type 0 where
   pub own : Contents (List ℕ) (List Assertion)
   pub rows : Contents (List ℕ) (List Assertion)
 
-abbrev pub held_of : Rows → Held Fact
+abbrev pub held_of : Rows → TableState Fact
 held_of r = record { facts = facts_of r.facts.entries; spare = r.facts.spare ∷ r.children.spare ∷ r.own.spare ∷ r.rows.spare ∷ [] }
 
 -- the facts are fit, the own rows have their newest assertions, and all else is by these
@@ -54,7 +54,7 @@ undone_rows logs r = record {
 }
 
 -- the logs find their memory, and lead back
-pub record TakesBack (logs : Logs) (before : Held Fact) (now : Rows) : Type 0 where
+pub record TakesBack (logs : Logs) (before : TableState Fact) (now : Rows) : Type 0 where
   pub facts_can : CanUndo bytes_cmp logs.facts now.facts
   pub children_can : CanUndo pair_cmp logs.children now.children
   pub own_can : CanUndo bytes_cmp logs.own now.own

@@ -2,7 +2,7 @@
 ghost use Rattle.std.specs.List.{AllByRecursion};
 ghost use Rattle.std.specs.Option.{option_copied};
 ghost use Rattle.std.specs.Prelude.{◌≡◌, false, ◌+◌, ◌*◌, ◌≤◌, ◌<◌, [], ◌∷◌, length, map, OnOk, OnErr, IfOk};
-ghost use Rattle.fsl_order.specs.Held.{IsAsBefore};
+ghost use Rattle.fsl_order.specs.TableState.{IsAsBefore};
 ghost use Rattle.fsl_order.specs.Names.{has};
 ghost use Rattle.fsl_order.specs.Rows.{by_name, ListsChanged};
 ghost use Rattle.fsl_tags.specs.Conditions.{IsParentChange};
@@ -33,11 +33,11 @@ pub struct Tags {
 }
 
 impl Model for Tags {
-    ghost use Rattle.fsl_order.specs.Held.{Held};
+    ghost use Rattle.fsl_order.specs.TableState.{TableState};
     ghost use Rattle.fsl_tags.specs.declared.Fact.{Fact};
     ghost use Rattle.fsl_tags.specs.Held.{held_of, IsKept};
 
-    ghost Value = { Held Fact };
+    ghost Value = { TableState Fact };
 
     ghost view = { λ t. held_of (record { facts = t.facts; children = t.children; own = t.own; rows = t.rows }) };
 
@@ -57,7 +57,7 @@ pub struct Undo {
 }
 
 impl Model for Undo {
-    ghost use Rattle.fsl_order.specs.Held.{Change, IsAsBefore};
+    ghost use Rattle.fsl_order.specs.TableState.{Change, IsAsBefore};
     ghost use Rattle.fsl_tags.specs.declared.Fact.{Fact};
     ghost use Rattle.fsl_tags.specs.Held.{Rows, IsKept, held_of, TakesBack};
 

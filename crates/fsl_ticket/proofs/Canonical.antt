@@ -6,7 +6,7 @@ use Rattle.std.specs.Cmp.{IsTotalOrder}
 use Rattle.std.specs.declared.cmp.Ordering.TheVariants.{Equal}
 use Rattle.std.proofs.lemmas.Map.Lookups.{exact_bytes}
 use Rattle.fsl_order.specs.Names.{bytes_cmp, dated_cmp}
-use Rattle.fsl_order.specs.Held.{AreAtMost}
+use Rattle.fsl_order.specs.TableState.{AreAtMost}
 use Rattle.fsl_order.proofs.Orders.{bytes_cmp-IsTotalOrder, dated_cmp-IsTotalOrder, dated_cmp-IsAntisymmetric}
 use Rattle.fsl_table.specs.Contents.{value_at}
 use Rattle.fsl_table.specs.ExactWithin.{exact_within}

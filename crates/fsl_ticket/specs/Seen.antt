@@ -5,7 +5,7 @@ use Rattle.std.specs.Map.{lookup}
 use Rattle.std.specs.BTreeMap.{is_at}
 use Rattle.std.specs.Str.{bytes_eq}
 use Rattle.fsl_order.specs.Names.{bytes_cmp}
-use Rattle.fsl_order.specs.Held.{AreAtMost}
+use Rattle.fsl_order.specs.TableState.{AreAtMost}
 use Rattle.fsl_ticket.specs.declared.Fact.{Fact}
 use Rattle.fsl_ticket.specs.Tickets.{after}
 

@@ -3,7 +3,7 @@ use Rattle.std.proofs.Common.{◌≡◌, ℕ, List, [], ◌∷◌, is_some, refl
 use Rattle.std.specs.List.Sorted.{IsStrictlySortedBy}
 use Rattle.std.specs.Map.{keys_of}
 use Rattle.fsl_order.specs.Names.{bytes_cmp, latest_first}
-use Rattle.fsl_order.specs.Held.{Held, IsAsBefore, AreAtMost}
+use Rattle.fsl_order.specs.TableState.{TableState, IsAsBefore, AreAtMost}
 use Rattle.fsl_order.proofs.Orders.{latest_first-IsTotalOrder, latest_first-IsAntisymmetric}
 use Rattle.fsl_table.specs.Contents.{value_at}
 use Rattle.fsl_table.specs.declared.step.Step.{Step}
@@ -56,7 +56,7 @@ unfolding IsStrictlySortedBy
 kept_none r p q = kept_as (record { rows = record { entries = []; spare = 0 }; places = record { entries = []; spare = 0 } }) r p q (record { ordered = tt; places_ordered = tt; places = λ k. refl })
 
 -- as before, and then as good
-pub chain : (before : Held Row) (mid now : Rows) → IsAsBefore before (held_of mid) → IsAsGood mid.rows now.rows → IsAsGood mid.places now.places → IsAsBefore before (held_of now)
+pub chain : (before : TableState Row) (mid now : Rows) → IsAsBefore before (held_of mid) → IsAsGood mid.rows now.rows → IsAsGood mid.places now.places → IsAsBefore before (held_of now)
 chain before mid now b r p = record {
   facts = ap rows_of r.entries ∙ b.facts;
   spare = more before.spare b.spare;

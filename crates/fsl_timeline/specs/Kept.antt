@@ -6,7 +6,7 @@ use Rattle.std.specs.Ordering.{is_eq, nat_cmp}
 use Rattle.std.specs.List.Sorted.{IsStrictlySortedBy}
 use Rattle.std.specs.Map.{keys_of}
 use Rattle.fsl_order.specs.Names.{bytes_cmp, latest_first}
-use Rattle.fsl_order.specs.Held.{Held, IsAsBefore}
+use Rattle.fsl_order.specs.TableState.{TableState, IsAsBefore}
 use Rattle.fsl_table.specs.Contents.{Contents, value_at}
 use Rattle.fsl_table.specs.declared.step.Step.{Step}
 use Rattle.fsl_table.specs.Undo.{undone, CanUndo}
@@ -31,7 +31,7 @@ pub record Rows : Type 0 where
   pub rows : Contents (List ℕ) Entry
   pub places : Contents (ℕ × List ℕ) (Unit {0})
 
-abbrev pub held_of : Rows → Held Row
+abbrev pub held_of : Rows → TableState Row
 held_of r = record { facts = rows_of r.rows.entries; spare = r.rows.spare ∷ r.places.spare ∷ [] }
 
 -- whether the row is there, at this time
@@ -81,7 +81,7 @@ abbrev pub undone_rows : List (Step (List ℕ) Entry) → List (Step (ℕ × Lis
 undone_rows rows places r = record { rows = undone bytes_cmp rows r.rows; places = undone latest_first places r.places }
 
 -- both logs find their memory, and lead back
-pub record TakesBack (rows : List (Step (List ℕ) Entry)) (places : List (Step (ℕ × List ℕ) (Unit {0}))) (before : Held Row) (now : Rows) : Type 0 where
+pub record TakesBack (rows : List (Step (List ℕ) Entry)) (places : List (Step (ℕ × List ℕ) (Unit {0}))) (before : TableState Row) (now : Rows) : Type 0 where
   pub rows_can : CanUndo bytes_cmp rows now.rows
   pub places_can : CanUndo latest_first places now.places
   pub kept : IsKept (undone_rows rows places now)

@@ -2,7 +2,7 @@
 ghost use Rattle.std.specs.Prelude.{◌≡◌, ◌+◌, ◌≤◌, ◌<◌, [], ◌∷◌, false, true, map, OnOk, OnErr, IfOk};
 ghost use Rattle.fsl_order.specs.Names.{has};
 ghost use Rattle.fsl_order.specs.Rows.{by_name, AreDistinct, ListsChanged};
-ghost use Rattle.fsl_order.specs.Held.{IsAsBefore};
+ghost use Rattle.fsl_order.specs.TableState.{IsAsBefore};
 ghost use Rattle.fsl_timeline.specs.Timeline.{timeline_row, retired};
 ghost use Rattle.fsl_timeline.specs.Timeline as table;
 
@@ -27,11 +27,11 @@ pub struct Timeline {
 }
 
 impl Model for Timeline {
-    ghost use Rattle.fsl_order.specs.Held.{Held};
+    ghost use Rattle.fsl_order.specs.TableState.{TableState};
     ghost use Rattle.fsl_timeline.specs.declared.Row.{Row};
     ghost use Rattle.fsl_timeline.specs.Kept.{held_of, IsKept};
 
-    ghost Value = { Held Row };
+    ghost Value = { TableState Row };
 
     ghost view = { λ t. held_of (record { rows = t.rows; places = t.places }) };
 
@@ -49,7 +49,7 @@ pub struct Undo {
 }
 
 impl Model for Undo {
-    ghost use Rattle.fsl_order.specs.Held.{Change, IsAsBefore};
+    ghost use Rattle.fsl_order.specs.TableState.{Change, IsAsBefore};
     ghost use Rattle.fsl_timeline.specs.declared.Row.{Row};
     ghost use Rattle.fsl_timeline.specs.Kept.{Rows, IsKept, held_of, TakesBack};
 

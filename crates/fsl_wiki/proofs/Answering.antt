@@ -37,7 +37,7 @@ use Rattle.fsl_wiki.specs.declared.Fact.TheVariants as fact
 use Rattle.fsl_wiki.specs.declared.entry.Entry.{Entry}
 use Rattle.fsl_wiki.specs.Groups.{group_cmp, page_group}
 use Rattle.fsl_wiki.specs.Late.{late_cmp, late_cmp-IsTotalOrder, late_cmp-exact}
-use Rattle.fsl_wiki.specs.Pages.{name_of, as_page, as_attached, history, current}
+use Rattle.fsl_wiki.specs.Pages.{fact_name, as_page, as_attached, history, current}
 use Rattle.fsl_wiki.specs.Kept.{Lines, Rows, IsKept, fact_of, fact_at, facts_of, group_of, place_of, date_of, item, file_item, file_place, name_in, page_at, page_in, file_at, first_file, first_of_file}
 use Rattle.fsl_wiki.proofs.Canonical.{own_file}
 use Rattle.fsl_wiki.proofs.Latest.{items_of, distinct_versions, first_in_order}
@@ -162,7 +162,7 @@ page_given (fact.Page q) p e = let same : q ≡ p = cc in ap (λ p. (p.date, p.n
 page_given (fact.Note n) p e = cc
 page_given (fact.Attached a) p e = cc
 
-page_named : (f : Fact) (p : Page) → as_page f ≡ Some p → p.name ≡ name_of f
+page_named : (f : Fact) (p : Page) → as_page f ≡ Some p → p.name ≡ fact_name f
 page_named f p e = ap (λ q. q.1) (page_given f p e)
 
 pages_again : (ys : List Page) → filter_map as_page (map fact.Page ys) ≡ ys
@@ -193,10 +193,10 @@ module _ (r : Rows) (k : IsKept r) (title : List ℕ) where
       let given : filter_map as_page versions ≡ pages = ap (filter_map as_page) (of_page title fs) ∙ pages_again pages in
       rev_filter (λ p. page_at es p.1) (keys_of ws)
       ∙ ap reverse (pages_at es ws ∙ ap (filter_map as_page) (items_of r k (page_group title))
-      ∙ sym (in_order-filter_map late_cmp late_cmp-IsTotalOrder as_page place_of (λ p. (p.date, p.name)) page_given versions (late_places date_of name_of versions (distinct_versions r k (page_group title))))
+      ∙ sym (in_order-filter_map late_cmp late_cmp-IsTotalOrder as_page place_of (λ p. (p.date, p.name)) page_given versions (late_places date_of fact_name versions (distinct_versions r k (page_group title))))
       ∙ ap (in_order late_cmp (λ p. (p.date, p.name))) given)
       ∙ from_the_end (λ p. p.date) (λ p. p.name) pages
-      (subst (λ l. AreDistinct (map (λ p. p.name) l)) given (distinct-given as_page name_of (λ p. p.name) page_named versions (distinct_versions r k (page_group title))))
+      (subst (λ l. AreDistinct (map (λ p. p.name) l)) given (distinct-given as_page fact_name (λ p. p.name) page_named versions (distinct_versions r k (page_group title))))
 
 -- ---- attachments
 
@@ -230,7 +230,7 @@ module _ (r : Rows) (k : IsKept r) (target file : List ℕ) where
   of_target = filter (λ a. bytes_eq a.target target) files
 
   files_distinct : AreDistinct (map (λ a. a.name) files)
-  files_distinct = distinct-given as_attached name_of (λ a. a.name) attached_name (facts_of r.facts.entries) (distinct_facts r.facts.entries k.ordered)
+  files_distinct = distinct-given as_attached fact_name (λ a. a.name) attached_name (facts_of r.facts.entries) (distinct_facts r.facts.entries k.ordered)
 
   pub file_is : first_of_file r.facts.entries file (keys_of (within bytes_cmp target r.targets.entries)) ≡ current (facts_of r.facts.entries) target file
   file_is =

@@ -6,7 +6,7 @@ use Rattle.std.specs.Cmp.{IsTotalOrder, then_total, on_total}
 use Rattle.std.specs.Cmp.Lexicographic.{nat_list_cmp_total, options_total}
 use Rattle.std.proofs.lemmas.Map.Lookups.{exact_bytes}
 use Rattle.fsl_order.specs.Names.{bytes_cmp}
-use Rattle.fsl_order.specs.Held.{Held, IsAsBefore, AreAtMost}
+use Rattle.fsl_order.specs.TableState.{TableState, IsAsBefore, AreAtMost}
 use Rattle.fsl_order.proofs.Orders.{bytes_cmp-IsTotalOrder}
 use Rattle.fsl_table.specs.Contents.{value_at}
 use Rattle.fsl_table.specs.Placed.{is_placed, key_of}
@@ -23,7 +23,7 @@ use Rattle.fsl_wiki.specs.declared.entry.Entry.TheVariants as entry
 use Rattle.fsl_wiki.specs.Exact.{exact_group}
 use Rattle.fsl_wiki.specs.Groups.{group_cmp}
 use Rattle.fsl_wiki.specs.Late.{late_cmp, late_cmp-IsTotalOrder, late_cmp-exact}
-use Rattle.fsl_wiki.specs.Pages.{name_of}
+use Rattle.fsl_wiki.specs.Pages.{fact_name}
 use Rattle.fsl_wiki.specs.Kept.{Lines, Spot, spot_cmp, Target, target_cmp, Rows, Logs, IsKept, TakesBack, held_of, undone_rows, fact_at, fact_of, facts_of, entry_of, group_of, group_in, date_of, date_in, place_of, item, file_item, file_place, name_in, AreSpots, AreTargets}
 use Rattle.fsl_wiki.proofs.Moved.{attached_name}
 
@@ -40,12 +40,12 @@ target_cmp-IsTotalOrder = within-IsTotalOrder bytes_cmp late_cmp bytes_cmp-IsTot
 
 -- ---- facts and entries
 
-own_name : (name : List ℕ) (e : Entry) → name_of (fact_at name e) ≡ name
+own_name : (name : List ℕ) (e : Entry) → fact_name (fact_at name e) ≡ name
 own_name name (entry.Page e) = refl
 own_name name (entry.Note e) = refl
 own_name name (entry.Attached e) = refl
 
-pub own : (e : List ℕ × Entry) → name_of (fact_of e) ≡ e.0
+pub own : (e : List ℕ × Entry) → fact_name (fact_of e) ≡ e.0
 own e = own_name e.0 e.1
 
 back_entry : (name : List ℕ) (e : Entry) → entry_of (fact_at name e) ≡ e
@@ -53,7 +53,7 @@ back_entry name (entry.Page e) = refl
 back_entry name (entry.Note e) = refl
 back_entry name (entry.Attached e) = refl
 
-pub fact_again : (f : Fact) → fact_at (name_of f) (entry_of f) ≡ f
+pub fact_again : (f : Fact) → fact_at (fact_name f) (entry_of f) ≡ f
 fact_again (fact.Page p) = refl
 fact_again (fact.Note n) = refl
 fact_again (fact.Attached a) = refl
@@ -72,7 +72,7 @@ pub place_is : (name : List ℕ) (e : Entry) → place_of (fact_at name e) ≡ (
 place_is name e = λ i. (date_is name e i, own_name name e i)
 
 pub own_item : (e : List ℕ × Entry) (f : Fact) → item e ≡ Some f → name_in (place_of f) ≡ e.0
-own_item e f h = let same : fact_of e ≡ f = cc in ap name_of (sym same) ∙ own e
+own_item e f h = let same : fact_of e ≡ f = cc in ap fact_name (sym same) ∙ own e
 
 pub own_file : (e : List ℕ × Entry) (a : Attached) → file_item e ≡ Some a → name_in (file_place a) ≡ e.0
 own_file e a h = attached_name (fact_of e) a h ∙ own e
@@ -88,7 +88,7 @@ module _ {A Y : Type 0} (item_of : List ℕ × Entry → Option Y) (group : Y �
 -- ---- what a state is, its facts tell
 
 same_lines : (es fs : Lines) → facts_of es ≡ facts_of fs → es ≡ fs
-same_lines es fs h = same_facts fact_of name_of own entry_of (λ e. back_entry e.0 e.1) es fs h
+same_lines es fs h = same_facts fact_of fact_name own entry_of (λ e. back_entry e.0 e.1) es fs h
 
 same_spots : (r s : Rows) → IsKept r → IsKept s → r.facts.entries ≡ s.facts.entries → r.spots.entries ≡ s.spots.entries
 same_spots r s k l e =
@@ -141,7 +141,7 @@ kept_none r p q t =
     no_target k (Some p) = refl
 
 -- as before, and then as good
-pub chain : (before : Held Fact) (mid now : Rows) → IsAsBefore before (held_of mid) → IsAsGood mid.facts now.facts → IsAsGood mid.spots now.spots → IsAsGood mid.targets now.targets → IsAsBefore before (held_of now)
+pub chain : (before : TableState Fact) (mid now : Rows) → IsAsBefore before (held_of mid) → IsAsGood mid.facts now.facts → IsAsGood mid.spots now.spots → IsAsGood mid.targets now.targets → IsAsBefore before (held_of now)
 chain before mid now b f s t = record {
   facts = ap facts_of f.entries ∙ b.facts;
   spare = more before.spare b.spare;

@@ -25,7 +25,7 @@ use Rattle.fsl_wiki.specs.declared.entry.Row.{Row}
 use Rattle.fsl_wiki.specs.declared.group.Group.{Group}
 use Rattle.fsl_wiki.specs.Exact.{exact_group}
 use Rattle.fsl_wiki.specs.Groups.{group_cmp}
-use Rattle.fsl_wiki.specs.Pages.{name_of, pages_row}
+use Rattle.fsl_wiki.specs.Pages.{fact_name, pages_row}
 use Rattle.fsl_wiki.specs.Kept.{Lines, Spot, fact_of, fact_at, facts_of, group_of, group_in, place_of, latest, is_called, is_page, leads, before_all, race_in, race_at, row_by, row_in, same_row, in_one}
 use Rattle.fsl_wiki.proofs.Canonical.{group_cmp-IsTotalOrder, group_is}
 use Rattle.fsl_wiki.proofs.Standing.{any_given, row_is, triple, not_last}
@@ -65,8 +65,8 @@ all_given : (fs : List Fact) → filter_map Some fs ≡ fs
 all_given [] = refl
 all_given (f ∷ fs) = ap (λ l. f ∷ l) (all_given fs)
 
-same_name : (f g : Fact) → Some f ≡ Some g → name_of g ≡ name_of f
-same_name f g h = let same : f ≡ g = cc in ap name_of (sym same)
+same_name : (f g : Fact) → Some f ≡ Some g → fact_name g ≡ fact_name f
+same_name f g h = let same : f ≡ g = cc in ap fact_name (sym same)
 
 -- whether what may be there is of this
 abbrev in_group : Group → Option Entry → Bool
@@ -77,9 +77,9 @@ module _ (es : Lines) (sorted : IsStrictlySortedBy bytes_cmp (keys_of es)) (q : 
   of_its_group : (s : Spot) → leads es q (Some s) ≡ true → in_group s.first (value_at bytes_cmp q es) ≡ true
   of_its_group s h =
       sym (by (value_at bytes_cmp q es))
-      ∙ sym (any_given Some name_of same_name (λ f. is_eq (group_cmp s.first (group_of f))) es q sorted)
-      ∙ ap (list_any (λ f. bytes_eq (name_of f) q && is_eq (group_cmp s.first (group_of f)))) (all_given (facts_of es))
-      ∙ greatest_any (on place_of dated_cmp) (λ f. is_eq (group_cmp s.first (group_of f))) (λ f. bytes_eq (name_of f) q) (facts_of es) h
+      ∙ sym (any_given Some fact_name same_name (λ f. is_eq (group_cmp s.first (group_of f))) es q sorted)
+      ∙ ap (list_any (λ f. bytes_eq (fact_name f) q && is_eq (group_cmp s.first (group_of f)))) (all_given (facts_of es))
+      ∙ greatest_any (on place_of dated_cmp) (λ f. is_eq (group_cmp s.first (group_of f))) (λ f. bytes_eq (fact_name f) q) (facts_of es) h
     where
       by : (o : Option Entry) → option_map_or (λ f. is_eq (group_cmp s.first (group_of f))) (option_and_then (λ e. Some (fact_at q e)) o) false ≡ in_group s.first o
       by None = refl

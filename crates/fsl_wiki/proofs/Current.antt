@@ -12,7 +12,7 @@ use Rattle.fsl_order.proofs.Gathered.{moved-given}
 use Rattle.fsl_wiki.specs.declared.Note.{Note}
 use Rattle.fsl_wiki.specs.declared.Fact.{Fact}
 use Rattle.fsl_wiki.specs.declared.Fact.TheVariants as fact
-use Rattle.fsl_wiki.specs.Pages.{name_of, as_note, current_note, pages_row}
+use Rattle.fsl_wiki.specs.Pages.{fact_name, as_note, current_note, pages_row}
 use Rattle.fsl_wiki.specs.Kept.{note_cmp}
 use Rattle.fsl_wiki.specs.Laws.{NoOtherCurrent}
 use Rattle.fsl_wiki.proofs.Moved.{note_name, note-by_name}
@@ -49,10 +49,10 @@ is_named name o = option_map_or (λ c. bytes_eq c.name name) o false
 abbrev is_own : List Fact → List ℕ → Note → Bool
 is_own facts name n = bytes_eq n.name name && is_named name (current_note facts n.id)
 
-by_order : (facts : List Fact) (name : List ℕ) → AreDistinct (map name_of facts) → (pages_row (by_name name_of facts) name).1 ≡ (pages_row facts name).1
+by_order : (facts : List Fact) (name : List ℕ) → AreDistinct (map fact_name facts) → (pages_row (by_name fact_name facts) name).1 ≡ (pages_row facts name).1
 by_order facts name d =
-    (λ i. list_any (λ n. bytes_eq n.name name && is_named name (sym (note-by_name facts d n.id) i)) (filter_map as_note (by_name name_of facts)))
-    ∙ sym (list_any-IsPermutation (is_own facts name) (filter_map as_note facts) (filter_map as_note (by_name name_of facts)) (moved-given as_note name_of (λ n. n.name) note_name facts d))
+    (λ i. list_any (λ n. bytes_eq n.name name && is_named name (sym (note-by_name facts d n.id) i)) (filter_map as_note (by_name fact_name facts)))
+    ∙ sym (list_any-IsPermutation (is_own facts name) (filter_map as_note facts) (filter_map as_note (by_name fact_name facts)) (moved-given as_note fact_name (λ n. n.name) note_name facts d))
 
 module _ (facts : List Fact) (m : Note) (name : List ℕ) (other : bytes_eq m.name name ≡ false) where
   greater_less : (g : Option Note) → is_named name (greater note_cmp (Some m) g) ≡ true → is_named name g ≡ true

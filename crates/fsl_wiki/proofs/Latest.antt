@@ -28,7 +28,7 @@ use Rattle.fsl_wiki.specs.declared.group.Group.{Group}
 use Rattle.fsl_wiki.specs.Exact.{exact_group}
 use Rattle.fsl_wiki.specs.Groups.{group_cmp, note_group, file_group}
 use Rattle.fsl_wiki.specs.Late.{late_cmp, late_cmp-IsTotalOrder, late_cmp-exact}
-use Rattle.fsl_wiki.specs.Pages.{name_of, note, current_note}
+use Rattle.fsl_wiki.specs.Pages.{fact_name, note, current_note}
 use Rattle.fsl_wiki.specs.Kept.{Lines, Rows, IsKept, fact_of, fact_at, facts_of, group_of, place_of, item, name_in, latest, is_called, leads, is_placed, top, race_in, row_by, row_in, before_all}
 use Rattle.fsl_wiki.proofs.Canonical.{group_cmp-IsTotalOrder, own_item}
 use Rattle.fsl_wiki.proofs.Standing.{distinct_facts, latest_note}
@@ -89,8 +89,8 @@ module _ (r : Rows) (k : IsKept r) (g : Group) where
       items_are group_cmp late_cmp group_cmp-IsTotalOrder late_cmp-IsTotalOrder exact_group late_cmp-exact name_in item group_of place_of own_item es r.spots.entries k.ordered k.spots_ordered k.spots g
       ∙ ap (λ l. in_order late_cmp place_of (filter (λ f. is_eq (group_cmp g (group_of f))) l)) (all_items es)
 
-  pub distinct_versions : AreDistinct (map name_of versions)
-  distinct_versions = distinct-filter (λ f. is_eq (group_cmp g (group_of f))) name_of (facts_of es) (distinct_facts es k.ordered)
+  pub distinct_versions : AreDistinct (map fact_name versions)
+  distinct_versions = distinct-filter (λ f. is_eq (group_cmp g (group_of f))) fact_name (facts_of es) (distinct_facts es k.ordered)
 
   held : (p : ℕ × List ℕ) (rest : List Fact) (o : Option Entry) → is_key group_cmp late_cmp name_in (key_of item group_of place_of) (option_and_then (λ e. key_of item group_of place_of (p.1, e)) o) g p ≡ true
       → option_map place_of (first_of (put_item (option_and_then (λ e. item (p.1, e)) o) rest)) ≡ Some p
@@ -111,11 +111,11 @@ module _ (r : Rows) (k : IsKept r) (g : Group) where
   first_latest =
       sym (first_place (within group_cmp g r.spots.entries) refl)
       ∙ ap (λ l. option_map place_of (first_of l)) items_of
-      ∙ ap (option_map place_of) (first_in_order place_of name_of (λ f. refl) versions distinct_versions)
+      ∙ ap (option_map place_of) (first_in_order place_of fact_name (λ f. refl) versions distinct_versions)
 
 called_is : (q : List ℕ) (o : Option Fact) → is_placed q (option_map place_of o) ≡ is_called q o
 called_is q None = refl
-called_is q (Some f) = nat_list_eq_equiv.symm q (name_of f)
+called_is q (Some f) = nat_list_eq_equiv.symm q (fact_name f)
 
 -- whether the first one has a name, by what may be there
 module _ (r : Rows) (k : IsKept r) (q : List ℕ) where

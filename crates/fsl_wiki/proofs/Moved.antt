@@ -21,7 +21,7 @@ use Rattle.fsl_wiki.specs.declared.Fact.{Fact}
 use Rattle.fsl_wiki.specs.declared.Fact.TheVariants as fact
 use Rattle.fsl_wiki.specs.declared.Note.{Note}
 use Rattle.fsl_wiki.specs.declared.Attached.{Attached}
-use Rattle.fsl_wiki.specs.Pages.{name_of, as_note, as_attached, current_note}
+use Rattle.fsl_wiki.specs.Pages.{fact_name, as_note, as_attached, current_note}
 
 -- ---- items with dates and distinct names
 
@@ -72,8 +72,8 @@ module _ {Y : Type 0} (kind : Fact → Option Y) (test : Y → Bool) where
         ]
       ]
 
-  module _ (date : Y → ℕ) (name : Y → List ℕ) (same : (f : Fact) (y : Y) → kind f ≡ Some y → name y ≡ name_of f) (facts : List Fact) (d : AreDistinct (map name_of facts)) where
-    same-only : (f : Fact) (y : Y) → only (kind f) ≡ Some y → name y ≡ name_of f
+  module _ (date : Y → ℕ) (name : Y → List ℕ) (same : (f : Fact) (y : Y) → kind f ≡ Some y → name y ≡ fact_name f) (facts : List Fact) (d : AreDistinct (map fact_name facts)) where
+    same-only : (f : Fact) (y : Y) → only (kind f) ≡ Some y → name y ≡ fact_name f
     same-only f y e =
         same f y (elim (kind f) as (λ p. only p ≡ Some y → p ≡ Some y) [
           | None ↦ λ h. h
@@ -84,28 +84,28 @@ module _ {Y : Type 0} (kind : Fact → Option Y) (test : Y → Bool) where
     items facts = filter test (filter_map kind facts)
 
     distinct-items : AreDistinct (map name (items facts))
-    distinct-items = subst (λ l. AreDistinct (map name l)) (sym (filter-is facts)) (distinct-given (λ f. only (kind f)) name_of name same-only facts d)
+    distinct-items = subst (λ l. AreDistinct (map name l)) (sym (filter-is facts)) (distinct-given (λ f. only (kind f)) fact_name name same-only facts d)
 
-    moved-items : IsPermutation (items facts) (items (by_name name_of facts))
+    moved-items : IsPermutation (items facts) (items (by_name fact_name facts))
     moved-items =
-        subst (λ l. IsPermutation l (items (by_name name_of facts))) (sym (filter-is facts))
-        (subst (IsPermutation (filter_map (λ f. only (kind f)) facts)) (sym (filter-is (by_name name_of facts))) (moved-given (λ f. only (kind f)) name_of name same-only facts d))
+        subst (λ l. IsPermutation l (items (by_name fact_name facts))) (sym (filter-is facts))
+        (subst (IsPermutation (filter_map (λ f. only (kind f)) facts)) (sym (filter-is (by_name fact_name facts))) (moved-given (λ f. only (kind f)) fact_name name same-only facts d))
 
-    greatest-items : greatest (on (λ y. (date y, name y)) dated_cmp) (items facts) ≡ greatest (on (λ y. (date y, name y)) dated_cmp) (items (by_name name_of facts))
-    greatest-items = greatest-moved date name (items facts) (items (by_name name_of facts)) distinct-items moved-items
+    greatest-items : greatest (on (λ y. (date y, name y)) dated_cmp) (items facts) ≡ greatest (on (λ y. (date y, name y)) dated_cmp) (items (by_name fact_name facts))
+    greatest-items = greatest-moved date name (items facts) (items (by_name fact_name facts)) distinct-items moved-items
 
 -- ---- technotes and attachments
 
-pub note_name : (f : Fact) (n : Note) → as_note f ≡ Some n → n.name ≡ name_of f
+pub note_name : (f : Fact) (n : Note) → as_note f ≡ Some n → n.name ≡ fact_name f
 note_name (fact.Page p) n e = cc
 note_name (fact.Note m) n e = let same : m ≡ n = cc in ap (λ n. n.name) (sym same)
 note_name (fact.Attached a) n e = cc
 
-pub attached_name : (f : Fact) (a : Attached) → as_attached f ≡ Some a → a.name ≡ name_of f
+pub attached_name : (f : Fact) (a : Attached) → as_attached f ≡ Some a → a.name ≡ fact_name f
 attached_name (fact.Page p) a e = cc
 attached_name (fact.Note n) a e = cc
 attached_name (fact.Attached b) a e = let same : b ≡ a = cc in ap (λ a. a.name) (sym same)
 
-module _ (facts : List Fact) (d : AreDistinct (map name_of facts)) where
-  pub note-by_name : (id : List ℕ) → current_note facts id ≡ current_note (by_name name_of facts) id
+module _ (facts : List Fact) (d : AreDistinct (map fact_name facts)) where
+  pub note-by_name : (id : List ℕ) → current_note facts id ≡ current_note (by_name fact_name facts) id
   note-by_name id = greatest-items as_note (λ n. bytes_eq n.id id) (λ n. n.date) (λ n. n.name) note_name facts d

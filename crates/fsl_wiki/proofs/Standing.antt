@@ -24,14 +24,14 @@ use Rattle.fsl_wiki.specs.declared.entry.Entry.{Entry}
 use Rattle.fsl_wiki.specs.declared.entry.Entry.TheVariants as entry
 use Rattle.fsl_wiki.specs.declared.entry.Row.{Row}
 use Rattle.fsl_wiki.specs.Groups.{group_cmp, page_group, note_group, file_group}
-use Rattle.fsl_wiki.specs.Pages.{name_of, as_page, as_note, as_attached, current_note, current, pages_row}
+use Rattle.fsl_wiki.specs.Pages.{fact_name, as_page, as_note, as_attached, current_note, current, pages_row}
 use Rattle.fsl_wiki.specs.Kept.{Lines, fact_of, fact_at, facts_of, group_of, place_of, latest, is_called, leads, row_by}
 use Rattle.fsl_wiki.proofs.Canonical.{own}
 use Rattle.fsl_wiki.proofs.Moved.{note_name, attached_name}
 
 -- ---- those that a fact of one name gives
 
-module _ {Y : Type 0} (kind : Fact → Option Y) (name : Y → List ℕ) (same : (f : Fact) (y : Y) → kind f ≡ Some y → name y ≡ name_of f) (test : Y → Bool) where
+module _ {Y : Type 0} (kind : Fact → Option Y) (name : Y → List ℕ) (same : (f : Fact) (y : Y) → kind f ≡ Some y → name y ≡ fact_name f) (test : Y → Bool) where
   -- what the entry of a name gives
   abbrev pub given : Lines → List ℕ → Option Y
   given es q = option_and_then (λ e. kind (fact_at q e)) (value_at bytes_cmp q es)
@@ -177,7 +177,7 @@ latest_file facts target file =
 abbrev pub triple : Row → Bool × Bool × Bool
 triple r = (r.page, r.note, r.attached)
 
-page_name : (f : Fact) (p : Page) → as_page f ≡ Some p → p.name ≡ name_of f
+page_name : (f : Fact) (p : Page) → as_page f ≡ Some p → p.name ≡ fact_name f
 page_name (fact.Page q) p e = let same : q ≡ p = cc in ap (λ p. p.name) (sym same)
 page_name (fact.Note n) p e = cc
 page_name (fact.Attached a) p e = cc
@@ -230,11 +230,11 @@ module _ (es : Lines) (q : List ℕ) (sorted : IsStrictlySortedBy bytes_cmp (key
 
 -- ---- names of entries differ
 
-pub distinct_facts : (es : Lines) → IsStrictlySortedBy bytes_cmp (keys_of es) → AreDistinct (map name_of (facts_of es))
+pub distinct_facts : (es : Lines) → IsStrictlySortedBy bytes_cmp (keys_of es) → AreDistinct (map fact_name (facts_of es))
 distinct_facts es sorted =
     let tied : eq_by_cmp bytes_cmp ≡ bytes_eq = λ i x y. sym (texts_ties x y) i in
     subst AreDistinct (sym (names es)) (subst (λ e. IsDistinct e (keys_of es)) tied (IsDistinct-from_sorted bytes_cmp (keys_of es) sorted))
   where
-    names : (es : Lines) → map name_of (facts_of es) ≡ keys_of es
+    names : (es : Lines) → map fact_name (facts_of es) ≡ keys_of es
     names [] = refl
     names (e ∷ es) = λ i. own e i ∷ names es i

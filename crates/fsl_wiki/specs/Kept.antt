@@ -9,7 +9,7 @@ use Rattle.std.specs.Map.{keys_of}
 use Rattle.std.specs.declared.cmp.Ordering.{Ordering}
 use Rattle.fsl_order.specs.Names.{bytes_cmp, dated_cmp}
 use Rattle.fsl_order.specs.Rows.{greatest}
-use Rattle.fsl_order.specs.Held.{Held, IsAsBefore}
+use Rattle.fsl_order.specs.TableState.{TableState, IsAsBefore}
 use Rattle.fsl_table.specs.Contents.{Contents, value_at, with_entry, without_key, first_of}
 use Rattle.fsl_table.specs.Within.{within_cmp, within, above}
 use Rattle.fsl_table.specs.Placed.{ArePlaced, key_of}
@@ -27,7 +27,7 @@ use Rattle.fsl_wiki.specs.declared.entry.Row.{Row}
 use Rattle.fsl_wiki.specs.declared.entry.Entry.TheVariants as entry
 use Rattle.fsl_wiki.specs.Groups.{group_cmp, page_group, note_group, file_group}
 use Rattle.fsl_wiki.specs.Late.{late_cmp}
-use Rattle.fsl_wiki.specs.Pages.{name_of, as_page, as_attached}
+use Rattle.fsl_wiki.specs.Pages.{fact_name, as_page, as_attached}
 
 -- technotes by date and name
 abbrev pub note_cmp : Note → Note → Ordering
@@ -97,7 +97,7 @@ date_of (fact.Note n) = n.date
 date_of (fact.Attached a) = a.date
 
 abbrev pub place_of : Fact → ℕ × List ℕ
-place_of f = (date_of f, name_of f)
+place_of f = (date_of f, fact_name f)
 
 abbrev pub item : List ℕ × Entry → Option Fact
 item e = Some (fact_of e)
@@ -185,7 +185,7 @@ latest facts g = greatest (on place_of dated_cmp) (filter (λ f. is_eq (group_cm
 
 -- whether what may be there has this name
 abbrev pub is_called : List ℕ → Option Fact → Bool
-is_called name o = option_map_or (λ f. bytes_eq (name_of f) name) o false
+is_called name o = option_map_or (λ f. bytes_eq (fact_name f) name) o false
 
 -- whether the version of a name is the current one
 abbrev pub leads : Lines → List ℕ → Option Spot → Bool
@@ -235,7 +235,7 @@ pub record Rows : Type 0 where
   pub spots : Contents Spot (Unit {0})
   pub targets : Contents Target (Unit {0})
 
-abbrev pub held_of : Rows → Held Fact
+abbrev pub held_of : Rows → TableState Fact
 held_of r = record { facts = facts_of r.facts.entries; spare = r.facts.spare ∷ r.spots.spare ∷ r.targets.spare ∷ [] }
 
 pub record IsKept (r : Rows) : Type 0 where
@@ -259,7 +259,7 @@ undone_rows logs r = record {
 }
 
 -- the logs find their memory, and lead back
-pub record TakesBack (logs : Logs) (before : Held Fact) (now : Rows) : Type 0 where
+pub record TakesBack (logs : Logs) (before : TableState Fact) (now : Rows) : Type 0 where
   pub facts_can : CanUndo bytes_cmp logs.facts now.facts
   pub spots_can : CanUndo spot_cmp logs.spots now.spots
   pub targets_can : CanUndo target_cmp logs.targets now.targets

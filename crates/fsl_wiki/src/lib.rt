@@ -4,7 +4,7 @@
 #![tactic(auto)]
 
 ghost use Rattle.std.specs.Prelude.{◌≡◌, IfOk};
-ghost use Rattle.fsl_wiki.specs.Pages.{name_of};
+ghost use Rattle.fsl_wiki.specs.Pages.{fact_name};
 ghost use Rattle.fsl_wiki.specs.Laws.{NoOtherCurrent};
 
 mod entry;
@@ -104,7 +104,7 @@ pub enum Fact {
 impl Fact {
     /// The name of the artifact.
     pub fn name(&self) -> Name
-        ensures { result ≡ name_of self.now }
+        ensures { result ≡ fact_name self.now }
     {
         match self {
             Fact::Page(page) => page.name,

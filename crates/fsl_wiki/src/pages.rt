@@ -1,10 +1,10 @@
 //! The table of pages, technotes and attachments.
 ghost use Rattle.std.specs.Prelude.{◌≡◌, ◌+◌, ◌<◌, ◌≤◌, [], ◌∷◌, true, false, map, IfSome, IfOk, OnOk, OnErr};
-ghost use Rattle.fsl_order.specs.Held.{IsAsBefore};
+ghost use Rattle.fsl_order.specs.TableState.{IsAsBefore};
 ghost use Rattle.fsl_order.specs.Names.{has};
 ghost use Rattle.fsl_order.specs.Rows.{by_name, AreDistinct, ListsChanged};
 ghost use Rattle.fsl_wiki.specs.Pages as table;
-ghost use Rattle.fsl_wiki.specs.Pages.{name_of, as_page, pages_row};
+ghost use Rattle.fsl_wiki.specs.Pages.{fact_name, as_page, pages_row};
 
 use super::entry::Entry;
 use super::group::Group;
@@ -31,11 +31,11 @@ pub struct Pages {
 }
 
 impl Model for Pages {
-    ghost use Rattle.fsl_order.specs.Held.{Held};
+    ghost use Rattle.fsl_order.specs.TableState.{TableState};
     ghost use Rattle.fsl_wiki.specs.declared.Fact.{Fact};
     ghost use Rattle.fsl_wiki.specs.Kept.{held_of, IsKept};
 
-    ghost Value = { Held Fact };
+    ghost Value = { TableState Fact };
 
     ghost view = { λ p. held_of (record { facts = p.facts; spots = p.spots; targets = p.targets }) };
 
@@ -54,7 +54,7 @@ pub struct Undo {
 }
 
 impl Model for Undo {
-    ghost use Rattle.fsl_order.specs.Held.{Change, IsAsBefore};
+    ghost use Rattle.fsl_order.specs.TableState.{Change, IsAsBefore};
     ghost use Rattle.fsl_wiki.specs.declared.Fact.{Fact};
     ghost use Rattle.fsl_wiki.specs.Kept.{Rows, IsKept, held_of, TakesBack};
 
@@ -93,8 +93,8 @@ impl Pages {
     /// The table of some facts, of which no two have one name. It is the same in whatever order they stand. It takes time by n log n
     /// of the facts. `Memory` is the only error.
     pub fn build(alloc: Global, facts: &[Fact]) -> Result<Pages, Memory>
-        requires { AreDistinct (map name_of facts.now) }
-        ensures facts { IfOk result (λ t. t.facts ≡ by_name name_of facts.now) }
+        requires { AreDistinct (map fact_name facts.now) }
+        ensures facts { IfOk result (λ t. t.facts ≡ by_name fact_name facts.now) }
     {
         Pages::build_counted::<Brand>(alloc, facts, Blank::new(1))
     }
@@ -107,8 +107,8 @@ impl Pages {
         requires name { blank.name ≡ L.name }
         requires parts { blank.parts ≡ L.parts }
         requires counts { 0 < L.parts }
-        requires distinct { AreDistinct (map name_of facts.now) }
-        ensures facts { IfOk result (λ t. t.facts ≡ by_name name_of facts.now) }
+        requires distinct { AreDistinct (map fact_name facts.now) }
+        ensures facts { IfOk result (λ t. t.facts ≡ by_name fact_name facts.now) }
     {
         let mut steps: Steps<L> = Steps::new(blank);
         let mut entries = Table::new(alloc);
@@ -146,8 +146,8 @@ impl Pages {
         fact: Fact,
         steps: &mut Steps<L>,
     ) -> Result<Undo, Memory>
-        requires absent { has (map name_of self.old.facts) (name_of fact) ≡ false }
-        ensures facts { OnOk result (self.new.facts ≡ by_name name_of (fact ∷ self.old.facts)) }
+        requires absent { has (map fact_name self.old.facts) (fact_name fact) ≡ false }
+        ensures facts { OnOk result (self.new.facts ≡ by_name fact_name (fact ∷ self.old.facts)) }
         ensures before { IfOk result (λ undo. undo.before ≡ self.old) }
         ensures after { IfOk result (λ undo. undo.after ≡ self.new) }
         ensures changed { IfOk result (λ undo. ListsChanged (pages_row self.old.facts) (pages_row self.new.facts) undo.changed) }
@@ -165,8 +165,8 @@ impl Pages {
         fact: Fact,
         steps: &mut Steps<L>,
     ) -> Result<Undo, Memory>
-        requires there { has (map name_of self.old.facts) (name_of fact) ≡ true }
-        ensures facts { OnOk result (self.new.facts ≡ by_name name_of (fact ∷ self.old.facts)) }
+        requires there { has (map fact_name self.old.facts) (fact_name fact) ≡ true }
+        ensures facts { OnOk result (self.new.facts ≡ by_name fact_name (fact ∷ self.old.facts)) }
         ensures before { IfOk result (λ undo. undo.before ≡ self.old) }
         ensures after { IfOk result (λ undo. undo.after ≡ self.new) }
         ensures changed { IfOk result (λ undo. ListsChanged (pages_row self.old.facts) (pages_row self.new.facts) undo.changed) }
@@ -183,8 +183,8 @@ impl Pages {
         new: bool,
         steps: &mut Steps<L>,
     ) -> Result<Undo, Memory>
-        requires absent { new ≡ true → has (map name_of self.old.facts) (name_of fact) ≡ false }
-        ensures facts { OnOk result (self.new.facts ≡ by_name name_of (fact ∷ self.old.facts)) }
+        requires absent { new ≡ true → has (map fact_name self.old.facts) (fact_name fact) ≡ false }
+        ensures facts { OnOk result (self.new.facts ≡ by_name fact_name (fact ∷ self.old.facts)) }
         ensures before { IfOk result (λ undo. undo.before ≡ self.old) }
         ensures after { IfOk result (λ undo. undo.after ≡ self.new) }
         ensures changed { IfOk result (λ undo. ListsChanged (pages_row self.old.facts) (pages_row self.new.facts) undo.changed) }

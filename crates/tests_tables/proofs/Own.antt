@@ -3,7 +3,7 @@ use Rattle.std.proofs.Common.{◌≡◌, ◌≤◌, ℕ, List, [], ◌∷◌, �
 use Rattle.std.specs.Cmp.Lexicographic.{nat_list_eq_equiv}
 use Rattle.fsl_order.specs.Names.{has}
 use Rattle.fsl_order.specs.Rows.{by_name}
-use Rattle.fsl_order.specs.Held.{Held, AreAtMost, IsAsBefore}
+use Rattle.fsl_order.specs.TableState.{TableState, AreAtMost, IsAsBefore}
 use Rattle.fsl_order.proofs.RowLemmas.{is_some-named}
 use Rattle.fsl_order.proofs.NamedLemmas.{named-by_name}
 
@@ -20,5 +20,5 @@ same_spare : (ns : List ℕ) → AreAtMost ns ns
 same_spare [] = tt
 same_spare (n ∷ ns) = (omega arith, same_spare ns)
 
-pub as_is : {F : Type 0} (h g : Held F) → h ≡ g → IsAsBefore h g
+pub as_is : {F : Type 0} (h g : TableState F) → h ≡ g → IsAsBefore h g
 as_is h g is = record { facts = ap (λ x. x.facts) (sym is); spare = rw is (same_spare g.spare) }

@@ -3,7 +3,7 @@
 ghost use Rattle.std.specs.Prelude.{◌≡◌, ◌<◌, ◌∷◌, [], false, IfOk};
 ghost use Rattle.std.specs.Str.{bytes_eq};
 ghost use Rattle.fsl_order.specs.Rows.{by_name};
-ghost use Rattle.fsl_wiki.specs.Pages.{name_of};
+ghost use Rattle.fsl_wiki.specs.Pages.{fact_name};
 
 use crate::names::{letter, put};
 use fsl_date::Moment;
@@ -38,7 +38,7 @@ fn page(alloc: Global, name: u8, date: i64) -> Result<Fact, Fail> {
 
 /// An attachment to the page `t`.
 fn attachment(alloc: Global, name: Name, date: Moment) -> Result<Fact, Memory>
-    ensures { IfOk result (λ fact. name_of fact ≡ name) }
+    ensures { IfOk result (λ fact. fact_name fact ≡ name) }
 {
     Ok(Fact::Attached(Attached {
         name,
@@ -76,8 +76,8 @@ fn arrive<L: Ledger>(
     steps: &mut Steps<L>,
 ) -> Result<(), Memory>
     requires none { pages.old.facts ≡ [] }
-    requires differ { bytes_eq (name_of second.now) (name_of first.now) ≡ false }
-    ensures facts { IfOk result (λ _. pages.new.facts ≡ by_name name_of (second.now ∷ first.now ∷ [])) }
+    requires differ { bytes_eq (fact_name second.now) (fact_name first.now) ≡ false }
+    ensures facts { IfOk result (λ _. pages.new.facts ≡ by_name fact_name (second.now ∷ first.now ∷ [])) }
 {
     pages.add(alloc, first.copied(alloc)?, steps)?;
     show(alloc, pages, into);
@@ -96,8 +96,8 @@ fn move_back<L: Ledger>(
     into: &mut Text,
     steps: &mut Steps<L>,
 ) -> Result<usize, Memory>
-    requires there { pages.old.facts ≡ by_name name_of (second.now ∷ first.now ∷ []) }
-    requires same { name_of moved ≡ name_of second.now }
+    requires there { pages.old.facts ≡ by_name fact_name (second.now ∷ first.now ∷ []) }
+    requires same { fact_name moved ≡ fact_name second.now }
 {
     let undo = pages.change(alloc, moved, steps)?;
     let changed = undo.changed().items().len();
@@ -118,8 +118,8 @@ fn in_a_table<L: Ledger>(
     requires name { blank.name ≡ L.name }
     requires parts { blank.parts ≡ L.parts }
     requires counts { 0 < L.parts }
-    requires differ { bytes_eq (name_of second.now) (name_of first.now) ≡ false }
-    requires same { name_of moved ≡ name_of second.now }
+    requires differ { bytes_eq (fact_name second.now) (fact_name first.now) ≡ false }
+    requires same { fact_name moved ≡ fact_name second.now }
 {
     let mut steps: Steps<L> = Steps::new(blank);
     let mut pages = Pages::new(alloc);

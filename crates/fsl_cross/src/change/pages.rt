@@ -2,7 +2,7 @@
 ghost use Rattle.std.specs.Prelude.{◌≡◌, ◌+◌, ◌≤◌, ◌∷◌, [], false, map, length, OnOk, None, IfSome, option_and_then};
 ghost use Rattle.fsl_order.specs.Names.{has};
 ghost use Rattle.fsl_order.specs.Rows.{by_name};
-ghost use Rattle.fsl_wiki.specs.Pages.{name_of, as_page};
+ghost use Rattle.fsl_wiki.specs.Pages.{fact_name, as_page};
 ghost use Rattle.fsl_cross.specs.Tables.{pages_facts, without};
 ghost use Rattle.fsl_cross.specs.Mixed.{IsIn};
 ghost use Rattle.fsl_cross.specs.Trails.{Led, PagesTold};
@@ -25,8 +25,8 @@ fn put<L: Ledger>(
     fact: Fact,
     steps: &mut Steps<L>,
 ) -> Result<(), Memory>
-    requires { has (map name_of pages.old.facts) (name_of fact) ≡ false }
-    ensures facts { OnOk result (pages.new.facts ≡ by_name name_of (fact ∷ pages.old.facts)) }
+    requires { has (map fact_name pages.old.facts) (fact_name fact) ≡ false }
+    ensures facts { OnOk result (pages.new.facts ≡ by_name fact_name (fact ∷ pages.old.facts)) }
     ensures led { Led pages.old undos.old pages.new undos.new }
     ensures told { OnOk result (PagesTold undos.old → PagesTold undos.new) }
     ensures single { OnOk result (undos.old ≡ [] → length undos.new ≤ 1) }

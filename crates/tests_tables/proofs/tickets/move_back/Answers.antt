@@ -3,7 +3,7 @@ use Rattle.std.specs.Str.{bytes_eq}
 use Rattle.std.specs.Cmp.Lexicographic.{nat_list_eq_equiv}
 use Rattle.fsl_order.specs.Names.{has}
 use Rattle.fsl_order.specs.Rows.{by_name}
-use Rattle.fsl_order.specs.Held.{AreAtMost}
+use Rattle.fsl_order.specs.TableState.{AreAtMost}
 use Rattle.fsl_order.proofs.NamedLemmas.{named-by_name}
 use Rattle.fsl_order.proofs.RowLemmas.{is_some-named}
 use Rattle.fsl_ticket.specs.declared.Fact.{Fact}

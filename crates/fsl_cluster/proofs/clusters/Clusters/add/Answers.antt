@@ -1,7 +1,7 @@
 use Rattle.std.proofs.Common.{◌∙◌, ◌∷◌, map, refl, sym, ap, subst}
 use Rattle.fsl_order.specs.Names.{has}
 use Rattle.fsl_order.specs.Rows.{by_name}
-use Rattle.fsl_order.specs.Held.{IsAsBefore}
+use Rattle.fsl_order.specs.TableState.{IsAsBefore}
 use Rattle.fsl_table.proofs.Facts.{absent-entry, facts_with}
 use Rattle.fsl_cluster.specs.Kept.{AreUndone, AreAsGood, TakesBack, held_of, fact_of, facts_of, entry_of}
 use Rattle.fsl_cluster.proofs.Canonical.{kept_as, takes_back, as_good, good_entries, undone_none, undone_good}

@@ -1,7 +1,7 @@
 use Rattle.std.proofs.Common.{◌≡◌, ◌∙◌, ◌∷◌, ◌+◌, List, ℕ, Option, Some, None, true, false, map, length, option_map, refl, sym, ap, subst, arith}
 use Rattle.fsl_order.specs.Names.{bytes_cmp, has}
 use Rattle.fsl_order.specs.Rows.{by_name, named}
-use Rattle.fsl_order.specs.Held.{IsAsBefore}
+use Rattle.fsl_order.specs.TableState.{IsAsBefore}
 use Rattle.fsl_table.specs.Contents.{value_at}
 use Rattle.fsl_table.proofs.Facts.{has-facts, named-facts, facts_with}
 use Rattle.fsl_cluster.specs.declared.Fact.{Fact}

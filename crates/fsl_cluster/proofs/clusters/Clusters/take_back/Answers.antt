@@ -1,5 +1,5 @@
 use Rattle.std.proofs.Common.{sym, ap, subst}
-use Rattle.fsl_order.specs.Held.{IsAsBefore}
+use Rattle.fsl_order.specs.TableState.{IsAsBefore}
 use Rattle.fsl_cluster.specs.declared.tables.Tables.{Tables}
 use Rattle.fsl_cluster.specs.Kept.{TakesBack, held_of, undone_tables}
 use Rattle.fsl_cluster.proofs.Canonical.{chain}

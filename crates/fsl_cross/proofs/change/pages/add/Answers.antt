@@ -1,6 +1,6 @@
 use Rattle.std.proofs.Common.{◌≡◌, sym, ◌∙◌, ◌+◌, ◌≤◌, subst, arith}
 use Rattle.fsl_wiki.specs.declared.Fact.{Fact}
-use Rattle.fsl_wiki.specs.Pages.{name_of, as_page}
+use Rattle.fsl_wiki.specs.Pages.{fact_name, as_page}
 use Rattle.fsl_cross.specs.Facts.{pages_fact}
 use Rattle.fsl_cross.proofs.Moved.{item_name}
 use Rattle.fsl_cross.proofs.TableLemmas.{pages-own}
@@ -14,17 +14,17 @@ use Rattle.fsl_cross.proofs.change.pages.add.Goals as goal
 pub put-requires : goal.put-requires
 put-requires g c =
     let item = c.args.item.now in
-    some-absent item_name name_of pages_fact pages-own c.args.items.now c.requires.new.rising item c.requires.new.there c.args.pages.now.facts c.requires.facts (pages_fact item)
-    (λ f e. if_some (λ (f : Fact). name_of f ≡ item.name) (pages_fact item) f e (pages-own item)) c.in-Some.fact (sym c.in_ok-fact.ensures ∙ c.in-Some.is)
+    some-absent item_name fact_name pages_fact pages-own c.args.items.now c.requires.new.rising item c.requires.new.there c.args.pages.now.facts c.requires.facts (pages_fact item)
+    (λ f e. if_some (λ (f : Fact). fact_name f ≡ item.name) (pages_fact item) f e (pages-own item)) c.in-Some.fact (sym c.in_ok-fact.ensures ∙ c.in-Some.is)
 
 pub returns-in-Some-clause-facts : goal.returns-in-Some-clause-facts
 returns-in-Some-clause-facts g c =
-    some-added item_name name_of pages_fact pages-own c.args.items.now c.requires.new.rising c.args.item.now c.requires.new.there c.args.pages.now.facts c.put.result c.put.new.pages.facts c.in-Some.fact
+    some-added item_name fact_name pages_fact pages-own c.args.items.now c.requires.new.rising c.args.item.now c.requires.new.there c.args.pages.now.facts c.put.result c.put.new.pages.facts c.in-Some.fact
     c.requires.facts (sym c.in_ok-fact.ensures ∙ c.in-Some.is) c.put.ensures.facts
 
 pub returns-in-None-clause-facts : goal.returns-in-None-clause-facts
 returns-in-None-clause-facts g c =
-    none-added item_name name_of pages_fact pages-own c.args.items.now c.requires.new.rising c.args.item.now c.requires.new.there c.args.pages.now.facts c.requires.facts (sym c.in_ok-fact.ensures ∙ c.in-None.is)
+    none-added item_name fact_name pages_fact pages-own c.args.items.now c.requires.new.rising c.args.item.now c.requires.new.there c.args.pages.now.facts c.requires.facts (sym c.in_ok-fact.ensures ∙ c.in-None.is)
 
 pub returns-in-None-clause-single : goal.returns-in-None-clause-single
 returns-in-None-clause-single g c = none-single c.args.undos.now

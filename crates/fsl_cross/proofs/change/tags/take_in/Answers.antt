@@ -4,7 +4,7 @@ use Rattle.fsl_table.proofs.Outcomes.{on_ok_map, always_ok}
 use Rattle.fsl_cross.proofs.Parents.{tags-end}
 use Rattle.fsl_cross.proofs.Quiet.{quiet-on, within-quiet}
 use Rattle.fsl_cross.specs.Touches.{NoneLate}
-use Rattle.fsl_order.specs.Held.{Change}
+use Rattle.fsl_order.specs.TableState.{Change}
 use Rattle.fsl_tags.specs.declared.Fact.{Fact}
 use Rattle.fsl_cross.proofs.change.tags.take_in.Goals as goal
 

@@ -1,6 +1,6 @@
 use Rattle.std.proofs.Common.{sym, ap, ◌∙◌}
 use Rattle.fsl_order.specs.Rows.{by_name}
-use Rattle.fsl_wiki.specs.Pages.{name_of}
+use Rattle.fsl_wiki.specs.Pages.{fact_name}
 use Rattle.fsl_cross.specs.Tables.{Seen, pages_facts, item_set}
 use Rattle.fsl_cross.proofs.FactLemmas.{set-rising}
 use Rattle.fsl_cross.proofs.TableLemmas.{pages-by_name}
@@ -13,6 +13,6 @@ returns c =
     record {
       facts =
           c.self.invariant.contents.pages
-          ∙ sym (ap (λ set. by_name name_of (pages_facts set)) (set-rising items rise) ∙ pages-by_name items rise)
-          ∙ ap (λ (s : Seen). by_name name_of (pages_facts (item_set s.items))) c.self.view_is;
+          ∙ sym (ap (λ set. by_name fact_name (pages_facts set)) (set-rising items rise) ∙ pages-by_name items rise)
+          ∙ ap (λ (s : Seen). by_name fact_name (pages_facts (item_set s.items))) c.self.view_is;
     }

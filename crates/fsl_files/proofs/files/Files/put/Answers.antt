@@ -1,6 +1,6 @@
 use Rattle.std.proofs.Common.{◌≡◌, ◌∙◌, ◌∷◌, List, ℕ, None, false, length, map, refl, sym, subst, ap, arith}
 use Rattle.fsl_order.specs.Names.{bytes_cmp, has}
-use Rattle.fsl_order.specs.Held.{Held, IsAsBefore}
+use Rattle.fsl_order.specs.TableState.{TableState, IsAsBefore}
 use Rattle.fsl_order.specs.Rows.{by_name}
 use Rattle.fsl_table.specs.Contents.{value_at, with_entry}
 use Rattle.fsl_table.specs.Exact.{pair_cmp}
@@ -81,7 +81,7 @@ returns-in-Ok-clause-facts g c =
     ∙ ap (λ h. by_name (λ f. f.name) (c.args.fact ∷ h.facts)) c.self.view_is
 
 -- what an absent check-in that no other names takes
-absent_is : (r : Rows) (h : Held Fact) (name : List ℕ) → held_of r ≡ h → has (map (λ f. f.name) h.facts) name ≡ false → value_at bytes_cmp name r.facts.entries ≡ None
+absent_is : (r : Rows) (h : TableState Fact) (name : List ℕ) → held_of r ≡ h → has (map (λ f. f.name) h.facts) name ≡ false → value_at bytes_cmp name r.facts.entries ≡ None
 absent_is r h name is absent = absent-entry fact_of (λ f. f.name) (λ e. refl) r.facts.entries name (ap (λ h. has (map (λ f. f.name) h.facts) name) is ∙ absent)
 
 pub returns-in-Ok-clause-cost : goal.returns-in-Ok-clause-cost

@@ -1,5 +1,5 @@
 use Rattle.std.proofs.Common.{sym, ap, subst}
-use Rattle.fsl_order.specs.Held.{IsAsBefore}
+use Rattle.fsl_order.specs.TableState.{IsAsBefore}
 use Rattle.fsl_files.specs.Kept.{Rows, Logs, TakesBack, held_of, undone_rows}
 use Rattle.fsl_files.proofs.Canonical.{kept_as, chain}
 use Rattle.fsl_files.proofs.files.Files.take_back.Goals as goal

@@ -3,7 +3,7 @@ use Rattle.fsl_order.specs.Names.{bytes_cmp}
 use Rattle.fsl_table.specs.Exact.{pair_cmp}
 use Rattle.fsl_table.specs.Undo.{Undoes, IsAsGood, undone}
 use Rattle.fsl_table.proofs.Steps.{undoes-none, good_chain}
-use Rattle.fsl_order.specs.Held.{IsAsBefore}
+use Rattle.fsl_order.specs.TableState.{IsAsBefore}
 use Rattle.fsl_order.specs.Rows.{by_name}
 use Rattle.fsl_table.proofs.Facts.{facts_with}
 use Rattle.fsl_forum.specs.Held.{Rows, Logs, TakesBack, held_of, fact_of, facts_of, node_of}

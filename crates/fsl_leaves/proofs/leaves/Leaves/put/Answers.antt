@@ -1,7 +1,7 @@
 use Rattle.std.proofs.Common.{◌≡◌, ◌∙◌, ◌∷◌, List, ℕ, None, false, length, arith, map, refl, sym, ap, subst}
 use Rattle.fsl_order.specs.Names.{bytes_cmp, has}
 use Rattle.fsl_order.specs.Rows.{by_name}
-use Rattle.fsl_order.specs.Held.{Held, IsAsBefore}
+use Rattle.fsl_order.specs.TableState.{TableState, IsAsBefore}
 use Rattle.fsl_leaves.specs.Keys.{kin_cmp}
 use Rattle.fsl_table.specs.Contents.{value_at}
 use Rattle.fsl_table.specs.Undo.{Undoes, IsAsGood, undone}
@@ -12,7 +12,7 @@ use Rattle.fsl_leaves.specs.Kept.{Rows, TakesBack, held_of, fact_of, facts_of}
 use Rattle.fsl_leaves.proofs.Canonical.{kept_as, takes_back, as_good}
 use Rattle.fsl_leaves.proofs.leaves.Leaves.put.Goals as goal
 
-absent_is : (r : Rows) (h : Held Fact) (name : List ℕ) → held_of r ≡ h → has (map (λ f. f.name) h.facts) name ≡ false → value_at bytes_cmp name r.facts.entries ≡ None
+absent_is : (r : Rows) (h : TableState Fact) (name : List ℕ) → held_of r ≡ h → has (map (λ f. f.name) h.facts) name ≡ false → value_at bytes_cmp name r.facts.entries ≡ None
 absent_is r h name is absent = absent-entry fact_of (λ f. f.name) (λ e. refl) r.facts.entries name (ap (λ h. has (map (λ f. f.name) h.facts) name) is ∙ absent)
 
 pub put_listed-requires-clause-absent : goal.put_listed-requires-clause-absent

@@ -6,7 +6,7 @@ use Rattle.fsl_order.specs.Rows.{by_name}
 use Rattle.fsl_table.specs.Exact.{pair_cmp}
 use Rattle.fsl_table.specs.Contents.{value_at}
 use Rattle.fsl_table.specs.Undo.{Undoes, IsAsGood, undone}
-use Rattle.fsl_order.specs.Held.{Held, IsAsBefore}
+use Rattle.fsl_order.specs.TableState.{TableState, IsAsBefore}
 use Rattle.fsl_table.proofs.Steps.{undoes-none, good_chain}
 use Rattle.fsl_links.specs.declared.Fact.{Fact}
 use Rattle.fsl_links.specs.Kept.{Rows, TakesBack, IsKept, held_of, fact_of, facts_of}
@@ -64,10 +64,10 @@ returns-in-Ok-clause-facts g c =
     ∙ ap (λ h. by_name (λ f. f.name) (c.args.fact ∷ h.facts)) c.self.view_is
 
 -- what an absent check-in without children takes
-absent_is : (r : Rows) (h : Held Fact) (name : List ℕ) → held_of r ≡ h → has (map (λ f. f.name) h.facts) name ≡ false → value_at bytes_cmp name r.facts.entries ≡ None
+absent_is : (r : Rows) (h : TableState Fact) (name : List ℕ) → held_of r ≡ h → has (map (λ f. f.name) h.facts) name ≡ false → value_at bytes_cmp name r.facts.entries ≡ None
 absent_is r h name is absent = absent-entry fact_of (λ f. f.name) (λ e. refl) r.facts.entries name (ap (λ h. has (map (λ f. f.name) h.facts) name) is ∙ absent)
 
-none_is : (r : Rows) (h : Held Fact) (name : List ℕ) → IsKept r → held_of r ≡ h → children h.facts name ≡ [] → length (seconds name r.children.entries) ≡ 0
+none_is : (r : Rows) (h : TableState Fact) (name : List ℕ) → IsKept r → held_of r ≡ h → children h.facts name ≡ [] → length (seconds name r.children.entries) ≡ 0
 none_is r h name kept is none = ap length (seconds-children r name kept ∙ ap (λ h. children h.facts name) is ∙ none)
 
 pub returns-in-Ok-clause-cost : goal.returns-in-Ok-clause-cost

@@ -2,7 +2,7 @@ use Rattle.std.proofs.Common.{sym, ap, subst}
 use Rattle.fsl_order.specs.Names.{bytes_cmp}
 use Rattle.fsl_table.specs.Exact.{pair_cmp}
 use Rattle.fsl_table.specs.Undo.{undone}
-use Rattle.fsl_order.specs.Held.{IsAsBefore}
+use Rattle.fsl_order.specs.TableState.{IsAsBefore}
 use Rattle.fsl_links.specs.Kept.{Rows, TakesBack, held_of, undone_rows}
 use Rattle.fsl_links.proofs.Canonical.{kept_as, chain}
 use Rattle.fsl_links.proofs.links.Links.take_back.Goals as goal

@@ -3,7 +3,7 @@ use Rattle.fsl_order.specs.Names.{bytes_cmp}
 use Rattle.fsl_table.specs.Exact.{pair_cmp}
 use Rattle.fsl_table.specs.Undo.{Undoes, IsAsGood, undone}
 use Rattle.fsl_table.proofs.Steps.{undoes-none, good_chain}
-use Rattle.fsl_order.specs.Held.{IsAsBefore}
+use Rattle.fsl_order.specs.TableState.{IsAsBefore}
 use Rattle.fsl_tags.specs.Held.{Rows, Logs, TakesBack, held_of}
 use Rattle.fsl_tags.proofs.Canonical.{kept_as, takes_back, as_good}
 use Rattle.fsl_tags.proofs.Fit.{fit_moved}

@@ -1,7 +1,7 @@
 use Rattle.std.proofs.Common.{◌≡◌, ◌∙◌, ◌∷◌, length, arith, map, refl, sym, ap, subst}
 use Rattle.fsl_order.specs.Names.{bytes_cmp, latest_first, has}
 use Rattle.fsl_order.specs.Rows.{by_name}
-use Rattle.fsl_order.specs.Held.{IsAsBefore}
+use Rattle.fsl_order.specs.TableState.{IsAsBefore}
 use Rattle.fsl_table.specs.Undo.{Undoes, IsAsGood, undone}
 use Rattle.fsl_table.proofs.Steps.{undoes-none, good_chain}
 use Rattle.fsl_table.proofs.Facts.{absent-entry, facts_with}

@@ -1,5 +1,5 @@
 use Rattle.std.proofs.Common.{sym, ap, subst}
-use Rattle.fsl_order.specs.Held.{IsAsBefore}
+use Rattle.fsl_order.specs.TableState.{IsAsBefore}
 use Rattle.fsl_timeline.specs.Kept.{Rows, TakesBack, held_of, undone_rows}
 use Rattle.fsl_timeline.proofs.Canonical.{kept_as, chain}
 use Rattle.fsl_timeline.proofs.timeline.Timeline.take_back.Goals as goal

@@ -6,14 +6,14 @@ use Rattle.fsl_order.specs.Rows.{by_name, AreDistinct}
 use Rattle.fsl_rows.proofs.Built.{distinct-drop, by_name-again}
 use Rattle.fsl_table.specs.Contents.{with_entry}
 use Rattle.fsl_table.proofs.Facts.{absent-entry, absent_before, facts_with}
-use Rattle.fsl_wiki.specs.Pages.{name_of}
+use Rattle.fsl_wiki.specs.Pages.{fact_name}
 use Rattle.fsl_wiki.specs.Kept.{fact_of, facts_of, entry_of}
 use Rattle.fsl_wiki.proofs.Canonical.{kept_none, own, fact_again}
 use Rattle.fsl_wiki.proofs.pages.Pages.build_counted.Goals as goal
 
 pub loop-left-init : goal.loop-left-init
 loop-left-init g c = record {
-  done = ap facts_of c.new-entries.ensures ∙ ap (by_name name_of) (sym (drop-length c.args.facts.now));
+  done = ap facts_of c.new-entries.ensures ∙ ap (by_name fact_name) (sym (drop-length c.args.facts.now));
   kept = kept_none (record { facts = c.new-entries.result; spots = c.new-spots.result; targets = c.new-targets.result }) c.new-entries.ensures c.new-spots.ensures c.new-targets.ensures;
   within = omega arith;
 }
@@ -27,9 +27,9 @@ put_fact-requires-clause-absent g c =
     let e : j + 1 ≡ c.loop-left.left = omega (arith, c.loop-left-test.true) in
     let less : j < length facts = omega (arith, c.loop-left-test.true, c.loop-left.invariant.within) in
     let cut : drop j facts ≡ r ∷ rest = drop_more facts j r less ∙ (λ i. (sym c.index-facts-left.is) i ∷ drop (e i) facts) in
-    let d : AreDistinct (map name_of (r ∷ rest)) = subst (λ l. AreDistinct (map name_of l)) cut (distinct-drop name_of j facts c.requires.distinct) in
-    absent-entry fact_of name_of own c.loop-left.entries.entries c.name.result
-    ((λ i. has (map name_of (c.loop-left.invariant.done i)) ((c.name.ensures ∙ ap name_of c.in_ok-fact.ensures) i)) ∙ absent_before name_of r rest d)
+    let d : AreDistinct (map fact_name (r ∷ rest)) = subst (λ l. AreDistinct (map fact_name l)) cut (distinct-drop fact_name j facts c.requires.distinct) in
+    absent-entry fact_of fact_name own c.loop-left.entries.entries c.name.result
+    ((λ i. has (map fact_name (c.loop-left.invariant.done i)) ((c.name.ensures ∙ ap fact_name c.in_ok-fact.ensures) i)) ∙ absent_before fact_name r rest d)
 
 pub loop-left-preserved : goal.loop-left-preserved
 loop-left-preserved g c =
@@ -40,11 +40,11 @@ loop-left-preserved g c =
     let e : j + 1 ≡ c.loop-left.left = omega (arith, c.loop-left-test.true) in
     let less : j < length facts = omega (arith, c.loop-left-test.true, c.loop-left.invariant.within) in
     let cut : drop j facts ≡ r ∷ rest = drop_more facts j r less ∙ (λ i. (sym c.index-facts-left.is) i ∷ drop (e i) facts) in
-    let d : AreDistinct (map name_of (r ∷ rest)) = subst (λ l. AreDistinct (map name_of l)) cut (distinct-drop name_of j facts c.requires.distinct) in
+    let d : AreDistinct (map fact_name (r ∷ rest)) = subst (λ l. AreDistinct (map fact_name l)) cut (distinct-drop fact_name j facts c.requires.distinct) in
     record {
-      done = ap facts_of (c.in_ok-put_fact.ensures.entries ∙ (λ i. with_entry bytes_cmp ((c.name.ensures ∙ ap name_of c.in_ok-fact.ensures) i) ((c.of.ensures ∙ ap entry_of c.in_ok-fact.ensures) i) c.loop-left.entries.entries))
-          ∙ facts_with fact_of name_of own (name_of r) (entry_of r) c.loop-left.entries.entries c.loop-left.invariant.kept.ordered
-          ∙ (λ i. by_name name_of (fact_again r i ∷ c.loop-left.invariant.done i)) ∙ by_name-again name_of r rest d ∙ ap (by_name name_of) (sym cut);
+      done = ap facts_of (c.in_ok-put_fact.ensures.entries ∙ (λ i. with_entry bytes_cmp ((c.name.ensures ∙ ap fact_name c.in_ok-fact.ensures) i) ((c.of.ensures ∙ ap entry_of c.in_ok-fact.ensures) i) c.loop-left.entries.entries))
+          ∙ facts_with fact_of fact_name own (fact_name r) (entry_of r) c.loop-left.entries.entries c.loop-left.invariant.kept.ordered
+          ∙ (λ i. by_name fact_name (fact_again r i ∷ c.loop-left.invariant.done i)) ∙ by_name-again fact_name r rest d ∙ ap (by_name fact_name) (sym cut);
       kept = c.in_ok-put_fact.ensures.kept;
       within = omega (arith, c.loop-left.invariant.within);
     }

@@ -1,13 +1,13 @@
 use Rattle.std.proofs.Common.{◌≡◌, ◌≤◌, drop, length}
 use Rattle.fsl_order.specs.Rows.{by_name}
-use Rattle.fsl_wiki.specs.Pages.{name_of}
+use Rattle.fsl_wiki.specs.Pages.{fact_name}
 use Rattle.fsl_wiki.specs.Kept.{IsKept, facts_of}
 use Rattle.fsl_wiki.proofs.pages.Pages.build_counted.Given as goal
 
 -- those that are done are there
 abbrev pub invariant-loop-left : goal.invariant-loop-left
 invariant-loop-left g l = record {
-  done : facts_of l.entries.entries ≡ by_name name_of (drop l.left l.facts);
+  done : facts_of l.entries.entries ≡ by_name fact_name (drop l.left l.facts);
   kept : IsKept (record { facts = l.entries; spots = l.spots; targets = l.targets });
   within : l.left ≤ length l.facts;
 }

@@ -1,7 +1,7 @@
 use Rattle.std.proofs.Common.{◌≡◌, ◌∙◌, ℕ, ◌&&◌, ◌≤◌, ◌∷◌, true, length, map, refl, sym, subst, ap, arith}
 use Rattle.std.specs.Prelude.{IfSome}
 use Rattle.fsl_order.specs.Names.{bytes_cmp, has}
-use Rattle.fsl_order.specs.Held.{IsAsBefore}
+use Rattle.fsl_order.specs.TableState.{IsAsBefore}
 use Rattle.fsl_order.specs.Rows.{by_name}
 use Rattle.fsl_table.specs.Contents.{with_entry}
 use Rattle.fsl_table.specs.Undo.{Undoes, IsAsGood, undone}
@@ -9,15 +9,15 @@ use Rattle.fsl_table.proofs.Steps.{undoes-none, good_chain}
 use Rattle.fsl_table.proofs.Facts.{absent-entry, facts_with}
 use Rattle.fsl_wiki.specs.declared.Fact.{Fact}
 use Rattle.fsl_wiki.specs.declared.Fact.TheVariants as fact
-use Rattle.fsl_wiki.specs.Pages.{name_of, as_page}
+use Rattle.fsl_wiki.specs.Pages.{fact_name, as_page}
 use Rattle.fsl_wiki.specs.Kept.{Rows, Logs, TakesBack, held_of, fact_of, facts_of, entry_of, is_page, spot_cmp, target_cmp}
 use Rattle.fsl_wiki.proofs.Canonical.{kept_as, takes_back, as_good, own, fact_again}
 use Rattle.fsl_wiki.proofs.pages.Pages.put.Goals as goal
 
 pub put_either-requires-clause-absent : goal.put_either-requires-clause-absent
 put_either-requires-clause-absent g c = λ new.
-    absent-entry fact_of name_of own c.self.inside.facts.entries c.name-name.result
-    ((λ i. has (map name_of (c.self.view_is i).facts) (c.name-name.ensures i)) ∙ c.requires.absent new)
+    absent-entry fact_of fact_name own c.self.inside.facts.entries c.name-name.result
+    ((λ i. has (map fact_name (c.self.view_is i).facts) (c.name-name.ensures i)) ∙ c.requires.absent new)
 
 pub invariant_of-result : goal.invariant_of-result
 invariant_of-result g c = λ now kept same.
@@ -81,8 +81,8 @@ returns-in-Err-clause-err g c =
 pub returns-in-Ok-clause-facts : goal.returns-in-Ok-clause-facts
 returns-in-Ok-clause-facts g c =
     ap facts_of (c.in-Ok.ensures.entries ∙ (λ i. with_entry bytes_cmp (c.name-name.ensures i) (c.of-entry.ensures i) c.self.inside.facts.entries))
-    ∙ facts_with fact_of name_of own (name_of c.args.fact) (entry_of c.args.fact) c.self.inside.facts.entries c.self.invariant.ordered
-    ∙ (λ i. by_name name_of (fact_again c.args.fact i ∷ (c.self.view_is i).facts))
+    ∙ facts_with fact_of fact_name own (fact_name c.args.fact) (entry_of c.args.fact) c.self.inside.facts.entries c.self.invariant.ordered
+    ∙ (λ i. by_name fact_name (fact_again c.args.fact i ∷ (c.self.view_is i).facts))
 
 page_told : (f : Fact) (a b : ℕ) → (is_page (entry_of f) ≡ true → a ≤ b) → IfSome (as_page f) (λ _. a ≤ b)
 page_told (fact.Page p) a b h = h refl

@@ -2,7 +2,7 @@
 use Rattle.std.specs.Prelude.{◌≡◌, ◌≤◌, ℕ, List, [], ◌∷◌, ⊤}
 
 -- a table: its facts by name, and the room that each map inside has to spare; none for a body without maps
-pub record Held (F : Type 0) : Type 0 where
+pub record TableState (F : Type 0) : Type 0 where
   pub facts : List F
   pub spare : List ℕ
 
@@ -14,12 +14,12 @@ AreAtMost [] (n ∷ ns) = ⊥
 AreAtMost (m ∷ ms) [] = ⊥
 
 -- a table is as before: it has the same facts, and no less room
-pub record IsAsBefore {F : Type 0} (before now : Held F) : Type 0 where
+pub record IsAsBefore {F : Type 0} (before now : TableState F) : Type 0 where
   pub facts : now.facts ≡ before.facts
   pub spare : AreAtMost before.spare now.spare
 
 -- a change of a table: what it was, what it became, and the names whose rows differ
 pub record Change (F : Type 0) : Type 0 where
-  pub before : Held F
-  pub after : Held F
+  pub before : TableState F
+  pub after : TableState F
   pub changed : List (List ℕ)
