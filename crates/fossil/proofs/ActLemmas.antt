@@ -11,8 +11,8 @@ use Rattle.fsl_words.specs.declared.Command.{Command}
 use Rattle.fsl_words.specs.declared.Command.TheVariants as command_of
 use Rattle.fsl_words.specs.declared.Question.{Question}
 use Rattle.std.specs.Prelude.{Option}
-use Rattle.fossil.specs.declared.fault.Fault.{Fault}
-use Rattle.fossil.specs.declared.fault.Fault.TheVariants as fault_is
+use Rattle.fossil.specs.declared.answers.fault.Fault.{Fault}
+use Rattle.fossil.specs.declared.answers.fault.Fault.TheVariants as fault_is
 use Rattle.fossil.specs.Printed.{Printed}
 use Rattle.fossil.specs.Outcome.{Outcome, printed_of, not_repository, IsSaidOutcome}
 use Rattle.fossil.specs.Run.{Input, Agrees, reads, IsInputFault}

@@ -1,8 +1,8 @@
 -- What a message comes to, by its files.
 use Rattle.std.proofs.Common.{◌≡◌, ℕ, Bool, List, Option, Some, None, Ok, Err, sym, subst, refl}
 use Rattle.std.specs.Prelude.{MatchBool}
-use Rattle.fossil.specs.declared.gathering.Gathered.{Gathered}
-use Rattle.fossil.specs.declared.message.Sent.{Sent}
+use Rattle.fossil.specs.declared.reading.gathering.Gathered.{Gathered}
+use Rattle.fossil.specs.declared.reading.message.Sent.{Sent}
 use Rattle.fossil.specs.Printed.{Printed, too_long}
 use Rattle.fossil.specs.Ingest.{IsReported, IsSetPrinted, IsRead}
 use Rattle.fossil.specs.Taking.{IsGathered, HaveGathered}

@@ -15,7 +15,7 @@ use Rattle.fsl_repo.specs.declared.ArriveFault.{ArriveFault}
 use Rattle.fsl_repo.specs.declared.ArriveFault.TheVariants as arrive_fault
 use Rattle.fsl_repo.specs.Machine.{State, IsRoom, IsArrival, IsArrivalOf, again, arrived, ArriveStep}
 use Rattle.fsl_repo.specs.Whole.{opened}
-use Rattle.fossil.specs.declared.message.Sent.{Sent}
+use Rattle.fossil.specs.declared.reading.message.Sent.{Sent}
 use Rattle.fossil.specs.Printed.{Printed, name_line, too_large, wrong, full}
 use Rattle.fossil.specs.Arrivals.{Taken, none_taken, arrival_word, refusal_of, and_taken, Arrive}
 use Rattle.fossil.specs.Taking.{AreAllTaken}

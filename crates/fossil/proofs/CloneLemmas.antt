@@ -11,13 +11,13 @@ use Rattle.fsl_pull.specs.CloneCalls.{UnlessDisk, IsClonedOver}
 use Rattle.fsl_pull.proofs.CloneWhole.{unreplied, not_zero, has_bytes}
 use Rattle.fsl_words.specs.declared.Command.{Command}
 use Rattle.fsl_words.specs.declared.Command.TheVariants as command_of
-use Rattle.fossil.specs.declared.due.Due.{Due}
-use Rattle.fossil.specs.declared.fault.Fault.TheVariants as fault_is
+use Rattle.fossil.specs.declared.answers.due.Due.{Due}
+use Rattle.fossil.specs.declared.answers.fault.Fault.TheVariants as fault_is
 use Rattle.fossil.specs.Printed.{Printed}
 use Rattle.fossil.specs.Outcome.{without_commit, command_clones}
 use Rattle.fossil.specs.Run.{Output, IsTold, disk_fault}
 use Rattle.fossil.specs.Acts.{IsWritten}
-use Rattle.fossil.specs.Served.{IsPrinted, with_text, link_fault, no_memory}
+use Rattle.fossil.specs.Served.{IsWrittenAs, with_text, link_fault, no_memory}
 use Rattle.fossil.specs.Serving.{printed, IsDue}
 use Rattle.fossil.specs.Cloned.{result_printed, IsResultTold, ClonesBy, Clones, ClonesIf}
 use Rattle.fossil.specs.Syncing.{IsSyncDue, HasCloned}
@@ -63,7 +63,7 @@ module _ {D : Type 0} (disk : D → DiskState) (server : List ℕ) (fields : Lis
   told_so P Q turn (Err fault.Memory) h = either P Q turn (result_printed (Err fault.Memory)) h
 
   -- what is due was printed
-  pub cloned_printed : (d : Due) (out : Output) (status : ℕ) → HasCloned disk server fields before after dial d → IsPrinted (printed d) out status → ClonesBy disk server fields before after dial (λ o. IsTold (without_commit o) status out)
+  pub cloned_printed : (d : Due) (out : Output) (status : ℕ) → HasCloned disk server fields before after dial d → IsWrittenAs (printed d) out status → ClonesBy disk server fields before after dial (λ o. IsTold (without_commit o) status out)
   cloned_printed d out status h written =
       let turn : (o : Printed) → printed d ≡ o → IsTold (without_commit o) status out = λ o e. subst (λ (p : Printed). IsTold (without_commit p) status out) e (told_printed (printed d) out status written) in
       record {

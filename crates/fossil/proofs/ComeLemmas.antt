@@ -28,9 +28,9 @@ use Rattle.fsl_pull.proofs.LocalEnds.{local_pulls_end}
 use Rattle.fsl_pull.proofs.SyncLoop.{Longer}
 use Rattle.fsl_words.specs.declared.Command.{Command}
 use Rattle.fsl_words.specs.declared.Command.TheVariants as command_of
-use Rattle.fossil.specs.declared.due.Due.{Due}
-use Rattle.fossil.specs.declared.sync.Way.{Way}
-use Rattle.fossil.specs.declared.sync.Way.TheVariants as way
+use Rattle.fossil.specs.declared.answers.due.Due.{Due}
+use Rattle.fossil.specs.declared.commands.sync.Way.{Way}
+use Rattle.fossil.specs.declared.commands.sync.Way.TheVariants as way
 use Rattle.fossil.specs.Printed.{Printed}
 use Rattle.fossil.specs.Outcome.{Outcome}
 use Rattle.fossil.specs.Run.{Agrees, disk_fault}

@@ -7,9 +7,9 @@ use Rattle.fsl_text.specs.declared.memory.Memory.{Memory}
 use Rattle.fsl_disk.specs.Disk.{DiskState}
 use Rattle.fsl_words.specs.declared.Command.{Command}
 use Rattle.fsl_words.specs.declared.Command.TheVariants as command_of
-use Rattle.fossil.specs.declared.fault.Fault.{Fault}
-use Rattle.fossil.specs.declared.fault.Fault.TheVariants as fault_is
-use Rattle.fossil.specs.declared.message.Sent.{Sent}
+use Rattle.fossil.specs.declared.answers.fault.Fault.{Fault}
+use Rattle.fossil.specs.declared.answers.fault.Fault.TheVariants as fault_is
+use Rattle.fossil.specs.declared.reading.message.Sent.{Sent}
 use Rattle.fossil.specs.Arrivals.{Taken, none_taken, Arrive}
 use Rattle.fossil.proofs.ArrivalLemmas.{refused_files}
 use Rattle.fossil.specs.Printed.{Printed}

@@ -10,8 +10,8 @@ use Rattle.fsl_journal.specs.Journal.{OfBytes}
 use Rattle.fsl_journal.proofs.Failing.{no_file}
 use Rattle.fsl_journal.proofs.Unique.{one_file}
 use Rattle.fsl_words.specs.declared.Command.{Command}
-use Rattle.fossil.specs.declared.fault.Fault.{Fault}
-use Rattle.fossil.specs.declared.fault.Fault.TheVariants as fault_is
+use Rattle.fossil.specs.declared.answers.fault.Fault.{Fault}
+use Rattle.fossil.specs.declared.answers.fault.Fault.TheVariants as fault_is
 use Rattle.fossil.specs.Outcome.{Outcome, one_commit, not_repository, meets, IsSaidOutcome}
 use Rattle.fossil.specs.Run.{File, Agrees, opens, begins, StandsFor, StandsForAll, StandsForSome, AreOldBy, AreOld, AreImages, is_done, IsLeft, IsFileLeft, IsNoRepository, IsRefused, IsWholeAtAnyMoment, lasts, IsDurable, after_commits}
 use Rattle.fossil.specs.Acts.{KeepsContents, KeepsImages, KeepsUnreadable, Touches, fault_status}

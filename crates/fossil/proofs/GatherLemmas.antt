@@ -46,8 +46,8 @@ use Rattle.fsl_repo.specs.Machine.{State, now, AreItems, IsItemOf, IsArrival, ar
 use Rattle.fsl_repo.proofs.HeldMore.{absent_is, blob_after, contents_more, count_more}
 use Rattle.fsl_repo.proofs.OneList.{are_one_list}
 use Rattle.fsl_repo.proofs.Arrivals as steps
-use Rattle.fossil.specs.declared.gathering.Gathered.{Gathered}
-use Rattle.fossil.specs.declared.message.Sent.{Sent}
+use Rattle.fossil.specs.declared.reading.gathering.Gathered.{Gathered}
+use Rattle.fossil.specs.declared.reading.message.Sent.{Sent}
 use Rattle.fossil.specs.Printed.{Printed, name_line}
 use Rattle.fossil.specs.Arrivals.{Taken, none_taken, refusal_of, and_taken, Arrive}
 use Rattle.fossil.specs.Ingest.{fresh, IsSetPrinted}

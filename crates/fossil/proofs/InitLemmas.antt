@@ -13,8 +13,8 @@ use Rattle.fsl_journal.specs.File.{IsFileOf}
 use Rattle.fsl_journal.specs.Journal.{NothingOr, IsMade}
 use Rattle.fsl_words.specs.declared.Command.{Command}
 use Rattle.fsl_words.specs.declared.Command.TheVariants as command_of
-use Rattle.fossil.specs.declared.fault.Fault.{Fault}
-use Rattle.fossil.specs.declared.fault.Fault.TheVariants as fault_is
+use Rattle.fossil.specs.declared.answers.fault.Fault.{Fault}
+use Rattle.fossil.specs.declared.answers.fault.Fault.TheVariants as fault_is
 use Rattle.fossil.specs.Printed.{Printed}
 use Rattle.fossil.specs.Printed as printing
 use Rattle.fossil.specs.Outcome.{Outcome, init_outcome, without_commit, one_commit, printed_of}

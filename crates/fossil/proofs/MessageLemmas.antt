@@ -12,8 +12,8 @@ use Rattle.fsl_wire.specs.Messages.{IsNumberedMessage, IsMessage, IsLineOf, IsFi
 use Rattle.fsl_wire.specs.Drafts.{bare, IsBareMessage}
 use Rattle.fsl_wire.proofs.OneWay.{reads_one_way}
 use Rattle.fsl_wire.proofs.BareLemmas.{position_bare}
-use Rattle.fossil.specs.declared.message.Sent.{Sent}
-use Rattle.fossil.specs.declared.message.MessageFault.TheVariants as fault_is
+use Rattle.fossil.specs.declared.reading.message.Sent.{Sent}
+use Rattle.fossil.specs.declared.reading.message.MessageFault.TheVariants as fault_is
 use Rattle.fossil.specs.Printed.{Printed, bad_line, not_a_file}
 use Rattle.fossil.specs.Messages.{fault_line, is_other, other_line, files_of, IsFileList, IsMessageRefused, IsFaultOf, unread_as}
 

@@ -12,7 +12,7 @@ use Rattle.fsl_repo.proofs.OneList.{are_one_list}
 use Rattle.fsl_words.specs.declared.Question.{Question}
 use Rattle.fsl_words.specs.declared.Command.{Command}
 use Rattle.fsl_words.specs.declared.Command.TheVariants as command_of
-use Rattle.fossil.specs.declared.message.Sent.{Sent}
+use Rattle.fossil.specs.declared.reading.message.Sent.{Sent}
 use Rattle.fossil.specs.Arrivals.{Taken, none_taken}
 use Rattle.fossil.specs.Printed.{Printed}
 use Rattle.fossil.specs.Printed as printing

@@ -3,8 +3,8 @@ use Rattle.std.proofs.Common.{◌≡◌, ◌⊎◌, inl, inr, ⊎_elim, ℕ, Boo
 use Rattle.std.specs.Prelude.{◌==◌}
 use Rattle.fsl_order.specs.Causes.{Rose}
 use Rattle.fsl_words.specs.declared.Command.{Command}
-use Rattle.fossil.specs.declared.fault.Fault.{Fault}
-use Rattle.fossil.specs.declared.fault.Fault.TheVariants as fault_is
+use Rattle.fossil.specs.declared.answers.fault.Fault.{Fault}
+use Rattle.fossil.specs.declared.answers.fault.Fault.TheVariants as fault_is
 use Rattle.fossil.specs.Printed.{Printed}
 use Rattle.fossil.specs.Outcome.{Outcome, without_commit}
 use Rattle.fossil.specs.Run.{Input, Output, File, IsSaid, IsTold, IsFaulted, IsFileLeft, IsLeft, lasts, IsDurable, IsSpared, cut_off_status, RunsBy, HasRun}

@@ -7,8 +7,8 @@ use Rattle.fsl_disk.specs.Disk.{DiskState, IsModelled, LeavesOnly}
 use Rattle.fsl_journal.specs.Log.{BeforeOrAll}
 use Rattle.fsl_repo.specs.Whole.{Whole, opened}
 use Rattle.fsl_words.specs.declared.Command.TheVariants as command_of
-use Rattle.fossil.specs.declared.load.Loaded.{Loaded}
-use Rattle.fossil.specs.declared.message.Sent.{Sent}
+use Rattle.fossil.specs.declared.reading.load.Loaded.{Loaded}
+use Rattle.fossil.specs.declared.reading.message.Sent.{Sent}
 use Rattle.fossil.specs.Messages.{IsMessageRefused, IsFileList}
 use Rattle.fossil.specs.Printed.{Printed}
 use Rattle.fossil.specs.Printed as printing

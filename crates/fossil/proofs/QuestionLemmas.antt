@@ -13,9 +13,9 @@ use Rattle.fsl_words.specs.declared.Command.TheVariants as command_of
 use Rattle.fsl_query.specs.declared.Refused.{Refused}
 use Rattle.fsl_query.specs.Refusals.{refusal_text}
 use Rattle.fsl_query.specs.Reports.{content, IsReport}
-use Rattle.fossil.specs.declared.fault.Fault.{Fault}
-use Rattle.fossil.specs.declared.fault.Fault.TheVariants as fault_is
-use Rattle.fossil.specs.declared.load.Loaded.{Loaded}
+use Rattle.fossil.specs.declared.answers.fault.Fault.{Fault}
+use Rattle.fossil.specs.declared.answers.fault.Fault.TheVariants as fault_is
+use Rattle.fossil.specs.declared.reading.load.Loaded.{Loaded}
 use Rattle.fossil.specs.Printed.{Printed}
 use Rattle.fossil.specs.Printed as printing
 use Rattle.fossil.specs.Outcome.{Outcome, without_commit, printed_of, report_outcome, IsAnswered}

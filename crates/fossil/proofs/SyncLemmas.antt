@@ -21,7 +21,7 @@ use Rattle.fsl_pull.specs.Kept.{IsKeptAtAnyMoment}
 use Rattle.fsl_pull.specs.Asking.{IsDialCounted}
 use Rattle.fsl_pull.specs.Calls.{Kind, Ended, IsWhole, IsSynced, AreCommitsOf}
 use Rattle.fsl_words.specs.declared.Command.{Command}
-use Rattle.fossil.specs.declared.due.Due.{Due}
+use Rattle.fossil.specs.declared.answers.due.Due.{Due}
 use Rattle.fossil.specs.Printed.{Printed}
 use Rattle.fossil.specs.Outcome.{Outcome, printed_of}
 use Rattle.fossil.specs.Run.{Agrees, disk_fault}

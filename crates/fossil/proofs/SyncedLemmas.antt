@@ -17,14 +17,14 @@ use Rattle.fsl_pull.proofs.KeptLemmas.{all_some, some_more, none_of_them}
 use Rattle.fsl_pull.proofs.SyncLoop.{Longer}
 use Rattle.fsl_words.specs.declared.Command.{Command}
 use Rattle.fsl_words.specs.declared.Command.TheVariants as command_of
-use Rattle.fossil.specs.declared.due.Due.{Due}
-use Rattle.fossil.specs.declared.sync.Way.{Way}
-use Rattle.fossil.specs.declared.sync.Way.TheVariants as way
+use Rattle.fossil.specs.declared.answers.due.Due.{Due}
+use Rattle.fossil.specs.declared.commands.sync.Way.{Way}
+use Rattle.fossil.specs.declared.commands.sync.Way.TheVariants as way
 use Rattle.fossil.specs.Printed.{Printed}
 use Rattle.fossil.specs.Outcome.{Outcome, without_commit, printed_of, command_syncs, command_clones, command_meets}
 use Rattle.fossil.specs.Run.{Output, Agrees, IsTold}
 use Rattle.fossil.specs.Acts.{KeepsImages}
-use Rattle.fossil.specs.Served.{IsPrinted, all, front}
+use Rattle.fossil.specs.Served.{IsWrittenAs, all, front}
 use Rattle.fossil.specs.Serving.{printed}
 use Rattle.fossil.specs.Synced.{Read, Objects, IsSyncOutcome, AreCommitsSoFar, AreCommits, IsDue, IsCutOff, command_asks_peer, HasFailed, objects_of, IsAnswer, IsFaulted, is_cut, StandsForAll, IsFileLeft, IsWholeAtAnyMoment, IsDurable, IsPeerKept, SyncsBy, HasSynced}
 use Rattle.fossil.specs.Syncing.{command_by}
@@ -125,7 +125,7 @@ peer_idle peer no_other = record {
 
 -- ---- the printing
 
-pub told_printed : (o : Printed) (out : Output) (status : ℕ) → IsPrinted o out status → IsTold (without_commit o) status out
+pub told_printed : (o : Printed) (out : Output) (status : ℕ) → IsWrittenAs o out status → IsTold (without_commit o) status out
 told_printed o out status (all e appended quiet) = inl (e, appended)
 told_printed o out status (front e cut) = inr (e, cut)
 
@@ -134,7 +134,7 @@ zero_or : (n : ℕ) (zero : Bool) → (n == 0) ≡ zero → (status : ℕ) → s
 zero_or n true z status e = let is : n ≡ 0 = grind (arith) in inr (is, e)
 zero_or n false z status e = inl e
 
-ends : (o : Printed) (out : Output) (status : ℕ) → IsPrinted o out status → (status ≡ o.status) ⊎ ((o.status ≡ 0) × (status ≡ 6))
+ends : (o : Printed) (out : Output) (status : ℕ) → IsWrittenAs o out status → (status ≡ o.status) ⊎ ((o.status ≡ 0) × (status ≡ 6))
 ends o out status (all e appended quiet) = inl e
 ends o out status (front e cut) = zero_or o.status (o.status == 0) refl status e
 
@@ -185,7 +185,7 @@ module _ (command : Command) (x : Objects) (rounds : Rounds) (broken : List Conn
       })
 
 -- what is due was printed
-pub synced_printed : (command : Command) (x : Objects) (d : Due) (out : Output) (status : ℕ) → HasSynced command x (λ o. printed d ≡ o) (printed d).status → IsPrinted (printed d) out status
+pub synced_printed : (command : Command) (x : Objects) (d : Due) (out : Output) (status : ℕ) → HasSynced command x (λ o. printed d ≡ o) (printed d).status → IsWrittenAs (printed d) out status
     → HasSynced command x (λ o. IsTold (without_commit o) status out) status
 synced_printed command x d out status (rounds, broken, grows, (r, commits, s)) written =
     let turn : (o : Printed) → printed d ≡ o → IsTold (without_commit o) status out = λ o e. subst (λ (p : Printed). IsTold (without_commit p) status out) e (told_printed (printed d) out status written) in (

@@ -16,10 +16,10 @@ use Rattle.fsl_pull.specs.Kept.{StandsForSome}
 use Rattle.fsl_pull.proofs.KeptLemmas.{none_of_them}
 use Rattle.fsl_words.specs.declared.Command.{Command}
 use Rattle.fsl_words.specs.declared.Command.TheVariants as command_of
-use Rattle.fossil.specs.declared.due.Due.{Due}
-use Rattle.fossil.specs.declared.sync.Way.{Way}
-use Rattle.fossil.specs.declared.sync.Way.TheVariants as way
-use Rattle.fossil.specs.declared.fault.Fault.TheVariants as fault_is
+use Rattle.fossil.specs.declared.answers.due.Due.{Due}
+use Rattle.fossil.specs.declared.commands.sync.Way.{Way}
+use Rattle.fossil.specs.declared.commands.sync.Way.TheVariants as way
+use Rattle.fossil.specs.declared.answers.fault.Fault.TheVariants as fault_is
 use Rattle.fossil.specs.Printed.{Printed}
 use Rattle.fossil.specs.Outcome.{without_commit, printed_of, not_repository}
 use Rattle.fossil.specs.Run.{Agrees, Output, IsTold, disk_fault}

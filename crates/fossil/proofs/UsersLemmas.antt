@@ -5,7 +5,7 @@ use Rattle.fsl_login.specs.declared.User.{User}
 use Rattle.fsl_login.specs.UserFiles.{IsUsersFile, IsFirstBadLine}
 use Rattle.fsl_login.proofs.Fronts.{fronts_tell}
 use Rattle.fsl_login.proofs.OneReading.{users_read_one_way}
-use Rattle.fossil.specs.declared.due.Due.{Due}
+use Rattle.fossil.specs.declared.answers.due.Due.{Due}
 use Rattle.fossil.specs.Run.{Input}
 use Rattle.fossil.specs.Served.{IsUsers, IsUsersRead, IsQuiet, AreNoUsers, unread, bad}
 use Rattle.fossil.specs.Serving.{printed, IsNoUserFile}

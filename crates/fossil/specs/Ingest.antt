@@ -5,7 +5,7 @@ use Rattle.fsl_blobs.specs.Fold.{Contents}
 use Rattle.fsl_cross.specs.declared.Item.{Item}
 use Rattle.fsl_repo.specs.Machine.{State, now, AreItems, unclustered_names, wants}
 use Rattle.fsl_repo.specs.Whole.{opened}
-use Rattle.fossil.specs.declared.message.Sent.{Sent}
+use Rattle.fossil.specs.declared.reading.message.Sent.{Sent}
 use Rattle.fossil.specs.Printed.{Printed, too_long, name_line}
 use Rattle.fossil.specs.Messages.{IsMessageRefused, IsFileList}
 use Rattle.fossil.specs.Arrivals.{Taken, none_taken, Arrive}

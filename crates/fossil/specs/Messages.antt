@@ -6,9 +6,9 @@ use Rattle.fsl_wire.specs.declared.WireCard.TheVariants.{File, Private, SendPriv
 use Rattle.fsl_wire.specs.declared.WireFault.{WireFault}
 use Rattle.fsl_wire.specs.declared.WireFault.TheVariants.{Unknown, Args, Delta, Size, Short, Memory}
 use Rattle.fsl_wire.specs.Messages.{IsNumberedMessage, IsFirstFault}
-use Rattle.fossil.specs.declared.message.Sent.{Sent}
-use Rattle.fossil.specs.declared.message.MessageFault.{MessageFault}
-use Rattle.fossil.specs.declared.message.MessageFault.TheVariants as fault_is
+use Rattle.fossil.specs.declared.reading.message.Sent.{Sent}
+use Rattle.fossil.specs.declared.reading.message.MessageFault.{MessageFault}
+use Rattle.fossil.specs.declared.reading.message.MessageFault.TheVariants as fault_is
 use Rattle.fossil.specs.Printed.{Printed, bad_line, not_a_file}
 
 -- the line of a fault; want of memory has none

@@ -3,7 +3,7 @@ use Rattle.std.specs.Prelude.{◌≡◌, ℕ, ◌⊎◌, nat_lt, List, [], lengt
 use Rattle.fsl_text.specs.Limits.{most_of_message}
 use Rattle.fsl_record.specs.declared.Record.{Record}
 use Rattle.fsl_repo.specs.Whole.{opened}
-use Rattle.fossil.specs.declared.message.Sent.{Sent}
+use Rattle.fossil.specs.declared.reading.message.Sent.{Sent}
 use Rattle.fossil.specs.Printed.{Printed}
 use Rattle.fossil.specs.Printed as printing
 use Rattle.fossil.specs.Messages.{IsMessageRefused, IsFileList}

@@ -8,9 +8,9 @@ use Rattle.fsl_login.specs.declared.User.{User}
 use Rattle.fsl_serve.specs.declared.work.Crew.{Crew}
 use Rattle.fsl_serve.specs.Points.{Points}
 use Rattle.fsl_serve.specs.Crews.{AllWorked, AllGated}
-use Rattle.fossil.specs.declared.serving.State.{State}
-use Rattle.fossil.specs.declared.serving.State.TheVariants as state
-use Rattle.fossil.specs.declared.serving.Served.{Served}
+use Rattle.fossil.specs.declared.commands.serving.State.{State}
+use Rattle.fossil.specs.declared.commands.serving.State.TheVariants as state
+use Rattle.fossil.specs.declared.commands.serving.Served.{Served}
 use Rattle.fossil.specs.Acts.{input_of, output_of}
 use Rattle.fossil.specs.Served.{Left, Loaded, Unloaded, Workers, ServesLoaded, ServesDisk, Serves, Ends, Says}
 

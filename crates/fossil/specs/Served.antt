@@ -163,10 +163,10 @@ pub data Ends {D X : Type 0} (tells : D → DiskState) (Worked : Workers) (words
   serve : (asked : Serving) → serving_in words ≡ Some asked → Serves tells Worked users disk left crews crews_left asked.requests o → Ends tells Worked words users disk left crews crews_left o
 
 -- what is due was written and no write failed; or a front of it, where the sink's count rose, with 6 in place of 0
-pub data IsPrinted (o : Printed) (out : Output) (status : ℕ) : Type 0 where
-  all : status ≡ o.status → Appends out.before.taken out.after.taken o.text → out.after.faults ≡ out.before.faults → IsPrinted o out status
-  front : status ≡ cut_off_status o.status → IsCutOff out o.text → IsPrinted o out status
+pub data IsWrittenAs (o : Printed) (out : Output) (status : ℕ) : Type 0 where
+  all : status ≡ o.status → Appends out.before.taken out.after.taken o.text → out.after.faults ≡ out.before.faults → IsWrittenAs o out status
+  front : status ≡ cut_off_status o.status → IsCutOff out o.text → IsWrittenAs o out status
 
 -- what is due is said, or want of memory in its place
 abbrev pub Says : (Printed → Type 0) → Output → ℕ → Type 0
-Says IsDue out status = (o : Printed) × IsDue o × (IsPrinted o out status ⊎ IsPrinted no_memory out status)
+Says IsDue out status = (o : Printed) × IsDue o × (IsWrittenAs o out status ⊎ IsWrittenAs no_memory out status)

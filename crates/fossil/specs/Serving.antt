@@ -2,12 +2,12 @@
 use Rattle.std.specs.Prelude.{◌≡◌, ◌<◌, ◌≤◌, ◌⊎◌, ℕ, List, length, slice_index_or, Some, None}
 use Rattle.fsl_serve.specs.declared.work.Work.{Work}
 use Rattle.fsl_login.specs.UserFiles.{IsFirstBadLine}
-use Rattle.fossil.specs.declared.due.Due.{Due}
-use Rattle.fossil.specs.declared.due.Due.TheVariants as due_is
+use Rattle.fossil.specs.declared.answers.due.Due.{Due}
+use Rattle.fossil.specs.declared.answers.due.Due.TheVariants as due_is
 use Rattle.fossil.specs.Printed.{Printed}
 use Rattle.fossil.specs.Printed as printing
 use Rattle.fossil.specs.Run.{Output, disk_fault, input_fault}
-use Rattle.fossil.specs.Served.{with_text, link_fault, no_memory, bad_users, Serving, serving_in, IsPrinted}
+use Rattle.fossil.specs.Served.{with_text, link_fault, no_memory, bad_users, Serving, serving_in, IsWrittenAs}
 
 -- what is printed
 abbrev pub printed : Due → Printed
@@ -40,4 +40,4 @@ AreWithin requests works = (i : ℕ) (w : Work) → i < length works → (slice_
 
 -- the text of an outcome is written, or want of memory in its place
 abbrev pub IsSaidOf : Printed → Output → ℕ → Type 0
-IsSaidOf o out status = IsPrinted o out status ⊎ IsPrinted no_memory out status
+IsSaidOf o out status = IsWrittenAs o out status ⊎ IsWrittenAs no_memory out status

@@ -14,9 +14,9 @@ use Rattle.fsl_pull.specs.Calls.{IsPulledOver, IsPushedOver}
 use Rattle.fsl_pull.specs.LocalTurns.{IsPulledFrom}
 use Rattle.fsl_words.specs.declared.Command.{Command}
 use Rattle.fsl_words.specs.declared.Command.TheVariants as command_of
-use Rattle.fossil.specs.declared.due.Due.{Due}
-use Rattle.fossil.specs.declared.sync.Way.{Way}
-use Rattle.fossil.specs.declared.sync.Way.TheVariants as way
+use Rattle.fossil.specs.declared.answers.due.Due.{Due}
+use Rattle.fossil.specs.declared.commands.sync.Way.{Way}
+use Rattle.fossil.specs.declared.commands.sync.Way.TheVariants as way
 use Rattle.fossil.specs.Printed.{Printed}
 use Rattle.fossil.specs.Outcome.{printed_of, not_repository}
 use Rattle.fossil.specs.Run.{disk_fault}

@@ -22,13 +22,13 @@ use Rattle.fsl_repo.specs.declared.ArriveFault.TheVariants as arrive_fault
 use Rattle.fsl_repo.specs.Machine.{State, now, AreItems, IsItemOf, IsArrival, arrived}
 use Rattle.fsl_repo.specs.Whole.{Whole, opened}
 use Rattle.fsl_words.specs.declared.Command.TheVariants as command_of
-use Rattle.fossil.specs.declared.fault.Fault.{Fault}
-use Rattle.fossil.specs.declared.message.Sent.{Sent}
-use Rattle.fossil.specs.declared.checking.Checked.{Checked}
-use Rattle.fossil.specs.declared.checking.Checked.TheVariants as checked
-use Rattle.fossil.specs.declared.arrivals.Arrivals.{Arrivals}
-use Rattle.fossil.specs.declared.arrivals.Arrivals.TheVariants as came
-use Rattle.fossil.specs.declared.gathering.Gathered.{Gathered}
+use Rattle.fossil.specs.declared.answers.fault.Fault.{Fault}
+use Rattle.fossil.specs.declared.reading.message.Sent.{Sent}
+use Rattle.fossil.specs.declared.reading.checking.Checked.{Checked}
+use Rattle.fossil.specs.declared.reading.checking.Checked.TheVariants as checked
+use Rattle.fossil.specs.declared.reading.arrivals.Arrivals.{Arrivals}
+use Rattle.fossil.specs.declared.reading.arrivals.Arrivals.TheVariants as came
+use Rattle.fossil.specs.declared.reading.gathering.Gathered.{Gathered}
 use Rattle.fossil.specs.Messages.{IsMessageRefused, IsFileList}
 use Rattle.fossil.specs.Printed.{Printed, name_line}
 use Rattle.fossil.specs.Arrivals.{Taken, none_taken, Arrive}

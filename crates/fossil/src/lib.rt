@@ -12,38 +12,14 @@
 //! artifacts one after another into a set of their own, and print how many of each sort there are.
 #![tactic(auto)]
 
-mod answer;
-mod arrivals;
-mod ask;
-mod cat;
-mod checking;
-mod clone;
-mod due;
-mod fault;
-mod gathering;
-mod generating;
-mod ingest;
-mod init;
-mod input;
-mod load;
-mod message;
-mod pull_local;
-mod put;
+mod answers;
+mod commands;
 mod ran;
-mod report;
-mod reporting;
-mod say;
-mod serving;
-mod shun;
-mod status;
-mod sync;
-mod sync_due;
-mod sync_text;
+mod reading;
 mod top;
-mod users;
 mod worked;
 
+pub use answers::status::NO_MEMORY;
+pub use commands::serving::{Served, State, serve};
 pub use ran::Ran;
-pub use serving::{Served, State, serve};
-pub use status::NO_MEMORY;
 pub use top::{one_outcome, run, some_outcome};

@@ -3,15 +3,15 @@ ghost use Rattle.std.specs.Prelude.{◌≡◌, ◌≤◌, ◌++◌, length, deci
 ghost use Rattle.std.specs.List.{list_any};
 ghost use Rattle.fsl_repo.specs.Whole.{IsWholeOn};
 ghost use Rattle.fsl_serve.specs.Crews.{sessions_of};
-ghost use Rattle.fossil.specs.declared.serving.State.TheVariants as state_is;
+ghost use Rattle.fossil.specs.declared.commands.serving.State.TheVariants as state_is;
 ghost use Rattle.fossil.specs.Acts.{output_of};
 ghost use Rattle.fossil.specs.Served.{line_of, served_text, with_text, worked};
 ghost use Rattle.fossil.specs.Serving.{IsDue, AreWithin, IsSaidOf};
 
-use super::answer::Answer;
-use super::due::{Due, answered, print_due};
-use super::serving::{Served, State};
-use super::status::DONE;
+use crate::answers::answer::Answer;
+use crate::answers::due::{Due, answered, print_due};
+use crate::answers::status::DONE;
+use crate::commands::serving::{Served, State};
 use fsl_disk::Disk;
 use fsl_outside::Sink;
 use fsl_serve::{Served as Worked, Work};

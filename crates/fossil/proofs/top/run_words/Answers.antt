@@ -5,7 +5,7 @@ use Rattle.fsl_outside.specs.Streams.{SinkState}
 use Rattle.fsl_disk.specs.Disk.{DiskState}
 use Rattle.fsl_words.specs.declared.Command.{Command}
 use Rattle.fsl_words.specs.declared.Command.TheVariants as command_of
-use Rattle.fossil.specs.declared.fault.Fault.TheVariants as fault_is
+use Rattle.fossil.specs.declared.answers.fault.Fault.TheVariants as fault_is
 use Rattle.fossil.specs.Outcome.{said, meets, command_syncs}
 use Rattle.fossil.specs.Run.{reads, opens, HasRun}
 use Rattle.fossil.specs.Acts.{input_of, output_of, file_of}

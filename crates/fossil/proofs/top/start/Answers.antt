@@ -4,7 +4,7 @@ use Rattle.fsl_outside.specs.Connections.{LinkState}
 use Rattle.fsl_outside.specs.Streams.{SinkState}
 use Rattle.fsl_words.specs.declared.Command.{Command}
 use Rattle.fsl_words.specs.declared.Command.TheVariants as command_of
-use Rattle.fossil.specs.declared.sync.Way.TheVariants as way
+use Rattle.fossil.specs.declared.commands.sync.Way.TheVariants as way
 use Rattle.fossil.specs.Acts.{IsObeyable, output_of}
 use Rattle.fossil.specs.Serving.{printed}
 use Rattle.fossil.specs.Synced.{Syncs, objects_of}

@@ -1,4 +1,0 @@
-use Rattle.fossil.proofs.generating.summed.Given as goal
-
-abbrev pub ghosts-add_texts : goal.ghosts-add_texts
-ghosts-add_texts a = record { name = a.blank.name; parts = a.blank.parts }

@@ -1,0 +1,11 @@
+//! What commands answer: statuses, texts and reports, and how they are written.
+
+pub(crate) mod answer;
+pub(crate) mod due;
+pub(crate) mod fault;
+pub(crate) mod ingest_report;
+pub(crate) mod reporting;
+pub(crate) mod say;
+pub(crate) mod status;
+pub(crate) mod sync_due;
+pub(crate) mod sync_text;

@@ -1,0 +1,134 @@
+//! Answers: a status and the text that is printed.
+ghost use Rattle.std.specs.Prelude.{◌≡◌, ◌≢◌, ◌++◌, ℕ, Some, Err, IfOk, codes, decimal};
+ghost use Rattle.fossil.specs.Printed as printing;
+ghost use Rattle.fossil.specs.Outcome.{printed_of, not_repository};
+ghost use Rattle.fossil.specs.Arrivals.{refusal_of as refused_for};
+ghost use Rattle.fsl_repo.specs.declared.ArriveFault.TheVariants as arrive_fault;
+
+use crate::answers::status::{NOT_REPOSITORY, REFUSED};
+use fsl_name::Name;
+use fsl_repo::ArriveFault;
+use fsl_text::{Memory, Text};
+use std::alloc::Global;
+use std::marker::Model;
+
+/// A status, and the text that is printed.
+#[derive(Drop)]
+pub struct Answer {
+    pub status: u8,
+    pub text: Text,
+}
+
+impl Model for Answer {
+    ghost use Rattle.fossil.specs.Printed.{Printed};
+
+    ghost Value = { Printed };
+
+    ghost view = { λ a. record { status = a.status; text = a.text } };
+}
+
+/// A refusal for a reason.
+pub fn refusal(alloc: Global, reason: &[u8]) -> Result<Answer, Memory>
+    ensures { IfOk result (λ a. a ≡ printing.refused reason.now) }
+{
+    let mut text = Text::of(alloc, b"refused: ")?;
+    text.append(reason)?;
+    text.append(b"\n")?;
+    Ok(Answer {
+        status: REFUSED,
+        text,
+    })
+}
+
+/// A refusal for a reason that ends with some bytes.
+pub fn refusal_of(alloc: Global, reason: &[u8], bytes: &[u8]) -> Result<Answer, Memory>
+    ensures { IfOk result (λ a. a ≡ printing.refused (reason.now ++ bytes.now)) }
+{
+    let mut whole = Text::of(alloc, reason)?;
+    whole.append(bytes)?;
+    refusal(alloc, whole.bytes())
+}
+
+/// A refusal for a reason that ends with a number.
+pub fn numbered_refusal(alloc: Global, reason: &[u8], number: u64) -> Result<Answer, Memory>
+    ensures { IfOk result (λ a. a ≡ printing.refused (reason.now ++ decimal number)) }
+{
+    let digits = number.to_string(alloc)?;
+    refusal_of(alloc, reason, digits.as_bytes())
+}
+
+/// The refusal of the line with this number.
+pub fn bad_line(alloc: Global, line: u64) -> Result<Answer, Memory>
+    ensures { IfOk result (λ a. a ≡ printing.bad_line line) }
+{
+    numbered_refusal(alloc, b"line ", line)
+}
+
+/// The refusal of the line with this number, on which a card stands that is none of files.
+pub fn not_a_file(alloc: Global, line: u64) -> Result<Answer, Memory>
+    ensures { IfOk result (λ a. a ≡ printing.not_a_file line) }
+{
+    numbered_refusal(alloc, b"not a file line ", line)
+}
+
+/// The refusal of an input with more than 2^27 bytes.
+pub fn too_long(alloc: Global) -> Result<Answer, Memory>
+    ensures { IfOk result (λ a. a ≡ printing.too_long) }
+{
+    refusal(alloc, b"input too long")
+}
+
+/// The refusal of a file by its name and its size.
+pub fn too_large(alloc: Global, name: Name, size: u64) -> Result<Answer, Memory>
+    ensures { IfOk result (λ a. a ≡ printing.too_large name size) }
+{
+    let mut reason = Text::of(alloc, b"too large ")?;
+    reason.append(name.text().as_slice())?;
+    reason.append(b" ")?;
+    numbered_refusal(alloc, reason.bytes(), size)
+}
+
+/// The refusal of a file by the name that it was sent under and the name of its content.
+fn wrong_name(alloc: Global, name: Name, found: Name) -> Result<Answer, Memory>
+    ensures { IfOk result (λ a. a ≡ printing.wrong (name, found)) }
+{
+    let mut reason = Text::of(alloc, b"wrong name ")?;
+    reason.append(name.text().as_slice())?;
+    reason.append(b" ")?;
+    refusal_of(alloc, reason.bytes(), found.text().as_slice())
+}
+
+/// The refusal of a file for which there is no room, by its name.
+pub fn full(alloc: Global, name: Name) -> Result<Answer, Memory>
+    ensures { IfOk result (λ a. a ≡ printing.full name) }
+{
+    refusal_of(alloc, b"full ", name.text().as_slice())
+}
+
+/// The refusal of a file by its name and the fault of its arrival, which isn't that of a repository that is stopped.
+pub fn file_refusal(alloc: Global, name: Name, fault: ArriveFault) -> Result<Answer, Memory>
+    requires { (faults : ℕ) → fault ≢ arrive_fault.Stopped faults }
+    ensures { IfOk result (λ a. refused_for name (Err fault) ≡ Some a) }
+{
+    match fault {
+        ArriveFault::TooLarge { size } => too_large(alloc, name, size),
+        ArriveFault::NameWrong { found } => wrong_name(alloc, name, found),
+        ArriveFault::Full { .. } => full(alloc, name),
+        ArriveFault::Memory => Err(Memory),
+        ArriveFault::Stopped { .. } => unreachable!(),
+    }
+}
+
+/// A file that isn't a repository, from the place at which it fails to be one.
+pub fn not_repository(alloc: Global, at: u64) -> Result<Answer, Memory>
+    ensures { IfOk result (λ a. a ≡ printed_of (not_repository at)) }
+{
+    let digits = at.to_string(alloc)?;
+    let mut text = Text::of(alloc, b"not a repository: ")?;
+    text.append(digits.as_bytes())?;
+    text.append(b"\n")?;
+    Ok(Answer {
+        status: NOT_REPOSITORY,
+        text,
+    })
+}

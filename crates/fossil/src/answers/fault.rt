@@ -1,0 +1,24 @@
+//! Why a command has no outcome.
+ghost use Rattle.std.specs.Prelude.{◌≡◌};
+ghost use Rattle.fossil.specs.declared.answers.fault.Fault.TheVariants as fault_is;
+
+use fsl_text::Memory;
+
+/// Why a command has no outcome.
+#[derive(Clone, Copy, Debug, PartialEq, Eq, Drop)]
+pub enum Fault {
+    /// A call of the disk failed.
+    Disk,
+    /// A read of the input failed.
+    Input,
+    /// There was no memory.
+    Memory,
+}
+
+impl From<Memory> for Fault {
+    ghost from_gives = { λ _ fault. fault ≡ fault_is.Memory };
+
+    fn from(_: Memory) -> Fault {
+        Fault::Memory
+    }
+}

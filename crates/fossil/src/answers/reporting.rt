@@ -1,0 +1,70 @@
+//! Reports on what a repository holds.
+ghost use Rattle.std.specs.Prelude.{◌≡◌, List, IfOk};
+ghost use Rattle.fsl_blobs.specs.Fold.{contents};
+ghost use Rattle.fsl_record.specs.declared.Record.{Record};
+ghost use Rattle.fsl_words.specs.declared.Question.{Question};
+ghost use Rattle.fsl_query.specs.Answers.{IsReported};
+ghost use Rattle.fsl_query.specs.Refusals.{refusal_text};
+ghost use Rattle.fsl_words.specs.declared.Command.TheVariants as command_of;
+ghost use Rattle.fossil.specs.Printed as printing;
+ghost use Rattle.fossil.specs.Outcome.{IsAnswered, without_commit};
+ghost use Rattle.fsl_outside.specs.Streams.{SourceState};
+ghost use Rattle.fossil.specs.Acts.{Acts};
+
+use crate::answers::answer::{Answer, refusal};
+use crate::answers::fault::Fault;
+use crate::answers::say::made;
+use crate::answers::status::DONE;
+use crate::reading::load::not_loaded;
+use fsl_disk::Disk;
+use fsl_query::{QueryFault, Refused, refusal_text};
+use fsl_repo::Repo;
+use fsl_text::{Memory, Text};
+use fsl_words::Question;
+use std::alloc::Global;
+
+/// The refusal of a question.
+pub fn question_refusal(alloc: Global, refused: &Refused) -> Result<Answer, Memory>
+    ensures { IfOk result (λ a. a ≡ printing.refused (refusal_text refused.now)) }
+{
+    let reason = refusal_text(alloc, refused)?;
+    refusal(alloc, reason.bytes())
+}
+
+/// What is answered where a question found this: the report, or the reason why there is none.
+fn answer_of(alloc: Global, found: Result<Text, QueryFault>) -> Result<Answer, Memory>
+    ensures { (question : Question) (records : List Record) → IsReported (contents records) question found → IfOk result (λ a. IsAnswered question records (without_commit a)) }
+{
+    match found {
+        Ok(text) => Ok(Answer { status: DONE, text }),
+        Err(QueryFault::Refused(refused)) => question_refusal(alloc, &refused),
+        Err(QueryFault::Memory) => Err(Memory),
+    }
+}
+
+/// The report on a question, or the reason why there is none. The repository stays.
+fn report_on<D: Disk>(
+    alloc: Global,
+    repo: &mut Repo<D>,
+    question: &Question,
+) -> Result<Answer, Memory>
+    ensures answered { IfOk result (λ a. IsAnswered question.now repo.old.seen.state.records (without_commit a)) }
+    ensures same { repo.new ≡ repo.old }
+{
+    let found = fsl_query::report(alloc, repo, question);
+    answer_of(alloc, found)
+}
+
+/// Opens the repository, and answers with the report on a question, and the disk.
+pub fn report<D: Disk>(alloc: Global, question: &Question, disk: D) -> (Result<Answer, Fault>, D)
+    ensures { (input : SourceState) → Acts (command_of.Ask question.now) (input, input) (D.state disk, D.state result.1) result.0 }
+{
+    match Repo::load(alloc, disk) {
+        Ok(mut repo) => {
+            repo.is_whole();
+            let answer = made(report_on(alloc, &mut repo, question));
+            (answer, repo.close())
+        }
+        Err((disk, fault)) => (not_loaded(alloc, fault), disk),
+    }
+}

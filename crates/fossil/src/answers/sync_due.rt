@@ -1,0 +1,63 @@
+//! What is due to be said of a sync.
+ghost use Rattle.fossil.specs.Syncing.{IsFaultDue, IsSyncDue, IsUnopenedDue, IsNoPeerDue};
+
+use crate::answers::answer::{full, not_repository, numbered_refusal, too_large};
+use crate::answers::due::{Due, answered};
+use crate::answers::sync_text::{
+    missing, no_peer, other_project, synced, too_many_rounds, wrong_reply,
+};
+use fsl_journal::LoadFault;
+use fsl_pull::{PullFault, Pulled};
+use std::alloc::Global;
+
+/// What is due of a fault of a sync.
+fn fault_due(alloc: Global, fault: PullFault) -> Due
+    ensures { IsFaultDue fault result }
+{
+    match fault {
+        PullFault::NotEmpty { len } => answered(numbered_refusal(alloc, b"file not empty ", len)),
+        PullFault::NotRepository { at } => answered(not_repository(alloc, at)),
+        PullFault::Project { found } => answered(other_project(alloc, found)),
+        PullFault::Stopped { .. } => Due::Disk,
+        PullFault::Link => Due::Link,
+        PullFault::Disk => Due::Disk,
+        PullFault::Peer(why) => answered(wrong_reply(alloc, &why)),
+        PullFault::TooLarge { name, size } => answered(too_large(alloc, name, size)),
+        PullFault::Full { name } => answered(full(alloc, name)),
+        PullFault::Missing { name } => answered(missing(alloc, name)),
+        PullFault::Rounds => answered(too_many_rounds(alloc)),
+        PullFault::Memory => Due::Memory,
+    }
+}
+
+/// What is due of a sync that was made.
+pub(crate) fn sync_due(alloc: Global, made: Result<Pulled, PullFault>) -> Due
+    ensures { IsSyncDue made result }
+{
+    match made {
+        Ok(pulled) => answered(synced(alloc, &pulled)),
+        Err(fault) => fault_due(alloc, fault),
+    }
+}
+
+/// What is due of a repository file that isn't loaded.
+pub(crate) fn unopened(alloc: Global, fault: LoadFault) -> Due
+    ensures { IsUnopenedDue fault result }
+{
+    match fault {
+        LoadFault::Disk => Due::Disk,
+        LoadFault::NotRepository { at } => answered(not_repository(alloc, at)),
+        LoadFault::Memory => Due::Memory,
+    }
+}
+
+/// What is due of a peer's file that isn't loaded.
+pub(crate) fn unopened_peer(alloc: Global, fault: LoadFault) -> Due
+    ensures { IsNoPeerDue fault result }
+{
+    match fault {
+        LoadFault::Disk => Due::Disk,
+        LoadFault::NotRepository { at } => answered(no_peer(alloc, at)),
+        LoadFault::Memory => Due::Memory,
+    }
+}

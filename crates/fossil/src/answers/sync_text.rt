@@ -1,0 +1,133 @@
+//! What is printed of a sync.
+ghost use Rattle.std.specs.Prelude.{◌≡◌, ◌++◌, IfOk, decimal};
+ghost use Rattle.fsl_name.specs.Name.{name_text};
+ghost use Rattle.fossil.specs.Syncs as syncs;
+ghost use Rattle.fossil.specs.Syncs.{with_line};
+
+use crate::answers::answer::{Answer, refusal_of};
+use crate::answers::status::{DONE, MISSING, NOT_REPOSITORY, TOO_MANY_ROUNDS, WRONG_REPLY};
+use crate::worked::append_line;
+use fsl_name::Name;
+use fsl_pull::{PeerFault, Pulled};
+use fsl_text::{Memory, Text, escape};
+use std::alloc::Global;
+
+/// Words and a number behind them.
+fn numbered(alloc: Global, words: &[u8], number: u64) -> Result<Text, Memory>
+    ensures { IfOk result (λ text. text ≡ words.now ++ decimal number) }
+{
+    let digits = number.to_string(alloc)?;
+    let mut text = Text::of(alloc, words)?;
+    text.append(digits.as_bytes())?;
+    Ok(text)
+}
+
+/// Words and a name behind them.
+fn named(alloc: Global, words: &[u8], name: Name) -> Result<Text, Memory>
+    ensures { IfOk result (λ text. text ≡ words.now ++ name_text name) }
+{
+    let mut text = Text::of(alloc, words)?;
+    text.append(name.text().as_slice())?;
+    Ok(text)
+}
+
+/// A file under a wrong name: the name that it was sent under, and that of its bytes.
+fn wrong_name(alloc: Global, name: Name, found: Name) -> Result<Text, Memory>
+    ensures { IfOk result (λ text. text ≡ syncs.wrong_name_text name found) }
+{
+    let mut text = named(alloc, b"wrong name ", name)?;
+    text.append(b" ")?;
+    text.append(found.text().as_slice())?;
+    Ok(text)
+}
+
+/// The text of an error card, escaped.
+fn error_text(alloc: Global, error: &[u8]) -> Result<Text, Memory>
+    ensures { IfOk result (λ text. text ≡ syncs.error_text error.now) }
+{
+    let escaped = escape(alloc, error)?;
+    let mut text = Text::of(alloc, b"error ")?;
+    text.append(escaped.bytes())?;
+    Ok(text)
+}
+
+/// What is wrong with a reply.
+fn peer_text(alloc: Global, why: &PeerFault) -> Result<Text, Memory>
+    ensures { IfOk result (λ text. text ≡ syncs.peer_text why.now) }
+{
+    match why {
+        PeerFault::Head => Text::of(alloc, b"head"),
+        PeerFault::Http { found } => numbered(alloc, b"http ", u64::from(*found)),
+        PeerFault::Long { found } => numbered(alloc, b"long ", *found),
+        PeerFault::Short { found } => numbered(alloc, b"short ", *found),
+        PeerFault::Line { line } => numbered(alloc, b"line ", *line),
+        PeerFault::Error { text } => error_text(alloc, text.bytes()),
+        PeerFault::WrongName { name, found } => wrong_name(alloc, *name, *found),
+        PeerFault::NoPush => Text::of(alloc, b"no push card"),
+        PeerFault::NoSequence => Text::of(alloc, b"no sequence"),
+        PeerFault::Sequence { found } => numbered(alloc, b"sequence ", *found),
+        PeerFault::Again { name } => named(alloc, b"asked again ", *name),
+    }
+}
+
+/// A status, and a line of words and what stands behind them.
+fn line(alloc: Global, status: u8, words: &[u8], rest: &[u8]) -> Result<Answer, Memory>
+    ensures { IfOk result (λ a. a ≡ with_line status (words.now ++ rest.now)) }
+{
+    let mut text = Text::of(alloc, words)?;
+    text.append(rest)?;
+    text.append(b"\n")?;
+    Ok(Answer { status, text })
+}
+
+/// A sync that ended well: how many rounds it had, and how many artifacts were stored.
+pub fn synced(alloc: Global, pulled: &Pulled) -> Result<Answer, Memory>
+    ensures { IfOk result (λ a. a ≡ syncs.synced pulled.now.rounds pulled.now.stored) }
+{
+    let mut text = Text::empty(alloc);
+    append_line(alloc, &mut text, b"rounds ", pulled.rounds)?;
+    append_line(alloc, &mut text, b"stored ", pulled.stored)?;
+    Ok(Answer { status: DONE, text })
+}
+
+/// A wrong reply.
+pub fn wrong_reply(alloc: Global, why: &PeerFault) -> Result<Answer, Memory>
+    ensures { IfOk result (λ a. a ≡ syncs.wrong_reply why.now) }
+{
+    let text = peer_text(alloc, why)?;
+    line(alloc, WRONG_REPLY, b"peer: ", text.bytes())
+}
+
+/// A name that was asked for and isn't sent.
+pub fn missing(alloc: Global, name: Name) -> Result<Answer, Memory>
+    ensures { IfOk result (λ a. a ≡ syncs.missing name) }
+{
+    line(alloc, MISSING, b"missing ", name.text().as_slice())
+}
+
+/// A sync that was given up.
+pub fn too_many_rounds(alloc: Global) -> Result<Answer, Memory>
+    ensures { IfOk result (λ a. a ≡ syncs.too_many_rounds) }
+{
+    line(alloc, TOO_MANY_ROUNDS, b"too many ", b"rounds")
+}
+
+/// A peer of another project, by its code.
+pub fn other_project(alloc: Global, found: Name) -> Result<Answer, Memory>
+    ensures { IfOk result (λ a. a ≡ syncs.other_project found) }
+{
+    refusal_of(alloc, b"other project ", found.text().as_slice())
+}
+
+/// A peer's file that isn't a repository, from the place at which it fails to be one.
+pub fn no_peer(alloc: Global, at: u64) -> Result<Answer, Memory>
+    ensures { IfOk result (λ a. a ≡ syncs.no_peer at) }
+{
+    let digits = at.to_string(alloc)?;
+    line(
+        alloc,
+        NOT_REPOSITORY,
+        b"not a repository: peer ",
+        digits.as_bytes(),
+    )
+}

@@ -1,0 +1,13 @@
+//! What each command does.
+
+pub(crate) mod ask;
+pub(crate) mod cat;
+pub(crate) mod clone;
+pub(crate) mod generating;
+pub(crate) mod ingest;
+pub(crate) mod init;
+pub(crate) mod pull_local;
+pub(crate) mod put;
+pub(crate) mod serving;
+pub(crate) mod shun;
+pub(crate) mod sync;

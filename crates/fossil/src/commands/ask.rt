@@ -1,0 +1,35 @@
+//! The commands that ask the repository.
+ghost use Rattle.fsl_outside.specs.Streams.{SourceState};
+ghost use Rattle.fossil.specs.Acts.{RunsQuestion};
+
+use crate::answers::reporting::report;
+use crate::answers::say::print;
+use crate::commands::cat::cat;
+use crate::ran::Done;
+use fsl_disk::Disk;
+use fsl_outside::Sink;
+use fsl_words::Question;
+use std::alloc::Global;
+
+/// Prints the report on a question, and gives the status and the disk; `cat` writes the content where it lies.
+pub(crate) fn ask<K: Sink, D: Disk>(
+    alloc: Global,
+    question: &Question,
+    out: &mut K,
+    repo: D,
+) -> Done<D>
+    ensures { (input : SourceState) → RunsQuestion question.now (input, input) (K.state out.old, K.state out.new) (D.state repo, D.state result.repo) result.status }
+{
+    match question {
+        Question::Cat { prefix } => {
+            let mut repo = repo;
+            let status = cat(alloc, prefix.bytes(), out, &mut repo);
+            Done { status, repo }
+        }
+        _ => {
+            let (answer, repo) = report(alloc, question, repo);
+            let status = print(out, answer);
+            Done { status, repo }
+        }
+    }
+}

@@ -1,0 +1,30 @@
+//! `init`: makes a new repository.
+ghost use Rattle.fsl_record.specs.Records.{AreFields};
+ghost use Rattle.fsl_outside.specs.Streams.{SourceState};
+ghost use Rattle.fsl_words.specs.declared.Command.TheVariants as command_of;
+ghost use Rattle.fossil.specs.Acts.{Acts};
+
+use crate::answers::answer::{Answer, numbered_refusal};
+use crate::answers::fault::Fault;
+use crate::answers::status::DONE;
+use fsl_disk::Disk;
+use fsl_journal::{CreateFault, create};
+use fsl_record::Config;
+use fsl_text::Text;
+use std::alloc::Global;
+
+/// Writes a new repository with this Config into an empty file. A file that isn't empty is refused.
+pub fn init<D: Disk>(alloc: Global, config: &Config, disk: &mut D) -> Result<Answer, Fault>
+    requires { AreFields config.now.fields }
+    ensures { (input : SourceState) → Acts (command_of.Init config.now.project config.now.server config.now.fields) (input, input) (D.state disk.old, D.state disk.new) result }
+{
+    match create(alloc, disk, config) {
+        Ok(()) => Ok(Answer {
+            status: DONE,
+            text: Text::empty(alloc),
+        }),
+        Err(CreateFault::NotEmpty { len }) => Ok(numbered_refusal(alloc, b"file not empty ", len)?),
+        Err(CreateFault::Disk) => Err(Fault::Disk),
+        Err(CreateFault::Memory) => Err(Fault::Memory),
+    }
+}

@@ -1,0 +1,74 @@
+//! `pull-local`: artifacts come from the repository of another file.
+ghost use Rattle.std.specs.Prelude.{◌≡◌, ◌<◌};
+ghost use Rattle.fsl_disk.specs.Disk.{Keeps};
+ghost use Rattle.fsl_repo.specs.Whole.{IsWholeOn};
+ghost use Rattle.fossil.specs.Syncing.{HasPulledFrom, PullsInto, PullsLocal};
+
+use crate::answers::due::Due;
+use crate::answers::sync_due::{sync_due, unopened, unopened_peer};
+use fsl_disk::Disk;
+use fsl_repo::Repo;
+use fsl_text::Steps;
+use std::alloc::Global;
+use std::marker::Brand;
+use std::sync::ledger::{Blank, Ledger};
+
+/// Pulls from one repository into another, with a counter of its own.
+fn pull_counted<D: Disk, P: Disk, L: Ledger>(
+    alloc: Global,
+    repo: &mut Repo<D>,
+    peer: &mut Repo<P>,
+    blank: Blank,
+) -> Due
+    requires name { blank.name ≡ L.name }
+    requires parts { blank.parts ≡ L.parts }
+    requires counts { 0 < L.parts }
+    ensures pulled { HasPulledFrom (D.state repo.old.disk, D.state repo.new.disk) repo.old.seen repo.new.seen peer.old.seen result }
+    ensures whole { IsWholeOn (D.state repo.new.disk) repo.new }
+    ensures keeps { Keeps (D.state repo.old.disk) (D.state repo.new.disk) }
+    ensures peer { peer.new ≡ peer.old }
+{
+    let mut steps: Steps<L> = Steps::new(blank);
+    let made = fsl_pull::pull_local(alloc, repo, peer, &mut steps);
+    repo.is_whole();
+    sync_due(alloc, made)
+}
+
+/// Pulls from one repository into another, and answers what is due of that.
+fn pull_between<D: Disk, P: Disk>(alloc: Global, repo: &mut Repo<D>, peer: &mut Repo<P>) -> Due
+    ensures pulled { HasPulledFrom (D.state repo.old.disk, D.state repo.new.disk) repo.old.seen repo.new.seen peer.old.seen result }
+    ensures whole { IsWholeOn (D.state repo.new.disk) repo.new }
+    ensures keeps { Keeps (D.state repo.old.disk) (D.state repo.new.disk) }
+    ensures peer { peer.new ≡ peer.old }
+{
+    pull_counted::<D, P, Brand>(alloc, repo, peer, Blank::new(1))
+}
+
+/// Opens the peer, and pulls from it into a repository that was opened. The peer's disk comes back.
+fn pull_from<D: Disk, P: Disk>(alloc: Global, repo: &mut Repo<D>, peer: P) -> (Due, P)
+    ensures { PullsInto (λ d. D.state d) repo.old repo.new (P.state peer, P.state result.1) result.0 }
+{
+    match Repo::load(alloc, peer) {
+        Ok(mut there) => {
+            there.is_whole();
+            let due = pull_between(alloc, repo, &mut there);
+            (due, there.close())
+        }
+        Err((peer, fault)) => (unopened_peer(alloc, fault), peer),
+    }
+}
+
+/// Opens the repository and then its peer, and pulls from this into that. What is due of that is answered, and the disks
+/// come back.
+pub(crate) fn pull_local<D: Disk, P: Disk>(alloc: Global, disk: D, peer: P) -> (Due, D, P)
+    ensures { PullsLocal (D.state disk, D.state result.1) (P.state peer, P.state result.2) result.0 }
+{
+    match Repo::load(alloc, disk) {
+        Ok(mut repo) => {
+            repo.is_whole();
+            let (due, peer) = pull_from(alloc, &mut repo, peer);
+            (due, repo.close(), peer)
+        }
+        Err((disk, fault)) => (unopened(alloc, fault), disk, peer),
+    }
+}

@@ -1,0 +1,194 @@
+//! Serves a repository to several connections.
+ghost use Rattle.std.specs.Prelude.{◌≡◌, ◌<◌, ◌≤◌, None, Some, map, string_bytes, vec_len, IfOk, IfErr};
+ghost use Rattle.std.specs.Option.{option_map};
+ghost use Rattle.fossil.specs.Acts.{output_of};
+ghost use Rattle.fossil.specs.Served.{AreStaffed, IsWrittenAs, serving_of, serving_in, not_loaded};
+ghost use Rattle.fossil.specs.Serving.{printed, IsDue, IsAsked, IsUnasked};
+ghost use Rattle.fossil.specs.ServeCall.{IsServe, IsFileServed, IsDiskServed, IsLoadedServed};
+
+use crate::answers::answer::not_repository;
+use crate::answers::due::{Due, answered, print_due};
+use crate::reading::users::read_users;
+use crate::worked::finished;
+use fsl_disk::Disk;
+use fsl_journal::LoadFault;
+use fsl_login::Users;
+use fsl_outside::{Door, Gate, Sink, Source};
+use fsl_repo::Repo;
+use fsl_serve::{Crew, serve_crews};
+use fsl_words::{Command, WordsFault, read};
+use std::alloc::Global;
+use std::sync::Wait;
+use std::thread::Threads;
+
+/// The repository that was served, or the disk where none was loaded.
+#[derive(Drop)]
+pub enum State<D: Disk> {
+    Loaded(Repo<D>),
+    Unloaded(D),
+}
+
+/// What a serve ends with: the status, the repository or its disk, and the crews in their order.
+#[derive(Drop)]
+pub struct Served<D: Disk, A, G> {
+    pub status: u8,
+    pub state: State<D>,
+    pub crews: Vec<Crew<A, G>>,
+}
+
+/// How many connections each worker is to take, where the command is a serve.
+fn requests_of(command: &Command) -> Option<u64>
+    ensures { result ≡ option_map (λ s. s.requests) (serving_of command.now) }
+{
+    match command {
+        Command::Serve { requests, .. } => Some(*requests),
+        _ => None,
+    }
+}
+
+/// How many connections each worker is to take, by the words.
+fn asked(alloc: Global, words: &[String]) -> Result<u64, Due>
+    ensures asked { IfOk result (IsAsked (map string_bytes words.now)) }
+    ensures few { IfOk result (λ requests. requests ≤ 65536) }
+    ensures none { IfErr result (IsUnasked (map string_bytes words.now)) }
+{
+    match read(alloc, words) {
+        Ok(words) => match requests_of(&words.command) {
+            Some(requests) => Ok(requests),
+            None => Err(Due::Usage),
+        },
+        Err(WordsFault::Usage) => Err(Due::Usage),
+        Err(WordsFault::Memory) => Err(Due::Memory),
+    }
+}
+
+/// What is said of a file that wasn't loaded.
+fn not_loaded(alloc: Global, fault: LoadFault) -> Due
+    ensures { IsDue (not_loaded fault) result }
+{
+    match fault {
+        LoadFault::Disk => Due::Disk,
+        LoadFault::NotRepository { at } => answered(not_repository(alloc, at)),
+        LoadFault::Memory => Due::Memory,
+    }
+}
+
+/// Says what is due, and gives the status with what is left.
+fn ended<D: Disk, A, G, K: Sink>(
+    out: &mut K,
+    due: &Due,
+    state: State<D>,
+    crews: Vec<Crew<A, G>>,
+) -> Served<D, A, G>
+    ensures said { IsWrittenAs (printed due.now) (output_of (K.state out.old, K.state out.new)) result.status }
+    ensures state { result.state ≡ state }
+    ensures crews { result.crews ≡ crews }
+{
+    Served {
+        status: print_due(out, due),
+        state,
+        crews,
+    }
+}
+
+/// Serves a loaded repository.
+fn serve_loaded<D: Disk + Send, A: Door + Send, G: Gate + Send, K: Sink, R: Threads + Wait + Sync>(
+    rt: &R,
+    alloc: Global,
+    users: &Users,
+    repo: Repo<D>,
+    crews: Vec<Crew<A, G>>,
+    requests: u64,
+    out: &mut K,
+) -> Served<D, A, G>
+    requires crews { (0 < vec_len crews) × (vec_len crews ≤ 16) }
+    requires requests { requests ≤ 65536 }
+    ensures { IsLoadedServed D.state A.state G.passed users.now requests repo crews.items (K.state out.old, K.state out.new) result }
+{
+    let project = repo.config().project;
+    match serve_crews(rt, alloc, users, project, repo, crews, requests) {
+        Ok(worked) => finished(alloc, worked, out),
+        Err((repo, crews)) => ended(out, &Due::Memory, State::Loaded(repo), crews),
+    }
+}
+
+/// Loads the repository of a disk and serves it.
+fn serve_disk<D: Disk + Send, A: Door + Send, G: Gate + Send, K: Sink, R: Threads + Wait + Sync>(
+    rt: &R,
+    alloc: Global,
+    users: &Users,
+    disk: D,
+    crews: Vec<Crew<A, G>>,
+    requests: u64,
+    out: &mut K,
+) -> Served<D, A, G>
+    requires crews { (0 < vec_len crews) × (vec_len crews ≤ 16) }
+    requires requests { requests ≤ 65536 }
+    ensures { IsDiskServed D.state A.state G.passed users.now requests disk crews.items (K.state out.old, K.state out.new) result }
+{
+    match Repo::load(alloc, disk) {
+        Ok(repo) => serve_loaded(rt, alloc, users, repo, crews, requests, out),
+        Err((disk, fault)) => ended(out, &not_loaded(alloc, fault), State::Unloaded(disk), crews),
+    }
+}
+
+/// Reads the users file, and serves the repository of a disk to these users.
+fn serve_file<
+    S: Source,
+    D: Disk + Send,
+    A: Door + Send,
+    G: Gate + Send,
+    K: Sink,
+    R: Threads + Wait + Sync,
+>(
+    rt: &R,
+    alloc: Global,
+    users: &mut S,
+    disk: D,
+    crews: Vec<Crew<A, G>>,
+    requests: u64,
+    out: &mut K,
+) -> Served<D, A, G>
+    requires crews { (0 < vec_len crews) × (vec_len crews ≤ 16) }
+    requires requests { requests ≤ 65536 }
+    ensures { IsFileServed D.state A.state G.passed (S.state users.old, S.state users.new) requests disk crews.items (K.state out.old, K.state out.new) result }
+{
+    match read_users(alloc, users) {
+        Ok(users) => serve_disk(rt, alloc, &users, disk, crews, requests, out),
+        Err(due) => ended(out, &due, State::Unloaded(disk), crews),
+    }
+}
+
+/// Serves the repository of a disk to as many connections a worker as the words say, one worker for each crew, under one lock. Two
+/// lines are printed, `sessions N` with how many connections were served and `stored M` with how many artifacts were stored.
+///
+/// The words are read first, then the users file to its end or past 2^20 bytes, then the repository is loaded, then the workers
+/// run, then the lines are printed. The status is 0, or the first of these: 1 for words that are no serve, 5 where the users file
+/// couldn't be read, 3 where one of its lines is bad, 2 where the file isn't a repository, 4 where the disk failed, 7 where a door
+/// failed, 6 where the output failed. 9 for want of memory may stand in place of each. The crews come back in their order, as their
+/// workers left them; where no worker ran, as they were.
+pub fn serve<
+    S: Source,
+    D: Disk + Send,
+    A: Door + Send,
+    G: Gate + Send,
+    K: Sink,
+    R: Threads + Wait + Sync,
+>(
+    rt: &R,
+    alloc: Global,
+    words: &[String],
+    users: &mut S,
+    repo: D,
+    crews: Vec<Crew<A, G>>,
+    out: &mut K,
+) -> Served<D, A, G>
+    requires staffed { AreStaffed (map string_bytes words.now) (vec_len crews) }
+    ensures said { IsServe D.state A.state G.passed (map string_bytes words.now) (S.state users.old, S.state users.new) (K.state out.old, K.state out.new) repo crews.items result }
+    ensures unread { serving_in (map string_bytes words.now) ≡ None → users.new ≡ users.old }
+{
+    match asked(alloc, words) {
+        Ok(requests) => serve_file(rt, alloc, users, repo, crews, requests, out),
+        Err(due) => ended(out, &due, State::Unloaded(repo), crews),
+    }
+}

@@ -1,0 +1,74 @@
+//! `shun`: takes a name out of the repository for good.
+ghost use Rattle.std.specs.Prelude.{◌≡◌, None, IfOk};
+ghost use Rattle.fsl_outside.specs.Streams.{SourceState};
+ghost use Rattle.fsl_words.specs.declared.Command.TheVariants as command_of;
+ghost use Rattle.fossil.specs.Printed.{name_line};
+ghost use Rattle.fossil.specs.Shun.{word_of};
+ghost use Rattle.fossil.specs.Acts.{loaded_of, IsOpened, Acts};
+
+use crate::answers::answer::Answer;
+use crate::answers::fault::Fault;
+use crate::answers::ingest_report::add_line;
+use crate::answers::status::DONE;
+use crate::reading::load::not_loaded;
+use fsl_disk::Disk;
+use fsl_name::Name;
+use fsl_repo::{Repo, Shunning};
+use fsl_text::{Memory, Text};
+use std::alloc::Global;
+
+/// The word for what became of a name that was shunned.
+fn word(done: Shunning) -> &'static [u8]
+    ensures { result.now ≡ word_of done }
+{
+    match done {
+        Shunning::Already => b"already",
+        Shunning::Removed => b"removed",
+        Shunning::Listed => b"listed",
+    }
+}
+
+/// The line of what became of a name that was shunned.
+fn told(alloc: Global, name: Name, done: Shunning) -> Result<Answer, Memory>
+    ensures { IfOk result (λ a. a ≡ record { status = 0; text = name_line (word_of done) name }) }
+{
+    let mut text = Text::empty(alloc);
+    add_line(&mut text, word(done), &name)?;
+    Ok(Answer { status: DONE, text })
+}
+
+/// Shuns a name in a repository that was opened, and commits that. Where there is no memory for the line nothing is
+/// committed.
+fn take_out<D: Disk>(alloc: Global, name: Name, repo: &mut Repo<D>) -> Result<Answer, Fault>
+    requires runs { repo.old.seen.state.stopped ≡ None }
+    ensures { (disk : D) (input : SourceState) → IsOpened (D.state disk) (D.state repo.old.disk) (loaded_of repo.old) → Acts (command_of.Shun name) (input, input) (D.state disk, D.state repo.new.disk) result }
+{
+    let done = match repo.shun(name) {
+        Ok(done) => done,
+        Err(_) => return Err(Fault::Memory),
+    };
+    let answer = told(alloc, name, done)?;
+    repo.is_whole();
+    let committed = repo.commit();
+    repo.is_whole();
+    match committed {
+        Ok(_) => Ok(answer),
+        // No commit has failed before, so the disk did.
+        Err(_) => Err(Fault::Disk),
+    }
+}
+
+/// Takes a name out of the repository for good, in one commit: its artifact isn't held any more, and no artifact of this
+/// name is taken again. Nothing is committed where it is shunned already. The disk comes back.
+pub fn shun<D: Disk>(alloc: Global, name: Name, disk: D) -> (Result<Answer, Fault>, D)
+    ensures { (input : SourceState) → Acts (command_of.Shun name) (input, input) (D.state disk, D.state result.1) result.0 }
+{
+    match Repo::load(alloc, disk) {
+        Ok(mut repo) => {
+            repo.is_whole();
+            let answer = take_out(alloc, name, &mut repo);
+            (answer, repo.close())
+        }
+        Err((disk, fault)) => (not_loaded(alloc, fault), disk),
+    }
+}

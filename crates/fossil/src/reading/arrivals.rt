@@ -1,0 +1,74 @@
+//! Files that arrive in a repository one after another, in memory alone.
+ghost use Rattle.std.specs.Prelude.{◌≡◌, ◌<◌, None, IfOk};
+ghost use Rattle.fossil.specs.Arrivals.{arrival_word};
+ghost use Rattle.fossil.specs.Taking.{HaveArrived};
+
+use crate::answers::answer::{Answer, file_refusal};
+use crate::answers::ingest_report::add_line;
+use crate::reading::message::Sent;
+use fsl_disk::Disk;
+use fsl_repo::{Arrival, Repo};
+use fsl_text::{List, Memory, Steps, Text};
+use std::alloc::Global;
+use std::marker::Brand;
+use std::sync::ledger::{Blank, Ledger};
+
+/// What files came to that arrived.
+#[derive(Drop)]
+pub enum Arrivals {
+    /// Each was taken, and these are their lines.
+    Taken(Text),
+    /// One is refused, and with it all.
+    Refused(Answer),
+}
+
+/// The word for what became of a file.
+fn word(arrival: Arrival) -> &'static [u8]
+    ensures { result.now ≡ arrival_word arrival }
+{
+    match arrival {
+        Arrival::Shunned => b"shunned",
+        Arrival::Present => b"present",
+        Arrival::Published => b"published",
+        Arrival::Stored => b"stored",
+    }
+}
+
+/// The arrivals, with a counter of their own.
+fn arrive_counted<D: Disk, L: Ledger>(
+    alloc: Global,
+    files: List<Sent>,
+    repo: &mut Repo<D>,
+    blank: Blank,
+) -> Result<Arrivals, Memory>
+    requires name { blank.name ≡ L.name }
+    requires parts { blank.parts ≡ L.parts }
+    requires counts { 0 < L.parts }
+    requires runs { repo.old.seen.state.stopped ≡ None }
+    ensures arrived { IfOk result (HaveArrived files repo.old.seen.state repo.new.seen.state) }
+    ensures disk { repo.new.disk ≡ repo.old.disk }
+{
+    let mut steps: Steps<L> = Steps::new(blank);
+    let mut text = Text::empty(alloc);
+    for file in files.into_vec() {
+        match repo.arrive(file.name, file.bytes.bytes(), file.private, &mut steps) {
+            Ok(arrival) => add_line(&mut text, word(arrival), &file.name)?,
+            Err(fault) => return Ok(Arrivals::Refused(file_refusal(alloc, file.name, fault)?)),
+        }
+    }
+    Ok(Arrivals::Taken(text))
+}
+
+/// The files arrive in a repository one after another, in memory alone: the first that is too large, has another name or
+/// finds no room refuses all, and else each has its line. Want of memory is the only error.
+pub fn arrive<D: Disk>(
+    alloc: Global,
+    files: List<Sent>,
+    repo: &mut Repo<D>,
+) -> Result<Arrivals, Memory>
+    requires runs { repo.old.seen.state.stopped ≡ None }
+    ensures arrived { IfOk result (HaveArrived files repo.old.seen.state repo.new.seen.state) }
+    ensures disk { repo.new.disk ≡ repo.old.disk }
+{
+    arrive_counted::<D, Brand>(alloc, files, repo, Blank::new(1))
+}
