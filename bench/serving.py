@@ -72,6 +72,11 @@ def replied(port, sent, patience=0, is_all=False):
     return b''.join(pieces)
 
 
+def ready(port, patience=60):
+    """Waits until a server has loaded its repository: it listens before that, and answers behind it."""
+    assert replied(port, b'GET / HTTP/1.0\r\n\r\n', patience).startswith(b'HTTP/1.1 405')
+
+
 def body_of(reply):
     """The message of a reply, or None where it isn't one, or isn't whole."""
     head, found, body = reply.partition(b'\r\n\r\n')

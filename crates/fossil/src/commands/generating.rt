@@ -116,7 +116,10 @@ pub fn generate(alloc: Global, count: u64, reversed: bool) -> Result<Answer, Mem
     let texts = artifacts(alloc, count, reversed)?;
     let fields = List::new(alloc);
     let mut tables = Tables::new(alloc, &fields)?;
-    match summed(alloc, texts, &mut tables) {
+    let summed = summed(alloc, texts, &mut tables);
+    // By a call: tables have many parts.
+    drop(tables);
+    match summed {
         Ok(text) => Ok(Answer { status: DONE, text }),
         Err(Memory) => Err(Memory),
     }
