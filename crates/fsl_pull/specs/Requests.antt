@@ -2,6 +2,7 @@
 use Rattle.std.specs.Prelude.{ℕ, false, List, [], ◌∷◌, ◌++◌, map, Option, Some, None, codes}
 use Rattle.std.specs.List.{join_with_byte}
 use Rattle.std.specs.Option.{option_map_or}
+use Rattle.fsl_text.specs.Bytes.{newline, space}
 use Rattle.fsl_text.specs.Escapes.{escape}
 use Rattle.fsl_name.specs.Name.{name_of, name_text}
 use Rattle.fsl_wire.specs.declared.WireCard.{WireCard}
@@ -21,7 +22,7 @@ signature_of nonce secret = name_text (name_of (nonce ++ secret))
 -- the line of a login before the rest of its message
 abbrev pub login_line : Login → List ℕ → List ℕ
 login_line login rest =
-    join_with_byte 32 (codes "login" ∷ escape login.user ∷ nonce_of rest ∷ signature_of (nonce_of rest) login.secret ∷ []) ++ 10 ∷ []
+    join_with_byte space (codes "login" ∷ escape login.user ∷ nonce_of rest ∷ signature_of (nonce_of rest) login.secret ∷ []) ++ newline ∷ []
 
 -- a message behind the line of a login, where one is given
 abbrev pub signed_bytes : Option Login → List ℕ → List ℕ
