@@ -1,7 +1,6 @@
 -- The outcome of a run: the status, the text, and the commits that the command appends to the file.
 use Rattle.std.specs.Prelude.{◌≡◌, ℕ, Bool, true, false, ◌==◌, ◌||◌, ◌⊎◌, List, [], ◌∷◌, ◌++◌, length, Option, Some, None, option_map, Result, Ok, Err, if◌then◌else◌, codes, decimal}
 use Rattle.std.specs.Option.{option_map_or}
-use Rattle.fsl_text.specs.Bytes.{newline}
 use Rattle.fsl_record.specs.declared.Record.{Record}
 use Rattle.fsl_record.specs.declared.Record.TheVariants as record_of
 use Rattle.fsl_journal.specs.File.{IsFileOf, FailsAt}
@@ -49,7 +48,7 @@ usage = without_commit printing.usage
 
 -- a file that isn't a repository, from the place at which it fails
 abbrev pub not_repository : ℕ → Outcome
-not_repository at = record { status = 2; text = codes "not a repository: " ++ decimal at ++ newline ∷ []; commits = [] }
+not_repository at = record { status = 2; text = codes "not a repository: " ++ decimal at ++ 10 ∷ []; commits = [] }
 
 -- ---- the commands
 

@@ -1,6 +1,5 @@
 -- What is printed: a status and a text, and the refusals among them.
 use Rattle.std.specs.Prelude.{ℕ, List, [], ◌∷◌, ◌++◌, codes, decimal}
-use Rattle.fsl_text.specs.Bytes.{newline, space}
 use Rattle.fsl_name.specs.Name.{name_text}
 
 -- the status, and the text that is written
@@ -10,11 +9,11 @@ pub record Printed : Type 0 where
 
 -- words outside the grammar
 abbrev pub usage : Printed
-usage = record { status = 1; text = codes "usage: fossil REPOSITORY COMMAND [WORDS]" ++ newline ∷ [] }
+usage = record { status = 1; text = codes "usage: fossil REPOSITORY COMMAND [WORDS]" ++ 10 ∷ [] }
 
 -- a refusal for a reason
 abbrev pub refused : List ℕ → Printed
-refused text = record { status = 3; text = codes "refused: " ++ text ++ newline ∷ [] }
+refused text = record { status = 3; text = codes "refused: " ++ text ++ 10 ∷ [] }
 
 -- an input of more than 2^27 bytes
 abbrev pub too_long : Printed
@@ -30,11 +29,11 @@ not_a_file n = refused (codes "not a file line " ++ decimal n)
 
 -- a file that was sent under a wrong name, by this and the name of its bytes
 abbrev pub wrong : List ℕ × List ℕ → Printed
-wrong names = refused (codes "wrong name " ++ name_text names.0 ++ space ∷ name_text names.1)
+wrong names = refused (codes "wrong name " ++ name_text names.0 ++ 32 ∷ name_text names.1)
 
 -- a file of more than 2^24 bytes, by its name and its size
 abbrev pub too_large : List ℕ → ℕ → Printed
-too_large name size = refused (codes "too large " ++ name_text name ++ space ∷ decimal size)
+too_large name size = refused (codes "too large " ++ name_text name ++ 32 ∷ decimal size)
 
 -- a file for which there is no room, by its name
 abbrev pub full : List ℕ → Printed
@@ -42,4 +41,4 @@ full name = refused (codes "full " ++ name_text name)
 
 -- a line of a word and a name
 abbrev pub name_line : List ℕ → List ℕ → List ℕ
-name_line word name = word ++ space ∷ name_text name ++ newline ∷ []
+name_line word name = word ++ 32 ∷ name_text name ++ 10 ∷ []

@@ -2,7 +2,6 @@
 use Rattle.std.specs.Prelude.{◌≡◌, ◌≢◌, ℕ, ◌≤◌, ◌⊎◌, ◌==◌, ◌||◌, ◌&&◌, not, Bool, true, false, List, [], ◌∷◌, ◌++◌, length, take, flat_map, Option, Some, None, IsTrue, MatchBool, ⊤, if◌then◌else◌, codes}
 use Rattle.std.specs.Option.{option_map_or}
 use Rattle.std.specs.Io.KnownBytes.{Appends, IsAtEnd}
-use Rattle.fsl_text.specs.Bytes.{newline}
 use Rattle.fsl_order.specs.Causes.{Rose}
 use Rattle.fsl_outside.specs.Streams.{SourceState, SinkState}
 use Rattle.fsl_record.specs.declared.Record.{Record}
@@ -116,13 +115,13 @@ IsTold o status out =
 
 -- the lines of faults
 abbrev pub disk_fault : List ℕ
-disk_fault = codes "disk fault" ++ newline ∷ []
+disk_fault = codes "disk fault" ++ 10 ∷ []
 
 abbrev pub input_fault : List ℕ
-input_fault = codes "input fault" ++ newline ∷ []
+input_fault = codes "input fault" ++ 10 ∷ []
 
 abbrev pub out_of_memory : List ℕ
-out_of_memory = codes "out of memory" ++ newline ∷ []
+out_of_memory = codes "out of memory" ++ 10 ∷ []
 
 -- the file couldn't be read or written: while it was loaded or made, before the input was read, or while a commit was written
 pub record IsDiskFault (command : Option Command) (input : Input) (file : File) (o : Outcome) : Type 0 where

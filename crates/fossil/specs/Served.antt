@@ -3,7 +3,6 @@ use Rattle.std.specs.Prelude.{◌≡◌, ℕ, ◌+◌, ◌<◌, ◌≤◌, ◌�
 use Rattle.std.specs.List.{list_any}
 use Rattle.std.specs.Option.{option_map_or}
 use Rattle.std.specs.Io.KnownBytes.{Appends, Consumes, IsAtEnd}
-use Rattle.fsl_text.specs.Bytes.{newline}
 use Rattle.fsl_order.specs.Causes.{Rose}
 use Rattle.fsl_disk.specs.Disk.{DiskState, IsModelled, Told, Keeps, Quiet, LeavesOnly}
 use Rattle.fsl_record.specs.declared.Record.{Record}
@@ -91,7 +90,7 @@ abbrev pub with_text : ℕ → List ℕ → Printed
 with_text status text = record { status = status; text = text }
 
 abbrev pub link_fault : List ℕ
-link_fault = codes "link fault" ++ newline ∷ []
+link_fault = codes "link fault" ++ 10 ∷ []
 
 -- a users file with a bad line
 abbrev pub bad_users : ℕ → Printed
@@ -107,7 +106,7 @@ not_loaded load_fault.Disk = with_text 4 disk_fault
 not_loaded load_fault.Memory = no_memory
 
 abbrev pub line_of : List ℕ → List ℕ
-line_of text = text ++ newline ∷ []
+line_of text = text ++ 10 ∷ []
 
 -- the two lines of a serve
 abbrev pub served_text : ℕ → ℕ → List ℕ

@@ -1,6 +1,5 @@
 -- The outcomes of the commands that sync: by the rounds that were read, and by the peer's file.
 use Rattle.std.specs.Prelude.{◌≡◌, ℕ, ◌⊎◌, List, [], ◌∷◌, ◌++◌, length, Option, Some, None, option_map, codes, decimal}
-use Rattle.fsl_text.specs.Bytes.{space}
 use Rattle.fsl_text.specs.Escapes.{escape}
 use Rattle.fsl_name.specs.Name.{name_text}
 use Rattle.fsl_record.specs.declared.Record.{Record}
@@ -30,7 +29,7 @@ sync_text rounds stored = line_of (codes "rounds " ++ decimal rounds) ++ line_of
 
 -- a file under a wrong name: the name that it was sent under, and that of its bytes
 abbrev pub wrong_name_text : List ℕ → List ℕ → List ℕ
-wrong_name_text name found = codes "wrong name " ++ name_text name ++ space ∷ name_text found
+wrong_name_text name found = codes "wrong name " ++ name_text name ++ 32 ∷ name_text found
 
 -- the text of an error card, escaped
 abbrev pub error_text : List ℕ → List ℕ

@@ -2,7 +2,7 @@
 use Rattle.std.specs.Prelude.{ℕ, List, [], ◌∷◌, ◌++◌, if◌then◌else◌, codes}
 use Rattle.std.specs.Option.{option_map_or}
 use Rattle.fsl_date.specs.Moment.{moment_text}
-use Rattle.fsl_text.specs.Bytes.{is_empty, newline, space}
+use Rattle.fsl_text.specs.Bytes.{is_empty}
 use Rattle.fsl_text.specs.Escapes.{escape}
 use Rattle.fsl_name.specs.Name.{name_text}
 use Rattle.fsl_tags.specs.declared.Assertion.{Assertion}
@@ -23,9 +23,9 @@ use Rattle.fsl_forum.specs.declared.Post.{Post}
 
 -- words with one space between them, and a newline
 abbrev pub spaced : List (List ℕ) → List ℕ
-spaced [] = newline ∷ []
-spaced (word ∷ []) = word ++ newline ∷ []
-spaced (word ∷ words) = word ++ space ∷ spaced words
+spaced [] = 10 ∷ []
+spaced (word ∷ []) = word ++ 10 ∷ []
+spaced (word ∷ words) = word ++ 32 ∷ spaced words
 
 -- a text as a line shows it: `-` where it is empty
 abbrev pub shown : List ℕ → List ℕ
