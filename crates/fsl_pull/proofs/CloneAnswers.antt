@@ -17,7 +17,7 @@ use Rattle.fsl_pull.specs.Taking.{IsRefusal}
 use Rattle.fsl_pull.specs.Turns.{commits_of, IsMade}
 use Rattle.fsl_pull.specs.Clones.{Cloning, CloneAsks, clone_start}
 use Rattle.fsl_pull.specs.Calls.{Dialled, dialled}
-use Rattle.fsl_pull.specs.CloneCalls.{CloneOf, round_of, IsCloneEnd, AreBegun, IsUnmade, committed_before, IsCloneFailed, IsCloneAnswer, AreCloneCommits, IsCloneCall, UnlessDisk}
+use Rattle.fsl_pull.specs.CloneCalls.{CloneOf, round_of, IsCloneEnd, AreBegun, IsUnmade, committed_before, commits_before, IsCloneFailed, IsCloneAnswer, AreCloneCommits, IsCloneCall, UnlessDisk}
 use Rattle.fsl_pull.proofs.OneEnd.{IsDetermined, clone_determined}
 use Rattle.fsl_pull.proofs.RoundLemmas.{end_behind, length_behind, CommitsFrom, front_commits, step_commits, known_commits}
 use Rattle.fsl_pull.proofs.DialLemmas.{all_of, BreaksIn, grown, none_joined}
@@ -115,8 +115,9 @@ module _ (k : CloneOf) (IsKept : List (List Record) → Type 0) (l0 l l2 : LinkS
         (refused_answer why (dialled l0 l2) (front ++ made.0 ∷ []) refusal (whole_by e made (Some why) None lt is (inl refl) left))
 
     -- its commit failed
-    pub lost : (step : Then Cloning) (made : IsMade l l2 (λ r. R point r step)) → length front + 1 ≤ most_rounds → (state_of step).committed ≡ length (state_of step).records → committed_before point ≢ length (state_of step).records → Rose k.faults faults → IsKept (commits_of step) → Call (Err fault.Disk)
-    lost step made lt due some rose kept =
+    pub lost : (step : Then Cloning) (made : IsMade l l2 (λ r. R point r step)) → length front + 1 ≤ most_rounds → (state_of step).committed ≡ length (state_of step).records → committed_before point ≢ length (state_of step).records
+        → k.Loses (commits_before point (commits_of step)) (commits_of step) → Rose k.faults faults → IsKept (commits_of step) → Call (Err fault.Disk)
+    lost step made lt due some left rose kept =
         told_step (Err fault.Disk) step made kept (
           rose,
           refl,
@@ -132,6 +133,7 @@ module _ (k : CloneOf) (IsKept : List (List Record) → Type 0) (l0 l l2 : LinkS
             is_round = made.2;
             is_due = due;
             some = some;
+            left = left;
           })),
         )
 
@@ -240,9 +242,9 @@ unless_all P (Err (fault.Missing name)) h = h
 unless_all P (Err fault.Rounds) h = h
 unless_all P (Err fault.Memory) h = h
 
-module _ (k : CloneOf) (Length : ℕ → Type 0) (Leaves : List (List Record) → Type 0) (MayDiffer : Type 0) (length_on : (len : ℕ) → k.Length len → Length len) (may_on : k.MayDiffer → MayDiffer) where
+module _ (k : CloneOf) (Length : ℕ → Type 0) (Leaves : List (List Record) → Type 0) (Loses : List (List Record) → List (List Record) → Type 0) (MayDiffer : Type 0) (length_on : (len : ℕ) → k.Length len → Length len) (loses_on : (done all : List (List Record)) → k.Loses done all → Loses done all) (may_on : k.MayDiffer → MayDiffer) where
   abbrev q : CloneOf
-  q = record k { Length = Length; Leaves = Leaves; MayDiffer = MayDiffer }
+  q = record k { Length = Length; Leaves = Leaves; Loses = Loses; MayDiffer = MayDiffer }
 
   abbrev LeavesOn : Type 0
   LeavesOn = (commits : List (List Record)) → k.Leaves commits → Leaves commits
@@ -269,6 +271,7 @@ module _ (k : CloneOf) (Length : ℕ → Type 0) (Leaves : List (List Record) �
         is_round = h.is_round;
         is_due = h.is_due;
         some = h.some;
+        left = loses_on (commits_before h.point (commits_of h.step)) (commits_of h.step) h.left;
       }))
 
   answer_on : (d : Dialled) (faults : ℕ) (result : Result Pulled PullFault) (rounds : Rounds) (broken : List Connection) → UnlessDisk LeavesOn result → IsCloneAnswer k d faults result rounds broken → IsCloneAnswer q d faults result rounds broken

@@ -1,6 +1,7 @@
 -- A clone as a loop of rounds, the first of which began its repository.
-use Rattle.std.specs.Prelude.{◌≡◌, ◌≢◌, ℕ, ◌+◌, ◌≤◌, Bool, List, [], ◌∷◌, ◌++◌, length, drop, Option, Some, None, Result, Ok, Err, MatchOption, IsTrue, if◌then◌else◌}
+use Rattle.std.specs.Prelude.{◌≡◌, ◌≢◌, ℕ, ◌+◌, ◌≤◌, Bool, List, [], ◌∷◌, ◌++◌, length, take, drop, Option, Some, None, Result, Ok, Err, MatchOption, IsTrue, if◌then◌else◌}
 use Rattle.std.proofs.Common.{refl, sym, ap, subst, ◌∙◌, inl, inr, arith}
+use Rattle.std.proofs.lemmas.List.{take_all}
 use Rattle.fsl_order.specs.Causes.{Rose}
 use Rattle.fsl_disk.specs.Disk.{DiskState, IsModelled, Keeps, LeavesOnly}
 use Rattle.fsl_disk.proofs.Moments.{started, weaker, and_then, keeps_on, modelled_after}
@@ -22,10 +23,10 @@ use Rattle.fsl_pull.specs.Dialled.{Rounds, Grows}
 use Rattle.fsl_pull.specs.Kept.{all_of_them, StandsForSome}
 use Rattle.fsl_pull.specs.Pulls.{unread}
 use Rattle.fsl_pull.specs.Clones.{Cloning, first_record, begun_with, IsCloned, IsCloneReply, CloneAsks, CloneRound, clone_start}
-use Rattle.fsl_pull.specs.Turns.{commits_of, AreCommitted, IsKeptBy, IsCarried, IsMade, ComesTo, TurnsTo}
+use Rattle.fsl_pull.specs.Turns.{commits_of, AreCommitted, IsKeptBy, IsCarried, IsUncommitted, IsMade, ComesTo, TurnsTo}
 use Rattle.fsl_pull.specs.Calls.{dialled}
-use Rattle.fsl_pull.specs.CloneCalls.{CloneOf, as_before, made, committed_before, IsCloneCall}
-use Rattle.fsl_pull.specs.CloneTurns.{cloning, AsksFrom, BrokenClone, IsKeptOn, IsCloneTaken, IsCloneTurned, IsFirst, clone_within, HasCommitted, IsKeptFrom}
+use Rattle.fsl_pull.specs.CloneCalls.{CloneOf, as_before, made, committed_before, commits_before, IsCloneCall}
+use Rattle.fsl_pull.specs.CloneTurns.{cloning, AsksFrom, BrokenClone, IsKeptOn, IsCloneTaken, IsCloneTurned, IsFirst, clone_within, HasCommitted, HasLost, IsKeptFrom}
 use Rattle.fsl_pull.proofs.OneEnd.{read_one}
 use Rattle.fsl_pull.proofs.RoundLemmas.{go_behind, length_behind}
 use Rattle.fsl_pull.proofs.DialLemmas.{all_of, grown, cut_off, idle, none_joined}
@@ -54,6 +55,16 @@ pub record IsAt {D : Type 0} (disk : D → DiskState) (server : List ℕ) (field
   pub keeps : Keeps (disk mid) (disk d)
   pub counted : s.state.faults ≡ faults
   pub dial : l0.faults ≤ l.faults
+
+begins_some : (first : List Record) (commits : List (List Record)) → Begins first commits → commits ≢ []
+begins_some first commits b none = no (sym b.1 ∙ none)
+  where
+    no : first ∷ b.0 ≡ [] → ⊥
+    no e = cc
+
+-- all records are committed
+all_committed : (s : State) → s.committed ≡ length s.records → s.records ≡ front s
+all_committed s due = sym (take_all s.committed s.records (omega (arith, due)))
 
 same_head : (a b : List Record) (xs ys : List (List Record)) → a ∷ xs ≡ b ∷ ys → b ≡ a
 same_head a b xs ys e = cc
@@ -84,7 +95,7 @@ module _ {D : Type 0} (disk : D → DiskState) (server : List ℕ) (fields : Lis
   F = config ∷ []
 
   abbrev pub The : Seen → CloneOf
-  The s = clone_within server fields login n (HasCommitted s.state)
+  The s = clone_within server fields login n (HasCommitted s.state) (HasLost s.state)
 
   abbrev Kept : D → List (List Record) → Type 0
   Kept x commits = IsKeptFrom (disk mid) (disk x) F commits
@@ -120,8 +131,16 @@ module _ {D : Type 0} (disk : D → DiskState) (server : List ℕ) (fields : Lis
       and_then (disk mid) (disk d) (disk x) (StandsForSome [] (commits_of step)) (longer_images d p.commits (commits_of step) w images model)
       (k [] are (modelled_after (disk mid) (disk d) keeps model))
 
-  leaves_by : (s : Seen) (state : State) (commits : List (List Record)) → AreCommitted [] state commits → state ≡ s.state → HasCommitted s.state commits
-  leaves_by s state commits are same = subst (λ (t : State). front t ≡ all_of_them commits) same are
+  leaves_by : (s : Seen) (state : State) (commits : List (List Record)) → Begins F commits → AreCommitted [] state commits → state ≡ s.state → HasCommitted s.state commits
+  leaves_by s state commits b are same = (begins_some F commits b, subst (λ (t : State). front t ≡ all_of_them commits) same are)
+
+  -- what a commit that failed leaves
+  loses_by : (s : Seen) (p : Point Cloning) (step : Then Cloning) → Begins F p.commits → AreCommitted [] p.state p.commits → IsUncommitted p step s.state
+      → AreCommitted [] (state_of step) (commits_of step) → take p.state.committed (state_of step).records ≡ front p.state → HasLost s.state p.commits (commits_of step)
+  loses_by s p step b are un all in_front = (
+    (begins_some F p.commits b, ap front un.state ∙ in_front ∙ are),
+    ap (λ (t : State). t.records) un.state ∙ all_committed (state_of step) un.is_due ∙ all,
+  )
 
   to_fault : (l : LinkState) (x : D) (s : Seen) (why w : PullFault) → why ≡ w → Tells l x s (Err w) → Tells l x s (Err why)
   to_fault l x s why w e t = subst (λ (v : PullFault). Tells l x s (Err v)) (sym e) t
@@ -208,21 +227,29 @@ module _ {D : Type 0} (disk : D → DiskState) (server : List ℕ) (fields : Lis
         let says = t.1.0 in
         let count : e.count + stored old ≡ 0 + stored s = (t.1.1).count in
         ended (The s) (Kept x) l0 l0 l1 s.state.faults refl [] start refl (none_joined (all_of l0)) e (is_made (ends e) says.0) 1 stores few t.2 refl
-        (omega (arith, count, none_stored, is_stores)) (leaves_by s e.state e.commits (says.1.1 [] refl) t.3) (first_kept x (ends e) says.0 says.1.0)
+        (omega (arith, count, none_stored, is_stores)) (leaves_by s e.state e.commits (first_begins (ends e) says.0) (says.1.1 [] refl) t.3) (first_kept x (ends e) says.0 says.1.0)
 
     pub first_fails : (x : D) (s : Seen) (why : PullFault) → FirstTurn x s (Err why) → Tells l1 x s (Err why)
     first_fails x s why turned = by (turned begun first_is refl)
       where
+        -- before its commit there was that of the Config
+        first_loses : (step : Then Cloning) → IsCloned begun reply step → IsUncommitted begun step s.state → AreCommitted [] (state_of step) (commits_of step)
+            → take begun.state.committed (state_of step).records ≡ front begun.state → HasLost s.state (commits_before start (commits_of step)) (commits_of step)
+        first_loses step k un all in_front =
+            subst (λ (done : List (List Record)). HasLost s.state done (commits_of step)) (sym (ap (λ (all : List (List Record)). take 1 all) (first_begins step k).1))
+            (loses_by s begun step ([], refl) refl un all in_front)
+
         by : ComesTo AsksFrom begun (λ s. IsCloned begun reply s × IsKeptOn (disk mid) (disk x) (x ≡ mid) begun s) (IsCarried (stored old) (stored s) begun) (λ left. (front left ≡ front begun.state) × (x ≡ mid)) s.state (Err why) → Tells l1 x s (Err why)
-        by (inl (inl (refusal, (e, (k, (kept, on)), is_fault, is_state)))) =
+        by (inl (inl (refusal, (e, (k, (kept, on, in_front)), is_fault, is_state)))) =
             refused (The s) (Kept x) l0 l0 l1 s.state.faults refl [] start refl (none_joined (all_of l0)) e (is_made (ends e) k) why few refusal is_fault
-            (leaves_by s e.state e.commits (on [] refl) is_state) (first_kept x (ends e) k kept)
-        by (inl (inr (is, (step, (k, (kept, on)), un)))) =
+            (leaves_by s e.state e.commits (first_begins (ends e) k) (on [] refl) is_state) (first_kept x (ends e) k kept)
+        by (inl (inr (is, (step, (k, (kept, on, in_front)), un)))) =
             to_fault l1 x s why fault.Disk is
-            (lost (The s) (Kept x) l0 l0 l1 s.state.faults refl [] start refl (none_joined (all_of l0)) step (is_made step k) few un.is_due un.some un.rose (first_kept x step k kept))
+            (lost (The s) (Kept x) l0 l0 l1 s.state.faults refl [] start refl (none_joined (all_of l0)) step (is_made step k) few un.is_due un.some
+            (first_loses step k un (on [] refl) in_front) un.rose (first_kept x step k kept))
         by (inr (is, (same, still))) =
             to_fault l1 x s why fault.Memory is
-            (in_part (The s) (Kept x) l0 l0 l1 s.state.faults refl [] start refl (none_joined (all_of l0)) first reply (F ∷ []) h.exchange few h.asked h.read (made project refl h.pushes refl) same
+            (in_part (The s) (Kept x) l0 l0 l1 s.state.faults refl [] start refl (none_joined (all_of l0)) first reply (F ∷ []) h.exchange few h.asked h.read (made project refl h.pushes refl) (begins_some F (F ∷ []) ([], refl), same)
             (λ step r.
             let k = first_step step r in
             kept_by x (commits_of step) (first_begins step k) (longer_images x begun.commits (commits_of step) (first_longer step k) (subst (λ (y : D). Images y begun.commits) (sym still) at_first))))
@@ -289,24 +316,31 @@ module _ {D : Type 0} (disk : D → DiskState) (server : List ℕ) (fields : Lis
         let kept = t.1.1 in
         let carried : e.count + stored s ≡ (h.point).count + stored s2 = (t.1.2).count in
         ended (The s2) (Kept x) l0 l l2 s2.state.faults refl rounds h.point h.go h.grows e r count stores (more lt) t.2 (is_count ∙ ap (λ (x : ℕ). x + 1) (sym h.many))
-        (omega (arith, carried, h.count, is_stores)) (leaves_by s2 e.state e.commits (kept.1 [] h.committed) t.3) (more_kept x r.0 (ends e) r.2 kept.0)
+        (omega (arith, carried, h.count, is_stores)) (leaves_by s2 e.state e.commits (more_begins r.0 (ends e) r.2) (kept.1 [] h.committed) t.3) (more_kept x r.0 (ends e) r.2 kept.0)
 
     pub fails : (l2 : LinkState) (x : D) (s2 : Seen) (why : PullFault) → Turn l2 x s2 (Err why) → m + 1 ≤ most_rounds → l.faults ≤ l2.faults → Tells l2 x s2 (Err why)
     fails l2 x s2 why turned lt dial = by (turned server fields h.point h.state h.memory)
       where
         left : s2.state ≡ (h.point).state → HasCommitted s2.state (h.point).commits
-        left same = leaves_by s2 (h.point).state (h.point).commits h.committed (sym same)
+        left same = leaves_by s2 (h.point).state (h.point).commits h.begins h.committed (sym same)
 
         some_before : (step : Then Cloning) → (h.point).state.committed ≢ length (state_of step).records → committed_before h.point ≢ length (state_of step).records
         some_before step some = subst (λ (b : Bool). (if b then (h.point).state.committed else 1) ≢ length (state_of step).records) (sym (ap (λ (c : Cloning). c.begun) h.memory)) some
 
+        loses : (step : Then Cloning) → IsUncommitted h.point step s2.state → AreCommitted [] (state_of step) (commits_of step)
+            → take (h.point).state.committed (state_of step).records ≡ front (h.point).state → HasLost s2.state (commits_before h.point (commits_of step)) (commits_of step)
+        loses step un all in_front =
+            subst (λ (b : Bool). HasLost s2.state (if b then (h.point).commits else take 1 (commits_of step)) (commits_of step)) (sym (ap (λ (c : Cloning). c.begun) h.memory))
+            (loses_by s2 h.point step h.begins h.committed un all in_front)
+
         by : TurnsTo AsksFrom R (CloneAsks login) (BrokenClone login) h.point l l2 (IsKeptOn (disk d) (disk x) (x ≡ d) h.point) (IsCarried (stored s) (stored s2) h.point) (x ≡ d) s2.state (Err why) → Tells l2 x s2 (Err why)
-        by (inl (inl (refusal, (e, (r, (kept, on)), is_fault, is_state)))) =
+        by (inl (inl (refusal, (e, (r, (kept, on, in_front)), is_fault, is_state)))) =
             refused (The s2) (Kept x) l0 l l2 s2.state.faults refl rounds h.point h.go h.grows e r why (more lt) refusal is_fault
-            (leaves_by s2 e.state e.commits (on [] h.committed) is_state) (more_kept x r.0 (ends e) r.2 kept)
-        by (inl (inr (is, (step, (r, (kept, on)), un)))) =
+            (leaves_by s2 e.state e.commits (more_begins r.0 (ends e) r.2) (on [] h.committed) is_state) (more_kept x r.0 (ends e) r.2 kept)
+        by (inl (inr (is, (step, (r, (kept, on, in_front)), un)))) =
             to_fault l2 x s2 why fault.Disk is
             (lost (The s2) (Kept x) l0 l l2 s2.state.faults refl rounds h.point h.go h.grows step r (more lt) un.is_due (some_before step un.some)
+            (loses step un (on [] h.committed) in_front)
             (subst (λ (c : ℕ). Rose c s2.state.faults) (ap (λ (t : State). t.faults) h.state ∙ h.counted) un.rose) (more_kept x r.0 step r.2 kept))
         by (inr (still, inl (is, same, (request, asks, (rose, inl idles))))) =
             to_fault l2 x s2 why fault.Link is
@@ -326,12 +360,12 @@ module _ {D : Type 0} (disk : D → DiskState) (server : List ℕ) (fields : Lis
             (cut_off l0 l l2 rounds h.grows IsLeft (CloneAsks login h.point) request joins asks) (left same) (still_kept x still))
         by (inr (still, inr (is, inr (r, exchange, (asked, (reply, read, same)))))) =
             to_fault l2 x s2 why fault.Memory is
-            (in_part (The s2) (Kept x) l0 l l2 s2.state.faults refl rounds h.point h.go h.grows r reply (h.point).commits exchange (more lt) asked read (as_before refl) (same ∙ h.committed)
+            (in_part (The s2) (Kept x) l0 l l2 s2.state.faults refl rounds h.point h.go h.grows r reply (h.point).commits exchange (more lt) asked read (as_before refl) (begins_some F (h.point).commits h.begins, same ∙ h.committed)
             (λ step k. kept_by x (commits_of step) (more_begins r step k) (longer_images x (h.point).commits (commits_of step) (more_longer r step k) (still_images x still))))
 
     pub gives_up : m ≡ most_rounds → Tells l d s (Err fault.Rounds)
     gives_up all =
-        too_many (The s) (Kept d) l0 l0 l s.state.faults refl rounds h.point h.go h.grows (h.many ∙ all) (leaves_by s (h.point).state (h.point).commits h.committed h.state) (still_kept d refl)
+        too_many (The s) (Kept d) l0 l0 l s.state.faults refl rounds h.point h.go h.grows (h.many ∙ all) (leaves_by s (h.point).state (h.point).commits h.begins h.committed h.state) (still_kept d refl)
 
 -- turns, as the code has them
 pub first_turn : (reply : List WireCard) (before after : DiskState) (old new : Seen) (Still : Type 0) (r q : Result (Option ℕ) PullFault) → r ≡ q → IsCloneTaken 1 reply before after old new Still r → IsCloneTaken 1 reply before after old new Still q

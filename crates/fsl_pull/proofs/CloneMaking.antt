@@ -4,8 +4,8 @@ use Rattle.std.proofs.Common.{refl, sym, ap, subst, ◌∙◌, inl, inr, arith, 
 use Rattle.std.proofs.lemmas.Bool.{false≢true}
 use Rattle.std.proofs.lemmas.List.{append-nil}
 use Rattle.fsl_order.specs.Causes.{Rose}
-use Rattle.fsl_disk.specs.Disk.{DiskState, IsModelled, Told, Keeps, LeavesOnly}
-use Rattle.fsl_disk.proofs.Moments.{started, weaker, and_then, modelled_after}
+use Rattle.fsl_disk.specs.Disk.{DiskState, IsModelled, Told, Keeps, Quiet, LeavesOnly}
+use Rattle.fsl_disk.proofs.Moments.{started, weaker, and_then, modelled_after, told_before}
 use Rattle.fsl_record.specs.declared.Config.{Config}
 use Rattle.fsl_record.specs.declared.Record.{Record}
 use Rattle.fsl_record.specs.declared.Record.TheVariants as record_of
@@ -21,7 +21,7 @@ use Rattle.fsl_journal.specs.declared.LoadFault.{LoadFault}
 use Rattle.fsl_journal.specs.declared.LoadFault.TheVariants as load_fault
 use Rattle.fsl_repo.specs.Opening.{IsOpened, IsCutAtMost, OpenFailed}
 use Rattle.fsl_repo.specs.Whole.{Whole, Seen, opened}
-use Rattle.fsl_pull.specs.CloneCalls.{IsEmptied, IsFileLeft, NoneOr}
+use Rattle.fsl_pull.specs.CloneCalls.{IsEmptied, NoneOr}
 use Rattle.fsl_pull.specs.declared.PullFault.{PullFault}
 use Rattle.fsl_pull.specs.declared.PullFault.TheVariants as fault
 use Rattle.fsl_pull.specs.Clones.{project_in, config_of}
@@ -69,8 +69,16 @@ untold (Some held) h = absurd (h held refl)
 told_is : (a b : List ℕ) → Some a ≡ Some b → a ≡ b
 told_is a b e = cc
 
-pub left_same : (before after : Option (List ℕ)) → after ≡ before → IsFileLeft before after []
-left_same before after same bytes held was is = told_is held bytes (sym is ∙ same ∙ was)
+-- nothing was called
+pub itself_quiet : (s : DiskState) → Quiet s s
+itself_quiet s =
+    record {
+      keeps = record { tells = refl; model = refl };
+      contents = refl;
+      later = λ model. omega arith;
+      images = λ model c left. left;
+      since = λ model t c le left. inl left;
+    }
 
 -- what stands between records and themselves
 no_rest : (records more rest : List Record) → records ≡ (records ++ more) ++ rest → more ≡ []
@@ -147,13 +155,16 @@ opened_err disk config before old (Err failed) is same h =
 
 module _ (config : Config) (before mid after : DiskState) (made : IsMade config before mid) where
   -- behind want of memory
-  pub made_left : Keeps before mid → (after.faults ≡ mid.faults) → Told mid (λ held. IsFileOf held (alone config) → Told after (λ left. IsFileOf left (alone config)))
-      → (IsEmptied before → (c : List ℕ) → after.images c → IsFileOf c (alone config)) → IsLeftBy before after (alone config ∷ [])
-  made_left keeps faults stays stable =
+  pub made_left : Keeps before after → (after.faults ≡ mid.faults) → Told mid (λ held. IsFileOf held (alone config) → Told after (λ left. IsFileOf left (alone config)))
+      → (IsModelled before → (c : List ℕ) → after.images c → IsFileOf c (alone config)) → IsLeftBy before after (alone config ∷ [])
+  made_left keeps faults stays images =
       record {
         faults = faults ∙ made.faults;
-        file = λ bytes held was is. let f = made.file bytes was in stays f.0 f.1 f.2 held is;
-        stable = stable;
+        left =
+            record {
+              file = λ held is. let was = told_before before after held keeps is in let f = made.file was.0 was.1 in stays f.0 f.1 f.2 held is;
+              images = images;
+            };
       }
 
   -- a file that was told reads back
@@ -174,25 +185,28 @@ both_moments config before mid after first images keeps second emptied =
 -- ---- what a making comes to
 
 -- it was opened, or not
-module _ {D : Type 0} (disk : D → DiskState) (config : Config) (before mid : DiskState) (made : IsMade config before mid) (keeps : Keeps before mid) where
-  unmade_why : (after : D) (why : PullFault) → (IsEmptied before → (c : List ℕ) → (disk after).images c → IsFileOf c (alone config)) → IsUnopened config mid (disk after) why → IsUnmadeBy config before (disk after) why
-  unmade_why after fault.Disk stable rose = subst (λ (n : ℕ). Rose n (disk after).faults) made.faults rose
-  unmade_why after fault.Memory stable (same, stays) = inr (made_left config before mid (disk after) made keeps same stays stable)
-  unmade_why after (fault.NotRepository place) stable (same, not) = (same ∙ made.faults, reads_back config before mid (disk after) made not)
-  unmade_why after (fault.NotEmpty len) stable h = absurd h
-  unmade_why after (fault.Project found) stable h = absurd h
-  unmade_why after (fault.Stopped faults) stable h = absurd h
-  unmade_why after fault.Link stable h = absurd h
-  unmade_why after (fault.Peer why) stable h = absurd h
-  unmade_why after (fault.TooLarge name size) stable h = absurd h
-  unmade_why after (fault.Full name) stable h = absurd h
-  unmade_why after (fault.Missing name) stable h = absurd h
-  unmade_why after fault.Rounds stable h = absurd h
+module _ {D : Type 0} (disk : D → DiskState) (config : Config) (before mid : DiskState) (made : IsMade config before mid) where
+  abbrev AreImages : D → Type 0
+  AreImages after = IsModelled before → (c : List ℕ) → (disk after).images c → IsFileOf c (alone config)
 
-  pub unmade_by : (r : Result (Whole D) (D × PullFault)) → (IsEmptied before → (c : List ℕ) → (disk (made_disk r)).images c → IsFileOf c (alone config)) → IfErr r (λ failed. IsUnopened config mid (disk failed.0) failed.1)
+  unmade_why : (after : D) (why : PullFault) → Keeps before (disk after) → AreImages after → IsUnopened config mid (disk after) why → IsUnmadeBy config before (disk after) why
+  unmade_why after fault.Disk keeps images rose = subst (λ (n : ℕ). Rose n (disk after).faults) made.faults rose
+  unmade_why after fault.Memory keeps images (same, stays) = inr (made_left config before mid (disk after) made keeps same stays images)
+  unmade_why after (fault.NotRepository place) keeps images (same, not) = (same ∙ made.faults, reads_back config before mid (disk after) made not)
+  unmade_why after (fault.NotEmpty len) keeps images h = absurd h
+  unmade_why after (fault.Project found) keeps images h = absurd h
+  unmade_why after (fault.Stopped faults) keeps images h = absurd h
+  unmade_why after fault.Link keeps images h = absurd h
+  unmade_why after (fault.Peer why) keeps images h = absurd h
+  unmade_why after (fault.TooLarge name size) keeps images h = absurd h
+  unmade_why after (fault.Full name) keeps images h = absurd h
+  unmade_why after (fault.Missing name) keeps images h = absurd h
+  unmade_why after fault.Rounds keeps images h = absurd h
+
+  pub unmade_by : (r : Result (Whole D) (D × PullFault)) → Keeps before (disk (made_disk r)) → AreImages (made_disk r) → IfErr r (λ failed. IsUnopened config mid (disk failed.0) failed.1)
       → IfErr r (λ failed. IsUnmadeBy config before (disk failed.0) failed.1)
-  unmade_by (Ok repo) stable h = tt
-  unmade_by (Err failed) stable h = unmade_why failed.0 failed.1 stable h
+  unmade_by (Ok repo) keeps images h = tt
+  unmade_by (Err failed) keeps images h = unmade_why failed.0 failed.1 keeps images h
 
 -- a first reply has a project, by which it wasn't made
 module _ {D : Type 0} (disk : D → DiskState) (server : List ℕ) (fields : List (List ℕ)) (reply : List WireCard) (project : List ℕ) (before : D) (pushes : project_in reply ≡ Some project) where
@@ -224,9 +238,4 @@ untouched_moments s first only emptied =
     started s (NoneOr first) (λ c. only c (emptied.model).model) (λ c left. inl (subst IsNoFile (sym (emptied.empty c left)) empty_is_none))
 
 pub untouched_left : (s : DiskState) → IsLeftBy s s []
-untouched_left s =
-    record {
-      faults = refl;
-      file = left_same s.contents s.contents refl;
-      stable = λ emptied c left. subst IsNoFile (sym (emptied.empty c left)) empty_is_none;
-    }
+untouched_left s = record { faults = refl; left = itself_quiet s }

@@ -49,11 +49,16 @@ module _ (from : ℕ) (cards : List WireCard) (before after : DiskState) (old ne
     stays : (done : List Arrival) → IsWhole old → Appends old new done → (base : List Record) → AreCommitted base p.state p.commits → AreCommitted base new.state p.commits
     stays done whole h base are = same_front whole done new h ∙ ap front (sym at) ∙ are
 
+    -- and the records begin with it
+    in_front : (done : List Arrival) (mid : Seen) → IsWhole old → Appends old mid done → take p.state.committed mid.state.records ≡ front p.state
+    in_front done mid whole h =
+        ap (λ (n : ℕ). take n (mid.state).records) (ap (λ (s : State). s.committed) at ∙ sym h.committed) ∙ same_front whole done mid h ∙ ap front (sym at)
+
   -- a card was wrong
   refused : (why : PullFault) → IsWhole old → TakesUpTo old (Some from) cards why new → Still → Answered (Err why)
   refused why whole h still p at m =
       let t : Taken = record { state = new.state; arrivals = h.done; fault = Some why } in
-      inl (inl (h.refusal, (uncommitted p t why, ((t, taken_at p at m t h.takes, refl), (inl (still, refl), stays p at m h.done whole h.appends)), refl, refl)))
+      inl (inl (h.refusal, (uncommitted p t why, ((t, taken_at p at m t h.takes, refl), (inl (still, refl), stays p at m h.done whole h.appends, in_front p at m h.done new whole h.appends)), refl, refl)))
 
   -- no memory in the midst of the cards
   in_part : IsWhole old → TakesFront old (Some from) cards new → Still → Answered (Err fault.Memory)
@@ -72,7 +77,7 @@ module _ (from : ℕ) (cards : List WireCard) (before after : DiskState) (old ne
         tt,
         (
           uncommitted p t (fault.Peer peer.NoSequence),
-          ((t, taken_at p at m t (whole_taken old (Some from) cards moved new left h), sym (ap (clone_then p t) none)), (inl (still, refl), stays p at m h.done whole h.appends)),
+          ((t, taken_at p at m t (whole_taken old (Some from) cards moved new left h), sym (ap (clone_then p t) none)), (inl (still, refl), stays p at m h.done whole h.appends, in_front p at m h.done new whole h.appends)),
           refl,
           refl,
         ),
@@ -99,7 +104,11 @@ module _ (from : ℕ) (cards : List WireCard) (before after : DiskState) (old ne
     says = (t, taken_at p at m t (whole_taken old (Some from) cards moved mid left h), sym (ap (clone_then p t) some))
 
     keeps : (result : Result (Unit {0}) CommitFault) (s : Then Cloning) → state_of s ≡ committed mid.state → commits_of s ≡ commits_with p.commits mid.state → IsCommitted before after mid new result → IsKeptOn before after Still p s
-    keeps result s is e k = (kept p before after old mid new h.done at whole h.appends Still s e k, carried p before after old mid new h.done at whole h.appends s is e)
+    keeps result s is e k = (
+      kept p before after old mid new h.done at whole h.appends Still s e k,
+      carried p before after old mid new h.done at whole h.appends s is e,
+      ap (λ (x : State). take (p.state).committed x.records) is ∙ in_front p at m h.done mid whole h.appends,
+    )
 
     commits_by : (last : Bool) → commits_of (step_by last) ≡ commits_with p.commits mid.state
     commits_by true = refl

@@ -36,7 +36,7 @@ module _ (login : Option Login) (from : ℕ) (d e : LinkState) (before after : D
           unread p why,
           (
             (record { request = clone_bytes login from; reply = reply }, made, (asks p m, (Err why, read, refl))),
-            (inl (still, refl), λ base are. are),
+            (inl (still, refl), λ base are. are, refl),
           ),
           refl,
           at ∙ sym same,

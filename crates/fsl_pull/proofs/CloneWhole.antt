@@ -4,17 +4,17 @@ use Rattle.std.proofs.Common.{refl, sym, ap, subst, ◌∙◌, inl, inr, arith}
 use Rattle.std.proofs.lemmas.Bool.Decides.{nat_tests}
 use Rattle.fsl_order.specs.Causes.{Rose}
 use Rattle.fsl_disk.specs.Disk.{DiskState, IsModelled, Told, Keeps, Quiet, LeavesOnly}
-use Rattle.fsl_disk.proofs.Moments.{weaker, and_then, modelled_after, quiet_moments}
+use Rattle.fsl_disk.proofs.Moments.{and_then, modelled_after, quiet_on, quiet_moments}
 use Rattle.fsl_outside.specs.Connections.{LinkState}
 use Rattle.fsl_record.specs.declared.Config.{Config}
 use Rattle.fsl_record.specs.declared.Record.{Record}
 use Rattle.fsl_journal.specs.File.{IsFileOf}
-use Rattle.fsl_journal.specs.Log.{IsNoFile}
+use Rattle.fsl_journal.specs.Log.{IsNoFile, BeforeOrAll}
 use Rattle.fsl_wire.specs.declared.WireCard.{WireCard}
 use Rattle.fsl_http.specs.Responses.{Exchanged, IsBrokenOff, IsLeft}
 use Rattle.fsl_http.specs.Exchanges.{IsExchangeOf}
 use Rattle.fsl_repo.specs.Machine.{State}
-use Rattle.fsl_repo.specs.Whole.{Whole, Seen, front, IsWholeOn}
+use Rattle.fsl_repo.specs.Whole.{Whole, Seen, front, log_of, IsWholeOn}
 use Rattle.fsl_pull.specs.declared.Login.{Login}
 use Rattle.fsl_pull.specs.declared.PeerFault.{PeerFault}
 use Rattle.fsl_pull.specs.declared.PeerFault.TheVariants as peer
@@ -24,60 +24,51 @@ use Rattle.fsl_pull.specs.declared.PullFault.TheVariants as fault
 use Rattle.fsl_pull.specs.Rounds.{Round, End, Then, ends, IsSync, most_rounds}
 use Rattle.fsl_pull.specs.Dialled.{Rounds}
 use Rattle.fsl_pull.specs.Replies.{IsReplyRead}
-use Rattle.fsl_pull.specs.Kept.{StandsForSome}
+use Rattle.fsl_pull.specs.Kept.{all_of_them, StandsForSome}
 use Rattle.fsl_pull.specs.Pulls.{unread}
 use Rattle.fsl_pull.specs.Clones.{Cloning, project_in, config_of, first_record, begun_with, IsCloned, IsCloneReply, CloneAsks, CloneRound, clone_start, not_empty_end, IsClone}
 use Rattle.fsl_pull.specs.Asking.{IsDialCounted}
 use Rattle.fsl_pull.specs.Turns.{commits_of}
 use Rattle.fsl_pull.specs.Calls.{dialled}
-use Rattle.fsl_pull.specs.CloneCalls.{HasLength, IsFileLeft, IsEmptied, IsStable, NoneOr, IsKeptSince, CloneOf, as_before, made, IsUnmade, IsCloneCall, UnlessDisk, clone_onto, IsClonedOver}
-use Rattle.fsl_pull.specs.CloneTurns.{clone_bytes, IsUnreplied, IsMadeBy, IsUnmadeBy, IsUnbegun, clone_within, HasCommitted, StandsFor, IsKeptFrom, IsClonedOn, IsClosedOn}
+use Rattle.fsl_pull.specs.CloneCalls.{HasLength, IsEmptied, IsLeftAs, IsLostAs, NoneOr, IsKeptSince, CloneOf, as_before, made, IsUnmade, IsCloneCall, UnlessDisk, clone_onto, IsClonedOver}
+use Rattle.fsl_pull.specs.CloneTurns.{clone_bytes, IsUnreplied, IsMadeBy, IsUnmadeBy, IsUnbegun, clone_within, HasCommitted, HasLost, StandsFor, StandsForEither, IsKeptFrom, IsClonedOn, IsClosedOn}
 use Rattle.fsl_pull.proofs.OneEnd.{read_one}
 use Rattle.fsl_pull.proofs.DialCounts.{counts_on}
 use Rattle.fsl_pull.proofs.DialLemmas.{all_of, cut_off, idle, none_joined}
 use Rattle.fsl_pull.proofs.CloneAnswers.{cut, left_off, refused, in_part, unmade_by_disk, differs, no_round, unless_on, unless_all, call_on}
 use Rattle.fsl_pull.proofs.CloneTurnLemmas.{cloned_longer}
-use Rattle.fsl_pull.proofs.CloneMaking.{empty_is_none, left_same}
+use Rattle.fsl_pull.proofs.CloneMaking.{empty_is_none, itself_quiet}
 
 -- ---- the repository is closed
 
 -- what is committed in it is in its file
 stands_by : {D : Type 0} (disk : DiskState) (r : Whole D) → IsWholeOn disk r → r.seen.state.stopped ≡ None → (commits : List (List Record)) → HasCommitted r.seen.state commits → StandsFor disk commits
-stands_by disk r whole runs commits are = (
+stands_by disk r whole runs commits (some, are) = (
+  some,
   λ held told. subst (IsFileOf held) are ((whole.belongs).reads runs held told).0.file,
   λ model c left. subst (IsFileOf c) are (whole.exact runs model c left),
 )
+
+-- and where a commit failed each image has what was committed before it, or all
+lost_by : {D : Type 0} (disk : DiskState) (r : Whole D) → IsWholeOn disk r → (done all : List (List Record)) → HasLost r.seen.state done all → StandsForEither disk done all
+lost_by disk r whole done all ((some, are), is) model c left = by ((whole.belongs).stands model c left)
+  where
+    by : BeforeOrAll (log_of r) c → IsFileOf c (all_of_them done) ⊎ IsFileOf c (all_of_them all)
+    by (inl before) = inl (subst (IsFileOf c) are before)
+    by (inr every) = inr (subst (IsFileOf c) is every)
 
 pub closed : {D : Type 0} (login : Option Login) (reply : List WireCard) (d e : LinkState) (before after : DiskState) (old : Seen) (r : Whole D) (result : Result Pulled PullFault) → IsWholeOn after r → UnlessDisk (r.seen.state.stopped ≡ None) result
     → IsClonedOn login reply d e before after old r.seen result → IsClosedOn login reply d e before after old result
 closed login reply d e before after old r result whole runs call server fields l0 project first is =
     let n = old.state.faults in
     let Kept : List (List Record) → Type 0 = IsKeptFrom before after (first_record project server fields ∷ []) in
-    let k = clone_within server fields login n (HasCommitted r.seen.state) in
-    subst (λ (faults : ℕ). IsCloneCall (clone_within server fields login n (StandsFor after)) (dialled l0 e) faults Kept result) whole.faults
-    (call_on k (λ len. len ≡ 0) (StandsFor after) ⊥ (λ len h. h) (λ h. h) Kept Kept (dialled l0 e) r.seen.state.faults result
+    let k = clone_within server fields login n (HasCommitted r.seen.state) (HasLost r.seen.state) in
+    subst (λ (faults : ℕ). IsCloneCall (clone_within server fields login n (StandsFor after) (StandsForEither after)) (dialled l0 e) faults Kept result) whole.faults
+    (call_on k (λ len. len ≡ 0) (StandsFor after) (StandsForEither after) ⊥ (λ len h. h) (lost_by after r whole) (λ h. h) Kept Kept (dialled l0 e) r.seen.state.faults result
     (unless_on (r.seen.state.stopped ≡ None) ((commits : List (List Record)) → HasCommitted r.seen.state commits → StandsFor after commits) result (λ running. stands_by after r whole running) runs)
     (λ commits h. h) (call server fields l0 project first is))
 
 -- ---- the file that was found
-
--- what nothing was written to
-pub nothing_since : {D : Type 0} (disk : D → DiskState) (before after : D) → Quiet (disk before) (disk after) → ((c : List ℕ) → IsTrue (disk before).is_model → (disk before).since (disk before).moment c → (disk before).images c) → IsKeptSince disk before after []
-nothing_since disk before after quiet only emptied =
-    quiet_moments (disk before) (disk after) IsNoFile quiet (emptied.model).model (λ c. only c (emptied.model).model) (λ c left. subst IsNoFile (sym (emptied.empty c left)) empty_is_none)
-
-pub nothing_stands : (before after : DiskState) → Quiet before after → IsStable before after []
-nothing_stands before after quiet emptied c left = subst IsNoFile (sym (emptied.empty c (quiet.images (emptied.model).model c left))) empty_is_none
-
-itself_quiet : (s : DiskState) → Quiet s s
-itself_quiet s =
-    record {
-      keeps = record { tells = refl; model = refl };
-      contents = refl;
-      later = λ model. omega arith;
-      images = λ model c left. left;
-      since = λ model t c le left. inl left;
-    }
 
 pub long_empty : (o : Option (List ℕ)) → ((held : List ℕ) → o ≡ Some held → held ≡ []) → HasLength o 0
 long_empty None empty = tt
@@ -94,7 +85,7 @@ none_by (Some held) e = absurd (cc)
 pub none_told : (before after : DiskState) → Keeps before after → before.contents ≡ None → after.contents ≡ None
 none_told before after keeps none = none_by after.contents (keeps.tells ∙ ap (λ (o : Option (List ℕ)). is_some o) none)
 
-module _ {D : Type 0} (disk : D → DiskState) (server : List ℕ) (fields : List (List ℕ)) (login : Option Login) (l0 : LinkState) (before : D) (empty : Told (disk before) (λ held. held ≡ [])) (only_now : (c : List ℕ) → IsTrue (disk before).is_model → (disk before).since (disk before).moment c → (disk before).images c) where
+module _ {D : Type 0} (disk : D → DiskState) (server : List ℕ) (fields : List (List ℕ)) (login : Option Login) (l0 : LinkState) (before : D) (empty : Told (disk before) (λ held. held ≡ [])) where
   abbrev n : ℕ
   n = (disk before).faults
 
@@ -107,10 +98,8 @@ module _ {D : Type 0} (disk : D → DiskState) (server : List ℕ) (fields : Lis
   abbrev pub Tells : LinkState → D → Result Pulled PullFault → Type 0
   Tells l x result = IsClonedOver disk server fields login l0 l before x result
 
-  nothing : (x : D) → x ≡ before → (IsFileLeft (disk before).contents (disk x).contents [] × IsStable (disk before) (disk x) []) × Kept x []
-  nothing x same =
-      let quiet : Quiet (disk before) (disk x) = subst (λ (y : D). Quiet (disk before) (disk y)) (sym same) (itself_quiet (disk before)) in
-      ((left_same (disk before).contents (disk x).contents quiet.contents, nothing_stands (disk before) (disk x) quiet), nothing_since disk before x quiet only_now)
+  nothing : (x : D) → x ≡ before → Quiet (disk before) (disk x)
+  nothing x same = subst (λ (y : D). Quiet (disk before) (disk y)) (sym same) (itself_quiet (disk before))
 
   few : 0 + 1 ≤ most_rounds
   few = omega arith
@@ -124,23 +113,23 @@ module _ {D : Type 0} (disk : D → DiskState) (server : List ℕ) (fields : Lis
   unreplied l x (fault.Peer why) same later (came, exchange, read) =
       let none = nothing x same in
       refused (The x) (Kept x) l0 l0 l (disk x).faults long [] (clone_start n) refl (none_joined (all_of l0)) (unread (clone_start n) why)
-      (record { request = clone_bytes login 1; reply = came }, exchange, (refl, (Err why, read, refl))) (fault.Peer why) few tt refl none.0 none.1
+      (record { request = clone_bytes login 1; reply = came }, exchange, (refl, (Err why, read, refl))) (fault.Peer why) few tt refl none none
   unreplied l x fault.Link same later (rose, inl idles) =
       let none = nothing x same in
       cut (The x) (Kept x) l0 l0 l (disk x).faults long [] (clone_start n) refl (none_joined (all_of l0)) rose few
-      (idle l0 l0 l [] (none_joined (all_of l0)) IsBrokenOff (CloneAsks login (clone_start n)) idles) none.0 none.1
+      (idle l0 l0 l [] (none_joined (all_of l0)) IsBrokenOff (CloneAsks login (clone_start n)) idles) none none
   unreplied l x fault.Link same later (rose, inr joins) =
       let none = nothing x same in
       cut (The x) (Kept x) l0 l0 l (disk x).faults long [] (clone_start n) refl (none_joined (all_of l0)) rose few
-      (cut_off l0 l0 l [] (none_joined (all_of l0)) IsBrokenOff (CloneAsks login (clone_start n)) (clone_bytes login 1) joins refl) none.0 none.1
+      (cut_off l0 l0 l [] (none_joined (all_of l0)) IsBrokenOff (CloneAsks login (clone_start n)) (clone_bytes login 1) joins refl) none none
   unreplied l x fault.Memory same later (inl idles) =
       let none = nothing x same in
       left_off (The x) (Kept x) l0 l0 l (disk x).faults long [] (clone_start n) refl (none_joined (all_of l0)) few
-      (idle l0 l0 l [] (none_joined (all_of l0)) IsLeft (CloneAsks login (clone_start n)) idles) none.0 none.1
+      (idle l0 l0 l [] (none_joined (all_of l0)) IsLeft (CloneAsks login (clone_start n)) idles) none none
   unreplied l x fault.Memory same later (inr joins) =
       let none = nothing x same in
       left_off (The x) (Kept x) l0 l0 l (disk x).faults long [] (clone_start n) refl (none_joined (all_of l0)) few
-      (cut_off l0 l0 l [] (none_joined (all_of l0)) IsLeft (CloneAsks login (clone_start n)) (clone_bytes login 1) joins refl) none.0 none.1
+      (cut_off l0 l0 l [] (none_joined (all_of l0)) IsLeft (CloneAsks login (clone_start n)) (clone_bytes login 1) joins refl) none none
   unreplied l x (fault.NotEmpty len) same later h = absurd h
   unreplied l x (fault.NotRepository place) same later h = absurd h
   unreplied l x (fault.Project found) same later h = absurd h
@@ -181,10 +170,10 @@ module _ {D : Type 0} (disk : D → DiskState) (server : List ℕ) (fields : Lis
       unmade_answer : (why : PullFault) → Keeps (disk before) (disk x) → IsUnmadeBy (config_of project server fields) (disk before) (disk x) why → Tells l1 x (Err why)
       unmade_answer fault.Disk keeps rose = unmade_by_disk (The x) (Kept x) l0 l0 l1 (disk x).faults first exchange unmade kept_so rose
       unmade_answer fault.Memory keeps (inl left) =
-          in_part (The x) (Kept x) l0 l0 l1 (disk x).faults long [] (clone_start n) refl (none_joined (all_of l0)) first reply [] exchange few refl read (as_before refl) (left.file, left.stable) kept_so
+          in_part (The x) (Kept x) l0 l0 l1 (disk x).faults long [] (clone_start n) refl (none_joined (all_of l0)) first reply [] exchange few refl read (as_before refl) left.left kept_so
       unmade_answer fault.Memory keeps (inr left) =
           in_part (The x) (Kept x) l0 l0 l1 (disk x).faults long [] (clone_start n) refl (none_joined (all_of l0)) first reply ((first_record project server fields ∷ []) ∷ []) exchange few refl read (made project refl pushes refl)
-          (left.file, left.stable) kept_so
+          left.left kept_so
       unmade_answer (fault.NotRepository place) keeps (same, none) =
           differs (The x) (Kept x) l0 l0 l1 (disk x).faults first exchange unmade kept_so place (none_told (disk before) (disk x) keeps none)
       unmade_answer (fault.NotEmpty len) keeps h = absurd h
@@ -206,7 +195,7 @@ module _ {D : Type 0} (disk : D → DiskState) (server : List ℕ) (fields : Lis
         let said : IsCloneReply server fields start (Ok reply) e =
         subst (λ (o : Option (List ℕ)). MatchOption o (e ≡ ends (unread start peer.NoPush)) (λ project. IsCloned (begun_with start (first_record project server fields)) reply e)) (sym without) refl in
         refused (The x) (Kept x) l0 l0 l1 (disk x).faults long [] start refl (none_joined (all_of l0)) (unread start peer.NoPush) (first, exchange, (refl, (Ok reply, read, said)))
-        (fault.Peer peer.NoPush) few tt refl none.0 none.1
+        (fault.Peer peer.NoPush) few tt refl none none
 
     abbrev Moments : D → Type 0
     Moments x = (project : List ℕ) → project_in reply ≡ Some project → IsEmptied (disk before) → LeavesOnly (disk before) (disk x) (NoneOr (first_record project server fields ∷ []))
@@ -235,15 +224,15 @@ module _ {D : Type 0} (disk : D → DiskState) (server : List ℕ) (fields : Lis
       is_n : old.state.faults ≡ n
       is_n = ap (λ (t : State). t.faults) is.state
 
-      leaves_on : (commits : List (List Record)) → StandsFor (disk x) commits → IsFileLeft (disk before).contents (disk x).contents commits × IsStable (disk before) (disk x) commits
-      leaves_on [] h = (
-        λ bytes held was now. absurd ((h.0 held now).fit),
-        λ emptied c left. absurd ((h.1 (modelled_after (disk mid) (disk x) keeps (modelled_after (disk before) (disk mid) first_keeps emptied.model)) c left).fit),
-      )
-      leaves_on (commit ∷ commits) h = (
-        λ bytes held was now. h.0 held now,
-        λ emptied c left. h.1 (modelled_after (disk mid) (disk x) keeps (modelled_after (disk before) (disk mid) first_keeps emptied.model)) c left,
-      )
+      modelled_on : IsModelled (disk before) → IsModelled (disk x)
+      modelled_on model = modelled_after (disk mid) (disk x) keeps (modelled_after (disk before) (disk mid) first_keeps model)
+
+      leaves_on : (commits : List (List Record)) → StandsFor (disk x) commits → IsLeftAs (disk before) (disk x) commits
+      leaves_on [] (some, file, images) = absurd (some refl)
+      leaves_on (commit ∷ commits) (some, file, images) = record { file = file; images = λ model c left. images (modelled_on model) c left }
+
+      loses_on : (done all : List (List Record)) → StandsForEither (disk x) done all → IsLostAs (disk before) (disk x) done all
+      loses_on done all h model c left = h (modelled_on model) c left
 
       kept_on : (commits : List (List Record)) → IsKeptFrom (disk mid) (disk x) F commits → Kept x commits
       kept_on commits (more, same, since) =
@@ -253,14 +242,14 @@ module _ {D : Type 0} (disk : D → DiskState) (server : List ℕ) (fields : Lis
 
       pub begun_answer : (l : LinkState) (result : Result Pulled PullFault) → l0.faults ≤ l1.faults → IsClosedOn login reply l1 l (disk mid) (disk x) old result → Tells l x result
       begun_answer l result later call =
-          let k = clone_within server fields login n (StandsFor (disk x)) in
-          let told : IsCloneCall (clone_within server fields login old.state.faults (StandsFor (disk x))) (dialled l0 l) (disk x).faults (IsKeptFrom (disk mid) (disk x) F) result =
+          let k = clone_within server fields login n (StandsFor (disk x)) (StandsForEither (disk x)) in
+          let told : IsCloneCall (clone_within server fields login old.state.faults (StandsFor (disk x)) (StandsForEither (disk x))) (dialled l0 l) (disk x).faults (IsKeptFrom (disk mid) (disk x) F) result =
           call server fields l0 project first
           (record { exchange = exchange; later = later; asked = refl; read = read; pushes = pushes; made = subst (λ (m : ℕ). IsMadeBy (config_of project server fields) m old) (sym is_n) is }) in
-          call_on k (HasLength (disk before).contents) (λ commits. IsFileLeft (disk before).contents (disk x).contents commits × IsStable (disk before) (disk x) commits) ((disk x).contents ≡ None)
-          (λ len zeroes. subst (HasLength (disk before).contents) (sym zeroes) long) (λ never. absurd never) (IsKeptFrom (disk mid) (disk x) F) (Kept x) (dialled l0 l) (disk x).faults result
-          (unless_all ((commits : List (List Record)) → StandsFor (disk x) commits → IsFileLeft (disk before).contents (disk x).contents commits × IsStable (disk before) (disk x) commits) result leaves_on)
-          kept_on (subst (λ (m : ℕ). IsCloneCall (clone_within server fields login m (StandsFor (disk x))) (dialled l0 l) (disk x).faults (IsKeptFrom (disk mid) (disk x) F) result) is_n told)
+          call_on k (HasLength (disk before).contents) (IsLeftAs (disk before) (disk x)) (IsLostAs (disk before) (disk x)) ((disk x).contents ≡ None)
+          (λ len zeroes. subst (HasLength (disk before).contents) (sym zeroes) long) loses_on (λ never. absurd never) (IsKeptFrom (disk mid) (disk x) F) (Kept x) (dialled l0 l) (disk x).faults result
+          (unless_all ((commits : List (List Record)) → StandsFor (disk x) commits → IsLeftAs (disk before) (disk x) commits) result leaves_on)
+          kept_on (subst (λ (m : ℕ). IsCloneCall (clone_within server fields login m (StandsFor (disk x)) (StandsForEither (disk x))) (dialled l0 l) (disk x).faults (IsKeptFrom (disk mid) (disk x) F) result) is_n told)
 
 -- what wasn't begun left the count, but for a fault of the disk
 unmade_same : (config : Config) (before after : DiskState) (why : PullFault) → IsUnmadeBy config before after why → UnlessDisk {A = Pulled} (after.faults ≡ before.faults) (Err why)
@@ -317,14 +306,14 @@ counts_since old before after (Err why) e h = counts_on Pulled Pulled old before
 pub not_zero : (len : ℕ) → len ≢ 0 → (len == 0) ≡ false
 not_zero len h = grind (arith, nat_tests)
 
-module _ {D : Type 0} (disk : D → DiskState) (server : List ℕ) (fields : List (List ℕ)) (login : Option Login) (l0 : LinkState) (d0 d1 : D) (only_now : (c : List ℕ) → IsTrue (disk d0).is_model → (disk d0).since (disk d0).moment c → (disk d0).images c) where
+module _ {D : Type 0} (disk : D → DiskState) (server : List ℕ) (fields : List (List ℕ)) (login : Option Login) (l0 : LinkState) (d0 d1 : D) where
   abbrev pub Over : LinkState → D → D → Result Pulled PullFault → Type 0
   Over l x y result = IsClonedOver disk server fields login l0 l x y result
 
   -- the disk failed
   pub unmeasured : Rose (disk d0).faults (disk d1).faults → Quiet (disk d0) (disk d1) → Over l0 d0 d1 (Err fault.Disk)
   unmeasured rose quiet =
-      no_round (clone_onto server fields login (disk d0) (disk d1)) (IsKeptSince disk d0 d1) l0 l0 l0 (disk d1).faults (Err fault.Disk) refl (nothing_since disk d0 d1 quiet only_now) (rose, refl, inl refl)
+      no_round (clone_onto server fields login (disk d0) (disk d1)) (IsKeptSince disk d0 d1) l0 l0 l0 (disk d1).faults (Err fault.Disk) refl quiet (rose, refl, inl refl)
 
   -- the file has bytes
   pub has_bytes : (len : ℕ) → (len == 0) ≡ false → Told (disk d0) (λ held. len ≡ length held) → Quiet (disk d0) (disk d1) → Over l0 d0 d1 (Err (fault.NotEmpty len))
@@ -334,7 +323,7 @@ module _ {D : Type 0} (disk : D → DiskState) (server : List ℕ) (fields : Lis
       let end : End = not_empty_end n len in
       let is_end : IsClone server fields login len n none end =
       subst (λ (b : Bool). MatchBool b (IsSync (CloneRound server fields login) (clone_start n) none end) ((none ≡ []) × (end ≡ not_empty_end n len))) (sym some) (refl, refl) in
-      no_round (clone_onto server fields login (disk d0) (disk d1)) (IsKeptSince disk d0 d1) l0 l0 l0 (disk d1).faults (Err (fault.NotEmpty len)) refl (nothing_since disk d0 d1 quiet only_now) (
+      no_round (clone_onto server fields login (disk d0) (disk d1)) (IsKeptSince disk d0 d1) l0 l0 l0 (disk d1).faults (Err (fault.NotEmpty len)) refl quiet (
         refl,
         (
           len,
@@ -344,31 +333,37 @@ module _ {D : Type 0} (disk : D → DiskState) (server : List ℕ) (fields : Lis
             is_end,
             refl,
             inl refl,
-            (left_same (disk d0).contents (disk d1).contents quiet.contents, nothing_stands (disk d0) (disk d1) quiet),
+            quiet,
           ),
         ),
       )
 
   -- it has none, and the clone goes on over the disk as it is now
-  module _ (quiet : Quiet (disk d0) (disk d1)) (same : (disk d1).faults ≡ (disk d0).faults) where
+  module _ (only_now : (c : List ℕ) → IsTrue (disk d0).is_model → (disk d0).since (disk d0).moment c → (disk d0).images c) (quiet : Quiet (disk d0) (disk d1)) (same : (disk d1).faults ≡ (disk d0).faults) where
+    modelled_now : IsModelled (disk d0) → IsModelled (disk d1)
+    modelled_now model = modelled_after (disk d0) (disk d1) quiet.keeps model
+
     emptied_on : IsEmptied (disk d0) → IsEmptied (disk d1)
     emptied_on h =
         record {
-          model = modelled_after (disk d0) (disk d1) quiet.keeps h.model;
+          model = modelled_now h.model;
           empty = λ c left. h.empty c (quiet.images (h.model).model c left);
         }
 
-    before_it : IsEmptied (disk d0) → LeavesOnly (disk d0) (disk d1) IsNoFile
-    before_it h = nothing_since disk d0 d1 quiet only_now h
+    before_it : IsEmptied (disk d0) → (commit : List Record) → LeavesOnly (disk d0) (disk d1) (NoneOr commit)
+    before_it h commit =
+        quiet_moments (disk d0) (disk d1) (NoneOr commit) quiet (h.model).model (λ c. only_now c (h.model).model)
+        (λ c left. inl (subst IsNoFile (sym (h.empty c left)) empty_is_none))
 
-    leaves_since : (x : D) (commits : List (List Record)) → IsFileLeft (disk d1).contents (disk x).contents commits × IsStable (disk d1) (disk x) commits → IsFileLeft (disk d0).contents (disk x).contents commits × IsStable (disk d0) (disk x) commits
-    leaves_since x commits (file, stable) = (
-      λ bytes held was now. file bytes held (quiet.contents ∙ was) now,
-      λ h c left. stable (emptied_on h) c left,
-    )
+    leaves_since : (x : D) (commits : List (List Record)) → IsLeftAs (disk d1) (disk x) commits → IsLeftAs (disk d0) (disk x) commits
+    leaves_since x [] left = quiet_on (disk d0) (disk d1) (disk x) quiet left
+    leaves_since x (commit ∷ commits) left = record { file = left.file; images = λ model c now. left.images (modelled_now model) c now }
+
+    loses_since : (x : D) (done all : List (List Record)) → IsLostAs (disk d1) (disk x) done all → IsLostAs (disk d0) (disk x) done all
+    loses_since x done all lost model c now = lost (modelled_now model) c now
 
     first_since : IsEmptied (disk d0) → (commit : List Record) (y : D) → LeavesOnly (disk d1) (disk y) (NoneOr commit) → LeavesOnly (disk d0) (disk y) (NoneOr commit)
-    first_since h commit y run = and_then (disk d0) (disk d1) (disk y) (NoneOr commit) (weaker (disk d0) (disk d1) IsNoFile (NoneOr commit) (λ c none. inl none) (before_it h)) run
+    first_since h commit y run = and_then (disk d0) (disk d1) (disk y) (NoneOr commit) (before_it h commit) run
 
     either_since : (x : D) (commit : List Record) (more : List (List Record)) → IsEmptied (disk d0)
         → LeavesOnly (disk d1) (disk x) (NoneOr commit) ⊎ ((mid : D) × LeavesOnly (disk d1) (disk mid) (NoneOr commit) × ((c : List ℕ) → (disk mid).images c → IsFileOf c commit) × LeavesOnly (disk mid) (disk x) (StandsForSome commit more))
@@ -377,7 +372,7 @@ module _ {D : Type 0} (disk : D → DiskState) (server : List ℕ) (fields : Lis
     either_since x commit more h (inr (mid, run, images, since)) = inr (mid, first_since h commit mid run, images, since)
 
     kept_since : (x : D) (commits : List (List Record)) → IsKeptSince disk d1 x commits → IsKeptSince disk d0 x commits
-    kept_since x [] kept = λ h. and_then (disk d0) (disk d1) (disk x) IsNoFile (before_it h) (kept (emptied_on h))
+    kept_since x [] kept = quiet_on (disk d0) (disk d1) (disk x) quiet kept
     kept_since x (commit ∷ more) kept = λ h. either_since x commit more h (kept (emptied_on h))
 
     pub over_on : (l : LinkState) (x : D) (result : Result Pulled PullFault) → Over l d1 x result → Over l d0 x result
@@ -385,7 +380,7 @@ module _ {D : Type 0} (disk : D → DiskState) (server : List ℕ) (fields : Lis
         let q : CloneOf = clone_onto server fields login (disk d0) (disk x) in
         let k : CloneOf = clone_onto server fields login (disk d1) (disk x) in
         subst (λ (n : ℕ). IsCloneCall (record q { faults = n }) (dialled l0 l) (disk x).faults (IsKeptSince disk d0 x) result) same
-        (call_on k (HasLength (disk d0).contents) (λ commits. IsFileLeft (disk d0).contents (disk x).contents commits × IsStable (disk d0) (disk x) commits) ((disk x).contents ≡ None)
-        (λ len h. subst (λ (o : Option (List ℕ)). HasLength o len) quiet.contents h) (λ h. h) (IsKeptSince disk d1 x) (IsKeptSince disk d0 x) (dialled l0 l) (disk x).faults result
-        (unless_all ((commits : List (List Record)) → IsFileLeft (disk d1).contents (disk x).contents commits × IsStable (disk d1) (disk x) commits → IsFileLeft (disk d0).contents (disk x).contents commits × IsStable (disk d0) (disk x) commits) result (leaves_since x))
+        (call_on k (HasLength (disk d0).contents) (IsLeftAs (disk d0) (disk x)) (IsLostAs (disk d0) (disk x)) ((disk x).contents ≡ None)
+        (λ len h. subst (λ (o : Option (List ℕ)). HasLength o len) quiet.contents h) (loses_since x) (λ h. h) (IsKeptSince disk d1 x) (IsKeptSince disk d0 x) (dialled l0 l) (disk x).faults result
+        (unless_all ((commits : List (List Record)) → IsLeftAs (disk d1) (disk x) commits → IsLeftAs (disk d0) (disk x) commits) result (leaves_since x))
         (kept_since x) call)

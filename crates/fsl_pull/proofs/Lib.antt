@@ -37,3 +37,8 @@ pub mod LocalTaken
 pub mod LocalSync
 pub mod LocalMore
 pub mod CommitsLaw
+pub mod GivenLemmas
+pub mod MissesLaw
+pub mod MovesOn
+pub mod MovesLaw
+pub mod CommitsAllLaw

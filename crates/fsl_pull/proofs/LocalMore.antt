@@ -29,7 +29,6 @@ use Rattle.fsl_pull.specs.Pushes.{public_file}
 use Rattle.fsl_pull.specs.Kept.{StandsForSome, IsKeptAtAnyMoment}
 use Rattle.fsl_pull.specs.Taking.{IsRefusal, TakesSome}
 use Rattle.fsl_pull.proofs.KeptLemmas.{all_some, none_of_them}
-use Rattle.fsl_pull.proofs.SyncLoop.{leaves_same}
 use Rattle.fsl_pull.proofs.LocalTaken.{given}
 use Rattle.fsl_pull.proofs.LocalSync.{LocalAt, PullBy, RunBy}
 
@@ -129,39 +128,37 @@ module _ {D : Type 0} (disk : D → DiskState) (d0 : D) (s0 peer : Seen) (only_n
   still : (commits : List (List Record)) → IsKeptAtAnyMoment (front s0.state) (disk d0) (disk d0) commits
   still commits model old = started (disk d0) (StandsForSome (front s0.state) commits) (λ c. only_now c model.model) (λ c k. none_of_them (front s0.state) commits c (old c k))
 
-  pub project_refused : (found : List ℕ) → other_code (project_code (now s0.state)) (project_code (now peer.state)) ≡ Some found → IsPulledFrom (disk d0) (disk d0) s0 s0 peer peer (Err (fault.Project found))
+  pub project_refused : (found : List ℕ) → other_code (project_code (now s0.state)) (project_code (now peer.state)) ≡ Some found → IsPulledFrom (disk d0) (disk d0) s0 s0 peer (Err (fault.Project found))
   project_refused found e =
       let theirs = project_code (now peer.state) in
       let is = code_differs (bytes_eq (project_code (now s0.state)) theirs) theirs found e in (
         (
+          [],
           (
-            [],
-            (
-              other_project_end s0.state theirs,
-              subst (PullBy s0.state peer.state [] (other_project_end s0.state theirs)) (sym is.0) (refl, refl),
-              record { fault = ap (λ (n : List ℕ). Some (fault.Project n)) is.1; state = leaves_same s0.state s0.state refl; numbers = inl refl },
-            ),
+            other_project_end s0.state theirs,
+            subst (PullBy s0.state peer.state [] (other_project_end s0.state theirs)) (sym is.0) (refl, refl),
+            record { fault = ap (λ (n : List ℕ). Some (fault.Project n)) is.1; state = refl; numbers = inl refl },
           ),
-          leaves_same peer.state peer.state refl,
         ),
         λ rounds x h. still x.commits,
       )
 
-  pub stopped_refused : (faults : ℕ) → IsTrue (bytes_eq (project_code (now s0.state)) (project_code (now peer.state))) → s0.state.stopped ≡ Some faults → IsPulledFrom (disk d0) (disk d0) s0 s0 peer peer (Err (fault.Stopped faults))
+  pub stopped_refused : (faults : ℕ) → IsTrue (bytes_eq (project_code (now s0.state)) (project_code (now peer.state))) → s0.state.stopped ≡ Some faults → IsPulledFrom (disk d0) (disk d0) s0 s0 peer (Err (fault.Stopped faults))
   stopped_refused faults same is = (
     (
+      [],
       (
-        [],
-        (
-          stopped_end s0.state faults,
-          subst (PullBy s0.state peer.state [] (stopped_end s0.state faults)) (sym same) (subst (RunBy s0.state peer.state [] (stopped_end s0.state faults)) (sym is) (refl, refl)),
-          record { fault = refl; state = leaves_same s0.state s0.state refl; numbers = inl refl },
-        ),
+        stopped_end s0.state faults,
+        subst (PullBy s0.state peer.state [] (stopped_end s0.state faults)) (sym same) (subst (RunBy s0.state peer.state [] (stopped_end s0.state faults)) (sym is) (refl, refl)),
+        record { fault = refl; state = refl; numbers = inl refl },
       ),
-      leaves_same peer.state peer.state refl,
     ),
     λ rounds x h. still x.commits,
   )
+
+  -- no memory before the first round
+  pub local_wants_memory : IsPulledFrom (disk d0) (disk d0) s0 s0 peer (Err fault.Memory)
+  local_wants_memory = (inl (refl, still []), λ rounds x h. still x.commits)
 
 -- a turn, as the code has it
 pub local_turn_is : (there there2 : Contents) (told told2 asked asked2 : List (List ℕ)) (before after : DiskState) (old new : Seen) (Still : Type 0) (r q : Result (Option (List (List ℕ))) PullFault) → there ≡ there2 → told ≡ told2 → asked ≡ asked2 → r ≡ q

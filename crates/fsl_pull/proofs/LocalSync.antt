@@ -8,7 +8,7 @@ use Rattle.fsl_disk.proofs.Moments.{weaker, and_then, keeps_on, modelled_after}
 use Rattle.fsl_record.specs.declared.Record.{Record}
 use Rattle.fsl_wire.specs.declared.WireCard.{WireCard}
 use Rattle.fsl_blobs.specs.Fold.{Contents}
-use Rattle.fsl_repo.specs.Machine.{State, Leaves, AreItems, now, wants, unclustered_names}
+use Rattle.fsl_repo.specs.Machine.{State, AreItems, now, wants, unclustered_names}
 use Rattle.fsl_repo.specs.Whole.{Seen, front, stored}
 use Rattle.fsl_pull.specs.declared.Pulled.{Pulled}
 use Rattle.fsl_pull.specs.declared.PullFault.{PullFault}
@@ -30,7 +30,7 @@ use Rattle.fsl_pull.proofs.RoundLemmas.{go_behind, end_behind, length_behind}
 use Rattle.fsl_pull.proofs.CommitLemmas.{with_longer}
 use Rattle.fsl_pull.proofs.KeptLemmas.{some_more}
 use Rattle.fsl_pull.proofs.LocalEnds.{local_pulls_end}
-use Rattle.fsl_pull.proofs.SyncLoop.{Longer, leaves_same}
+use Rattle.fsl_pull.proofs.SyncLoop.{Longer}
 
 abbrev Names : Type 0
 Names = List (List ℕ)
@@ -150,7 +150,7 @@ module _ {D : Type 0} (disk : D → DiskState) (peer : Seen) (d0 : D) (s0 : Seen
   Told = told_by peer
 
   abbrev pub Tells : D → Seen → Result Pulled PullFault → Type 0
-  Tells x s result = IsPulledFrom (disk d0) (disk x) s0 s peer peer result
+  Tells x s result = IsPulledFrom (disk d0) (disk x) s0 s peer result
 
   are : AreWants s0.state (wants (now s0.state) s0.items)
   are = (s0.items, items, refl)
@@ -250,12 +250,9 @@ module _ {D : Type 0} (disk : D → DiskState) (peer : Seen) (d0 : D) (s0 : Seen
       (
         e,
         of_rounds (h.rounds ++ made ∷ []) e (end_behind (LocalRound There Told) (local_start s0) h.rounds h.point e made h.go is_round),
-        record { fault = is_fault; state = leaves_same e.state s2.state is_state; numbers = numbers },
+        record { fault = is_fault; state = sym is_state; numbers = numbers },
       ),
     )
-
-    peer_same : Leaves peer.state peer.state peer.state
-    peer_same = leaves_same peer.state peer.state refl
 
     pub ends_well : (x : D) (s2 : Seen) (rounds stores : ℕ) → Turn x s2 (Ok None) → rounds ≡ n + 1 → stores ≡ stored s2 - stored s0 → Tells x s2 (Ok (record { rounds = rounds; stored = stores }))
     ends_well x s2 rounds stores turned is_rounds is_stores =
@@ -265,33 +262,33 @@ module _ {D : Type 0} (disk : D → DiskState) (peer : Seen) (d0 : D) (s0 : Seen
         let count : e.count + stored s ≡ (h.point).count + stored s2 = (k.1.1).count in
         let same_rounds : rounds ≡ length (h.rounds ++ made ∷ []) = is_rounds ∙ ap (λ (m : ℕ). m + 1) (sym h.many) ∙ sym (length_behind h.rounds made) in
         let same_stores : stores ≡ e.count = omega (arith, is_stores, count, h.count) in (
-          (ended_so s2 e None (Some (record { rounds = rounds; stored = stores })) is_round k.2 k.3 (inr (λ i. Some (record { rounds = same_rounds i; stored = same_stores i }))), peer_same),
+          ended_so s2 e None (Some (record { rounds = rounds; stored = stores })) is_round k.2 k.3 (inr (λ i. Some (record { rounds = same_rounds i; stored = same_stores i }))),
           kept_so x (ends e) is_round (step_images x (ends e) (longer_by There Told h.point made (ends e) is_round) k.1.0.1),
         )
 
     pub ends_later : (x : D) (s2 : Seen) → Turn x s2 (Ok None) → stored s0 ≤ stored s2
     ends_later x s2 turned = let k = turned h.point h.state h.memory in omega (arith, (k.1.1).later, h.count)
 
-    refusal_answer : (s2 : Seen) (why : PullFault) → IsRefusal why → IsLocalEnd s0.state peer.state s2.state (Some why) None → IsLocalAnswer s0.state s2.state peer.state peer.state (Err why)
-    refusal_answer s2 (fault.NotEmpty len) r w = (w, peer_same)
-    refusal_answer s2 (fault.NotRepository at) r w = (w, peer_same)
-    refusal_answer s2 (fault.Project found) r w = (w, peer_same)
-    refusal_answer s2 (fault.Stopped faults) r w = (w, peer_same)
-    refusal_answer s2 fault.Link r w = absurd r
-    refusal_answer s2 fault.Disk r w = absurd r
-    refusal_answer s2 (fault.Peer why) r w = (w, peer_same)
-    refusal_answer s2 (fault.TooLarge name size) r w = (w, peer_same)
-    refusal_answer s2 (fault.Full name) r w = (w, peer_same)
-    refusal_answer s2 (fault.Missing name) r w = (w, peer_same)
-    refusal_answer s2 fault.Rounds r w = (w, peer_same)
-    refusal_answer s2 fault.Memory r w = absurd r
+    refusal_answer : (x : D) (s2 : Seen) (why : PullFault) → IsRefusal why → IsLocalEnd s0.state peer.state s2.state (Some why) None → IsLocalAnswer s0.state s2.state peer.state (Images x) (Err why)
+    refusal_answer x s2 (fault.NotEmpty len) r w = w
+    refusal_answer x s2 (fault.NotRepository at) r w = w
+    refusal_answer x s2 (fault.Project found) r w = w
+    refusal_answer x s2 (fault.Stopped faults) r w = w
+    refusal_answer x s2 fault.Link r w = absurd r
+    refusal_answer x s2 fault.Disk r w = absurd r
+    refusal_answer x s2 (fault.Peer why) r w = w
+    refusal_answer x s2 (fault.TooLarge name size) r w = w
+    refusal_answer x s2 (fault.Full name) r w = w
+    refusal_answer x s2 (fault.Missing name) r w = w
+    refusal_answer x s2 fault.Rounds r w = w
+    refusal_answer x s2 fault.Memory r w = absurd r
 
     to : (x : D) (s2 : Seen) (why w : PullFault) → why ≡ w → Tells x s2 (Err w) → Tells x s2 (Err why)
     to x s2 why w e t = subst (λ (v : PullFault). Tells x s2 (Err v)) (sym e) t
 
     cut : (x : D) (s2 : Seen) → IsPartlyTaken (local_reply There Told (h.point).memory) (h.point).state s2.state → x ≡ d → Tells x s2 (Err fault.Memory)
     cut x s2 partly still = (
-      (inr (may, (Told, wants (now s0.state) s0.items, are_told, are, (h.rounds, (h.point, h.go, partly)))), peer_same),
+      inr (may, (Told, wants (now s0.state) s0.items, are_told, are, (h.rounds, (h.point, h.go, partly, still_images x still)))),
       kept_before x still,
     )
 
@@ -301,34 +298,34 @@ module _ {D : Type 0} (disk : D → DiskState) (peer : Seen) (d0 : D) (s0 : Seen
         by : Comes x s2 (Err why) → Tells x s2 (Err why)
         by (inl (inl (refusal, (e, (says, kept), is_fault, is_state)))) =
             let is_round = round_of (ends e) says in (
-              refusal_answer s2 why refusal (ended_so s2 e (Some why) None is_round is_fault is_state (inl refl)),
+              refusal_answer x s2 why refusal (ended_so s2 e (Some why) None is_round is_fault is_state (inl refl)),
               kept_so x (ends e) is_round (step_images x (ends e) (longer_by There Told h.point made (ends e) is_round) kept),
             )
         by (inl (inr (is, (step, (says, kept), un)))) =
             let is_round = round_of step says in
             to x s2 why fault.Disk is (
               (
-                inl (
-                  rose_since s0.state.faults (h.point).state.faults s2.state.faults (subst (λ (t : State). s0.state.faults ≤ t.faults) (sym h.state) h.faults) un.rose,
+                rose_since s0.state.faults (h.point).state.faults s2.state.faults (subst (λ (t : State). s0.state.faults ≤ t.faults) (sym h.state) h.faults) un.rose,
+                (
+                  may,
                   (
-                    may,
+                    Told,
+                    wants (now s0.state) s0.items,
+                    are_told,
+                    are,
                     (
-                      Told,
-                      wants (now s0.state) s0.items,
-                      are_told,
-                      are,
+                      h.rounds ++ made ∷ [],
                       (
-                        h.rounds ++ made ∷ [],
                         record { front = h.rounds; last = made; whole = refl; point = h.point; go = h.go; step = step; is_round = is_round; is_due = un.is_due; some = un.some; state = un.state },
+                        step_images x step (longer_by There Told h.point made step is_round) kept,
                       ),
                     ),
                   ),
                 ),
-                peer_same,
               ),
               kept_so x step is_round (step_images x step (longer_by There Told h.point made step is_round) kept),
             )
         by (inr (is, (partly, still))) = to x s2 why fault.Memory is (cut x s2 (subst (λ (m : Names). IsPartlyTaken (local_reply There Told m) (h.point).state s2.state) (sym h.memory) partly) still)
 
     pub gives_up : Tells d s (Err fault.Memory)
-    gives_up = cut d s ([], local_reply There Told (h.point).memory, refl, (record { state = (h.point).state; arrivals = []; fault = None }, refl, refl, leaves_same (h.point).state s.state h.state)) refl
+    gives_up = cut d s ([], local_reply There Told (h.point).memory, refl, (record { state = (h.point).state; arrivals = []; fault = None }, refl, refl, sym h.state)) refl

@@ -27,7 +27,7 @@ use Rattle.fsl_pull.proofs.OneEnd.{pull_determined}
 use Rattle.fsl_pull.proofs.RoundLemmas.{CommitsFrom}
 use Rattle.fsl_pull.proofs.DialLemmas.{all_of, none_joined}
 use Rattle.fsl_pull.proofs.CommitLemmas.{with_longer}
-use Rattle.fsl_pull.proofs.SyncLoop.{Longer, Runs, leaves_same, no_commits}
+use Rattle.fsl_pull.proofs.SyncLoop.{Longer, Runs, no_commits}
 
 abbrev Names : Type 0
 Names = List (List ℕ)
@@ -112,7 +112,7 @@ module _ {D : Type 0} (disk : D → DiskState) (login : Option Login) (l0 : Link
         (
           stopped_end s0.state faults,
           subst (PullBy login s0.state [] (stopped_end s0.state faults)) (sym is) (refl, refl),
-          record { fault = refl; state = leaves_same s0.state s0.state refl; numbers = inl refl },
+          record { fault = refl; state = refl; numbers = inl refl },
         ),
       ),
       λ commits from. no_commits disk l0 d0 s0 only_now commits (by commits from),

@@ -24,7 +24,6 @@ use Rattle.fsl_pull.specs.Taking.{IsRefusal, TakesSome, TakesUpTo, TakesFront, T
 use Rattle.fsl_pull.specs.Steps.{step_of, answer_by, IsCommitted}
 use Rattle.fsl_pull.specs.Turns.{commits_of, count_of, IsKeptBy, IsCarried, ComesTo}
 use Rattle.fsl_pull.specs.PullTurns.{SameNames, Finish, then_with, IsReplied, IsTaken}
-use Rattle.fsl_pull.proofs.SyncLoop.{leaves_same}
 use Rattle.fsl_pull.proofs.TakingLemmas.{whole_taken, front_taken}
 use Rattle.fsl_pull.proofs.CommitLemmas.{stored_more, carried, kept, uncommitted_by}
 
@@ -74,7 +73,7 @@ module _ (finish : Finish) (asked : Names) (cards : List WireCard) (before after
       inr (
         refl,
         (
-          (h.front, h.rest, h.whole, (t, subst (λ (s : State). Takes s None h.front t) (sym at) (front_taken old None cards new h), refl, leaves_same new.state new.state refl)),
+          (h.front, h.rest, h.whole, (t, subst (λ (s : State). Takes s None h.front t) (sym at) (front_taken old None cards new h), refl, refl)),
           still,
         ),
       )
@@ -86,7 +85,7 @@ module _ (finish : Finish) (asked : Names) (cards : List WireCard) (before after
       inr (
         refl,
         (
-          (cards, [], sym (append-nil cards), (t, subst (λ (s : State). Takes s None cards t) (sym at) (whole_taken old None cards moved new due h), refl, leaves_same new.state new.state refl)),
+          (cards, [], sym (append-nil cards), (t, subst (λ (s : State). Takes s None cards t) (sym at) (whole_taken old None cards moved new due h), refl, refl)),
           still,
         ),
       )

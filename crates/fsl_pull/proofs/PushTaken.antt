@@ -25,7 +25,6 @@ use Rattle.fsl_pull.specs.Taking.{TakesSome, TakesUpTo, TakesFront, TakesAll}
 use Rattle.fsl_pull.specs.Steps.{IsCommitted}
 use Rattle.fsl_pull.specs.Turns.{commits_of, count_of, IsKeptBy, IsCarried, ComesTo}
 use Rattle.fsl_pull.specs.PushTurns.{Remembers, quiet_by, push_by, push_step, push_answer, IsPushTaken}
-use Rattle.fsl_pull.proofs.SyncLoop.{leaves_same}
 use Rattle.fsl_pull.proofs.TakingLemmas.{whole_taken, front_taken}
 use Rattle.fsl_pull.proofs.CommitLemmas.{carried, kept, uncommitted_by}
 use Rattle.fsl_pull.proofs.PullTaken.{ok_unit, err_unit, no_fault, no_ok}
@@ -61,7 +60,7 @@ module _ (due : Names) (cards : List WireCard) (before after : DiskState) (old n
       inr (
         refl,
         (
-          (h.front, h.rest, h.whole, (t, subst (λ (s : State). Takes s None h.front t) (sym at) (front_taken old None cards new h), refl, leaves_same new.state new.state refl)),
+          (h.front, h.rest, h.whole, (t, subst (λ (s : State). Takes s None h.front t) (sym at) (front_taken old None cards new h), refl, refl)),
           still,
         ),
       )
@@ -73,7 +72,7 @@ module _ (due : Names) (cards : List WireCard) (before after : DiskState) (old n
       inr (
         refl,
         (
-          (cards, [], sym (append-nil cards), (t, subst (λ (s : State). Takes s None cards t) (sym at) (whole_taken old None cards moved new left h), refl, leaves_same new.state new.state refl)),
+          (cards, [], sym (append-nil cards), (t, subst (λ (s : State). Takes s None cards t) (sym at) (whole_taken old None cards moved new left h), refl, refl)),
           still,
         ),
       )

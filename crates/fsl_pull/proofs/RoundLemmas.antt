@@ -21,6 +21,18 @@ module _ {M Q A : Type 0} (R : Course M Q A) where
 pub length_behind : {X : Type 0} (xs : List X) (x : X) → length (xs ++ x ∷ []) ≡ length xs + 1
 length_behind xs x = length-append xs (x ∷ [])
 
+-- what stands before the last one
+rest_is : {X : Type 0} (a b : X) (xs ys : List X) → a ∷ xs ≡ b ∷ ys → (a ≡ b) × (xs ≡ ys)
+rest_is a b xs ys e = (cc, cc)
+
+pub fronts_are : {X : Type 0} (xs ys : List X) (x y : X) → xs ++ x ∷ [] ≡ ys ++ y ∷ [] → ys ≡ xs
+fronts_are [] [] x y e = refl
+fronts_are {X} [] (b ∷ ys) x y e = absurd (omega (arith, ap (λ (zs : List X). length zs) e, length_behind ys y))
+fronts_are {X} (a ∷ xs) [] x y e = absurd (omega (arith, ap (λ (zs : List X). length zs) e, length_behind xs x))
+fronts_are (a ∷ xs) (b ∷ ys) x y e =
+    let k = rest_is a b (xs ++ x ∷ []) (ys ++ y ∷ []) e in
+    let more = fronts_are xs ys x y k.1 in λ i. sym k.0 i ∷ more i
+
 -- the commits that rounds come to from a point: those of their end, or of rounds that all went on
 abbrev pub CommitsFrom : {M Q A : Type 0} → Course M Q A → Point M → List (Round Q A) → List (List Record) → Type 0
 CommitsFrom {M} R p rounds commits =

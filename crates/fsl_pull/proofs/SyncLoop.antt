@@ -8,7 +8,7 @@ use Rattle.fsl_disk.proofs.Moments.{started, weaker, and_then, keeps_on, modelle
 use Rattle.fsl_outside.specs.Connections.{Connection, LinkState}
 use Rattle.fsl_record.specs.declared.Record.{Record}
 use Rattle.fsl_journal.specs.File.{IsFileOf}
-use Rattle.fsl_repo.specs.Machine.{State, Leaves}
+use Rattle.fsl_repo.specs.Machine.{State}
 use Rattle.fsl_repo.specs.Whole.{Seen, front}
 use Rattle.fsl_http.specs.Responses.{Exchanged, IsBrokenOff, IsLeft}
 use Rattle.fsl_pull.specs.declared.Pulled.{Pulled}
@@ -21,12 +21,9 @@ use Rattle.fsl_pull.specs.Taking.{IsRefusal}
 use Rattle.fsl_pull.specs.Turns.{commits_of, AreCommitted, IsKeptBy, IsCarried, IsMade, TurnsTo, IsUncommitted}
 use Rattle.fsl_pull.specs.Calls.{Kind, Ended, IsWhole, IsSynced, AreCommitsOf, dialled, IsCall}
 use Rattle.fsl_pull.proofs.OneEnd.{IsDetermined}
-use Rattle.fsl_pull.proofs.RoundLemmas.{go_behind, end_behind, length_behind, CommitsFrom, front_commits, step_commits, known_commits}
+use Rattle.fsl_pull.proofs.RoundLemmas.{go_behind, end_behind, length_behind, fronts_are, CommitsFrom, front_commits, step_commits, known_commits}
 use Rattle.fsl_pull.proofs.DialLemmas.{all_of, BreaksIn, grown, cut_off, idle, none_joined}
 use Rattle.fsl_pull.proofs.KeptLemmas.{all_some, some_more}
-
-pub leaves_same : (s new : State) → s ≡ new → Leaves s s new
-leaves_same s new e = record { state = sym e ∙ ap (λ (t : State). record s { faults = t.faults }) e; faults = subst (λ (t : State). s.faults ≤ t.faults) e (omega arith) }
 
 -- the second commits begin with the first
 abbrev pub Longer : List (List Record) → List (List Record) → Type 0
@@ -123,11 +120,11 @@ module _ {D M : Type 0} (disk : D → DiskState) (R : Course M (List ℕ) Exchan
 
     -- ---- ends
 
-    abbrev Synced : LinkState → Seen → Result Pulled PullFault → Rounds → List Connection → Type 0
-    Synced l2 s2 result rounds broken = IsSynced k s0.state s2.state l0.faults l2.faults result rounds broken
+    abbrev Synced : LinkState → D → Seen → Result Pulled PullFault → Rounds → List Connection → Type 0
+    Synced l2 x s2 result rounds broken = IsSynced k s0.state s2.state l0.faults l2.faults (Images x) result rounds broken
 
     told_step : (l2 : LinkState) (x : D) (s2 : Seen) (result : Result Pulled PullFault) (step : Then M) (made : IsMade l l2 (λ r. R h.point r step)) → IsKeptBy (disk d) (disk x) (x ≡ d) h.point step
-        → Synced l2 s2 result (h.rounds ++ made.0 ∷ []) [] → Tells l2 x s2 result
+        → Synced l2 x s2 result (h.rounds ++ made.0 ∷ []) [] → Tells l2 x s2 result
     told_step l2 x s2 result step made kept synced = (
       h.rounds ++ made.0 ∷ [],
       [],
@@ -151,7 +148,7 @@ module _ {D M : Type 0} (disk : D → DiskState) (R : Course M (List ℕ) Exchan
       (
         e,
         runs.sync (h.rounds ++ made.0 ∷ []) e (inl (few_more made.0 lt, end_behind R start h.rounds h.point e made.0 h.go made.2)),
-        record { fault = is_fault; state = leaves_same e.state s2.state is_state; numbers = numbers },
+        record { fault = is_fault; state = sym is_state; numbers = numbers },
       ),
     )
 
@@ -170,19 +167,19 @@ module _ {D M : Type 0} (disk : D → DiskState) (R : Course M (List ℕ) Exchan
         told_step l2 x s2 (Ok (record { rounds = rounds; stored = stores })) (ends e) made k.1.1
         (whole_by l2 s2 e made None (Some (record { rounds = rounds; stored = stores })) lt k.2 k.3 (inr (λ i. Some (record { rounds = same_rounds i; stored = same_stores i }))))
 
-    refusal_synced : (l2 : LinkState) (s2 : Seen) (why : PullFault) (rounds : Rounds) (broken : List Connection) → IsRefusal why → IsWhole k.Is s2.state (Some why) None rounds broken → Synced l2 s2 (Err why) rounds broken
-    refusal_synced l2 s2 (fault.NotEmpty len) rounds broken r w = w
-    refusal_synced l2 s2 (fault.NotRepository at) rounds broken r w = w
-    refusal_synced l2 s2 (fault.Project found) rounds broken r w = w
-    refusal_synced l2 s2 (fault.Stopped faults) rounds broken r w = w
-    refusal_synced l2 s2 fault.Link rounds broken r w = absurd r
-    refusal_synced l2 s2 fault.Disk rounds broken r w = absurd r
-    refusal_synced l2 s2 (fault.Peer why) rounds broken r w = w
-    refusal_synced l2 s2 (fault.TooLarge name size) rounds broken r w = w
-    refusal_synced l2 s2 (fault.Full name) rounds broken r w = w
-    refusal_synced l2 s2 (fault.Missing name) rounds broken r w = w
-    refusal_synced l2 s2 fault.Rounds rounds broken r w = w
-    refusal_synced l2 s2 fault.Memory rounds broken r w = absurd r
+    refusal_synced : (l2 : LinkState) (x : D) (s2 : Seen) (why : PullFault) (rounds : Rounds) (broken : List Connection) → IsRefusal why → IsWhole k.Is s2.state (Some why) None rounds broken → Synced l2 x s2 (Err why) rounds broken
+    refusal_synced l2 x s2 (fault.NotEmpty len) rounds broken r w = w
+    refusal_synced l2 x s2 (fault.NotRepository at) rounds broken r w = w
+    refusal_synced l2 x s2 (fault.Project found) rounds broken r w = w
+    refusal_synced l2 x s2 (fault.Stopped faults) rounds broken r w = w
+    refusal_synced l2 x s2 fault.Link rounds broken r w = absurd r
+    refusal_synced l2 x s2 fault.Disk rounds broken r w = absurd r
+    refusal_synced l2 x s2 (fault.Peer why) rounds broken r w = w
+    refusal_synced l2 x s2 (fault.TooLarge name size) rounds broken r w = w
+    refusal_synced l2 x s2 (fault.Full name) rounds broken r w = w
+    refusal_synced l2 x s2 (fault.Missing name) rounds broken r w = w
+    refusal_synced l2 x s2 fault.Rounds rounds broken r w = w
+    refusal_synced l2 x s2 fault.Memory rounds broken r w = absurd r
 
     same_commits : (commits : List (List Record)) → AreCommitsOf k.Is k.SoFar h.rounds commits → commits ≡ (h.point).commits
     same_commits commits from = front_commits R runs.one start h.rounds h.point commits h.go (runs.commits h.rounds commits from)
@@ -193,7 +190,7 @@ module _ {D M : Type 0} (disk : D → DiskState) (R : Course M (List ℕ) Exchan
     left_off : (s2 : Seen) (BreaksOff : Breaks) (broken : List Connection) (more : ℕ) → n + 1 ≤ most_rounds → more ≤ 1 → s2.state ≡ (h.point).state → HasSent BreaksOff broken (A h.point) → k.IsLeftOff BreaksOff broken more h.rounds s2.state
     left_off s2 BreaksOff broken more lt le same sent =
         runs.left_off BreaksOff broken more h.rounds s2.state
-        (record { point = h.point; go = h.go; few = omega (arith, lt, le, h.many); sent = sent; state = leaves_same (h.point).state s2.state (sym same) })
+        (record { point = h.point; go = h.go; few = omega (arith, lt, le, h.many); sent = sent; state = same })
 
     pub fails : {X : Type 0} (Next : M → X → Type 0) (l2 : LinkState) (x : D) (s2 : Seen) (c2 : ℕ) (why : PullFault) → Turn Next l2 x s2 c2 (Err why) → n + 1 ≤ most_rounds → l.faults ≤ l2.faults → Tells l2 x s2 (Err why)
     fails Next l2 x s2 c2 why turned lt dial = by (turned h.point h.state h.memory)
@@ -214,6 +211,8 @@ module _ {D M : Type 0} (disk : D → DiskState) (R : Course M (List ℕ) Exchan
               refl,
               runs.broken (h.rounds ++ made.0 ∷ []) s2.state
                   (record { front = h.rounds; last = made.0; whole = refl; point = h.point; go = h.go; few = few_more made.0 lt; broke = made.2 }),
+              λ before last done parts so_far.
+                  kept_front x still done (inr (subst (λ (rs : Rounds). k.SoFar rs done) (sym (fronts_are before h.rounds last made.0 (sym parts))) so_far)),
             )),
             λ commits from.
                 let step = step_commits R runs.one start h.rounds h.point made.0 commits h.go (runs.commits (h.rounds ++ made.0 ∷ []) commits from) in
@@ -248,7 +247,7 @@ module _ {D M : Type 0} (disk : D → DiskState) (R : Course M (List ℕ) Exchan
         by : TurnsTo Next R A B h.point l l2 (IsKeptBy (disk d) (disk x) (x ≡ d) h.point) (IsCarried c c2 h.point) (x ≡ d) s2.state (Err why) → Tells l2 x s2 (Err why)
         by (inl (inl (refusal, (e, (made, kept), is_fault, is_state)))) =
             told_step l2 x s2 (Err why) (ends e) made kept
-            (refusal_synced l2 s2 why (h.rounds ++ made.0 ∷ []) [] refusal (whole_by l2 s2 e made (Some why) None lt is_fault is_state (inl refl)))
+            (refusal_synced l2 x s2 why (h.rounds ++ made.0 ∷ []) [] refusal (whole_by l2 s2 e made (Some why) None lt is_fault is_state (inl refl)))
         by (inl (inr (disk_fault, (step, (made, kept), un)))) = to fault.Disk disk_fault (failed step made kept un)
         by (inr (still, inl (is, same, (request, asks, (rose, inl idles))))) =
             to fault.Link is (link still same rose (idle l0 l l2 h.rounds h.grows IsBrokenOff (A h.point) idles))
@@ -270,7 +269,7 @@ module _ {D M : Type 0} (disk : D → DiskState) (R : Course M (List ℕ) Exchan
           (
             given_up fault.Rounds h.point,
             runs.sync h.rounds (given_up fault.Rounds h.point) (inr (h.many ∙ all, (h.point, h.go, refl))),
-            record { fault = refl; state = leaves_same (h.point).state s.state h.state; numbers = inl refl },
+            record { fault = refl; state = sym h.state; numbers = inl refl },
           ),
         ),
         λ commits from. subst (Images d) (sym (same_commits commits from)) h.images,
@@ -315,7 +314,7 @@ module _ {D : Type 0} (disk : D → DiskState) (l0 : LinkState) (d0 : D) (s0 : S
     [],
     none_joined (all_of l0),
     (
-      inl (refl, refl, leaves_same s0.state s0.state refl),
+      inl (refl, refl, refl),
       λ commits from. no_commits commits (front_commits R runs.one start [] start commits refl (runs.commits [] commits from) ∙ none),
     ),
   )

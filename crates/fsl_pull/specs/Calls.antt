@@ -1,13 +1,12 @@
 -- What the calls of the client say of their answers, of the repository and of the rounds.
-use Rattle.std.specs.Prelude.{◌≡◌, ℕ, ◌⊎◌, IsTrue, List, [], length, Option, Some, None, Result, Ok, Err}
+use Rattle.std.specs.Prelude.{◌≡◌, ℕ, ◌⊎◌, ⊤, IsTrue, List, [], ◌∷◌, ◌++◌, length, Option, Some, None, Result, Ok, Err}
 use Rattle.fsl_order.specs.Causes.{Rose}
 use Rattle.fsl_record.specs.declared.Record.{Record}
-use Rattle.fsl_http.specs.Responses.{IsBrokenOff, IsLeft}
+use Rattle.fsl_http.specs.Responses.{Exchanged, IsBrokenOff, IsLeft}
 use Rattle.std.specs.Str.{bytes_eq}
 use Rattle.fsl_outside.specs.Connections.{Connection, LinkState, listed}
-use Rattle.fsl_wire.specs.declared.WireCard.{WireCard}
 use Rattle.fsl_disk.specs.Disk.{DiskState}
-use Rattle.fsl_repo.specs.Machine.{State, Leaves, now}
+use Rattle.fsl_repo.specs.Machine.{State, now}
 use Rattle.fsl_repo.specs.Whole.{Seen, front}
 use Rattle.fsl_pull.specs.Kept.{IsKeptAtAnyMoment}
 use Rattle.fsl_pull.specs.declared.Login.{Login}
@@ -18,20 +17,22 @@ use Rattle.fsl_pull.specs.Rounds.{Round, Point, End, GoOn, CommitFailed}
 use Rattle.fsl_pull.specs.Dialled.{Rounds, HasRounds, HasSent, Breaks}
 use Rattle.fsl_pull.specs.Pulls.{IsPull, PullAsks, IsPullLeftOff, IsPullBroken, IsPullFailed, PullSoFar, pull_start}
 use Rattle.fsl_pull.specs.Pushes.{IsPush, PushAsks, IsPushLeftOff, IsPushBroken, IsPushFailed, PushSoFar}
-use Rattle.fsl_pull.specs.Locals.{IsLocalPull, LocalRound, local_reply, project_code}
+use Rattle.fsl_pull.specs.Locals.{LocalRounds, IsLocalPull, LocalRound, local_reply, project_code}
 use Rattle.fsl_pull.specs.Arrivals.{AreWants, AreUnclustered, IsPartlyTaken}
+use Rattle.fsl_pull.specs.Turns.{commits_of}
 
--- the answer is that of the end, and the repository is the one that it leaves, but for the disk's count
+-- the answer is that of the end, and the repository is the one that it leaves
 pub record Ended (e : End) (rounds : ℕ) (new : State) (why : Option PullFault) (pulled : Option Pulled) : Type 0 where
   pub fault : e.fault ≡ why
-  pub state : Leaves e.state e.state new
+  pub state : new ≡ e.state
   pub numbers : pulled ≡ None ⊎ (pulled ≡ Some (record { rounds = rounds; stored = e.count }))
 
 -- a whole sync, of which no connection broke off
 abbrev pub IsWhole : (Rounds → End → Type 0) → State → Option PullFault → Option Pulled → Rounds → List Connection → Type 0
 IsWhole IsSynced new why pulled rounds broken = (broken ≡ []) × ((e : End) × IsSynced rounds e × Ended e (length rounds) new why pulled)
 
--- what a sync is: of these rounds this is the end; behind them nothing of a further one was taken, and so many more there may be; the last of them was taken in part; its commit failed; and the commits of rounds that all went on
+-- what a sync is: of these rounds this is the end; behind them nothing of a further one was taken, and so many more there may be; the last of them was
+-- taken in part; its commit failed; and the commits of rounds that all went on
 pub record Kind : Type 1 where
   pub Is : Rounds → End → Type 0
   pub IsLeftOff : Breaks → List Connection → ℕ → Rounds → State → Type 0
@@ -39,20 +40,22 @@ pub record Kind : Type 1 where
   pub IsFailed : Rounds → State → Type 0
   pub SoFar : Rounds → List (List Record) → Type 0
 
--- want of memory: before anything was done; behind some rounds; or in the midst of a reply
-abbrev pub IsCutShort : Kind → State → State → Rounds → List Connection → Type 0
-IsCutShort k old new rounds broken =
-    ((rounds ≡ []) × (broken ≡ []) × Leaves old old new)
+-- want of memory: before anything was done; behind some rounds; or in the midst of a reply, where this is said of the commits of the rounds before it
+abbrev pub IsCutShort : Kind → State → State → Rounds → List Connection → (List (List Record) → Type 0) → Type 0
+IsCutShort k old new rounds broken IsKept =
+    ((rounds ≡ []) × (broken ≡ []) × (new ≡ old))
     ⊎ (k.IsLeftOff IsLeft broken (length broken) rounds new
-    ⊎ ((broken ≡ []) × k.IsBroken rounds new))
+    ⊎ ((broken ≡ []) × k.IsBroken rounds new
+    × ((front : Rounds) (last : Round (List ℕ) Exchanged) (done : List (List Record)) → rounds ≡ front ++ last ∷ [] → k.SoFar front done → IsKept done)))
 
--- what a sync over a network answers: its end; a fault of the dial, whose count rose, within the limit of rounds; a fault of the disk, whose count rose in the commit of its last round; or want of memory
-abbrev pub IsSynced : Kind → State → State → ℕ → ℕ → Result Pulled PullFault → Rounds → List Connection → Type 0
-IsSynced k old new before after (Ok pulled) rounds broken = IsWhole k.Is new None (Some pulled) rounds broken
-IsSynced k old new before after (Err fault.Link) rounds broken = Rose before after × k.IsLeftOff IsBrokenOff broken 1 rounds new
-IsSynced k old new before after (Err fault.Disk) rounds broken = Rose old.faults new.faults × (broken ≡ []) × k.IsFailed rounds new
-IsSynced k old new before after (Err fault.Memory) rounds broken = IsCutShort k old new rounds broken
-IsSynced k old new before after (Err why) rounds broken = IsWhole k.Is new (Some why) None rounds broken
+-- what a sync over a network answers: its end; a fault of the dial, whose count rose, within the limit of rounds; a fault of the disk, whose count rose
+-- in the commit of its last round; or want of memory
+abbrev pub IsSynced : Kind → State → State → ℕ → ℕ → (List (List Record) → Type 0) → Result Pulled PullFault → Rounds → List Connection → Type 0
+IsSynced k old new before after IsKept (Ok pulled) rounds broken = IsWhole k.Is new None (Some pulled) rounds broken
+IsSynced k old new before after IsKept (Err fault.Link) rounds broken = Rose before after × k.IsLeftOff IsBrokenOff broken 1 rounds new
+IsSynced k old new before after IsKept (Err fault.Disk) rounds broken = Rose old.faults new.faults × (broken ≡ []) × k.IsFailed rounds new
+IsSynced k old new before after IsKept (Err fault.Memory) rounds broken = IsCutShort k old new rounds broken IsKept
+IsSynced k old new before after IsKept (Err why) rounds broken = IsWhole k.Is new (Some why) None rounds broken
 
 -- the commits that rounds come to: those of their end, or of rounds that all went on
 abbrev pub AreCommitsOf : (Rounds → End → Type 0) → (Rounds → List (List Record) → Type 0) → Rounds → List (List Record) → Type 0
@@ -97,7 +100,9 @@ a_push login old =
 -- one call of `pull`, and one of `push`. IsKept: what the images of the file are at each moment of the call, by the commits that its rounds come to
 abbrev pub IsCall : Kind → State → State → Dialled → (List (List Record) → Type 0) → Result Pulled PullFault → Type 0
 IsCall k old new d IsKept result =
-    HasRounds d.before d.after (λ rounds broken. IsSynced k old new d.faults_before d.faults_after result rounds broken × ((commits : List (List Record)) → AreCommitsOf k.Is k.SoFar rounds commits → IsKept commits))
+    HasRounds d.before d.after
+    (λ rounds broken. IsSynced k old new d.faults_before d.faults_after IsKept result rounds broken
+    × ((commits : List (List Record)) → AreCommitsOf k.Is k.SoFar rounds commits → IsKept commits))
 
 abbrev pub IsPullCall : Option Login → State → State → Dialled → (List (List Record) → Type 0) → Result Pulled PullFault → Type 0
 IsPullCall login old new d IsKept result = IsCall (a_pull login old) old new d IsKept result
@@ -107,48 +112,63 @@ IsPushCall login old new d IsKept result = IsCall (a_push login old) old new d I
 
 -- one call of `pull`, by its dial, its disk and its repository before and after
 abbrev pub IsPulledOver : Option Login → LinkState → LinkState → DiskState → DiskState → Seen → Seen → Result Pulled PullFault → Type 0
-IsPulledOver login d e before after old new result = IsPullCall login old.state new.state (dialled d e) (IsKeptAtAnyMoment (front old.state) before after) result
+IsPulledOver login d e before after old new result =
+    IsPullCall login old.state new.state (dialled d e) (IsKeptAtAnyMoment (front old.state) before after) result
 
 -- one call of `push`, by the same
 abbrev pub IsPushedOver : Option Login → LinkState → LinkState → DiskState → DiskState → Seen → Seen → Result Pulled PullFault → Type 0
-IsPushedOver login d e before after old new result = IsPushCall login old.state new.state (dialled d e) (IsKeptAtAnyMoment (front old.state) before after) result
+IsPushedOver login d e before after old new result =
+    IsPushCall login old.state new.state (dialled d e) (IsKeptAtAnyMoment (front old.state) before after) result
 
--- one call of `pull_local`: the peer is what it was
+-- a whole pull from another repository
 abbrev pub IsLocalEnd : State → State → State → Option PullFault → Option Pulled → Type 0
 IsLocalEnd old peer new why pulled =
-    (rounds : List (Round (List (List ℕ)) (List WireCard))) × ((e : End) × IsLocalPull old peer rounds e × Ended e (length rounds) new why pulled)
+    (rounds : LocalRounds) × ((e : End) × IsLocalPull old peer rounds e × Ended e (length rounds) new why pulled)
 
 -- a pull may begin: the peer is of the same project, and the repository isn't stopped
 pub record MayBegin (old peer : State) : Type 0 where
   pub project : IsTrue (bytes_eq (project_code (now old)) (project_code (now peer)))
   pub runs : old.stopped ≡ None
 
--- some rounds went on, and of a further one some cards were taken
-abbrev pub IsLocalCut : State → State → State → Type 0
-IsLocalCut old peer new =
+-- some rounds went on, and of a further one some cards were taken; this is said of the commits of those rounds
+abbrev pub IsLocalCut : State → State → State → (List (List Record) → Type 0) → Type 0
+IsLocalCut old peer new IsKept =
     (unclustered wanted : List (List ℕ)) × AreUnclustered peer unclustered × AreWants old wanted
-    × ((rounds : List (Round (List (List ℕ)) (List WireCard)))
-    × ((p : Point (List (List ℕ))) × GoOn (LocalRound (now peer) unclustered) (pull_start old wanted) rounds p × IsPartlyTaken (local_reply (now peer) unclustered p.memory) p.state new))
+    × ((rounds : LocalRounds)
+    × ((p : Point (List (List ℕ))) × GoOn (LocalRound (now peer) unclustered) (pull_start old wanted) rounds p
+    × IsPartlyTaken (local_reply (now peer) unclustered p.memory) p.state new
+    × IsKept p.commits))
 
 -- nothing was done, or some rounds were
-abbrev pub IsLocalShort : State → State → State → Type 0
-IsLocalShort old peer new = Leaves old old new ⊎ (MayBegin old peer × IsLocalCut old peer new)
+abbrev pub IsLocalShort : State → State → State → (List (List Record) → Type 0) → Type 0
+IsLocalShort old peer new IsKept = ((new ≡ old) × IsKept []) ⊎ (MayBegin old peer × IsLocalCut old peer new IsKept)
 
--- the commit of the last round failed, where its records are in the file in part
-abbrev pub IsLocalFailed : State → State → State → Type 0
-IsLocalFailed old peer new =
+-- the commit of the last round failed, where its records are in the file in part; this is said of the commits with that one
+abbrev pub IsLocalFailed : State → State → State → (List (List Record) → Type 0) → Type 0
+IsLocalFailed old peer new IsKept =
     MayBegin old peer
     × ((unclustered wanted : List (List ℕ)) × AreUnclustered peer unclustered × AreWants old wanted
-    × ((rounds : List (Round (List (List ℕ)) (List WireCard))) × CommitFailed (LocalRound (now peer) unclustered) (pull_start old wanted) rounds new))
+    × ((rounds : LocalRounds)
+    × ((f : CommitFailed (LocalRound (now peer) unclustered) (pull_start old wanted) rounds new) × IsKept (commits_of f.step))))
 
-abbrev pub IsLocalAnswer : State → State → State → State → Result Pulled PullFault → Type 0
-IsLocalAnswer old new peer left (Ok pulled) = IsLocalEnd old peer new None (Some pulled) × Leaves peer peer left
-IsLocalAnswer old new peer left (Err fault.Disk) = ((Rose old.faults new.faults × IsLocalFailed old peer new) ⊎ (Rose peer.faults left.faults × MayBegin old peer × IsLocalShort old peer new)) × Leaves peer peer left
-IsLocalAnswer old new peer left (Err fault.Memory) = IsLocalShort old peer new × Leaves peer peer left
-IsLocalAnswer old new peer left (Err why) = IsLocalEnd old peer new (Some why) None × Leaves peer peer left
+-- the peer is loaded, so that no call of its disk is due
+abbrev pub IsLocalAnswer : State → State → State → (List (List Record) → Type 0) → Result Pulled PullFault → Type 0
+IsLocalAnswer old new peer IsKept (Ok pulled) = IsLocalEnd old peer new None (Some pulled)
+IsLocalAnswer old new peer IsKept (Err fault.Disk) = Rose old.faults new.faults × IsLocalFailed old peer new IsKept
+IsLocalAnswer old new peer IsKept (Err fault.Memory) = IsLocalShort old peer new IsKept
+IsLocalAnswer old new peer IsKept (Err why) = IsLocalEnd old peer new (Some why) None
+
+-- the faults of a pull from another repository; what such a one gives is never wrong
+abbrev pub IsLocalFault : PullFault → Type 0
+IsLocalFault (fault.Project found) = ⊤
+IsLocalFault (fault.Stopped faults) = ⊤
+IsLocalFault (fault.Full name) = ⊤
+IsLocalFault fault.Disk = ⊤
+IsLocalFault fault.Memory = ⊤
+IsLocalFault why = ⊥
 
 -- IsKept: what the images of the repository's file are at each moment of the call, by the commits that its rounds come to
-abbrev pub IsLocalCall : State → State → State → State → (List (List Record) → Type 0) → Result Pulled PullFault → Type 0
-IsLocalCall old new peer left IsKept result =
-    IsLocalAnswer old new peer left result
-    × ((rounds : List (Round (List (List ℕ)) (List WireCard))) (e : End) → IsLocalPull old peer rounds e → IsKept e.commits)
+abbrev pub IsLocalCall : State → State → State → (List (List Record) → Type 0) → Result Pulled PullFault → Type 0
+IsLocalCall old new peer IsKept result =
+    IsLocalAnswer old new peer IsKept result
+    × ((rounds : LocalRounds) (e : End) → IsLocalPull old peer rounds e → IsKept e.commits)

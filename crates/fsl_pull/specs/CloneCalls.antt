@@ -1,7 +1,7 @@
 -- What a clone says of its answer, of its rounds and of the file that it makes.
-use Rattle.std.specs.Prelude.{◌≡◌, ◌≢◌, ℕ, ◌+◌, ◌≤◌, ◌⊎◌, ⊤, false, List, [], ◌∷◌, ◌++◌, length, Option, Some, None, IsSome, Result, Ok, Err, if◌then◌else◌}
+use Rattle.std.specs.Prelude.{◌≡◌, ◌≢◌, ℕ, ◌+◌, ◌≤◌, ◌⊎◌, ⊤, false, List, [], ◌∷◌, ◌++◌, length, take, Option, Some, None, IsSome, Result, Ok, Err, if◌then◌else◌}
 use Rattle.fsl_order.specs.Causes.{Rose}
-use Rattle.fsl_disk.specs.Disk.{DiskState, IsModelled, LeavesOnly}
+use Rattle.fsl_disk.specs.Disk.{DiskState, IsModelled, LeavesOnly, Quiet, Told}
 use Rattle.fsl_outside.specs.Connections.{Connection, LinkState}
 use Rattle.fsl_record.specs.declared.Record.{Record}
 use Rattle.fsl_journal.specs.File.{IsFileOf}
@@ -17,6 +17,7 @@ use Rattle.fsl_pull.specs.Dialled.{Rounds, HasRounds, HasSent, Breaks}
 use Rattle.fsl_pull.specs.Replies.{IsReplyRead}
 use Rattle.fsl_pull.specs.Kept.{all_of_them, StandsForSome}
 use Rattle.fsl_pull.specs.Clones.{Cloning, IsClone, CloneAsks, CloneRound, CloneSoFar, clone_start, project_in, first_record}
+use Rattle.fsl_pull.specs.Turns.{commits_of}
 use Rattle.fsl_pull.specs.Calls.{AreCommitsOf, Dialled, dialled}
 
 -- ---- the file
@@ -26,35 +27,36 @@ abbrev pub HasLength : Option (List ℕ) → ℕ → Type 0
 HasLength None len = ⊤
 HasLength (Some bytes) len = len ≡ length bytes
 
--- what a file is left as, where it is told: as it was, or the records of the commits
-abbrev pub IsFileBy : List ℕ → List (List Record) → List ℕ → Type 0
-IsFileBy before [] bytes = bytes ≡ before
-IsFileBy before (commit ∷ commits) bytes = IsFileOf bytes (all_of_them (commit ∷ commits))
-
-abbrev pub IsFileLeft : Option (List ℕ) → Option (List ℕ) → List (List Record) → Type 0
-IsFileLeft before after commits = (bytes held : List ℕ) → before ≡ Some bytes → after ≡ Some held → IsFileBy bytes commits held
-
 -- the disk meets the disk model, and a crash leaves an empty file
 pub record IsEmptied (disk : DiskState) : Type 0 where
   pub model : IsModelled disk
   pub empty : (c : List ℕ) → disk.images c → c ≡ []
 
--- no repository before the first commit, and then one of all that was committed
+-- a repository of all that was committed
 abbrev pub StandsForAll : List (List Record) → List ℕ → Type 0
-StandsForAll [] bytes = IsNoFile bytes
-StandsForAll (commit ∷ commits) bytes = IsFileOf bytes (all_of_them (commit ∷ commits))
+StandsForAll commits bytes = IsFileOf bytes (all_of_them commits)
 
--- behind a call each image stands for the commits
-abbrev pub IsStable : DiskState → DiskState → List (List Record) → Type 0
-IsStable before after commits = IsEmptied before → (c : List ℕ) → after.images c → StandsForAll commits c
+-- the file stands for some commits, where it is told, and so does each image, whatever the images were before
+pub record IsStable (before after : DiskState) (commits : List (List Record)) : Type 0 where
+  pub file : Told after (StandsForAll commits)
+  pub images : IsModelled before → (c : List ℕ) → after.images c → StandsForAll commits c
+
+-- what a call leaves by its commits: nothing was written where there is none
+abbrev pub IsLeftAs : DiskState → DiskState → List (List Record) → Type 0
+IsLeftAs before after [] = Quiet before after
+IsLeftAs before after (commit ∷ commits) = IsStable before after (commit ∷ commits)
+
+-- behind a commit that failed each image stands for the commits before it, or for all
+abbrev pub IsLostAs : DiskState → DiskState → List (List Record) → List (List Record) → Type 0
+IsLostAs before after done all = IsModelled before → (c : List ℕ) → after.images c → StandsForAll done c ⊎ StandsForAll all c
 
 -- no repository, or that of the first commit
 abbrev pub NoneOr : List Record → List ℕ → Type 0
 NoneOr first bytes = IsNoFile bytes ⊎ IsFileOf bytes first
 
--- what is left at each moment of a call: no repository, where nothing is committed. Else at first none or that of the first commit, and once each image is that, this and some further commits
+-- what is left at each moment of a call: nothing is written, where nothing is committed. Else at first no repository or that of the first commit, and once each image is that, this and some further commits
 abbrev pub IsKeptSince : {D : Type 0} → (D → DiskState) → D → D → List (List Record) → Type 0
-IsKeptSince disk before after [] = IsEmptied (disk before) → LeavesOnly (disk before) (disk after) IsNoFile
+IsKeptSince disk before after [] = Quiet (disk before) (disk after)
 IsKeptSince {D} disk before after (first ∷ more) =
     IsEmptied (disk before) →
     LeavesOnly (disk before) (disk after) (NoneOr first)
@@ -63,7 +65,7 @@ IsKeptSince {D} disk before after (first ∷ more) =
 
 -- ---- the answer
 
--- a clone: its words, its disk's count of faults, what is said of the length that it found, of what it leaves by the commits, and where the file that it made may read back as another
+-- a clone: its words, its disk's count of faults, what is said of the length that it found, of what it leaves by the commits, of what a commit that failed leaves by those before it and by all, and where the file that it made may read back as another
 pub record CloneOf : Type 1 where
   pub server : List ℕ
   pub fields : List (List ℕ)
@@ -71,6 +73,7 @@ pub record CloneOf : Type 1 where
   pub faults : ℕ
   pub Length : ℕ → Type 0
   pub Leaves : List (List Record) → Type 0
+  pub Loses : List (List Record) → List (List Record) → Type 0
   pub MayDiffer : Type 0
 
 abbrev pub round_of : CloneOf → Course Cloning (List ℕ) Exchanged
@@ -128,6 +131,10 @@ pub record IsUnmade (k : CloneOf) (rounds : Rounds) : Type 0 where
 abbrev pub committed_before : Point Cloning → ℕ
 committed_before p = if p.memory.begun then p.state.committed else 1
 
+-- the commits before that of a round: those of the rounds before it, and behind the first reply that of the Config
+abbrev pub commits_before : Point Cloning → List (List Record) → List (List Record)
+commits_before p all = if p.memory.begun then p.commits else take 1 all
+
 -- the last of the rounds was taken whole, and its commit was due
 pub record IsCommitLost (k : CloneOf) (rounds : Rounds) : Type 0 where
   pub empty : k.Length 0
@@ -143,6 +150,7 @@ pub record IsCommitLost (k : CloneOf) (rounds : Rounds) : Type 0 where
   pub is_due : (state_of step).committed ≡ length (state_of step).records
   -- and there is something to commit
   pub some : committed_before point ≢ length (state_of step).records
+  pub left : k.Loses (commits_before point (commits_of step)) (commits_of step)
 
 -- the disk failed before the first round, while the file was made, or in the last commit; what that leaves of the file is said of its images
 abbrev pub IsCloneFailed : CloneOf → Rounds → Type 0
@@ -172,7 +180,7 @@ IsCloneCall k d faults IsKept result =
     HasRounds d.before d.after
     (λ rounds broken. IsCloneAnswer k d faults result rounds broken × ((commits : List (List Record)) → AreCloneCommits k rounds commits → IsKept commits))
 
--- a clone onto a disk. What a fault of the disk leaves of the file is said of its images alone; where the file is told it never reads back as another
+-- a clone onto a disk. What a fault of the disk leaves of the file is said of its images alone, since a call that failed may leave what is read half way; where the file is told it never reads back as another
 abbrev pub clone_onto : List ℕ → List (List ℕ) → Option Login → DiskState → DiskState → CloneOf
 clone_onto server fields login before after =
     record {
@@ -181,7 +189,8 @@ clone_onto server fields login before after =
       login = login;
       faults = before.faults;
       Length = HasLength before.contents;
-      Leaves = λ commits. IsFileLeft before.contents after.contents commits × IsStable before after commits;
+      Leaves = λ commits. IsLeftAs before after commits;
+      Loses = λ done all. IsLostAs before after done all;
       MayDiffer = after.contents ≡ None;
     }
 

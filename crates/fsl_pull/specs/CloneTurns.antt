@@ -1,5 +1,5 @@
 -- What the code says of the parts of a clone.
-use Rattle.std.specs.Prelude.{◌≡◌, ℕ, ◌≤◌, ◌==◌, ◌⊎◌, true, List, [], ◌∷◌, Option, Some, None, Result, Ok, Err, if◌then◌else◌}
+use Rattle.std.specs.Prelude.{◌≡◌, ◌≢◌, ℕ, ◌≤◌, ◌==◌, ◌⊎◌, true, List, [], ◌∷◌, take, Option, Some, None, Result, Ok, Err, if◌then◌else◌}
 use Rattle.fsl_order.specs.Causes.{Rose}
 use Rattle.fsl_disk.specs.Disk.{DiskState, IsModelled, LeavesOnly, Told}
 use Rattle.fsl_outside.specs.Connections.{LinkState}
@@ -27,7 +27,7 @@ use Rattle.fsl_pull.specs.Kept.{all_of_them, StandsForSome}
 use Rattle.fsl_pull.specs.Asking.{IsAsked, IsIdle, IsLinkLost}
 use Rattle.fsl_pull.specs.Turns.{commits_of, AreCommitted, IsKeptBy, IsCarried, ComesTo, TurnsTo}
 use Rattle.fsl_pull.specs.Calls.{dialled}
-use Rattle.fsl_pull.specs.CloneCalls.{CloneOf, IsCloneCall, IsFileLeft, IsStable}
+use Rattle.fsl_pull.specs.CloneCalls.{CloneOf, IsCloneCall, IsLeftAs}
 
 -- ---- a request
 
@@ -59,9 +59,12 @@ place_by next = if next == 0 then None else Some next
 abbrev pub BrokenClone : Option Login → Broken Cloning (List ℕ) Exchanged
 BrokenClone login p r left = CloneAsks login p r.request × ((reply : List WireCard) × IsReplyRead r.reply (Ok reply) × (front left ≡ front p.state))
 
--- what a round leaves of the file, and that the commits behind it are the file's
+-- what a round leaves of the file, that the commits behind it are the file's, and that its records begin with those that were committed
 abbrev pub IsKeptOn : DiskState → DiskState → Type 0 → Point Cloning → Then Cloning → Type 0
-IsKeptOn before after Still p step = IsKeptBy before after Still p step × ((base : List Record) → AreCommitted base p.state p.commits → AreCommitted base (state_of step) (commits_of step))
+IsKeptOn before after Still p step =
+    IsKeptBy before after Still p step
+    × ((base : List Record) → AreCommitted base p.state p.commits → AreCommitted base (state_of step) (commits_of step))
+    × (take p.state.committed (state_of step).records ≡ front p.state)
 
 -- the cards of a reply to a request for the files from a place on were taken, and committed
 abbrev pub IsCloneTaken : ℕ → List WireCard → DiskState → DiskState → Seen → Seen → Type 0 → Result (Option ℕ) PullFault → Type 0
@@ -107,8 +110,7 @@ IsUnopened config before after why = ⊥
 -- the file is left as by these commits, and the count as it was
 pub record IsLeftBy (before after : DiskState) (commits : List (List Record)) : Type 0 where
   pub faults : after.faults ≡ before.faults
-  pub file : IsFileLeft before.contents after.contents commits
-  pub stable : IsStable before after commits
+  pub left : IsLeftAs before after commits
 
 -- it wasn't: the disk failed; there was no memory, before the file was made or behind that; or a file that isn't told reads back as another
 abbrev pub IsUnmadeBy : Config → DiskState → DiskState → PullFault → Type 0
@@ -142,8 +144,8 @@ pub record IsFirst (server : List ℕ) (fields : List (List ℕ)) (login : Optio
   pub made : IsMadeBy (config_of project server fields) old.state.faults old
 
 -- a clone whose repository was begun
-abbrev pub clone_within : List ℕ → List (List ℕ) → Option Login → ℕ → (List (List Record) → Type 0) → CloneOf
-clone_within server fields login faults Leaves =
+abbrev pub clone_within : List ℕ → List (List ℕ) → Option Login → ℕ → (List (List Record) → Type 0) → (List (List Record) → List (List Record) → Type 0) → CloneOf
+clone_within server fields login faults Leaves Loses =
     record {
       server = server;
       fields = fields;
@@ -151,6 +153,7 @@ clone_within server fields login faults Leaves =
       faults = faults;
       Length = λ len. len ≡ 0;
       Leaves = Leaves;
+      Loses = Loses;
       MayDiffer = ⊥;
     }
 
@@ -159,23 +162,34 @@ abbrev pub IsKeptFrom : DiskState → DiskState → List Record → List (List R
 IsKeptFrom before after first commits =
     (more : List (List Record)) × (commits ≡ first ∷ more) × (IsModelled before → LeavesOnly before after (StandsForSome first more))
 
--- the committed records of an open repository are those of the commits
+-- there is a commit, and the committed records of an open repository are those of the commits
 abbrev pub HasCommitted : State → List (List Record) → Type 0
-HasCommitted s commits = front s ≡ all_of_them commits
+HasCommitted s commits = (commits ≢ []) × (front s ≡ all_of_them commits)
 
--- the file stands for these records, and so does each image
+-- the committed records of an open repository are those of the commits before one that failed, and all its records are those of all
+abbrev pub HasLost : State → List (List Record) → List (List Record) → Type 0
+HasLost s done all = HasCommitted s done × (s.records ≡ all_of_them all)
+
+-- each image stands for the records of the commits before one that failed, or for those of all
+abbrev pub StandsForEither : DiskState → List (List Record) → List (List Record) → Type 0
+StandsForEither disk done all = IsModelled disk → (c : List ℕ) → disk.images c → IsFileOf c (all_of_them done) ⊎ IsFileOf c (all_of_them all)
+
+-- there is a commit, the file stands for the records of the commits, and so does each image
 abbrev pub StandsFor : DiskState → List (List Record) → Type 0
-StandsFor disk commits = Told disk (λ held. IsFileOf held (all_of_them commits)) × (IsModelled disk → (c : List ℕ) → disk.images c → IsFileOf c (all_of_them commits))
+StandsFor disk commits =
+    (commits ≢ [])
+    × Told disk (λ held. IsFileOf held (all_of_them commits))
+    × (IsModelled disk → (c : List ℕ) → disk.images c → IsFileOf c (all_of_them commits))
 
 -- all rounds of a clone whose repository this reply began; and behind them the repository was closed
 abbrev pub IsClonedOn : Option Login → List WireCard → LinkState → LinkState → DiskState → DiskState → Seen → Seen → Result Pulled PullFault → Type 0
 IsClonedOn login reply d e before after old new result =
     (server : List ℕ) (fields : List (List ℕ)) (l0 : LinkState) (project : List ℕ) (r : Round (List ℕ) Exchanged) → IsFirst server fields login l0 d reply project r old →
-    IsCloneCall (clone_within server fields login old.state.faults (HasCommitted new.state)) (dialled l0 e) new.state.faults
+    IsCloneCall (clone_within server fields login old.state.faults (HasCommitted new.state) (HasLost new.state)) (dialled l0 e) new.state.faults
     (IsKeptFrom before after (first_record project server fields ∷ [])) result
 
 abbrev pub IsClosedOn : Option Login → List WireCard → LinkState → LinkState → DiskState → DiskState → Seen → Result Pulled PullFault → Type 0
 IsClosedOn login reply d e before after old result =
     (server : List ℕ) (fields : List (List ℕ)) (l0 : LinkState) (project : List ℕ) (r : Round (List ℕ) Exchanged) → IsFirst server fields login l0 d reply project r old →
-    IsCloneCall (clone_within server fields login old.state.faults (StandsFor after)) (dialled l0 e) after.faults
+    IsCloneCall (clone_within server fields login old.state.faults (StandsFor after) (StandsForEither after)) (dialled l0 e) after.faults
     (IsKeptFrom before after (first_record project server fields ∷ [])) result

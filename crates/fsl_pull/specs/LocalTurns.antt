@@ -20,6 +20,6 @@ abbrev pub other_code : List ℕ → List ℕ → Option (List ℕ)
 other_code mine theirs = if bytes_eq mine theirs then None else Some theirs
 
 -- one call of `pull_local`: its answer, and what its disk may leave at each moment of it
-abbrev pub IsPulledFrom : DiskState → DiskState → Seen → Seen → Seen → Seen → Result Pulled PullFault → Type 0
-IsPulledFrom before after old new peer left result =
-    IsLocalCall old.state new.state peer.state left.state (IsKeptAtAnyMoment (front old.state) before after) result
+abbrev pub IsPulledFrom : DiskState → DiskState → Seen → Seen → Seen → Result Pulled PullFault → Type 0
+IsPulledFrom before after old new peer result =
+    IsLocalCall old.state new.state peer.state (IsKeptAtAnyMoment (front old.state) before after) result

@@ -29,20 +29,24 @@ then_with finish p reply t wanted =
 abbrev pub IsReplied : Finish → Point (List (List ℕ)) → List WireCard → Then (List (List ℕ)) → Type 0
 IsReplied finish p reply step =
     (t : Taken) × Takes p.state None reply t
-    × MatchOption t.fault ((wanted : List (List ℕ)) × AreWants t.state wanted × (step ≡ then_with finish p reply t wanted)) (λ why. step ≡ ends (uncommitted p t why))
+    × MatchOption t.fault ((wanted : List (List ℕ)) × AreWants t.state wanted × (step ≡ then_with finish p reply t wanted))
+    (λ why. step ≡ ends (uncommitted p t why))
 
 -- the cards of a reply to a request for these names were taken, and committed
 abbrev pub IsTaken : Finish → List (List ℕ) → List WireCard → DiskState → DiskState → Seen → Seen → Type 0 → Result (Option (List (List ℕ))) PullFault → Type 0
 IsTaken finish asked reply before after old new Still result =
     (p : Point (List (List ℕ))) → p.state ≡ old.state → p.memory ≡ asked →
-    ComesTo SameNames p (λ s. IsReplied finish p reply s × IsKeptBy before after Still p s) (IsCarried (stored old) (stored new) p) (λ left. IsPartlyTaken reply p.state left × Still) new.state result
+    ComesTo SameNames p (λ s. IsReplied finish p reply s × IsKeptBy before after Still p s) (IsCarried (stored old) (stored new) p)
+    (λ left. IsPartlyTaken reply p.state left × Still) new.state result
 
 -- at the end of a pull from another repository nothing is missing
 abbrev pub none_missing : Finish
 none_missing name = None
 
 -- one round that asks for these names
-abbrev pub IsTurned : Option Login → List (List ℕ) → LinkState → LinkState → DiskState → DiskState → Seen → Seen → Type 0 → Result (Option (List (List ℕ))) PullFault → Type 0
+abbrev pub IsTurned : Option Login → List (List ℕ) → LinkState → LinkState → DiskState → DiskState → Seen → Seen → Type 0
+    → Result (Option (List (List ℕ))) PullFault → Type 0
 IsTurned login asked d e before after old new Still result =
     (p : Point (List (List ℕ))) → p.state ≡ old.state → p.memory ≡ asked →
-    TurnsTo SameNames (PullRound login) (PullAsks login) (BrokenPull login) p d e (IsKeptBy before after Still p) (IsCarried (stored old) (stored new) p) Still new.state result
+    TurnsTo SameNames (PullRound login) (PullAsks login) (BrokenPull login) p d e (IsKeptBy before after Still p)
+    (IsCarried (stored old) (stored new) p) Still new.state result

@@ -125,9 +125,12 @@ IsPullBroken login s rounds left =
 -- the commits of rounds that all went on
 abbrev pub PullSoFar : Option Login → State → List (Round (List ℕ) Exchanged) → List (List Record) → Type 0
 PullSoFar login s rounds commits =
-    (length rounds ≤ most_rounds) × ((wanted : List (List ℕ)) × AreWants s wanted × ((p : Point (List (List ℕ))) × GoOn (PullRound login) (pull_start s wanted) rounds p × (commits ≡ p.commits)))
+    (length rounds ≤ most_rounds)
+    × ((wanted : List (List ℕ)) × AreWants s wanted
+    × ((p : Point (List (List ℕ))) × GoOn (PullRound login) (pull_start s wanted) rounds p × (commits ≡ p.commits)))
 
 -- the commit of its last round failed
 abbrev pub IsPullFailed : Option Login → State → List (Round (List ℕ) Exchanged) → State → Type 0
 IsPullFailed login s rounds left =
-    (s.stopped ≡ None) × (length rounds ≤ most_rounds) × ((wanted : List (List ℕ)) × AreWants s wanted × CommitFailed (PullRound login) (pull_start s wanted) rounds left)
+    (s.stopped ≡ None) × (length rounds ≤ most_rounds)
+    × ((wanted : List (List ℕ)) × AreWants s wanted × CommitFailed (PullRound login) (pull_start s wanted) rounds left)

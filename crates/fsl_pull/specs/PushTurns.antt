@@ -50,14 +50,16 @@ push_answer push_is.End = Ok None
 push_answer (push_is.Again name) = Err (fault.Peer (peer.Again name))
 
 -- the cards of a reply to a push of these names were taken, and committed
-abbrev pub IsPushTaken : List (List ℕ) → List WireCard → DiskState → DiskState → Seen → Seen → SentNames → SentNames → Type 0 → Result (Option (List (List ℕ))) PullFault → Type 0
+abbrev pub IsPushTaken : List (List ℕ) → List WireCard → DiskState → DiskState → Seen → Seen → SentNames → SentNames → Type 0
+    → Result (Option (List (List ℕ))) PullFault → Type 0
 IsPushTaken due reply before after old new sent sent_new Still result =
     (p : Point Sending) (files : List (List ℕ × List ℕ)) → p.state ≡ old.state → p.memory.sent ≡ sent.order → names_of files ≡ due →
-    ComesTo (Remembers sent_new) p (λ s. IsPushReply p files (Ok reply) s × IsKeptBy before after Still p s) (IsCarried (length sent.order) (length sent_new.order) p)
-    (λ left. IsPartlyTaken reply p.state left × Still) new.state result
+    ComesTo (Remembers sent_new) p (λ s. IsPushReply p files (Ok reply) s × IsKeptBy before after Still p s)
+    (IsCarried (length sent.order) (length sent_new.order) p) (λ left. IsPartlyTaken reply p.state left × Still) new.state result
 
 -- one round
-abbrev pub IsPushTurned : Option Login → List (List ℕ) → LinkState → LinkState → DiskState → DiskState → Seen → Seen → SentNames → SentNames → Type 0 → Result (Option (List (List ℕ))) PullFault → Type 0
+abbrev pub IsPushTurned : Option Login → List (List ℕ) → LinkState → LinkState → DiskState → DiskState → Seen → Seen → SentNames → SentNames → Type 0
+    → Result (Option (List (List ℕ))) PullFault → Type 0
 IsPushTurned login gimmes d e before after old new sent sent_new Still result =
     (p : Point Sending) → p.state ≡ old.state → Remembers sent p.memory gimmes →
     TurnsTo (Remembers sent_new) (PushRound login) (PushAsks login) (BrokenPush login) p d e (IsKeptBy before after Still p)

@@ -114,7 +114,9 @@ IsPush login s rounds e =
 
 -- what is asked: the announced names and the files
 abbrev pub PushAsks : Option Login → Asks Sending (List ℕ)
-PushAsks login p request = (names : List (List ℕ)) × AreUnclustered p.state names × (request ≡ request_bytes login (push_cards (now p.state) names (files_to_send (now p.state) p.memory)))
+PushAsks login p request =
+    (names : List (List ℕ)) × AreUnclustered p.state names
+    × (request ≡ request_bytes login (push_cards (now p.state) names (files_to_send (now p.state) p.memory)))
 
 abbrev pub BrokenPush : Option Login → Broken Sending (List ℕ) Exchanged
 BrokenPush login p r left = PushAsks login p r.request × ((reply : List WireCard) × IsReplyRead r.reply (Ok reply) × IsPartlyTaken reply p.state left)
@@ -126,7 +128,8 @@ abbrev pub IsPushBroken : Option Login → State → List (Round (List ℕ) Exch
 IsPushBroken login s rounds left = (s.stopped ≡ None) × IsTakenInPart (PushRound login) (BrokenPush login) (push_start s) rounds left
 
 abbrev pub PushSoFar : Option Login → State → List (Round (List ℕ) Exchanged) → List (List Record) → Type 0
-PushSoFar login s rounds commits = (length rounds ≤ most_rounds) × ((p : Point Sending) × GoOn (PushRound login) (push_start s) rounds p × (commits ≡ p.commits))
+PushSoFar login s rounds commits =
+    (length rounds ≤ most_rounds) × ((p : Point Sending) × GoOn (PushRound login) (push_start s) rounds p × (commits ≡ p.commits))
 
 abbrev pub IsPushFailed : Option Login → State → List (Round (List ℕ) Exchanged) → State → Type 0
 IsPushFailed login s rounds left = (s.stopped ≡ None) × (length rounds ≤ most_rounds) × CommitFailed (PushRound login) (push_start s) rounds left

@@ -1,7 +1,7 @@
 -- A sync as a list of rounds: what a round is, when the rounds go on, and when they are at their end.
 use Rattle.std.specs.Prelude.{◌≡◌, ◌≢◌, ℕ, ◌+◌, ◌≤◌, ◌⊎◌, List, [], ◌∷◌, ◌++◌, length, Option, Some}
 use Rattle.fsl_record.specs.declared.Record.{Record}
-use Rattle.fsl_repo.specs.Machine.{State, Leaves}
+use Rattle.fsl_repo.specs.Machine.{State}
 use Rattle.fsl_pull.specs.declared.PullFault.{PullFault}
 use Rattle.fsl_pull.specs.declared.PullFault.TheVariants as fault
 
@@ -10,7 +10,8 @@ pub record Round (Q A : Type 0) : Type 0 where
   pub request : Q
   pub reply : A
 
--- where a sync stands before a round: the repository, the records of each commit so far, the count of what was stored or sent, and what the sync remembers of the rounds before
+-- where a sync stands before a round: the repository, the records of each commit so far, the count of what was stored or sent, and what the sync
+-- remembers of the rounds before
 pub record Point (M : Type 0) : Type 0 where
   pub state : State
   pub commits : List (List Record)
@@ -71,7 +72,8 @@ abbrev pub state_of : {M : Type 0} → Then M → State
 state_of (goes_on p) = p.state
 state_of (ends e) = e.state
 
--- the last of the rounds was taken whole, and then its commit failed: the records are there, those before the round are committed, and the repository is stopped
+-- the last of the rounds was taken whole, and then its commit failed: the records are there, those before the round are committed, and the repository
+-- is stopped
 pub record CommitFailed {M Q A : Type 0} (R : Course M Q A) (p : Point M) (rounds : List (Round Q A)) (left : State) : Type 0 where
   pub front : List (Round Q A)
   pub last : Round Q A
@@ -87,12 +89,13 @@ pub record CommitFailed {M Q A : Type 0} (R : Course M Q A) (p : Point M) (round
   pub state : left ≡ record (state_of step) { committed = point.state.committed; stopped = Some left.faults; faults = left.faults }
 
 -- the rounds went on, and nothing of a further one was taken. `Sent` is said of what was asked in that one; a further one is within the limit
-pub record IsLeftOff {M Q A : Type 0} (R : Course M Q A) (Sent : Point M → Type 0) (more : ℕ) (p : Point M) (rounds : List (Round Q A)) (left : State) : Type 0 where
+pub record IsLeftOff {M Q A : Type 0} (R : Course M Q A) (Sent : Point M → Type 0) (more : ℕ) (p : Point M) (rounds : List (Round Q A))
+    (left : State) : Type 0 where
   pub point : Point M
   pub go : GoOn R p rounds point
   pub few : length rounds + more ≤ most_rounds
   pub sent : Sent point
-  pub state : Leaves point.state point.state left
+  pub state : left ≡ point.state
 
 -- the last of the rounds was read whole, and some of its cards were taken
 pub record IsTakenInPart {M Q A : Type 0} (R : Course M Q A) (B : Broken M Q A) (p : Point M) (rounds : List (Round Q A)) (left : State) : Type 0 where

@@ -51,7 +51,8 @@ local_answer (step_is.End _) = None
 abbrev pub log_in : State → Log
 log_in s = record { records = s.records; stable = s.committed; stopped = s.stopped; place = 0 }
 
--- a commit of a repository that runs: all records are committed, or there are some to commit, the disk failed, and it is stopped; and at each moment the file stands for those committed before or for all
+-- a commit of a repository that runs: all records are committed, or there are some to commit, the disk failed, and it is stopped; and at each moment
+-- the file stands for those committed before or for all
 pub record IsCommitted (before after : DiskState) (old new : Seen) (result : Result (Unit {0}) CommitFault) : Type 0 where
   pub loaded : new.loaded ≡ old.loaded
   pub state : ((result ≡ Ok tt) × (new.state ≡ record old.state { committed = length old.state.records }))

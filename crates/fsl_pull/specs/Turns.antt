@@ -52,7 +52,8 @@ pub record IsUncommitted {M : Type 0} (p : Point M) (step : Then M) (new : State
   pub state : new ≡ record (state_of step) { committed = p.state.committed; stopped = Some new.faults; faults = new.faults }
 
 -- what the cards of a reply came to: this is said of the step, and of one that was committed that too
-abbrev pub ComesTo : {M A : Type 0} → (M → A → Type 0) → Point M → (Then M → Type 0) → (Then M → Type 0) → (State → Type 0) → State → Result (Option A) PullFault → Type 0
+abbrev pub ComesTo : {M A : Type 0} → (M → A → Type 0) → Point M → (Then M → Type 0) → (Then M → Type 0) → (State → Type 0) → State
+    → Result (Option A) PullFault → Type 0
 ComesTo {M} Remembers p Says Carries InPart new (Ok (Some next)) =
     (q : Point M) × (Says (goes_on q) × Carries (goes_on q)) × (q.state ≡ new) × Remembers q.memory next
 ComesTo {M} Remembers p Says Carries InPart new (Ok None) =
@@ -63,7 +64,8 @@ ComesTo {M} Remembers p Says Carries InPart new (Err why) =
     ⊎ ((why ≡ fault.Memory) × InPart new)
 
 -- the same of a whole round: it was made, and goes on, is the end, or has no commit; or it wasn't made; or its reply was taken in part
-abbrev pub TurnsTo : {M A : Type 0} → (M → A → Type 0) → Course M (List ℕ) Exchanged → Asks M (List ℕ) → Broken M (List ℕ) Exchanged → Point M → LinkState → LinkState → (Then M → Type 0) → (Then M → Type 0) → Type 0 → State → Result (Option A) PullFault → Type 0
+abbrev pub TurnsTo : {M A : Type 0} → (M → A → Type 0) → Course M (List ℕ) Exchanged → Asks M (List ℕ) → Broken M (List ℕ) Exchanged → Point M
+    → LinkState → LinkState → (Then M → Type 0) → (Then M → Type 0) → Type 0 → State → Result (Option A) PullFault → Type 0
 TurnsTo {M} Remembers R A B p d e Keeps Carries Still new (Ok (Some next)) =
     (q : Point M) × (IsMade d e (λ r. R p r (goes_on q)) × Keeps (goes_on q) × Carries (goes_on q)) × (q.state ≡ new) × Remembers q.memory next
 TurnsTo {M} Remembers R A B p d e Keeps Carries Still new (Ok None) =

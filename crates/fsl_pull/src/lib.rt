@@ -25,7 +25,8 @@ use fsl_name::Name;
 use fsl_text::Text;
 pub use laws::{
     clones_count_no_faults, clones_hold_the_files, local_pulls_end, local_pulls_leave_all,
-    pulls_end_well, syncs_commit, syncs_have_one_end, syncs_have_some_end,
+    pulls_end_well, pulls_miss_what_is_kept, syncs_commit, syncs_commit_all, syncs_have_one_end,
+    syncs_have_some_end, syncs_move_on,
 };
 pub use local::pull_local;
 pub use pulling::pull;

@@ -1,6 +1,7 @@
 //! A pull from another repository.
-ghost use Rattle.std.specs.Prelude.{◌≡◌, ◌≤◌, ◌++◌, None, IsSome, OnOk, IfOk, map, filter_map};
+ghost use Rattle.std.specs.Prelude.{◌≡◌, ◌≤◌, ◌++◌, false, None, IsSome, OnOk, IfOk, IfErr, map, filter_map};
 ghost use Rattle.std.specs.List.Sorted.{IsStrictlySortedBy};
+ghost use Rattle.std.specs.Str.{bytes_eq};
 ghost use Rattle.fsl_order.specs.Names.{bytes_cmp};
 ghost use Rattle.fsl_disk.specs.Disk.{Keeps};
 ghost use Rattle.fsl_repo.specs.Machine.{now, unclustered_names};
@@ -10,6 +11,7 @@ ghost use Rattle.fsl_pull.specs.Locals.{local_reply, project_code};
 ghost use Rattle.fsl_pull.specs.Steps.{local_answer, Rises, NamesRise};
 ghost use Rattle.fsl_pull.specs.Taking.{TakesAll};
 ghost use Rattle.fsl_pull.specs.PullTurns.{IsTaken, none_missing};
+ghost use Rattle.fsl_pull.specs.Calls.{IsLocalFault};
 ghost use Rattle.fsl_pull.specs.LocalTurns.{TakesGiven, other_code, IsPulledFrom};
 
 use crate::committing::commit;
@@ -32,9 +34,12 @@ fn take_given<D: Disk, P: Disk, L: Ledger>(
     steps: &mut Steps<L>,
 ) -> Result<bool, PullFault>
     ensures taken { TakesGiven repo.old.seen (public_file (now peer.old.seen.state) name) result repo.new.seen }
+    ensures faults { IfErr result IsLocalFault }
     ensures disk { repo.new.disk ≡ repo.old.disk }
     ensures peer { peer.new ≡ peer.old }
 {
+    // Its bytes have their own name and are within the limit of an artifact, as those of all that it holds.
+    peer.is_whole();
     match peer.state(name) {
         BlobState::Public { .. } => {}
         _ => return Ok(false),
@@ -59,6 +64,7 @@ fn take_asked<D: Disk, P: Disk, L: Ledger>(
 ) -> Result<bool, PullFault>
     ensures taken { TakesAll repo.old.seen None
         (map file_card (filter_map (public_file (now peer.old.seen.state)) asked.now)) result repo.new.seen }
+    ensures faults { IfErr result IsLocalFault }
     ensures disk { repo.new.disk ≡ repo.old.disk }
     ensures peer { peer.new ≡ peer.old }
 {
@@ -96,6 +102,7 @@ fn local_round<D: Disk, P: Disk, L: Ledger>(
     requires rising { IsStrictlySortedBy bytes_cmp asked.now }
     ensures step { IsTaken none_missing asked.now (local_reply (now peer.old.seen.state) told.now asked.now)
         (D.state repo.old.disk) (D.state repo.new.disk) repo.old.seen repo.new.seen (repo.new.disk ≡ repo.old.disk) result }
+    ensures faults { IfErr result IsLocalFault }
     ensures runs { OnOk result (repo.new.seen.state.stopped ≡ None) }
     ensures rising { IfOk result NamesRise }
     ensures later { repo.old.seen.state.faults ≤ repo.new.seen.state.faults }
@@ -158,11 +165,14 @@ pub fn pull_local<D: Disk, P: Disk, L: Ledger>(
     steps: &mut Steps<L>,
 ) -> Result<Pulled, PullFault>
     ensures pulls { IsPulledFrom (D.state repo.old.disk) (D.state repo.new.disk)
-        repo.old.seen repo.new.seen peer.old.seen peer.new.seen result }
+        repo.old.seen repo.new.seen peer.old.seen result }
+    ensures faults { IfErr result IsLocalFault }
     ensures loaded { repo.new.seen.loaded ≡ repo.old.seen.loaded }
     ensures keeps { Keeps (D.state repo.old.disk) (D.state repo.new.disk) }
-    // A stopped repository calls no device.
+    // A stopped repository calls no device, and none is called for a peer of another project.
     ensures idle { IsSome repo.old.seen.state.stopped → repo.new.disk ≡ repo.old.disk }
+    ensures idle_for_another { bytes_eq (project_code (now repo.old.seen.state)) (project_code (now peer.old.seen.state))
+        ≡ false → repo.new.disk ≡ repo.old.disk }
     ensures peer { peer.new ≡ peer.old }
 {
     match other_project(repo, peer) {

@@ -7,7 +7,7 @@ use Rattle.fsl_pull.proofs.cloning.clone_from.Goals as goal
 
 pub returns-in-Err-clause-clones : goal.returns-in-Err-clause-clones
 returns-in-Err-clause-clones g c =
-    unmeasured g.D.Disk.state c.args.server c.args.fields.now c.args.login.now (g.N.Link.state c.args.dial.now) c.args.disk c.len.new.self (λ f model left. g.met.D.Disk.only_now c.args.disk f model left)
+    unmeasured g.D.Disk.state c.args.server c.args.fields.now c.args.login.now (g.N.Link.state c.args.dial.now) c.args.disk c.len.new.self
     c.in-Err.ensures.cause.failed (quiet_call (g.D.Disk.state c.args.disk) (g.D.Disk.state c.len.new.self) c.len.ensures.call c.len.ensures.contents)
 
 pub returns-in-Err-clause-untouched : goal.returns-in-Err-clause-untouched
@@ -15,7 +15,7 @@ returns-in-Err-clause-untouched g c = λ held told. inr (quiet_call (g.D.Disk.st
 
 pub returns-then-len-ne0-clause-clones : goal.returns-then-len-ne0-clause-clones
 returns-then-len-ne0-clause-clones g c =
-    has_bytes g.D.Disk.state c.args.server c.args.fields.now c.args.login.now (g.N.Link.state c.args.dial.now) c.args.disk c.len.new.self (λ f model left. g.met.D.Disk.only_now c.args.disk f model left)
+    has_bytes g.D.Disk.state c.args.server c.args.fields.now c.args.login.now (g.N.Link.state c.args.dial.now) c.args.disk c.len.new.self
     c.in-Ok.len (not_zero c.in-Ok.len c.if-len-ne0.true) c.in-Ok.ensures.answer.1 (quiet_call (g.D.Disk.state c.args.disk) (g.D.Disk.state c.len.new.self) c.len.ensures.call c.len.ensures.contents)
 
 pub returns-then-len-ne0-clause-untouched : goal.returns-then-len-ne0-clause-untouched

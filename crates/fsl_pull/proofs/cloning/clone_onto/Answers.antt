@@ -11,7 +11,7 @@ use Rattle.fsl_pull.proofs.CloneWhole.{unreplied, unbegun, begun_answer, unbegun
 use Rattle.fsl_pull.proofs.cloning.clone_onto.Goals as goal
 
 pub returns-in-Err-clause-clones : goal.returns-in-Err-clause-clones
-returns-in-Err-clause-clones g c = unreplied g.D.Disk.state c.args.server c.args.fields.now c.args.login.now (g.N.Link.state c.args.dial.now) c.args.disk c.requires.empty (λ f model left. g.met.D.Disk.only_now c.args.disk f model left) (g.N.Link.state c.reply_from.new.dial) c.args.disk c.in-Err.fault refl c.reply_from.ensures.later c.in-Err.ensures.unasked
+returns-in-Err-clause-clones g c = unreplied g.D.Disk.state c.args.server c.args.fields.now c.args.login.now (g.N.Link.state c.args.dial.now) c.args.disk c.requires.empty (g.N.Link.state c.reply_from.new.dial) c.args.disk c.in-Err.fault refl c.reply_from.ensures.later c.in-Err.ensures.unasked
 
 pub returns-in-Err-clause-steady : goal.returns-in-Err-clause-steady
 returns-in-Err-clause-steady g c = unless_all {A = Pulled} ((g.D.Disk.state c.args.disk).faults ≡ (g.D.Disk.state c.args.disk).faults) (Err c.in-Err.fault) refl
@@ -19,7 +19,7 @@ returns-in-Err-clause-steady g c = unless_all {A = Pulled} ((g.D.Disk.state c.ar
 pub returns-clause-clones : goal.returns-clause-clones
 returns-clause-clones g c =
     let asked = c.in-Ok.ensures.asked in
-    unbegun g.D.Disk.state c.args.server c.args.fields.now c.args.login.now (g.N.Link.state c.args.dial.now) c.args.disk c.requires.empty (λ f model left. g.met.D.Disk.only_now c.args.disk f model left) (g.N.Link.state c.reply_from.new.dial) asked.0 c.in-Ok.first asked.1 asked.2 c.in-Err-begun.disk c.in-Err-begun.fault
+    unbegun g.D.Disk.state c.args.server c.args.fields.now c.args.login.now (g.N.Link.state c.args.dial.now) c.args.disk c.requires.empty (g.N.Link.state c.reply_from.new.dial) asked.0 c.in-Ok.first asked.1 asked.2 c.in-Err-begun.disk c.in-Err-begun.fault
     c.in-Err-begun.ensures.keeps (λ project is. c.in-Err-begun.ensures.moments project (ap project_in c.cards.ensures ∙ is))
     (subst (λ (cs : List WireCard). IsUnbegun g.D.Disk.state c.args.server c.args.fields.now cs c.args.disk c.in-Err-begun.disk c.in-Err-begun.fault) c.cards.ensures c.in-Err-begun.ensures.fault)
 
@@ -34,7 +34,7 @@ returns-in-Ok-begun-clause-clones g c =
     let asked = c.in-Ok.ensures.asked in
     let begun =
     subst (λ (cs : List WireCard). IsBegunBy c.args.server c.args.fields.now cs (g.D.Disk.state c.args.disk).faults c.in-Ok-begun.repo.seen) c.cards.ensures c.in-Ok-begun.ensures.begun in
-    begun_answer g.D.Disk.state c.args.server c.args.fields.now c.args.login.now (g.N.Link.state c.args.dial.now) c.args.disk c.requires.empty (λ f model left. g.met.D.Disk.only_now c.args.disk f model left) (g.N.Link.state c.reply_from.new.dial) asked.0 c.in-Ok.first asked.1 asked.2
+    begun_answer g.D.Disk.state c.args.server c.args.fields.now c.args.login.now (g.N.Link.state c.args.dial.now) c.args.disk c.requires.empty (g.N.Link.state c.reply_from.new.dial) asked.0 c.in-Ok.first asked.1 asked.2
     c.in-Ok-begun.repo.disk c.closed_rounds.result.0 c.in-Ok-begun.repo.seen begun.0 begun.1 begun.2
     (λ project is. c.in-Ok-begun.ensures.moments project (ap project_in c.cards.ensures ∙ is)) c.closed_rounds.ensures.stands c.in-Ok-begun.ensures.keeps c.closed_rounds.ensures.keeps
     (g.N.Link.state c.closed_rounds.new.dial) c.closed_rounds.result.1 c.reply_from.ensures.later
