@@ -100,7 +100,7 @@ module _ {D : Type 0} (disk : D → DiskState) (command : Command) (before after
 
 -- ---- words for which there was no memory
 
-module _ {D : Type 0} (disk : D → DiskState) (server : List ℕ) (fields : List (List ℕ)) (at : D) (dial : LinkState) (only_now : (c : List ℕ) → IsTrue (disk at).is_model → (disk at).since (disk at).moment c → (disk at).images c) where
+module _ {D : Type 0} (disk : D → DiskState) (server : List ℕ) (fields : List (List ℕ)) (at : D) (dial : LinkState) where
   -- a result of a clone of which nothing was done
   record Idle : Type 1 where
     result : Result Pulled PullFault
@@ -112,7 +112,7 @@ module _ {D : Type 0} (disk : D → DiskState) (server : List ℕ) (fields : Lis
   empty_idle : Told (disk at) (λ held. held ≡ []) → Idle
   empty_idle empty = record {
     result = Err fault.Memory;
-    clones = unreplied disk server fields None dial at empty only_now dial at fault.Memory refl (omega arith) (inl (refl, refl));
+    clones = unreplied disk server fields None dial at empty dial at fault.Memory refl (omega arith) (inl (refl, refl));
     counts = refl;
     steady = refl;
     memory = λ Tells h. inr h;
@@ -123,7 +123,7 @@ module _ {D : Type 0} (disk : D → DiskState) (server : List ℕ) (fields : Lis
   long_idle byte bytes told = record {
     result = Err (fault.NotEmpty (length (byte ∷ bytes)));
     clones =
-        has_bytes disk server fields None dial at at only_now (length (byte ∷ bytes)) (not_zero (length (byte ∷ bytes)) (λ e. absurd (omega arith))) (λ held is. ap (λ (x : List ℕ). length x) (some_same (sym told ∙ is))) (quiet_none (disk at));
+        has_bytes disk server fields None dial at at (length (byte ∷ bytes)) (not_zero (length (byte ∷ bytes)) (λ e. absurd (omega arith))) (λ held is. ap (λ (x : List ℕ). length x) (some_same (sym told ∙ is))) (quiet_none (disk at));
     counts = refl;
     steady = refl;
     memory = λ Tells h. inr h;

@@ -4,7 +4,6 @@ use Rattle.std.specs.Prelude.{if◌then◌else◌, MatchOption}
 use Rattle.std.specs.List.{list_all}
 use Rattle.fsl_order.specs.Names.{has}
 use Rattle.fsl_outside.specs.Connections.{Connection}
-use Rattle.fsl_record.specs.declared.Record.{Record}
 use Rattle.fsl_wire.specs.declared.WireCard.{WireCard}
 use Rattle.fsl_repo.specs.Machine.{State, now, unclustered_names}
 use Rattle.fsl_repo.proofs.SomeArrival.{some_items}
@@ -25,15 +24,15 @@ use Rattle.fsl_pull.specs.Calls.{AreCommitsOf, a_push}
 use Rattle.fsl_pull.proofs.CommitLemmas.{with_longer}
 use Rattle.fsl_pull.proofs.RoundLemmas.{go_behind, end_behind}
 use Rattle.fsl_pull.proofs.SomeEnd.{push_step, some_read}
-use Rattle.fossil.proofs.TakenLemmas.{IsTellable, IsTakenOver, takes_over, IsAt, leaves_at, longer_same, IsEndAt, Behind, KeepsOn, committed_at, taken_at, unread_behind, partly_at, goes_at, sync_at, some_commits}
-use Rattle.fossil.proofs.SoundLemmas.{IsLeftAt, IsBrokenAt, HasSomeCommits, IsSound, sent_as, longer_of}
+use Rattle.fossil.proofs.TakenLemmas.{IsTellable, IsTakenOver, takes_over, Start, IsAt, same_at, longer_same, IsEndAt, Behind, KeepsOn, committed_at, taken_at, unread_behind, partly_at, goes_at, sync_at, other_commits, failed_at}
+use Rattle.fossil.proofs.SoundLemmas.{IsLeftAt, IsBrokenAt, IsUncommittedAt, IsSound, sent_as, fewer}
 
 abbrev Files : Type 0
 Files = List (List ℕ × List ℕ)
 
 -- ---- a round of a push
 
-module _ (base : List Record) (p : Point Sending) (h : IsAt base p.state p.commits) where
+module _ (base : Start) (p : Point Sending) (h : IsAt base p.state p.commits) where
   module _ (reply : List WireCard) (t : Taken) (over : IsTakenOver p.state t) where
     ended_at : (why : Option PullFault) → IsTellable why → IsEndAt base p.commits (push_ended p t why)
     ended_at why told = record {
@@ -82,7 +81,7 @@ push_keeps login base p r step h is = push_read base p h (files_to_send (now p.s
 abbrev pub PushIsDue : Option Login → State → Rounds → List ℕ → Type 0
 PushIsDue login s rounds body = (p : Point Sending) × GoOn (PushRound login) (push_start s) rounds p × PushAsks login p body
 
-module _ (login : Option Login) (s : State) (base : List Record) (fresh : IsAt base s []) where
+module _ (login : Option Login) (s : State) (base : Start) (fresh : IsAt base s []) where
   abbrev PushBy : Rounds → End → Option ℕ → Type 0
   PushBy rounds e o = MatchOption o (IsSync (PushRound login) (push_start s) rounds e) (λ faults. (rounds ≡ []) × (e ≡ stopped_end s faults))
 
@@ -113,7 +112,7 @@ module _ (login : Option Login) (s : State) (base : List Record) (fresh : IsAt b
       record {
         commits = p.commits;
         so_far = (let few = off.few in omega (arith, few), (p, off.go, refl));
-        stands = leaves_at base p.state p.state left p.commits off.state at_point.0;
+        stands = same_at base p.state left p.commits off.state at_point.0;
         due = (due.0, (p, off.go, due.1));
         few = off.few;
         sent = sent_as BreaksOff broken (PushAsks login p) (PushIsDue login s rounds) (λ body asks. (p, off.go, asks)) off.sent;
@@ -140,14 +139,23 @@ module _ (login : Option Login) (s : State) (base : List Record) (fresh : IsAt b
         commits = commits_of step.0;
         are = with_step rounds part.front part.last p step.0 part.whole part.few part.go step.1;
         done = p.commits;
-        longer = longer_of base p.commits step.0 (push_keeps login base p part.last step.0 at_point.0 step.1);
+        before = (part.front, part.last, part.whole, (fewer rounds part.front part.last part.whole part.few, (p, part.go, refl)));
         stands = partly_at base p at_point.0 part.broke.1.0 left part.broke.1.2;
       }
 
-  failed : (rounds : Rounds) (left : State) → IsPushFailed login s rounds left → HasSomeCommits (a_push login s) rounds
+  failed : (rounds : Rounds) (left : State) → IsPushFailed login s rounds left → IsUncommittedAt (a_push login s) base rounds left
   failed rounds left (runs, few, off) =
-      let at_point = goes_at (PushRound login) (push_keeps login) base (push_start s) off.front off.point fresh off.go in
-      (commits_of off.step, with_step rounds off.front off.last off.point off.step off.whole few off.go off.is_round, some_commits base off.point off.step at_point.0 (push_keeps login base off.point off.last off.step at_point.0 off.is_round) off.is_due off.some)
+      let p = off.point in
+      let at_point = goes_at (PushRound login) (push_keeps login) base (push_start s) off.front p fresh off.go in
+      let kept = push_keeps login base p off.last off.step at_point.0 off.is_round in
+      record {
+        commits = commits_of off.step;
+        are = with_step rounds off.front off.last p off.step off.whole few off.go off.is_round;
+        done = p.commits;
+        before = (off.front, off.last, off.whole, (fewer rounds off.front off.last off.whole few, (p, off.go, refl)));
+        others = other_commits base p off.step at_point.0 kept off.is_due off.some;
+        stands = failed_at base p off.step left at_point.0 kept off.is_due off.state;
+      }
 
   pub push_sound : IsSound (a_push login s) (PushIsDue login s) base
   push_sound = record { none = none; whole = whole; left_off = left_off; broken = broken; failed = failed }

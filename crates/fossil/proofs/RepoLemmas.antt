@@ -40,3 +40,9 @@ pub repo_unopened : (file left : DiskState) (fault : LoadFault) → opening.Open
 repo_unopened file left fault failed unreadable between keeps =
     let is = why file left fault failed in
     record { cause = is.0; contents = is.1; unreadable = unreadable; any_moment = images_kept file left between; keeps = keeps }
+
+-- no call of its disk failed, but for that with which the opening ended
+pub unopened_counts : (file left : DiskState) (fault : LoadFault) → opening.OpenFailed fault file left → (fault ≡ load_fault.Disk → ⊥) → left.faults ≡ file.faults
+unopened_counts file left load_fault.Disk failed other = absurd (other refl)
+unopened_counts file left (load_fault.NotRepository at) failed other = failed.0.faults
+unopened_counts file left load_fault.Memory failed other = failed.faults

@@ -17,7 +17,7 @@ use Rattle.fossil.specs.Syncs.{with_commits, no_peer, login_of, IsEndOutcome, Is
 use Rattle.fossil.specs.Synced.{IsSyncOutcome, IsLoadedBy, command_dials}
 use Rattle.fossil.specs.SyncLaws.{reading, HasSomeSyncOutcome}
 use Rattle.fsl_journal.proofs.SomeFile.{some_file}
-use Rattle.fossil.proofs.TakenLemmas.{IsTellable, IsAt}
+use Rattle.fossil.proofs.TakenLemmas.{IsTellable, Start, IsAt}
 use Rattle.fossil.proofs.SoundLemmas.{pull_sound, local_end_at}
 use Rattle.fossil.proofs.PushLemmas.{push_sound}
 use Rattle.fossil.proofs.SyncLemmas.{some_printed}
@@ -29,8 +29,11 @@ abbrev Stands : List ℕ → Type 0
 Stands bytes = (records : List Record) × IsFileOf bytes records
 
 -- a repository that was just opened is at its start
-opened_at : (records : List Record) (faults : ℕ) → IsAt records (opened records faults) []
-opened_at records faults = record { runs = refl; stands = take_all (length records) records (omega arith) ∙ sym (append-nil records); within = omega arith }
+abbrev start : List Record → ℕ → Start
+start records faults = record { records = records; faults = faults }
+
+opened_at : (records : List Record) (faults : ℕ) → IsAt (start records faults) (opened records faults) []
+opened_at records faults = record { runs = refl; stands = take_all (length records) records (omega arith) ∙ sym (append-nil records); within = omega arith; steady = refl }
 
 -- an end whose fault has a line has an outcome
 some_end : (n : ℕ) (e : End) → IsTellable e.fault → (o : Outcome) × IsEndOutcome n e o
@@ -41,7 +44,7 @@ some_end n e told = let text = some_printed e.fault n e.count told in (with_comm
 some_local_on : (there records : List Record) → (o : Outcome) × IsLocalOutcomeOn there records o
 some_local_on there records =
     let all = local_pulls_end (opened records 0) (opened there 0) in
-    let o = some_end (length all.0) all.1 (local_end_at (opened records 0) (opened there 0) records (opened_at records 0) all.0 all.1 all.2).told in
+    let o = some_end (length all.0) all.1 (local_end_at (opened records 0) (opened there 0) (start records 0) (opened_at records 0) all.0 all.1 all.2).told in
     (o.0, (0, 0, all.0, (all.1, all.2, o.1)))
 
 some_local : (peer : List ℕ) (records : List Record) → Fails peer ⊎ Stands peer → (o : Outcome) × IsLocalOutcome peer records o
@@ -64,14 +67,14 @@ some_pull : (login : Option (List ℕ × List ℕ)) → HasSome (IsPullOutcome l
 some_pull login records came many =
     let s = opened records 0 in
     let is = syncs_have_some_end.pull (login_of login) s came many in
-    let o = some_end (length is.0) is.2 ((pull_sound (login_of login) s records (opened_at records 0)).whole is.0 is.2 is.4).told in
+    let o = some_end (length is.0) is.2 ((pull_sound (login_of login) s (start records 0) (opened_at records 0)).whole is.0 is.2 is.4).told in
     (is.0, is.1, o.0, is.3, (0, is.2, is.4, o.1))
 
 some_push : (login : Option (List ℕ × List ℕ)) → HasSome (IsPushOutcome login)
 some_push login records came many =
     let s = opened records 0 in
     let is = syncs_have_some_end.push (login_of login) s came many in
-    let o = some_end (length is.0) is.2 ((push_sound (login_of login) s records (opened_at records 0)).whole is.0 is.2 is.4).told in
+    let o = some_end (length is.0) is.2 ((push_sound (login_of login) s (start records 0) (opened_at records 0)).whole is.0 is.2 is.4).told in
     (is.0, is.1, o.0, is.3, (0, is.2, is.4, o.1))
 
 over_file : (ByRounds : Rounds → List Record → Outcome → Type 0) → HasSome ByRounds → (file peer : List ℕ) (came : List Exchanged) → length came ≡ most_rounds → Fails file ⊎ Stands file

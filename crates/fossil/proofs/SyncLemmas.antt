@@ -1,5 +1,5 @@
 -- What the commands that sync come to, once the repository was loaded or wasn't.
-use Rattle.std.proofs.Common.{◌≡◌, ◌≢◌, ◌⊎◌, inl, inr, ℕ, true, List, [], length, take, Option, Some, None, is_some, Result, Ok, Err, IsTrue, refl, sym, ap, subst, ◌∙◌, arith}
+use Rattle.std.proofs.Common.{◌≡◌, ◌≢◌, ◌⊎◌, inl, inr, ℕ, true, List, [], ◌∷◌, ◌++◌, length, take, Option, Some, None, is_some, Result, Ok, Err, IsTrue, refl, sym, ap, subst, ◌∙◌, arith}
 use Rattle.std.specs.Prelude.{IfSome}
 use Rattle.std.proofs.lemmas.List.{append-nil, take_all}
 use Rattle.fsl_order.specs.Causes.{Rose}
@@ -9,13 +9,13 @@ use Rattle.fsl_disk.specs.Disk.{DiskState, Keeps}
 use Rattle.fsl_disk.proofs.Moments.{keeps_on}
 use Rattle.fsl_journal.specs.File.{IsFileOf}
 use Rattle.fsl_journal.proofs.Failing.{no_file}
-use Rattle.fsl_repo.specs.Machine.{State, Leaves}
+use Rattle.fsl_repo.specs.Machine.{State}
 use Rattle.fsl_repo.specs.Whole.{Whole, IsWholeOn, front}
-use Rattle.fsl_http.specs.Responses.{IsBrokenOff, IsLeft}
+use Rattle.fsl_http.specs.Responses.{Exchanged, IsBrokenOff, IsLeft}
 use Rattle.fsl_pull.specs.declared.Pulled.{Pulled}
 use Rattle.fsl_pull.specs.declared.PullFault.{PullFault}
 use Rattle.fsl_pull.specs.declared.PullFault.TheVariants as fault
-use Rattle.fsl_pull.specs.Rounds.{End}
+use Rattle.fsl_pull.specs.Rounds.{Round, End}
 use Rattle.fsl_pull.specs.Dialled.{Rounds}
 use Rattle.fsl_pull.specs.Kept.{IsKeptAtAnyMoment}
 use Rattle.fsl_pull.specs.Asking.{IsDialCounted}
@@ -28,12 +28,12 @@ use Rattle.fossil.specs.Run.{Agrees, disk_fault}
 use Rattle.fossil.specs.Served.{with_text, link_fault, no_memory}
 use Rattle.fossil.specs.Serving.{printed, IsDue}
 use Rattle.fossil.specs.Syncs.{synced, fault_printed, end_printed, with_commits, IsEndOutcome}
-use Rattle.fossil.specs.Synced.{Read, Objects, IsSyncOutcome, AreCommitsSoFar, AreCommits, IsDue as IsAsked, command_asks_peer, IsAnswer, IsWholeAtAnyMoment, IsPeerKept, SyncsBy, objects_of}
+use Rattle.fossil.specs.Synced.{Read, Objects, IsSyncOutcome, AreCommitsSoFar, AreCommits, IsDue as IsAsked, command_asks_peer, AreCommitsBefore, IsAnswer, Far, AreCutOff, AreMade, reached, IsWholeAtAnyMoment, IsPeerKept, SyncsBy, objects_of}
 use Rattle.fossil.specs.Syncing.{IsSyncDue, IsReady}
 use Rattle.fossil.proofs.FileLemmas.{both, agrees}
-use Rattle.fossil.proofs.TakenLemmas.{IsTellable, IsAt, leaves_at, IsEndAt}
-use Rattle.fossil.proofs.SoundLemmas.{IsSound, sent_as}
-use Rattle.fossil.proofs.SyncedLemmas.{Holds, holds, IsLeftSo, contents_left, durable_left, moments_left}
+use Rattle.fossil.proofs.TakenLemmas.{IsTellable, Start, IsAt, same_at, IsEndAt}
+use Rattle.fossil.proofs.SoundLemmas.{IsSound, AreBefore, sent_as}
+use Rattle.fossil.proofs.SyncedLemmas.{Holds, holds, holds_either, IsLeftSo, made_all, reached_all, contents_left, durable_left, moments_left}
 
 -- ---- ends
 
@@ -74,6 +74,10 @@ module _ {D : Type 0} (command : Command) (peer peer_left : DiskState) (dial dia
   abbrev pub base : List Record
   base = old.seen.state.records
 
+  -- where it starts
+  abbrev pub at_start : Start
+  at_start = record { records = base; faults = old.seen.state.faults }
+
   abbrev pub bytes : List ℕ
   bytes = ready.loaded.stands.0
 
@@ -99,8 +103,12 @@ module _ {D : Type 0} (command : Command) (peer peer_left : DiskState) (dial dia
   front_is : front old.seen.state ≡ base
   front_is = (λ i. take (committed_is i) base) ∙ take_all (length base) base (omega arith)
 
-  pub fresh : IsAt base old.seen.state []
-  fresh = record { runs = ap (λ (s : State). s.stopped) ready.state; stands = front_is ∙ sym (append-nil base); within = omega (arith, committed_is) }
+  pub fresh : IsAt at_start old.seen.state []
+  fresh = record { runs = ap (λ (s : State). s.stopped) ready.state; stands = front_is ∙ sym (append-nil base); within = omega (arith, committed_is); steady = refl }
+
+  -- a repository whose count is the same was left by no call that failed
+  pub steady_by : new.seen.state.faults ≡ old.seen.state.faults → left.faults ≡ file.faults
+  steady_by same = sym whole.faults ∙ same ∙ ready.whole.faults ∙ ready.loaded.faults
 
   pub moments_by : (commits : List (List Record)) → IsKeptAtAnyMoment (front old.seen.state) mid left commits → IsWholeAtAnyMoment (both file left) commits
   moments_by commits kept =
@@ -108,14 +116,23 @@ module _ {D : Type 0} (command : Command) (peer peer_left : DiskState) (dial dia
       (λ modelled c image. subst (λ (rs : List Record). IsFileOf c rs) front_is (ready.whole.exact fresh.runs modelled c image)) file_reads
       (subst (λ (rs : List Record). IsKeptAtAnyMoment rs mid left commits) front_is kept)
 
+  -- where all of them were made
+  moments_all : (status : ℕ) (commits : List (List Record)) → IsKeptAtAnyMoment (front old.seen.state) mid left commits → IsWholeAtAnyMoment (both file left) (reached status (made_all commits))
+  moments_all status commits kept = subst (IsWholeAtAnyMoment (both file left)) (sym (reached_all status commits)) (moments_by commits kept)
+
   abbrev Tells : Printed → Type 0
   Tells o = printed d ≡ o
 
-  -- by what is printed
-  pub synced_by : (rounds : Rounds) (broken : List Connection) (commits : List (List Record)) (o : Printed) → printed d ≡ o → AreCommits command (read rounds) commits ⊎ ((rounds ≡ []) × (commits ≡ []))
-      → IsAnswer command (read rounds) broken commits x (λ p. o ≡ p) → IsLeftSo left base o.status commits → IsWholeAtAnyMoment (both file left) commits → (IsTrue (command_asks_peer command) → IsPeerKept (both peer peer_left))
-      → (o.status ≢ 7 → dial_left.faults ≡ dial.faults) → SyncsBy command x Tells (printed d).status rounds broken (read rounds) commits
-  synced_by rounds broken commits o is led answer left_so moments peer_kept dial_kept =
+  -- no call of the disks failed
+  abbrev AreSteady : Type 0
+  AreSteady = (left.faults ≡ file.faults) × (IsTrue (command_asks_peer command) → peer_left.faults ≡ peer.faults)
+
+  -- by what is printed, and how far the commits came
+  pub synced_by : (rounds : Rounds) (broken : List Connection) (commits : List (List Record)) (far : Far) (o : Printed) → printed d ≡ o → AreCommits command (read rounds) commits ⊎ ((rounds ≡ []) × (commits ≡ []))
+      → IsAnswer command (read rounds) broken commits x (λ p. o ≡ p) → AreMade command (read rounds) o.status broken commits far → IsLeftSo file left base o.status far → IsWholeAtAnyMoment (both file left) (reached o.status far)
+      → (IsTrue (command_asks_peer command) → IsPeerKept (both peer peer_left)) → (o.status ≢ 4 → AreSteady) → (o.status ≢ 7 → dial_left.faults ≡ dial.faults)
+      → SyncsBy command x Tells (printed d).status rounds broken (read rounds) commits
+  synced_by rounds broken commits far o is led answer made left_so moments peer_kept disk_kept dial_kept =
       subst (λ (p : Printed). SyncsBy command x (λ q. p ≡ q) p.status rounds broken (read rounds) commits) (sym is)
       (record {
         file_told = file_told;
@@ -123,12 +140,15 @@ module _ {D : Type 0} (command : Command) (peer peer_left : DiskState) (dial dia
         rounds_are = refl;
         led = led;
         answer = answer;
-        contents = contents_left file left bytes base file_told stands all_keeps left_reads o.status commits left_so moments;
+        far = far;
+        are_made = made;
+        contents = contents_left file left bytes base file_told stands all_keeps left_reads o.status far left_so;
         kept = λ told refused. absurd (no_file bytes refused.0 base refused.1 stands);
         any_moment = moments;
-        durable = durable_left file left bytes base file_told stands all_keeps o.status commits left_so;
+        durable = durable_left file left bytes base file_told stands all_keeps o.status far left_so;
         keeps = all_keeps;
         peer = peer_kept;
+        disk = disk_kept;
         dial = dial_kept;
       })
 
@@ -136,30 +156,36 @@ module _ {D : Type 0} (command : Command) (peer peer_left : DiskState) (dial dia
   rose_file rose =
       subst (λ (n : ℕ). Rose n left.faults) (ready.whole.faults ∙ ready.loaded.faults) (subst (λ (n : ℕ). Rose old.seen.state.faults n) whole.faults rose)
 
-  module _ (peer_kept : IsTrue (command_asks_peer command) → IsPeerKept (both peer peer_left)) where
+  module _ (peer_kept : IsTrue (command_asks_peer command) → IsPeerKept (both peer peer_left)) (peer_steady : IsTrue (command_asks_peer command) → peer_left.faults ≡ peer.faults) where
+    -- where all commits were made, and no call of the disks failed
+    pub at_by : (rounds : Rounds) (broken : List Connection) (commits : List (List Record)) (o : Printed) → printed d ≡ o → AreCommits command (read rounds) commits → IsAnswer command (read rounds) broken commits x (λ p. o ≡ p)
+        → IsAt at_start new.seen.state commits → IsKeptAtAnyMoment (front old.seen.state) mid left commits → (o.status ≢ 7 → dial_left.faults ≡ dial.faults) → SyncsBy command x Tells (printed d).status rounds broken (read rounds) commits
+    at_by rounds broken commits o is are answer at kept dial_kept =
+        synced_by rounds broken commits (made_all commits) o is (inl are) answer (inl (refl, refl)) (inl (holds left new at_start commits whole at)) (moments_all o.status commits kept) peer_kept (λ other. (steady_by at.steady, peer_steady)) dial_kept
+
     -- a whole sync, of so many rounds that were counted
-    pub ended_by : (rounds : Rounds) (broken : List Connection) (n : ℕ) (e : End) (why : Option PullFault) (pulled : Option Pulled) → broken ≡ [] → IsEndAt base [] e → Ended e n new.seen.state why pulled
+    pub ended_by : (rounds : Rounds) (broken : List Connection) (n : ℕ) (e : End) (why : Option PullFault) (pulled : Option Pulled) → broken ≡ [] → IsEndAt at_start [] e → Ended e n new.seen.state why pulled
         → ((o : Outcome) → IsEndOutcome n e o → IsSyncOutcome command (read rounds) o) → IsKeptAtAnyMoment (front old.seen.state) mid left e.commits → ((p : Printed) → end_printed e.fault n e.count ≡ Some p → IsDue p d)
         → dial_left.faults ≡ dial.faults → SyncsBy command x Tells (printed d).status rounds broken (read rounds) e.commits
     ended_by rounds broken n e why pulled none at_end ended outcome kept due same_count =
         let text = some_printed e.fault n e.count at_end.told in
         let o = with_commits text.0 e.commits in
         let is : IsSyncOutcome command (read rounds) o = outcome o (text.0, text.1, refl) in
-        let h : Holds left base e.commits = holds left new base e.commits whole (leaves_at base e.state e.state new.seen.state e.commits ended.state at_end.stands) in
-        by_due text.0 o is h refl refl (due text.0 text.1)
+        by_due text.0 o is (same_at at_start e.state new.seen.state e.commits ended.state at_end.stands) refl refl (due text.0 text.1)
       where
-        by_due : (text : Printed) (o : Outcome) → IsSyncOutcome command (read rounds) o → Holds left base e.commits → text ≡ printed_of o → o.commits ≡ e.commits → IsDue text d → SyncsBy command x Tells (printed d).status rounds broken (read rounds) e.commits
-        by_due text o is h same commits (inl told) =
-            synced_by rounds broken e.commits text told (inl (inl (o, is, sym commits))) (inl (o, none, is, commits, same)) (inl h) (moments_by e.commits kept) peer_kept (λ other. same_count)
-        by_due text o is h same commits (inr told) =
-            synced_by rounds broken e.commits no_memory told (inl (inl (o, is, sym commits))) (inr (inr (inr (inl none, refl)))) (inl h) (moments_by e.commits kept) peer_kept (λ other. same_count)
+        by_due : (text : Printed) (o : Outcome) → IsSyncOutcome command (read rounds) o → IsAt at_start new.seen.state e.commits → text ≡ printed_of o → o.commits ≡ e.commits → IsDue text d → SyncsBy command x Tells (printed d).status rounds broken (read rounds) e.commits
+        by_due text o is at same commits (inl told) =
+            at_by rounds broken e.commits text told (inl (o, is, sym commits)) (inl (o, none, is, commits, same)) at kept (λ other. same_count)
+        by_due text o is at same commits (inr told) =
+            at_by rounds broken e.commits no_memory told (inl (o, is, sym commits)) (inr (inr (inr (inl none, refl)))) at kept (λ other. same_count)
 
     -- ---- a sync over the dial, of whatever kind
 
-    module _ (k : Kind) (IsDueK : Rounds → List ℕ → Type 0) (sound : IsSound k IsDueK base)
+    module _ (k : Kind) (IsDueK : Rounds → List ℕ → Type 0) (sound : IsSound k IsDueK at_start)
         (outcome : (rounds : Rounds) (e : End) (o : Outcome) → k.Is rounds e → IsEndOutcome (length rounds) e o → IsSyncOutcome command (read rounds) o)
         (so_far : (rounds : Rounds) (commits : List (List Record)) → k.SoFar rounds commits → AreCommitsSoFar command (read rounds) commits)
         (asked : (rounds : Rounds) (body : List ℕ) → IsDueK rounds body → IsAsked command (read rounds) body)
+        (cut_off : (rounds : Rounds) (commits : List (List Record)) (far : Far) → (AreCommitsBefore command (read rounds) far.done × (far.due ≡ commits)) → AreCutOff command (read rounds) commits far)
         (rounds : Rounds) (broken : List Connection)
         (kept : (commits : List (List Record)) → AreCommitsOf k.Is k.SoFar rounds commits → IsKeptAtAnyMoment (front old.seen.state) mid left commits) where
       abbrev pub Came : Type 0
@@ -170,6 +196,16 @@ module _ {D : Type 0} (command : Command) (peer peer_left : DiskState) (dial dia
           let text = some_printed e.fault (length rounds) e.count (sound.whole rounds e is).told in
           let o = with_commits text.0 e.commits in inl (o, outcome rounds e o is (text.0, text.1, refl), same)
       led_by commits (inr h) = inr (so_far rounds commits h)
+
+      before_by : (done : List (List Record)) → AreBefore k rounds done → AreCommitsBefore command (read rounds) done
+      before_by done (first, last, split, h) = (first, last, split, so_far first done h)
+
+      -- all but the last round's commit was made
+      abbrev all_but : List (List Record) → List (List Record) → Far
+      all_but done commits = record { done = done; due = commits }
+
+      cut_by : (done commits : List (List Record)) → AreBefore k rounds done → AreCutOff command (read rounds) commits (all_but done commits)
+      cut_by done commits before = cut_off rounds commits (all_but done commits) (before_by done before, refl)
 
       whole_by : (why : Option PullFault) (pulled : Option Pulled) → IsWhole k.Is new.seen.state why pulled rounds broken
           → ((e : End) (p : Printed) → Ended e (length rounds) new.seen.state why pulled → end_printed e.fault (length rounds) e.count ≡ Some p → IsDue p d) → dial_left.faults ≡ dial.faults → Came
@@ -185,45 +221,49 @@ module _ {D : Type 0} (command : Command) (peer peer_left : DiskState) (dial dia
       lost rose off told =
           let l = sound.left_off IsBrokenOff broken 1 rounds new.seen.state off in (
             l.commits,
-            synced_by rounds broken l.commits (with_text 7 link_fault) told (inl (led_by l.commits (inr l.so_far)))
+            at_by rounds broken l.commits (with_text 7 link_fault) told (led_by l.commits (inr l.so_far))
                 (inr (inr (inl (rose, record { due = (l.due.0, asked rounds l.due.0 l.due.1); few = l.few; sent = sent_as IsBrokenOff broken (IsDueK rounds) (IsAsked command (read rounds)) (asked rounds) l.sent }, refl))))
-                (inl (holds left new base l.commits whole l.stands)) (moments_by l.commits (kept l.commits (inr l.so_far))) peer_kept (λ other. absurd (other refl)),
+                l.stands (kept l.commits (inr l.so_far)) (λ other. absurd (other refl)),
           )
 
       failed : Rose old.seen.state.faults new.seen.state.faults → broken ≡ [] → k.IsFailed rounds new.seen.state → printed d ≡ with_text 4 disk_fault → dial_left.faults ≡ dial.faults → Came
       failed rose none is told same_count =
           let c = sound.failed rounds new.seen.state is in (
-            c.0,
-            synced_by rounds broken c.0 (with_text 4 disk_fault) told (inl (led_by c.0 c.1)) (inr (inl (none, inl (rose_file rose), inr c.2, refl))) (inr (inr refl)) (moments_by c.0 (kept c.0 c.1)) peer_kept (λ other. same_count),
+            c.commits,
+            synced_by rounds broken c.commits (all_but c.done c.commits) (with_text 4 disk_fault) told (inl (led_by c.commits c.are))
+                (inr (inl (none, inl (rose_file rose), inr (c.done, before_by c.done c.before, c.others), refl))) (inr (refl, none, cut_by c.done c.commits c.before))
+                (inr (refl, rose_file rose, holds_either left new at_start (all_but c.done c.commits) whole c.stands)) (moments_by c.commits (kept c.commits c.are)) peer_kept (λ other. absurd (other refl)) (λ other. same_count),
           )
 
       -- no memory before the first round, behind some rounds, or in the midst of a reply
-      unbegun : rounds ≡ [] → broken ≡ [] → Leaves old.seen.state old.seen.state new.seen.state → printed d ≡ no_memory → dial_left.faults ≡ dial.faults → Came
-      unbegun first none leaves told same_count =
+      unbegun : rounds ≡ [] → broken ≡ [] → new.seen.state ≡ old.seen.state → printed d ≡ no_memory → dial_left.faults ≡ dial.faults → Came
+      unbegun first none same told same_count =
           let are : AreCommitsOf k.Is k.SoFar rounds [] = inr (subst (λ (rs : Rounds). k.SoFar rs []) (sym first) sound.none) in (
             [],
-            synced_by rounds broken [] no_memory told (inl (led_by [] are)) (inr (inr (inr (inl none, refl)))) (inl (holds left new base [] whole (leaves_at base old.seen.state old.seen.state new.seen.state [] leaves fresh)))
-                (moments_by [] (kept [] are)) peer_kept (λ other. same_count),
+            at_by rounds broken [] no_memory told (led_by [] are) (inr (inr (inr (inl none, refl)))) (same_at at_start old.seen.state new.seen.state [] same fresh) (kept [] are) (λ other. same_count),
           )
 
       left_off : k.IsLeftOff IsLeft broken (length broken) rounds new.seen.state → printed d ≡ no_memory → dial_left.faults ≡ dial.faults → Came
       left_off off told same_count =
           let l = sound.left_off IsLeft broken (length broken) rounds new.seen.state off in (
             l.commits,
-            synced_by rounds broken l.commits no_memory told (inl (led_by l.commits (inr l.so_far)))
+            at_by rounds broken l.commits no_memory told (led_by l.commits (inr l.so_far))
                 (inr (inr (inr (inr (record { due = (l.due.0, asked rounds l.due.0 l.due.1); few = l.few; sent = sent_as IsLeft broken (IsDueK rounds) (IsAsked command (read rounds)) (asked rounds) l.sent }), refl))))
-                (inl (holds left new base l.commits whole l.stands)) (moments_by l.commits (kept l.commits (inr l.so_far))) peer_kept (λ other. same_count),
+                l.stands (kept l.commits (inr l.so_far)) (λ other. same_count),
           )
 
-      in_part : broken ≡ [] → k.IsBroken rounds new.seen.state → printed d ≡ no_memory → dial_left.faults ≡ dial.faults → Came
-      in_part none is told same_count =
-          let b = sound.broken rounds new.seen.state is in (
+      -- what a crash leaves is said by the commits that were made
+      in_part : broken ≡ [] → k.IsBroken rounds new.seen.state
+          → ((first : Rounds) (last : Round (List ℕ) Exchanged) (done : List (List Record)) → rounds ≡ first ++ last ∷ [] → k.SoFar first done → IsKeptAtAnyMoment (front old.seen.state) mid left done) → printed d ≡ no_memory → dial_left.faults ≡ dial.faults → Came
+      in_part none is kept_so told same_count =
+          let b = sound.broken rounds new.seen.state is in
+          let before = b.before in (
             b.commits,
-            synced_by rounds broken b.commits no_memory told (inl (led_by b.commits b.are)) (inr (inr (inr (inl none, refl)))) (inr (inl (refl, (b.done, b.longer, holds left new base b.done whole b.stands))))
-                (moments_by b.commits (kept b.commits b.are)) peer_kept (λ other. same_count),
+            synced_by rounds broken b.commits (all_but b.done b.commits) no_memory told (inl (led_by b.commits b.are)) (inr (inr (inr (inl none, refl)))) (inr (refl, none, cut_by b.done b.commits before))
+                (inl (holds left new at_start b.done whole b.stands)) (moments_by b.done (kept_so before.0 before.1 b.done before.2 before.3)) peer_kept (λ other. (steady_by (b.stands).steady, peer_steady)) (λ other. same_count),
           )
 
-      pub came : (result : Result Pulled PullFault) → IsSynced k old.seen.state new.seen.state dial.faults dial_left.faults result rounds broken → IsDialCounted dial dial_left result → IsSyncDue result d → Came
+      pub came : (result : Result Pulled PullFault) → IsSynced k old.seen.state new.seen.state dial.faults dial_left.faults (IsKeptAtAnyMoment (front old.seen.state) mid left) result rounds broken → IsDialCounted dial dial_left result → IsSyncDue result d → Came
       came (Ok pulled) is same due = whole_by None (Some pulled) is (λ e p ended text. due_ok (length rounds) new.seen.state e d p text pulled ended due) same
       came (Err (fault.NotEmpty len)) is same due = refused_by (fault.NotEmpty len) is due same
       came (Err (fault.NotRepository at)) is same due = refused_by (fault.NotRepository at) is tt same
@@ -236,6 +276,6 @@ module _ {D : Type 0} (command : Command) (peer peer_left : DiskState) (dial dia
       came (Err (fault.Full name)) is same due = refused_by (fault.Full name) is due same
       came (Err (fault.Missing name)) is same due = refused_by (fault.Missing name) is due same
       came (Err fault.Rounds) is same due = refused_by fault.Rounds is due same
-      came (Err fault.Memory) (inl (first, none, leaves)) same due = unbegun first none leaves due same
+      came (Err fault.Memory) (inl (first, none, left_as)) same due = unbegun first none left_as due same
       came (Err fault.Memory) (inr (inl off)) same due = left_off off due same
-      came (Err fault.Memory) (inr (inr (none, is))) same due = in_part none is due same
+      came (Err fault.Memory) (inr (inr (none, is, kept_so))) same due = in_part none is kept_so due same

@@ -1,7 +1,8 @@
 -- What a run of a command that syncs says of its files, and of what it prints.
-use Rattle.std.proofs.Common.{◌≡◌, ◌⊎◌, inl, inr, ⊎_elim, ℕ, Bool, true, false, not, List, [], ◌++◌, length, Option, Some, None, is_some, IsTrue, refl, sym, ap, subst, ◌∙◌, arith}
-use Rattle.std.specs.Prelude.{◌==◌, ◌||◌, MatchBool, cond}
+use Rattle.std.proofs.Common.{◌≡◌, ◌⊎◌, inl, inr, ⊎_elim, ℕ, Bool, true, false, List, [], ◌++◌, length, Option, Some, None, is_some, IsTrue, refl, sym, ap, subst, ◌∙◌, arith}
+use Rattle.std.specs.Prelude.{◌==◌, ◌||◌, if◌then◌else◌, cond}
 use Rattle.std.proofs.lemmas.List.{append-nil}
+use Rattle.fsl_order.specs.Causes.{Rose}
 use Rattle.fsl_record.specs.declared.Record.{Record}
 use Rattle.fsl_outside.specs.Connections.{Connection, LinkState}
 use Rattle.fsl_disk.specs.Disk.{DiskState, IsModelled, Told, Keeps, LeavesOnly}
@@ -9,12 +10,12 @@ use Rattle.fsl_disk.proofs.Moments.{started, weaker, and_then, modelled_after, t
 use Rattle.fsl_journal.specs.File.{IsFileOf}
 use Rattle.fsl_journal.specs.Journal.{HeldOrSame}
 use Rattle.fsl_journal.proofs.Unique.{one_file}
-use Rattle.fsl_repo.specs.Whole.{Whole, IsWholeOn}
+use Rattle.fsl_repo.specs.Machine.{State}
+use Rattle.fsl_repo.specs.Whole.{Whole, IsWholeOn, front as committed_front}
 use Rattle.fsl_http.specs.Responses.{IsBrokenOff, IsLeft}
 use Rattle.fsl_pull.specs.Dialled.{Rounds, Breaks, Grows}
 use Rattle.fsl_pull.specs.Kept.{all_of_them, StandsForSome, IsKeptAtAnyMoment}
-use Rattle.fsl_pull.proofs.KeptLemmas.{all_some, some_more, none_of_them}
-use Rattle.fsl_pull.proofs.SyncLoop.{Longer}
+use Rattle.fsl_pull.proofs.KeptLemmas.{none_of_them}
 use Rattle.fsl_words.specs.declared.Command.{Command}
 use Rattle.fsl_words.specs.declared.Command.TheVariants as command_of
 use Rattle.fossil.specs.declared.answers.due.Due.{Due}
@@ -26,11 +27,11 @@ use Rattle.fossil.specs.Run.{Output, Agrees, IsTold}
 use Rattle.fossil.specs.Acts.{KeepsImages}
 use Rattle.fossil.specs.Served.{IsWrittenAs, all, front}
 use Rattle.fossil.specs.Serving.{printed}
-use Rattle.fossil.specs.Synced.{Read, Objects, IsSyncOutcome, AreCommitsSoFar, AreCommits, IsDue, IsCutOff, command_asks_peer, HasFailed, objects_of, IsAnswer, IsFaulted, is_cut, StandsForAll, IsFileLeft, IsWholeAtAnyMoment, IsDurable, IsPeerKept, SyncsBy, HasSynced}
+use Rattle.fossil.specs.Synced.{Read, Objects, IsSyncOutcome, AreCommitsSoFar, AreCommits, IsDue, IsCutOff, command_asks_peer, HasFailed, AreCommitsBefore, IsDiskDue, objects_of, IsAnswer, IsFaulted, Far, AreCutOff, AreMade, reached, StandsForAll, StandsAsFar, IsFileLeft, IsWholeAtAnyMoment, IsDurable, IsPeerKept, SyncsBy, HasSynced}
 use Rattle.fossil.specs.Syncing.{command_by}
 use Rattle.fossil.proofs.InputLemmas.{some_bytes}
 use Rattle.fossil.proofs.FileLemmas.{both, some_same, agreed, quiet_none}
-use Rattle.fossil.proofs.TakenLemmas.{IsAt}
+use Rattle.fossil.proofs.TakenLemmas.{Start, IsAt, IsFailedAt}
 use Rattle.fossil.proofs.SoundLemmas.{sent_as}
 
 -- ---- what a file stands for
@@ -41,32 +42,43 @@ pub record Holds (left : DiskState) (base : List Record) (commits : List (List R
   pub durable : IsModelled left → (c : List ℕ) → left.images c → IsFileOf c (base ++ all_of_them commits)
 
 -- the file of a repository that runs
-pub holds : {D : Type 0} (left : DiskState) (r : Whole D) (base : List Record) (commits : List (List Record)) → IsWholeOn left r → IsAt base r.seen.state commits → Holds left base commits
+pub holds : {D : Type 0} (left : DiskState) (r : Whole D) (base : Start) (commits : List (List Record)) → IsWholeOn left r → IsAt base r.seen.state commits → Holds left base.records commits
 holds left r base commits whole h = record {
   contents = λ held told. subst (λ (rs : List Record). IsFileOf held rs) h.stands (whole.belongs.reads h.runs held told).0.file;
   durable = λ modelled c image. subst (λ (rs : List Record). IsFileOf c rs) h.stands (whole.exact h.runs modelled c image);
 }
 
--- it stands for all commits, or for the first of them where there was no memory, or the disk failed
-abbrev pub IsLeftSo : DiskState → List Record → ℕ → List (List Record) → Type 0
-IsLeftSo left base status commits =
-    Holds left base commits ⊎ (((status ≡ 9) × ((done : List (List Record)) × Longer done commits × Holds left base done)) ⊎ (status ≡ 4))
+-- each image stands for these records and the commits that were made, or for those with the due one too
+abbrev pub HoldsEither : DiskState → List Record → Far → Type 0
+HoldsEither left base far = IsModelled left → (c : List ℕ) → left.images c → IsFileOf c (base ++ all_of_them far.done) ⊎ IsFileOf c (base ++ all_of_them far.due)
 
-pub all_left : (b : Bool) (old : List Record) (commits : List (List Record)) (held : List ℕ) → StandsForAll old commits held → MatchBool b (StandsForSome old commits held) (StandsForAll old commits held)
-all_left true old commits held h = all_some old commits held h
-all_left false old commits held h = h
+either_of : (base : Start) (s : State) (far : Far) (c : List ℕ) → IsFailedAt base s far.done far.due → IsFileOf c (committed_front s) ⊎ IsFileOf c s.records
+    → IsFileOf c (base.records ++ all_of_them far.done) ⊎ IsFileOf c (base.records ++ all_of_them far.due)
+either_of base s far c h (inl is) = inl (subst (λ (rs : List Record). IsFileOf c rs) h.before is)
+either_of base s far c h (inr is) = inr (subst (λ (rs : List Record). IsFileOf c rs) h.all is)
 
-abbrev pub LeftBy : List Record → List (List Record) → List ℕ → ℕ → Type 0
-LeftBy old commits held status = MatchBool (is_cut status) (StandsForSome old commits held) (StandsForAll old commits held)
+-- the file of a repository whose commit failed
+pub holds_either : {D : Type 0} (left : DiskState) (r : Whole D) (base : Start) (far : Far) → IsWholeOn left r → IsFailedAt base r.seen.state far.done far.due → HoldsEither left base.records far
+holds_either left r base far whole h modelled c image = either_of base r.seen.state far c h (whole.belongs.stands modelled c image)
 
-abbrev pub IsLasting : ℕ → Type 0
-IsLasting status = IsTrue (not (is_cut status))
+-- it stands for the commits that were made; where one failed, each image does so with it or without it
+abbrev pub IsLeftSo : DiskState → DiskState → List Record → ℕ → Far → Type 0
+IsLeftSo file left base status far = Holds left base far.done ⊎ ((status ≡ 4) × Rose file.faults left.faults × HoldsEither left base far)
 
-pub no_nine : IsLasting 9 → ⊥
-no_nine h = cc
+-- all of these commits were made
+abbrev pub made_all : List (List Record) → Far
+made_all commits = record { done = commits; due = commits }
 
-pub no_four : IsLasting 4 → ⊥
-no_four h = cc
+same_either : (commits : List (List Record)) (b : Bool) → (if b then commits else commits) ≡ commits
+same_either commits true = refl
+same_either commits false = refl
+
+pub reached_all : (status : ℕ) (commits : List (List Record)) → reached status (made_all commits) ≡ commits
+reached_all status commits = same_either commits (status == 4)
+
+-- nothing was committed, and the bytes stand for what was there
+pub as_old_so_far : (status : ℕ) (old : List Record) (bytes : List ℕ) → IsFileOf bytes old → StandsAsFar status old (made_all []) bytes
+as_old_so_far status old bytes is = inl (subst (λ (rs : List Record). IsFileOf bytes rs) (sym (append-nil old)) is)
 
 module _ (file left : DiskState) (bytes : List ℕ) (base : List Record) (told : Agrees file.contents bytes) (stands : IsFileOf bytes base) (keeps : Keeps file left) where
   base_is : (old : List Record) → IsFileOf bytes old → base ≡ old
@@ -75,21 +87,20 @@ module _ (file left : DiskState) (bytes : List ℕ) (base : List Record) (told :
   as_old : (old : List Record) (commits : List (List Record)) (held : List ℕ) → IsFileOf bytes old → IsFileOf held (base ++ all_of_them commits) → StandsForAll old commits held
   as_old old commits held are h = subst (λ (b : List Record). IsFileOf held (b ++ all_of_them commits)) (base_is old are) h
 
-  pub contents_left : (left_reads : (held : List ℕ) → IsTrue left.is_model → left.contents ≡ Some held → left.images held) (status : ℕ) (commits : List (List Record)) → IsLeftSo left base status commits → IsWholeAtAnyMoment (both file left) commits
-      → IsFileLeft (both file left) bytes status commits
-  contents_left left_reads status commits (inl h) moments old held file_told left_told are known = all_left (is_cut status) old commits held (as_old old commits held are (h.contents held left_told))
-  contents_left left_reads status commits (inr (inl (nine, (done, longer, h)))) moments old held file_told left_told are known =
-      subst (LeftBy old commits held) (sym nine)
-      (subst (λ (cs : List (List Record)). StandsForSome old cs held) (sym longer.1) (some_more old done longer.0 held (all_some old done held (as_old old done held are (h.contents held left_told)))))
-  contents_left left_reads status commits (inr (inr four)) moments old held file_told left_told are known =
-      let k = known four in
-      let modelled : IsModelled file = record { tells = ap is_some file_told; model = k.0 } in
-      subst (LeftBy old commits held) (sym four) ((moments modelled old k.1).now held (left_reads held (keeps.model ∙ k.0) left_told))
+  as_either : (status : ℕ) (old : List Record) (far : Far) (held : List ℕ) → IsFileOf bytes old → status ≡ 4 → IsFileOf held (base ++ all_of_them far.done) ⊎ IsFileOf held (base ++ all_of_them far.due) → StandsAsFar status old far held
+  as_either status old far held are four (inl h) = inl (as_old old far.done held are h)
+  as_either status old far held are four (inr h) = inr (four, as_old old far.due held are h)
 
-  pub durable_left : (status : ℕ) (commits : List (List Record)) → IsLeftSo left base status commits → IsLasting status → IsDurable (both file left) bytes commits
-  durable_left status commits (inl h) lasting modelled file_told old are c image = as_old old commits c are (h.durable (modelled_after file left keeps modelled) c image)
-  durable_left status commits (inr (inl cut)) lasting modelled file_told old are c image = absurd (no_nine (subst IsLasting cut.0 lasting))
-  durable_left status commits (inr (inr four)) lasting modelled file_told old are c image = absurd (no_four (subst IsLasting four lasting))
+  pub contents_left : (left_reads : (held : List ℕ) → IsTrue left.is_model → left.contents ≡ Some held → left.images held) (status : ℕ) (far : Far) → IsLeftSo file left base status far → IsFileLeft (both file left) bytes status far
+  contents_left left_reads status far (inl h) old held file_told left_told are known = inl (as_old old far.done held are (h.contents held left_told))
+  contents_left left_reads status far (inr (four, rose, h)) old held file_told left_told are known =
+      let k = known four rose in
+      let modelled : IsModelled file = record { tells = ap is_some file_told; model = k.0 } in
+      as_either status old far held are four (h (modelled_after file left keeps modelled) held (left_reads held (keeps.model ∙ k.0) left_told))
+
+  pub durable_left : (status : ℕ) (far : Far) → IsLeftSo file left base status far → IsDurable (both file left) bytes status far
+  durable_left status far (inl h) modelled file_told old are known c image = inl (as_old old far.done c are (h.durable (modelled_after file left keeps modelled) c image))
+  durable_left status far (inr (four, rose, h)) modelled file_told old are known c image = as_either status old far c are four (h (modelled_after file left keeps modelled) c image)
 
   -- the moments of the load, and those of the sync behind it
   pub moments_left : (mid : DiskState) (commits : List (List Record)) → Keeps file mid → KeepsImages file mid → (IsModelled mid → (c : List ℕ) → mid.images c → IsFileOf c base)
@@ -148,6 +159,9 @@ module _ (command : Command) (x : Objects) (broken : List Connection) (r : Read)
   answered_as (inl (o, none, is, same, tells)) = inl (o, none, is, same, turn (printed_of o) tells)
   answered_as (inr fault) = inr (faulted_as fault)
 
+not_four : ◌≡◌ {A = ℕ} 0 4 → ⊥
+not_four e = cc
+
 module _ (command : Command) (x : Objects) (rounds : Rounds) (broken : List Connection) (r : Read) (commits : List (List Record)) (P Q : Printed → Type 0) (turn : (o : Printed) → P o → Q o) where
   same_status : (n status : ℕ) → status ≡ n → SyncsBy command x P n rounds broken r commits → SyncsBy command x Q status rounds broken r commits
   same_status n status e s = subst (λ (m : ℕ). SyncsBy command x Q m rounds broken r commits) (sym e) (record {
@@ -156,14 +170,22 @@ module _ (command : Command) (x : Objects) (rounds : Rounds) (broken : List Conn
     rounds_are = s.rounds_are;
     led = s.led;
     answer = answered_as command x broken r commits P Q turn s.answer;
+    far = s.far;
+    are_made = s.are_made;
     contents = s.contents;
     kept = s.kept;
     any_moment = s.any_moment;
     durable = s.durable;
     keeps = s.keeps;
     peer = s.peer;
+    disk = s.disk;
     dial = s.dial;
   })
+
+  -- where the status is neither 4 nor 9 nothing is cut off
+  as_six : (old : List Record) (far : Far) (bytes : List ℕ) → StandsAsFar 0 old far bytes → StandsAsFar 6 old far bytes
+  as_six old far bytes (inl h) = inl h
+  as_six old far bytes (inr (four, h)) = absurd (not_four four)
 
   cut_status : (n status : ℕ) → n ≡ 0 → status ≡ 6 → SyncsBy command x P n rounds broken r commits → SyncsBy command x Q status rounds broken r commits
   cut_status n status z six s =
@@ -175,12 +197,15 @@ module _ (command : Command) (x : Objects) (rounds : Rounds) (broken : List Conn
         rounds_are = at_zero.rounds_are;
         led = at_zero.led;
         answer = answered_as command x broken r commits P Q turn at_zero.answer;
-        contents = λ old held file_told left_told are known. at_zero.contents old held file_told left_told are (λ four. absurd (cc));
+        far = at_zero.far;
+        are_made = at_zero.are_made;
+        contents = λ old held file_told left_told are known. as_six old at_zero.far held (at_zero.contents old held file_told left_told are (λ four rose. absurd (cc)));
         kept = at_zero.kept;
         any_moment = at_zero.any_moment;
-        durable = λ lasting. at_zero.durable refl;
+        durable = λ modelled file_told old are known c image. as_six old at_zero.far c (at_zero.durable modelled file_told old are known c image);
         keeps = at_zero.keeps;
         peer = at_zero.peer;
+        disk = λ other. at_zero.disk (λ four. absurd (cc));
         dial = λ other. at_zero.dial (λ seven. absurd (cc));
       })
 
@@ -212,10 +237,11 @@ pub record IsApart (command : Command) : Type 0 where
   pub outcome : (bytes : List ℕ) (r : Read) (o : Outcome) → IsSyncOutcome command r o → IsSyncOutcome command (with_peer bytes r) o
   pub so_far : (bytes : List ℕ) (r : Read) (commits : List (List Record)) → AreCommitsSoFar command r commits → AreCommitsSoFar command (with_peer bytes r) commits
   pub due : (bytes : List ℕ) (r : Read) (body : List ℕ) → IsDue command r body → IsDue command (with_peer bytes r) body
+  pub cut_off : (bytes : List ℕ) (r : Read) (commits : List (List Record)) (far : Far) → AreCutOff command r commits far → AreCutOff command (with_peer bytes r) commits far
 
 pub apart_by : (w : Way) (address : List ℕ) (login : Option (List ℕ × List ℕ)) → IsApart (command_by w address login)
-apart_by way.Pull address login = record { alone = λ asks. absurd (cc); outcome = λ bytes r o h. h; so_far = λ bytes r commits h. h; due = λ bytes r body h. h }
-apart_by way.Push address login = record { alone = λ asks. absurd (cc); outcome = λ bytes r o h. h; so_far = λ bytes r commits h. h; due = λ bytes r body h. h }
+apart_by way.Pull address login = record { alone = λ asks. absurd (cc); outcome = λ bytes r o h. h; so_far = λ bytes r commits h. h; due = λ bytes r body h. h; cut_off = λ bytes r commits far h. h }
+apart_by way.Push address login = record { alone = λ asks. absurd (cc); outcome = λ bytes r o h. h; so_far = λ bytes r commits h. h; due = λ bytes r body h. h; cut_off = λ bytes r commits far h. h }
 
 module _ (command : Command) (apart : IsApart command) (file peer other : DiskState × DiskState) (dial : LinkState × LinkState) (Tells : Printed → Type 0) where
   abbrev there : List ℕ
@@ -233,8 +259,19 @@ module _ (command : Command) (apart : IsApart command) (file peer other : DiskSt
     sent = sent_as BreaksOff broken (IsDue command r) (IsDue command (with_peer there r)) (apart.due there r) h.sent;
   }
 
+  own_before : (r : Read) (done : List (List Record)) → AreCommitsBefore command r done → AreCommitsBefore command (with_peer there r) done
+  own_before r done (first, last, split, so_far) = (first, last, split, apart.so_far there (record r { rounds = first }) done so_far)
+
+  own_due : (r : Read) (commits : List (List Record)) → IsDiskDue command r commits → IsDiskDue command (with_peer there r) commits
+  own_due r commits (inl none) = inl none
+  own_due r commits (inr (done, before, others)) = inr (done, own_before r done before, others)
+
+  own_made : (r : Read) (status : ℕ) (broken : List Connection) (commits : List (List Record)) (far : Far) → AreMade command r status broken commits far → AreMade command (with_peer there r) status broken commits far
+  own_made r status broken commits far (inl whole) = inl whole
+  own_made r status broken commits far (inr (cut, none, off)) = inr (cut, none, apart.cut_off there r commits far off)
+
   own_faulted : (r : Read) (broken : List Connection) (commits : List (List Record)) → IsFaulted command r broken commits (objects_of file peer dial) Tells → IsFaulted command (with_peer there r) broken commits (objects_of file other dial) Tells
-  own_faulted r broken commits (inl (none, failed, due, tells)) = inl (none, own_failed failed, due, tells)
+  own_faulted r broken commits (inl (none, failed, due, tells)) = inl (none, own_failed failed, own_due r commits due, tells)
   own_faulted r broken commits (inr (inl (rose, cut, tells))) = inr (inl (rose, own_cut r IsBrokenOff broken 1 cut, tells))
   own_faulted r broken commits (inr (inr (inl none, tells))) = inr (inr (inl none, tells))
   own_faulted r broken commits (inr (inr (inr cut, tells))) = inr (inr (inr (own_cut r IsLeft broken (length broken) cut), tells))
@@ -266,12 +303,15 @@ module _ (command : Command) (apart : IsApart command) (file peer other : DiskSt
         rounds_are = s.rounds_are;
         led = own_led r rounds commits s.led;
         answer = own_answer r broken commits s.answer;
+        far = s.far;
+        are_made = own_made r status broken commits s.far s.are_made;
         contents = s.contents;
         kept = s.kept;
         any_moment = s.any_moment;
         durable = s.durable;
         keeps = s.keeps;
         peer = λ asks. absurd (apart.alone asks);
+        disk = λ other. ((s.disk other).0, λ asks. absurd (apart.alone asks));
         dial = s.dial;
       },
     ),

@@ -15,7 +15,7 @@ use Rattle.fsl_repo.specs.declared.Arrival.{Arrival}
 use Rattle.fsl_repo.specs.declared.Arrival.TheVariants as arrival
 use Rattle.fsl_repo.specs.declared.ArriveFault.{ArriveFault}
 use Rattle.fsl_repo.specs.declared.ArriveFault.TheVariants as arrive_fault
-use Rattle.fsl_repo.specs.Machine.{State, Leaves, again, IsRoom, IsArrivalOf, IsArrival, arrived}
+use Rattle.fsl_repo.specs.Machine.{State, again, IsRoom, IsArrivalOf, IsArrival, arrived}
 use Rattle.fsl_repo.specs.Whole.{front}
 use Rattle.fsl_pull.specs.declared.PeerFault.TheVariants as peer
 use Rattle.fsl_pull.specs.declared.PullFault.{PullFault}
@@ -76,31 +76,33 @@ arrival_plain s name bytes r runs is =
 
 -- ---- the cards of a reply
 
--- records were appended, nothing was committed, and a fault has a line
+-- records were appended, nothing was committed, no call of the disk failed, and a fault has a line
 pub record IsTakenOver (s : State) (t : Taken) : Type 0 where
   pub more : List Record
   pub records : (t.state).records ≡ s.records ++ more
   pub committed : (t.state).committed ≡ s.committed
   pub stopped : (t.state).stopped ≡ s.stopped
+  pub steady : (t.state).faults ≡ s.faults
   pub told : s.stopped ≡ None → IsTellable t.fault
 
 none_over : (s : State) → IsTakenOver s (record { state = s; arrivals = []; fault = None })
-none_over s = record { more = []; records = sym (append-nil s.records); committed = refl; stopped = refl; told = λ runs. tt }
+none_over s = record { more = []; records = sym (append-nil s.records); committed = refl; stopped = refl; steady = refl; told = λ runs. tt }
 
 stopped_over : (s : State) (why : PullFault) → (s.stopped ≡ None → IsTellable (Some why)) → IsTakenOver s (stopped_by s why)
-stopped_over s why told = record { more = []; records = sym (append-nil s.records); committed = refl; stopped = refl; told = told }
+stopped_over s why told = record { more = []; records = sym (append-nil s.records); committed = refl; stopped = refl; steady = refl; told = told }
 
 pub record HasArrived (s new : State) : Type 0 where
   pub more : List Record
   pub records : new.records ≡ s.records ++ more
   pub committed : new.committed ≡ s.committed
   pub stopped : new.stopped ≡ s.stopped
+  pub steady : new.faults ≡ s.faults
 
 has_arrived : (s : State) (name bytes : List ℕ) (a : Arrival) → HasArrived s (arrived s name bytes false (Ok a))
-has_arrived s name bytes arrival.Shunned = record { more = []; records = sym (append-nil s.records); committed = refl; stopped = refl }
-has_arrived s name bytes arrival.Present = record { more = []; records = sym (append-nil s.records); committed = refl; stopped = refl }
-has_arrived s name bytes arrival.Published = record { more = record_of.Publish name ∷ []; records = refl; committed = refl; stopped = refl }
-has_arrived s name bytes arrival.Stored = record { more = record_of.Blob false name bytes ∷ []; records = refl; committed = refl; stopped = refl }
+has_arrived s name bytes arrival.Shunned = record { more = []; records = sym (append-nil s.records); committed = refl; stopped = refl; steady = refl }
+has_arrived s name bytes arrival.Present = record { more = []; records = sym (append-nil s.records); committed = refl; stopped = refl; steady = refl }
+has_arrived s name bytes arrival.Published = record { more = record_of.Publish name ∷ []; records = refl; committed = refl; stopped = refl; steady = refl }
+has_arrived s name bytes arrival.Stored = record { more = record_of.Blob false name bytes ∷ []; records = refl; committed = refl; stopped = refl; steady = refl }
 
 one_over : (s : State) (name bytes : List ℕ) (a : Arrival) (t : Taken) → IsTakenOver (arrived s name bytes false (Ok a)) t → IsTakenOver s (record t { arrivals = a ∷ t.arrivals })
 one_over s name bytes a t h =
@@ -110,6 +112,7 @@ one_over s name bytes a t h =
       records = h.records ∙ ap (λ (rs : List Record). rs ++ h.more) one.records ∙ append_assoc s.records one.more h.more;
       committed = h.committed ∙ one.committed;
       stopped = h.stopped ∙ one.stopped;
+      steady = h.steady ∙ one.steady;
       told = λ runs. h.told (one.stopped ∙ runs);
     }
 
@@ -142,28 +145,34 @@ takes_over s due (cards.SendPrivate ∷ rest) t h = takes_over s due rest t h
 
 -- ---- where a sync stands
 
--- it runs, and the committed records are those that were there and those of the commits
-pub record IsAt (base : List Record) (s : State) (commits : List (List Record)) : Type 0 where
-  pub runs : s.stopped ≡ None
-  pub stands : front s ≡ base ++ all_of_them commits
-  pub within : s.committed ≤ length s.records
+-- where it started: the records that were there, and the disk's count of faults
+pub record Start : Type 0 where
+  pub records : List Record
+  pub faults : ℕ
 
--- but for the disk's count
-pub leaves_at : (base : List Record) (old due new : State) (commits : List (List Record)) → Leaves old due new → IsAt base due commits → IsAt base new commits
-leaves_at base old due new commits leaves h =
-    subst (λ (s : State). IsAt base s commits) (sym leaves.state) (record { runs = h.runs; stands = h.stands; within = h.within })
+-- it runs, the committed records are those that were there and those of the commits, and no call of the disk failed
+pub record IsAt (base : Start) (s : State) (commits : List (List Record)) : Type 0 where
+  pub runs : s.stopped ≡ None
+  pub stands : front s ≡ base.records ++ all_of_them commits
+  pub within : s.committed ≤ length s.records
+  pub steady : s.faults ≡ base.faults
+
+-- the same of a state that is left as it was
+pub same_at : (base : Start) (s new : State) (commits : List (List Record)) → new ≡ s → IsAt base s commits → IsAt base new commits
+same_at base s new commits same h = subst (λ (x : State). IsAt base x commits) (sym same) h
 
 with_records : (commits : List (List Record)) (more : List Record) → all_of_them (with_commit commits more) ≡ all_of_them commits ++ more
 with_records commits [] = sym (append-nil (all_of_them commits))
 with_records commits (r ∷ more) = of_both commits ((r ∷ more) ∷ []) ∙ ap (λ (x : List Record). all_of_them commits ++ x) (append-nil (r ∷ more))
 
-module _ (base : List Record) (s : State) (commits : List (List Record)) (h : IsAt base s commits) (t : Taken) (over : IsTakenOver s t) where
+module _ (base : Start) (s : State) (commits : List (List Record)) (h : IsAt base s commits) (t : Taken) (over : IsTakenOver s t) where
   -- cards that were taken, of which nothing is committed
   pub taken_at : IsAt base t.state commits
   taken_at = record {
     runs = over.stopped ∙ h.runs;
     stands = (λ i. take (over.committed i) (over.records i)) ∙ take-append-le s.committed s.records over.more h.within ∙ h.stands;
     within = let n = ap length over.records in omega (arith, n, over.committed, h.within, length-append s.records over.more);
+    steady = over.steady ∙ h.steady;
   }
 
   -- and all of them committed
@@ -175,9 +184,10 @@ module _ (base : List Record) (s : State) (commits : List (List Record)) (h : Is
         runs = taken_at.runs;
         stands =
             take_all (length (t.state).records) (t.state).records (omega arith) ∙ sym (take-append-drop n (t.state).records)
-            ∙ ap (λ (x : List Record). x ++ more) taken_at.stands ∙ append_assoc base (all_of_them commits) more
-            ∙ ap (λ (x : List Record). base ++ x) (sym (with_records commits more));
+            ∙ ap (λ (x : List Record). x ++ more) taken_at.stands ∙ append_assoc base.records (all_of_them commits) more
+            ∙ ap (λ (x : List Record). base.records ++ x) (sym (with_records commits more));
         within = omega arith;
+        steady = taken_at.steady;
       }
 
 -- ---- a round
@@ -189,19 +199,19 @@ pub longer_on : (a b c : List (List Record)) → Longer a b → Longer b c → L
 longer_on a b c (x, e) (y, f) = (x ++ y, f ∙ ap (λ (z : List (List Record)). z ++ y) e ∙ append_assoc a x y)
 
 -- where the sync stands at its end, whose fault has a line
-pub record IsEndAt (base : List Record) (before : List (List Record)) (e : End) : Type 0 where
+pub record IsEndAt (base : Start) (before : List (List Record)) (e : End) : Type 0 where
   pub stands : IsAt base e.state e.commits
   pub told : IsTellable e.fault
   pub longer : Longer before e.commits
 
-abbrev pub Behind : {M : Type 0} → List Record → List (List Record) → Then M → Type 0
+abbrev pub Behind : {M : Type 0} → Start → List (List Record) → Then M → Type 0
 Behind base before (goes_on q) = IsAt base q.state q.commits × Longer before q.commits
 Behind base before (ends e) = IsEndAt base before e
 
 abbrev pub KeepsOn : {M Q A : Type 0} → Course M Q A → Type 0
-KeepsOn {M} {Q} {A} R = (base : List Record) (p : Point M) (r : Round Q A) (step : Then M) → IsAt base p.state p.commits → R p r step → Behind base p.commits step
+KeepsOn {M} {Q} {A} R = (base : Start) (p : Point M) (r : Round Q A) (step : Then M) → IsAt base p.state p.commits → R p r step → Behind base p.commits step
 
-module _ {M : Type 0} (base : List Record) (p : Point M) (h : IsAt base p.state p.commits) where
+module _ {M : Type 0} (base : Start) (p : Point M) (h : IsAt base p.state p.commits) where
   -- nothing of a reply was taken
   pub unread_behind : (e : End) → e.state ≡ p.state → e.commits ≡ p.commits → IsTellable e.fault → IsEndAt base p.commits e
   unread_behind e state commits told = record {
@@ -230,12 +240,12 @@ module _ {M : Type 0} (base : List Record) (p : Point M) (h : IsAt base p.state 
 
   -- a front of a reply was taken
   pub partly_at : (reply : List WireCard) (left : State) → IsPartlyTaken reply p.state left → IsAt base left p.commits
-  partly_at reply left (cards_front, rest, split, (t, takes, none, leaves)) =
-      leaves_at base t.state t.state left p.commits leaves (taken_at base p.state p.commits h t (takes_over p.state None cards_front t takes))
+  partly_at reply left (cards_front, rest, split, (t, takes, none, same)) =
+      same_at base t.state left p.commits same (taken_at base p.state p.commits h t (takes_over p.state None cards_front t takes))
 
 -- ---- rounds
 
-module _ {M Q A : Type 0} (R : Course M Q A) (keeps : KeepsOn R) (base : List Record) where
+module _ {M Q A : Type 0} (R : Course M Q A) (keeps : KeepsOn R) (base : Start) where
   pub goes_at : (p : Point M) (rounds : List (Round Q A)) (q : Point M) → IsAt base p.state p.commits → GoOn R p rounds q → IsAt base q.state q.commits × Longer p.commits q.commits
   goes_at p [] q h go = subst (λ (m : Point M). IsAt base m.state m.commits × Longer p.commits m.commits) (sym go) (h, longer_same p.commits)
   goes_at p (r ∷ rounds) q h go =
@@ -260,21 +270,53 @@ module _ {M Q A : Type 0} (R : Course M Q A) (keeps : KeepsOn R) (base : List Re
 -- ---- a round that had something to commit
 
 -- as many are committed as there were and as came
-committed_many : (base : List Record) (s : State) (commits : List (List Record)) → IsAt base s commits → s.committed ≡ length (base ++ all_of_them commits)
+committed_many : (base : Start) (s : State) (commits : List (List Record)) → IsAt base s commits → s.committed ≡ length (base.records ++ all_of_them commits)
 committed_many base s commits h = sym (length-take-le s.committed s.records h.within) ∙ ap length h.stands
 
-nothing_there : (x : List Record) (xs : List (List Record)) → [] ≡ x ∷ xs → ⊥
-nothing_there x xs e = cc
+-- the commits behind a step begin with those before it
+longer_of : {M : Type 0} (base : Start) (before : List (List Record)) (step : Then M) → Behind base before step → Longer before (commits_of step)
+longer_of base before (goes_on q) h = h.1
+longer_of base before (ends e) h = h.longer
 
-none_before : (before commits : List (List Record)) → Longer before commits → commits ≡ [] → before ≡ []
-none_before [] commits longer none = refl
-none_before (x ∷ before) commits longer none = absurd (nothing_there x (before ++ longer.0) (sym none ∙ longer.1))
+step_at : {M : Type 0} (base : Start) (before : List (List Record)) (step : Then M) → Behind base before step → IsAt base (state_of step) (commits_of step)
+step_at base before (goes_on q) h = h.0
+step_at base before (ends e) h = h.stands
 
-commits_by : (base : List Record) (old s : State) (before commits : List (List Record)) → IsAt base old before → IsAt base s commits → Longer before commits → s.committed ≡ length s.records → old.committed ≢ length s.records → commits ≢ []
-commits_by base old s before commits h k longer is_due some none =
-    some (committed_many base old before h ∙ ap (λ (c : List (List Record)). length (base ++ all_of_them c)) (none_before before commits longer none ∙ sym none) ∙ sym (committed_many base s commits k) ∙ is_due)
+others_by : (base : Start) (old s : State) (before commits : List (List Record)) → IsAt base old before → IsAt base s commits → s.committed ≡ length s.records → old.committed ≢ length s.records → commits ≢ before
+others_by base old s before commits h k is_due some none =
+    some (committed_many base old before h ∙ ap (λ (c : List (List Record)). length (base.records ++ all_of_them c)) (sym none) ∙ sym (committed_many base s commits k) ∙ is_due)
 
-pub some_commits : {M : Type 0} (base : List Record) (p : Point M) (step : Then M) → IsAt base p.state p.commits → Behind base p.commits step → (state_of step).committed ≡ length (state_of step).records → (p.state).committed ≢ length (state_of step).records
-    → commits_of step ≢ []
-some_commits base p (goes_on q) h k is_due some = commits_by base p.state q.state p.commits q.commits h k.0 k.1 is_due some
-some_commits base p (ends e) h k is_due some = commits_by base p.state e.state p.commits e.commits h k.stands k.longer is_due some
+-- its commits are others than those before it
+pub other_commits : {M : Type 0} (base : Start) (p : Point M) (step : Then M) → IsAt base p.state p.commits → Behind base p.commits step → (state_of step).committed ≡ length (state_of step).records → (p.state).committed ≢ length (state_of step).records
+    → commits_of step ≢ p.commits
+other_commits base p step h k is_due some = others_by base p.state (state_of step) p.commits (commits_of step) h (step_at base p.commits step k) is_due some
+
+-- ---- a commit that failed
+
+-- it leaves the committed records as they were, and all records are those with the commit
+pub record IsFailedAt (base : Start) (left : State) (done due : List (List Record)) : Type 0 where
+  pub before : front left ≡ base.records ++ all_of_them done
+  pub all : left.records ≡ base.records ++ all_of_them due
+
+front_of : (n : ℕ) (xs ys : List Record) → n ≡ length xs → take n (xs ++ ys) ≡ xs
+front_of n xs ys e = take-append-le n xs ys (omega (arith, e)) ∙ take_all n xs (omega (arith, e))
+
+split_of : (base : List Record) (done due : List (List Record)) (longer : Longer done due) → base ++ all_of_them due ≡ (base ++ all_of_them done) ++ all_of_them longer.0
+split_of base done due longer =
+    ap (λ (x : List (List Record)). base ++ all_of_them x) longer.1 ∙ ap (λ (x : List Record). base ++ x) (of_both done longer.0) ∙ sym (append_assoc base (all_of_them done) (all_of_them longer.0))
+
+-- where all records are committed, they are those that were there and those of the commits
+all_records : (base : Start) (s : State) (commits : List (List Record)) → IsAt base s commits → s.committed ≡ length s.records → s.records ≡ base.records ++ all_of_them commits
+all_records base s commits h is_due = sym (take_all s.committed s.records (omega (arith, is_due))) ∙ h.stands
+
+pub failed_at : {M : Type 0} (base : Start) (p : Point M) (step : Then M) (left : State) → IsAt base p.state p.commits → Behind base p.commits step → (state_of step).committed ≡ length (state_of step).records
+    → left ≡ record (state_of step) { committed = p.state.committed; stopped = Some left.faults; faults = left.faults } → IsFailedAt base left p.commits (commits_of step)
+failed_at base p step left h k is_due is =
+    let all = all_records base (state_of step) (commits_of step) (step_at base p.commits step k) is_due in
+    let longer = longer_of base p.commits step k in
+    record {
+      before =
+          ap front is ∙ ap (λ (rs : List Record). take (p.state).committed rs) (all ∙ split_of base.records p.commits (commits_of step) longer)
+          ∙ front_of (p.state).committed (base.records ++ all_of_them p.commits) (all_of_them longer.0) (committed_many base p.state p.commits h);
+      all = ap (λ (s : State). s.records) is ∙ all;
+    }

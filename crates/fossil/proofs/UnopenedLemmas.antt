@@ -1,6 +1,5 @@
 -- What the commands that sync come to where a file isn't loaded, or words can't be read for want of memory.
-use Rattle.std.proofs.Common.{◌≡◌, ◌⊎◌, inl, inr, ℕ, List, [], Option, Some, is_some, Err, IsTrue, refl, sym, ap, subst, ◌∙◌}
-use Rattle.std.proofs.lemmas.List.{append-nil}
+use Rattle.std.proofs.Common.{◌≡◌, ◌≢◌, ◌⊎◌, inl, inr, ℕ, List, [], Option, Some, is_some, Err, IsTrue, refl, sym, ap, subst, ◌∙◌}
 use Rattle.fsl_order.specs.Causes.{Rose}
 use Rattle.fsl_outside.specs.Connections.{LinkState}
 use Rattle.fsl_disk.specs.Disk.{DiskState, IsModelled, Keeps, LeavesOnly}
@@ -27,14 +26,14 @@ use Rattle.fossil.specs.Acts.{KeepsContents, IsUnopened, IsWritten}
 use Rattle.fossil.specs.Served.{with_text, no_memory}
 use Rattle.fossil.specs.Serving.{printed}
 use Rattle.fossil.specs.Syncs.{with_commits, no_peer}
-use Rattle.fossil.specs.Synced.{Read, Objects, IsSyncOutcome, command_asks_peer, IsAnswer, is_cut, IsFileLeft, IsDurable, IsPeerKept, SyncsBy, HasSynced, objects_of}
+use Rattle.fossil.specs.Synced.{Read, Objects, IsSyncOutcome, command_asks_peer, IsAnswer, is_cut, reached, IsFileLeft, IsDurable, IsPeerKept, SyncsBy, HasSynced, objects_of}
 use Rattle.fossil.specs.Syncing.{IsUnopenedDue, IsNoPeerDue, ComesTo, IsReady, command_by}
 use Rattle.fossil.proofs.InputLemmas.{some_bytes}
 use Rattle.fossil.proofs.FileLemmas.{both, agrees, some_same, quiet_none}
 use Rattle.fossil.proofs.LoadLemmas.{KeepsBetween}
 use Rattle.fossil.proofs.RepoLemmas.{repo_opened}
-use Rattle.fossil.proofs.SyncedLemmas.{IsLasting, holds, all_left, LeftBy, moments_loaded, none_grown, peer_idle, no_four, no_nine}
-use Rattle.fossil.proofs.SyncLemmas.{fresh, synced_by}
+use Rattle.fossil.proofs.SyncedLemmas.{holds, made_all, as_old_so_far, moments_loaded, none_grown, peer_idle}
+use Rattle.fossil.proofs.SyncLemmas.{at_start, fresh, synced_by}
 
 -- a repository that was loaded just now
 pub ready_of : {D : Type 0} (file left : DiskState) (r : Whole D) → opening.IsOpened file left r → IsWholeOn left r → KeepsBetween file left → Keeps file left → IsReady file left r
@@ -53,10 +52,10 @@ module _ (command : Command) (no_repository : (r : Read) (at : ℕ) → FailsAt 
   abbrev Comes : Type 0
   Comes = ComesTo command (file, left) (peer, peer) (dial, dial) d
 
-  module _ (fault : LoadFault) (un : IsUnopened file left fault) where
-    by_text : (bytes : List ℕ) (o : Printed) → Agrees file.contents bytes → printed d ≡ o → IsAnswer command (read bytes) [] [] x (λ p. o ≡ p) → IsFileLeft (both file left) bytes o.status []
-        → (IsLasting o.status → IsDurable (both file left) bytes []) → Comes
-    by_text bytes o told is answer contents durable = (
+  module _ (fault : LoadFault) (un : IsUnopened file left fault) (counts : (fault ≡ load_fault.Disk → ⊥) → left.faults ≡ file.faults) where
+    by_text : (bytes : List ℕ) (o : Printed) → Agrees file.contents bytes → printed d ≡ o → IsAnswer command (read bytes) [] [] x (λ p. o ≡ p) → IsFileLeft (both file left) bytes o.status (made_all [])
+        → IsDurable (both file left) bytes o.status (made_all []) → (o.status ≢ 4 → left.faults ≡ file.faults) → Comes
+    by_text bytes o told is answer contents durable steady = (
       [],
       [],
       none_grown _,
@@ -70,49 +69,55 @@ module _ (command : Command) (no_repository : (r : Read) (at : ℕ) → FailsAt 
               rounds_are = refl;
               led = inr (refl, refl);
               answer = answer;
+              far = made_all [];
+              are_made = inl (refl, refl);
               contents = contents;
               kept = λ file_told refused. un.unreadable bytes file_told refused.0 refused.1;
-              any_moment = moments_loaded file left [] un.any_moment;
+              any_moment = moments_loaded file left (reached o.status (made_all [])) un.any_moment;
               durable = durable;
               keeps = un.keeps;
               peer = peer_kept;
+              disk = λ other. (steady other, λ asks. refl);
               dial = λ other. refl;
             }),
       ),
     )
 
     -- what it stands for stays
-    contents_by : (fault ≡ load_fault.Disk → ⊥) → (bytes : List ℕ) (status : ℕ) → IsFileLeft (both file left) bytes status []
-    contents_by other bytes status old held file_told left_told are known =
-        all_left (is_cut status) old [] held (subst (IsFileOf held) (sym (append-nil old)) (un.contents other bytes file_told old are held left_told))
+    contents_by : (fault ≡ load_fault.Disk → ⊥) → (bytes : List ℕ) (status : ℕ) → IsFileLeft (both file left) bytes status (made_all [])
+    contents_by other bytes status old held file_told left_told are known = as_old_so_far status old held (un.contents other bytes file_told old are held left_told)
+
+    -- and so do the images, where these are known
+    images_by : (bytes : List ℕ) (status : ℕ) → IsTrue (is_cut status) → IsDurable (both file left) bytes status (made_all [])
+    images_by bytes status cut modelled file_told old are known c image = as_old_so_far status old c ((un.any_moment modelled old (known cut)).now c image)
 
     memory : (fault ≡ load_fault.Disk → ⊥) → printed d ≡ no_memory → Comes
     memory other told =
         let bytes = some_bytes file.contents in
-        by_text bytes.0 no_memory bytes.1 told (inr (inr (inr (inl refl, refl)))) (contents_by other bytes.0 9) (λ lasting. absurd (no_nine lasting))
+        by_text bytes.0 no_memory bytes.1 told (inr (inr (inr (inl refl, refl)))) (contents_by other bytes.0 9) (images_by bytes.0 9 refl) (λ status. counts other)
 
     disk : Rose file.faults left.faults → printed d ≡ with_text 4 disk_fault → Comes
     disk rose told =
         let bytes = some_bytes file.contents in
         by_text bytes.0 (with_text 4 disk_fault) bytes.1 told (inr (inl (refl, inl rose, inl refl, refl)))
         (λ old held file_told left_told are known.
-        let k = known refl in
+        let k = known refl rose in
         let modelled : IsModelled file = record { tells = ap is_some file_told; model = k.0 } in
-        none_of_them old [] held ((un.any_moment modelled old k.1).now held (left_reads held (un.keeps.model ∙ k.0) left_told)))
-        (λ lasting. absurd (no_four lasting))
+        as_old_so_far 4 old held ((un.any_moment modelled old k.1).now held (left_reads held (un.keeps.model ∙ k.0) left_told)))
+        (images_by bytes.0 4 refl) (λ other. absurd (other refl))
 
     nowhere : (fault ≡ load_fault.Disk → ⊥) → (bytes : List ℕ) (at : ℕ) → Agrees file.contents bytes → FailsAt bytes at → printed d ≡ printed_of (not_repository at) → Comes
     nowhere other bytes at agree fails told =
         by_text bytes (printed_of (not_repository at)) agree told (inl (not_repository at, refl, no_repository (read bytes) at fails refl, refl, refl)) (contents_by other bytes 2)
-        (λ lasting modelled file_told old are c image. absurd (no_file bytes at old fails are))
+        (λ modelled file_told old are known c image. absurd (no_file bytes at old fails are)) (λ status. counts other)
 
   -- it wasn't loaded
-  pub unopened_comes : (fault : LoadFault) → IsUnopened file left fault → IsUnopenedDue fault d → Comes
-  unopened_comes load_fault.Disk un due = disk load_fault.Disk un un.cause due
-  unopened_comes (load_fault.NotRepository at) un (inl due) =
-      nowhere (load_fault.NotRepository at) un (λ e. cc) un.cause.0 at (agrees file.contents un.cause.0 un.cause.1) un.cause.2 due
-  unopened_comes (load_fault.NotRepository at) un (inr due) = memory (load_fault.NotRepository at) un (λ e. cc) due
-  unopened_comes load_fault.Memory un due = memory load_fault.Memory un (λ e. cc) due
+  pub unopened_comes : (fault : LoadFault) → IsUnopened file left fault → ((fault ≡ load_fault.Disk → ⊥) → left.faults ≡ file.faults) → IsUnopenedDue fault d → Comes
+  unopened_comes load_fault.Disk un counts due = disk load_fault.Disk un counts un.cause due
+  unopened_comes (load_fault.NotRepository at) un counts (inl due) =
+      nowhere (load_fault.NotRepository at) un counts (λ e. cc) un.cause.0 at (agrees file.contents un.cause.0 un.cause.1) un.cause.2 due
+  unopened_comes (load_fault.NotRepository at) un counts (inr due) = memory (load_fault.NotRepository at) un counts (λ e. cc) due
+  unopened_comes load_fault.Memory un counts due = memory load_fault.Memory un counts (λ e. cc) due
 
 pull_unopened : (address : List ℕ) (login : Option (List ℕ × List ℕ)) (r : Read) (at : ℕ) → FailsAt r.file at → r.rounds ≡ [] → IsSyncOutcome (command_of.Pull address login) r (not_repository at)
 pull_unopened address login r at fails none = inl (at, fails, none, refl)
@@ -146,44 +151,45 @@ module _ {D : Type 0} (path : List ℕ) (file mid : DiskState) (old : Whole D) (
   same_keeps : Keeps mid mid
   same_keeps = record { tells = refl; model = refl }
 
-  module _ (fault : LoadFault) (un : IsUnopened peer peer_left fault) where
+  module _ (fault : LoadFault) (un : IsUnopened peer peer_left fault) (counts : (fault ≡ load_fault.Disk → ⊥) → peer_left.faults ≡ peer.faults) where
     peer_by : (bytes : List ℕ) (o : Printed) → Agrees peer.contents bytes → printed d ≡ o → IsAnswer local (record { file = ready.loaded.stands.0; peer = bytes; rounds = [] }) [] [] (objects_of (file, mid) (peer, peer_left) (dial, dial)) (λ p. o ≡ p)
-        → Rose peer.faults peer_left.faults ⊎ KeepsContents peer peer_left → Locals
-    peer_by bytes o told is answer contents = (
+        → Rose peer.faults peer_left.faults ⊎ KeepsContents peer peer_left → (o.status ≢ 4 → peer_left.faults ≡ peer.faults) → Locals
+    peer_by bytes o told is answer contents steady = (
       [],
       [],
       none_grown _,
       (
         record { file = ready.loaded.stands.0; peer = bytes; rounds = [] },
         [],
-        synced_by local peer peer_left dial dial file mid mid old old ready ready.whole same_keeps file_reads mid_reads bytes told d [] [] [] o is (inr (refl, refl)) answer
-            (inl (holds mid old old.seen.state.records [] ready.whole (fresh local peer peer_left dial dial file mid mid old old ready ready.whole same_keeps file_reads mid_reads bytes told d)))
-            (moments_loaded file mid [] ready.loaded.any_moment)
+        synced_by local peer peer_left dial dial file mid mid old old ready ready.whole same_keeps file_reads mid_reads bytes told d [] [] [] (made_all []) o is (inr (refl, refl)) answer (inl (refl, refl))
+            (inl (holds mid old (at_start local peer peer_left dial dial file mid mid old old ready ready.whole same_keeps file_reads mid_reads bytes told d) [] ready.whole
+            (fresh local peer peer_left dial dial file mid mid old old ready ready.whole same_keeps file_reads mid_reads bytes told d)))
+            (moments_loaded file mid (reached o.status (made_all [])) ready.loaded.any_moment)
             (λ asks. record { contents = contents; spared = spared; any_moment = un.any_moment; harmless = harmless; unreadable = un.unreadable; keeps = un.keeps })
-            (λ other. refl),
+            (λ other. (ready.loaded.faults, λ asks. steady other)) (λ other. refl),
       ),
     )
 
     peer_memory : (fault ≡ load_fault.Disk → ⊥) → printed d ≡ no_memory → Locals
-    peer_memory other told = let bytes = some_bytes peer.contents in peer_by bytes.0 no_memory bytes.1 told (inr (inr (inr (inl refl, refl)))) (inr (un.contents other))
+    peer_memory other told = let bytes = some_bytes peer.contents in peer_by bytes.0 no_memory bytes.1 told (inr (inr (inr (inl refl, refl)))) (inr (un.contents other)) (λ status. counts other)
 
     peer_disk : Rose peer.faults peer_left.faults → printed d ≡ with_text 4 disk_fault → Locals
     peer_disk rose told =
         let bytes = some_bytes peer.contents in
-        peer_by bytes.0 (with_text 4 disk_fault) bytes.1 told (inr (inl (refl, inr (refl, rose), inl refl, refl))) (inl rose)
+        peer_by bytes.0 (with_text 4 disk_fault) bytes.1 told (inr (inl (refl, inr (refl, rose), inl refl, refl))) (inl rose) (λ other. absurd (other refl))
 
     peer_nowhere : (fault ≡ load_fault.Disk → ⊥) → (bytes : List ℕ) (at : ℕ) → Agrees peer.contents bytes → FailsAt bytes at → printed d ≡ no_peer at → Locals
     peer_nowhere other bytes at agree fails told =
         peer_by bytes (no_peer at) agree told
-        (inl (with_commits (no_peer at) [], refl, (refl, inr (old.seen.state.records, ready.loaded.stands.2, inl (at, fails, refl))), refl, refl)) (inr (un.contents other))
+        (inl (with_commits (no_peer at) [], refl, (refl, inr (old.seen.state.records, ready.loaded.stands.2, inl (at, fails, refl))), refl, refl)) (inr (un.contents other)) (λ status. counts other)
 
   -- it wasn't loaded
-  pub no_peer_comes : (fault : LoadFault) → IsUnopened peer peer_left fault → IsNoPeerDue fault d → Locals
-  no_peer_comes load_fault.Disk un due = peer_disk load_fault.Disk un un.cause due
-  no_peer_comes (load_fault.NotRepository at) un (inl due) =
-      peer_nowhere (load_fault.NotRepository at) un (λ e. cc) un.cause.0 at (agrees peer.contents un.cause.0 un.cause.1) un.cause.2 due
-  no_peer_comes (load_fault.NotRepository at) un (inr due) = peer_memory (load_fault.NotRepository at) un (λ e. cc) due
-  no_peer_comes load_fault.Memory un due = peer_memory load_fault.Memory un (λ e. cc) due
+  pub no_peer_comes : (fault : LoadFault) → IsUnopened peer peer_left fault → ((fault ≡ load_fault.Disk → ⊥) → peer_left.faults ≡ peer.faults) → IsNoPeerDue fault d → Locals
+  no_peer_comes load_fault.Disk un counts due = peer_disk load_fault.Disk un counts un.cause due
+  no_peer_comes (load_fault.NotRepository at) un counts (inl due) =
+      peer_nowhere (load_fault.NotRepository at) un counts (λ e. cc) un.cause.0 at (agrees peer.contents un.cause.0 un.cause.1) un.cause.2 due
+  no_peer_comes (load_fault.NotRepository at) un counts (inr due) = peer_memory (load_fault.NotRepository at) un counts (λ e. cc) due
+  no_peer_comes load_fault.Memory un counts due = peer_memory load_fault.Memory un counts (λ e. cc) due
 
 -- ---- words for which there was no memory
 
@@ -210,13 +216,15 @@ idle_synced command file peer dial out status no_other no_other_peer written =
           rounds_are = refl;
           led = inr (refl, refl);
           answer = inr (inr (inr (inl refl, told_memory out status written)));
-          contents = λ old held file_told left_told are known.
-              subst (LeftBy old [] held) (sym nine) (none_of_them old [] held (subst (λ (b : List ℕ). IsFileOf b old) (some_same (sym file_told ∙ left_told)) are));
+          far = made_all [];
+          are_made = inl (refl, refl);
+          contents = λ old held file_told left_told are known. as_old_so_far status old held (subst (λ (b : List ℕ). IsFileOf b old) (some_same (sym file_told ∙ left_told)) are);
           kept = λ told refused. quiet_none file;
-          any_moment = λ modelled old are. started file (StandsForSome old []) (no_other modelled.model) (λ c image. none_of_them old [] c (are c image));
-          durable = λ lasting. absurd (no_nine (subst IsLasting nine lasting));
+          any_moment = λ modelled old are. started file (StandsForSome old (reached status (made_all []))) (no_other modelled.model) (λ c image. none_of_them old (reached status (made_all [])) c (are c image));
+          durable = λ modelled file_told old are known c image. as_old_so_far status old c (known (subst (λ (n : ℕ). IsTrue (is_cut n)) (sym nine) refl) c image);
           keeps = record { tells = refl; model = refl };
           peer = λ asks. peer_idle peer no_other_peer;
+          disk = λ other. (refl, λ asks. refl);
           dial = λ other. refl;
         },
       ),

@@ -48,7 +48,8 @@ IsResultTold Tells result = Tells (result_printed result) ⊎ Tells no_memory
 -- ---- a run
 
 -- a clone without login onto a disk came to one result, which is told
-pub record ClonesBy {D : Type 0} (disk : D → DiskState) (server : List ℕ) (fields : List (List ℕ)) (before after : D) (dial : LinkState × LinkState) (Tells : Printed → Type 0) : Type 0 where
+pub record ClonesBy {D : Type 0} (disk : D → DiskState) (server : List ℕ) (fields : List (List ℕ)) (before after : D) (dial : LinkState × LinkState)
+    (Tells : Printed → Type 0) : Type 0 where
   pub result : Result Pulled PullFault
   pub clones : IsClonedOver disk server fields None dial.0 dial.1 before after result
   -- no call of the dial failed but that with which the clone ended, and none of the disk

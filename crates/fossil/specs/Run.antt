@@ -264,7 +264,8 @@ HasRun command input out file status = (read bytes : List ℕ) × (o : Outcome) 
 -- the same by the words, and by each object before and after
 abbrev pub Runs : List (List ℕ) → SourceState × SourceState → SinkState × SinkState → DiskState × DiskState → ℕ → Type 0
 Runs words input out file status =
-    HasRun (said words) (record { before = input.0; after = input.1 }) (record { before = out.0; after = out.1 }) (record { before = file.0; after = file.1 }) status
+    HasRun (said words) (record { before = input.0; after = input.1 }) (record { before = out.0; after = out.1 })
+    (record { before = file.0; after = file.1 }) status
 
 -- the same where they say no command that meets a peer
 abbrev pub RunsAlone : List (List ℕ) → SourceState × SourceState → SinkState × SinkState → DiskState × DiskState → ℕ → Type 0

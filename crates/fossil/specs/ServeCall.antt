@@ -25,21 +25,29 @@ CrewsWorked door passed before after users project requests works =
     × AllGated (λ c. (door c.door).present) (λ c. (door c.door).standing) (λ c. passed c.gate) users project requests works before after
 
 -- a loaded repository was served to these users
-abbrev pub IsLoadedServed : {D A G : Type 0} → (D → DiskState) → (A → LinkState) → (G → Option Points) → List User → ℕ → Whole D → List (Crew A G) → SinkState × SinkState → Served D A G → Type 0
+abbrev pub IsLoadedServed : {D A G : Type 0} → (D → DiskState) → (A → LinkState) → (G → Option Points) → List User → ℕ → Whole D → List (Crew A G) →
+    SinkState × SinkState → Served D A G → Type 0
 IsLoadedServed tells door passed users requests first crews out answer =
-    Says (λ o. ServesLoaded tells (CrewsWorked door passed crews answer.crews.items) first (left_of answer.state) crews answer.crews.items users requests o) (output_of out) answer.status
+    Says (λ o. ServesLoaded tells (CrewsWorked door passed crews answer.crews.items) first (left_of answer.state) crews answer.crews.items users requests o)
+    (output_of out) answer.status
 
 -- a disk was served to these users
-abbrev pub IsDiskServed : {D A G : Type 0} → (D → DiskState) → (A → LinkState) → (G → Option Points) → List User → ℕ → D → List (Crew A G) → SinkState × SinkState → Served D A G → Type 0
+abbrev pub IsDiskServed : {D A G : Type 0} → (D → DiskState) → (A → LinkState) → (G → Option Points) → List User → ℕ → D → List (Crew A G) →
+    SinkState × SinkState → Served D A G → Type 0
 IsDiskServed tells door passed users requests disk crews out answer =
-    Says (λ o. ServesDisk tells (CrewsWorked door passed crews answer.crews.items) disk (left_of answer.state) crews answer.crews.items users requests o) (output_of out) answer.status
+    Says (λ o. ServesDisk tells (CrewsWorked door passed crews answer.crews.items) disk (left_of answer.state) crews answer.crews.items users requests o)
+    (output_of out) answer.status
 
 -- a disk was served to the users of a file
-abbrev pub IsFileServed : {D A G : Type 0} → (D → DiskState) → (A → LinkState) → (G → Option Points) → SourceState × SourceState → ℕ → D → List (Crew A G) → SinkState × SinkState → Served D A G → Type 0
+abbrev pub IsFileServed : {D A G : Type 0} → (D → DiskState) → (A → LinkState) → (G → Option Points) → SourceState × SourceState → ℕ → D →
+    List (Crew A G) → SinkState × SinkState → Served D A G → Type 0
 IsFileServed tells door passed users requests disk crews out answer =
-    Says (λ o. Serves tells (CrewsWorked door passed crews answer.crews.items) (input_of users) disk (left_of answer.state) crews answer.crews.items requests o) (output_of out) answer.status
+    Says (λ o. Serves tells (CrewsWorked door passed crews answer.crews.items) (input_of users) disk (left_of answer.state) crews answer.crews.items requests o)
+    (output_of out) answer.status
 
 -- what a disk, the doors and the gates tell; the words; the users file and the output before and after; the disk and the crews; and the answer
-abbrev pub IsServe : {D A G : Type 0} → (D → DiskState) → (A → LinkState) → (G → Option Points) → List (List ℕ) → SourceState × SourceState → SinkState × SinkState → D → List (Crew A G) → Served D A G → Type 0
+abbrev pub IsServe : {D A G : Type 0} → (D → DiskState) → (A → LinkState) → (G → Option Points) → List (List ℕ) → SourceState × SourceState →
+    SinkState × SinkState → D → List (Crew A G) → Served D A G → Type 0
 IsServe tells door passed words users out disk crews answer =
-    Says (λ o. Ends tells (CrewsWorked door passed crews answer.crews.items) words (input_of users) disk (left_of answer.state) crews answer.crews.items o) (output_of out) answer.status
+    Says (λ o. Ends tells (CrewsWorked door passed crews answer.crews.items) words (input_of users) disk (left_of answer.state) crews answer.crews.items o)
+    (output_of out) answer.status

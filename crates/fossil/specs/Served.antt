@@ -76,7 +76,8 @@ pub record IsUsers (users : Input) (these : List User) : Type 0 where
 -- records stands for them or is what it was, and a file that stands for none stays
 pub record IsSafe (before after : DiskState) : Type 0 where
   pub keeps : Keeps before after
-  pub any_moment : IsModelled before → (low high : List Record) → ((c : List ℕ) → before.images c → StandsBetween low high c) → LeavesOnly before after (StandsBetween low high)
+  pub any_moment : IsModelled before → (low high : List Record) → ((c : List ℕ) → before.images c → StandsBetween low high c) →
+      LeavesOnly before after (StandsBetween low high)
   pub harmless : IsModelled before → LeavesOnly before after (HeldOrSame before)
   pub refused : Told before (λ held. (at : ℕ) → FailsAt held at → Quiet before after)
 
@@ -132,7 +133,8 @@ pub data AreNoUsers (users : Input) (o : Printed) : Type 0 where
   bad : (bytes : List ℕ) (n : ℕ) → IsUsersRead users bytes → IsFirstBadLine bytes n → o ≡ bad_users n → AreNoUsers users o
 
 -- from the loaded repository to the one that is left: its records go on, it is stopped only where its disk failed, and the workers served these users under its project
-pub record HasServed {D : Type 0} (tells : D → DiskState) (Worked : Workers) (users : List User) (requests : ℕ) (first last : Whole D) (o : Printed) : Type 0 where
+pub record HasServed {D : Type 0} (tells : D → DiskState) (Worked : Workers) (users : List User) (requests : ℕ) (first last : Whole D)
+    (o : Printed) : Type 0 where
   pub later : IsLaterOn (tells first.disk) (tells last.disk) first last
   pub whole : IsWholeOn (tells last.disk) last
   pub works : List Work
@@ -140,27 +142,35 @@ pub record HasServed {D : Type 0} (tells : D → DiskState) (Worked : Workers) (
   pub says : o ≡ worked last.seen.state.stopped works (blobs later.seen.more)
 
 -- what became of a loaded repository, and what is due then: there was no memory for the workers, or they ran
-pub data ServesLoaded {D X : Type 0} (tells : D → DiskState) (Worked : Workers) (first : Whole D) (left : Left D) (crews crews_left : List X) (users : List User) (requests : ℕ) (o : Printed) : Type 0 where
+pub data ServesLoaded {D X : Type 0} (tells : D → DiskState) (Worked : Workers) (first : Whole D) (left : Left D) (crews crews_left : List X)
+    (users : List User) (requests : ℕ) (o : Printed) : Type 0 where
   unstaffed : left ≡ Loaded first → crews_left ≡ crews → o ≡ no_memory → ServesLoaded tells Worked first left crews crews_left users requests o
-  served : (last : Whole D) → left ≡ Loaded last → HasServed tells Worked users requests first last o → ServesLoaded tells Worked first left crews crews_left users requests o
+  served : (last : Whole D) → left ≡ Loaded last → HasServed tells Worked users requests first last o →
+      ServesLoaded tells Worked first left crews crews_left users requests o
 
 -- what became of a disk, and what is due then: it wasn't loaded, or it was, and the repository was served
-pub data ServesDisk {D X : Type 0} (tells : D → DiskState) (Worked : Workers) (disk : D) (left : Left D) (crews crews_left : List X) (users : List User) (requests : ℕ) (o : Printed) : Type 0 where
-  unloaded : (rest : D) (fault : LoadFault) → left ≡ Unloaded rest → crews_left ≡ crews → OpenFailed fault (tells disk) (tells rest) → IsSafe (tells disk) (tells rest)
+pub data ServesDisk {D X : Type 0} (tells : D → DiskState) (Worked : Workers) (disk : D) (left : Left D) (crews crews_left : List X)
+    (users : List User) (requests : ℕ) (o : Printed) : Type 0 where
+  unloaded : (rest : D) (fault : LoadFault) → left ≡ Unloaded rest → crews_left ≡ crews → OpenFailed fault (tells disk) (tells rest) →
+      IsSafe (tells disk) (tells rest)
       → o ≡ not_loaded fault → ServesDisk tells Worked disk left crews crews_left users requests o
   loaded : (first : Whole D) → IsOpened (tells disk) (tells first.disk) first → IsSafe (tells disk) (tells first.disk)
       → ServesLoaded tells Worked first left crews crews_left users requests o → ServesDisk tells Worked disk left crews crews_left users requests o
 
 -- the same with the users: there are none, and disk and crews are untouched; or there are, and the disk was served to them
-pub data Serves {D X : Type 0} (tells : D → DiskState) (Worked : Workers) (users : Input) (disk : D) (left : Left D) (crews crews_left : List X) (requests : ℕ) (o : Printed) : Type 0 where
+pub data Serves {D X : Type 0} (tells : D → DiskState) (Worked : Workers) (users : Input) (disk : D) (left : Left D) (crews crews_left : List X)
+    (requests : ℕ) (o : Printed) : Type 0 where
   no_users : AreNoUsers users o → left ≡ Unloaded disk → crews_left ≡ crews → Serves tells Worked users disk left crews crews_left requests o
-  to_users : (these : List User) → IsUsers users these → ServesDisk tells Worked disk left crews crews_left these requests o → Serves tells Worked users disk left crews crews_left requests o
+  to_users : (these : List User) → IsUsers users these → ServesDisk tells Worked disk left crews crews_left these requests o →
+      Serves tells Worked users disk left crews crews_left requests o
 
 -- the same with the words: they are no serve, and nothing is touched; or they are
-pub data Ends {D X : Type 0} (tells : D → DiskState) (Worked : Workers) (words : List (List ℕ)) (users : Input) (disk : D) (left : Left D) (crews crews_left : List X) (o : Printed) : Type 0 where
+pub data Ends {D X : Type 0} (tells : D → DiskState) (Worked : Workers) (words : List (List ℕ)) (users : Input) (disk : D) (left : Left D)
+    (crews crews_left : List X) (o : Printed) : Type 0 where
   no_serve : serving_in words ≡ None → users.after ≡ users.before → left ≡ Unloaded disk → crews_left ≡ crews → o ≡ printing.usage
       → Ends tells Worked words users disk left crews crews_left o
-  serve : (asked : Serving) → serving_in words ≡ Some asked → Serves tells Worked users disk left crews crews_left asked.requests o → Ends tells Worked words users disk left crews crews_left o
+  serve : (asked : Serving) → serving_in words ≡ Some asked → Serves tells Worked users disk left crews crews_left asked.requests o →
+      Ends tells Worked words users disk left crews crews_left o
 
 -- what is due was written and no write failed; or a front of it, where the sink's count rose, with 6 in place of 0
 pub data IsWrittenAs (o : Printed) (out : Output) (status : ℕ) : Type 0 where

@@ -1,5 +1,5 @@
 -- What a run of a command that syncs says of its status, its output, its files and its dial, by one reading of all that it read.
-use Rattle.std.specs.Prelude.{◌≡◌, ◌≢◌, ℕ, ◌+◌, ◌≤◌, ◌⊎◌, ◌==◌, ◌||◌, not, Bool, true, false, List, [], ◌++◌, length, Some, IsTrue, MatchBool}
+use Rattle.std.specs.Prelude.{◌≡◌, ◌≢◌, ℕ, ◌+◌, ◌≤◌, ◌⊎◌, ◌==◌, ◌||◌, if◌then◌else◌, Bool, true, false, List, [], ◌∷◌, ◌++◌, length, Some, IsTrue}
 use Rattle.std.specs.Option.{option_map_or}
 use Rattle.fsl_order.specs.Causes.{Rose}
 use Rattle.fsl_outside.specs.Connections.{Connection, LinkState}
@@ -8,8 +8,8 @@ use Rattle.fsl_record.specs.declared.Record.{Record}
 use Rattle.fsl_disk.specs.Disk.{DiskState, IsModelled, Keeps, Quiet, LeavesOnly}
 use Rattle.fsl_journal.specs.File.{IsFileOf, FailsAt}
 use Rattle.fsl_journal.specs.Journal.{HeldOrSame, IsSpared}
-use Rattle.fsl_http.specs.Responses.{IsBrokenOff, IsLeft}
-use Rattle.fsl_pull.specs.Rounds.{most_rounds}
+use Rattle.fsl_http.specs.Responses.{Exchanged, IsBrokenOff, IsLeft}
+use Rattle.fsl_pull.specs.Rounds.{Round, most_rounds}
 use Rattle.fsl_pull.specs.Dialled.{Rounds, HasRounds, HasSent, Breaks}
 use Rattle.fsl_pull.specs.Kept.{all_of_them, StandsForSome}
 use Rattle.fsl_pull.specs.Calls.{Dialled, dialled}
@@ -100,14 +100,19 @@ abbrev pub HasFailed : Command → Objects → Type 0
 HasFailed command x =
     Rose x.file.before.faults x.file.after.faults ⊎ (IsTrue (command_asks_peer command) × Rose x.peer.before.faults x.peer.after.faults)
 
--- a call of a disk was due: no round was read, or there is something to commit
-abbrev pub IsDiskDue : Read → List (List Record) → Type 0
-IsDiskDue r commits = (r.rounds ≡ []) ⊎ (commits ≢ [])
+-- the rounds but the last all went on, and come to these commits
+abbrev pub AreCommitsBefore : Command → Read → List (List Record) → Type 0
+AreCommitsBefore command r done =
+    (front : Rounds) × (last : Round (List ℕ) Exchanged) × (r.rounds ≡ front ++ last ∷ []) × AreCommitsSoFar command (record r { rounds = front }) done
+
+-- a call of a disk was due: no round was read, and a file was to be loaded; or the last round has something to commit
+abbrev pub IsDiskDue : Command → Read → List (List Record) → Type 0
+IsDiskDue command r commits = (r.rounds ≡ []) ⊎ ((done : List (List Record)) × AreCommitsBefore command r done × (commits ≢ done))
 
 -- a fault has its status and its line, its object's count rose, and a call of it was due; want of memory has no cause
 abbrev pub IsFaulted : Command → Read → List Connection → List (List Record) → Objects → (Printed → Type 0) → Type 0
 IsFaulted command r broken commits x Tells =
-    ((broken ≡ []) × HasFailed command x × IsDiskDue r commits × Tells (with_text 4 disk_fault))
+    ((broken ≡ []) × HasFailed command x × IsDiskDue command r commits × Tells (with_text 4 disk_fault))
     ⊎ ((Rose x.dial.faults_before x.dial.faults_after × IsCutOff command r IsBrokenOff broken 1 × Tells (with_text 7 link_fault))
     ⊎ (((broken ≡ []) ⊎ IsCutOff command r IsLeft broken (length broken)) × Tells no_memory))
 
@@ -119,34 +124,59 @@ IsAnswer command r broken commits x Tells =
 
 -- ---- the files
 
--- a status behind which the commits may be there in part: the disk failed, or there was no memory
+-- a status behind which the last commit may not be there: the disk failed, or there was no memory
 abbrev pub is_cut : ℕ → Bool
 is_cut status = (status == 4) || (status == 9)
 
--- the bytes stand for the old records and all commits
+-- how far the commits came, with the due one and without it
+pub record Far : Type 0 where
+  pub done : List (List Record)
+  pub due : List (List Record)
+
+-- where the last round wasn't committed: the commits of the rounds before it, and all. The rounds of a pull from a peer's file aren't told: some first commits, and at most one more
+abbrev pub AreCutOff : Command → Read → List (List Record) → Far → Type 0
+AreCutOff (PullLocal path) r commits far =
+    ((more : List (List Record)) × (far.due ≡ far.done ++ more) × (length more ≤ 1)) × ((left : List (List Record)) × (commits ≡ far.due ++ left))
+AreCutOff command r commits far = AreCommitsBefore command r far.done × (far.due ≡ commits)
+
+-- all commits were made, or behind a cut perhaps all but that of the last round
+abbrev pub AreMade : Command → Read → ℕ → List Connection → List (List Record) → Far → Type 0
+AreMade command r status broken commits far =
+    ((far.done ≡ commits) × (far.due ≡ commits)) ⊎ (IsTrue (is_cut status) × (broken ≡ []) × AreCutOff command r commits far)
+
+-- the bytes stand for the old records and these commits
 abbrev pub StandsForAll : List Record → List (List Record) → List ℕ → Type 0
 StandsForAll old commits bytes = IsFileOf bytes (old ++ all_of_them commits)
+
+-- they stand for the old records and the commits that were made; where one failed, with it or without it
+abbrev pub StandsAsFar : ℕ → List Record → Far → List ℕ → Type 0
+StandsAsFar status old far bytes = StandsForAll old far.done bytes ⊎ ((status ≡ 4) × StandsForAll old far.due bytes)
 
 -- each image stands for these records
 abbrev pub AreImagesOf : List Record → (List ℕ → Type 0) → Type 0
 AreImagesOf records images = (c : List ℕ) → images c → IsFileOf c records
 
--- where it is told, the file that is left stands for the old records and all commits, and behind a cut for these and some first commits; of a disk that failed its images must be known
-abbrev pub IsFileLeft : File → List ℕ → ℕ → List (List Record) → Type 0
-IsFileLeft file bytes status commits =
+-- where it is told, the file that is left stands for the old records and the commits that were made; of a disk that failed its images must be known
+abbrev pub IsFileLeft : File → List ℕ → ℕ → Far → Type 0
+IsFileLeft file bytes status far =
     (old : List Record) (held : List ℕ) → file.before.contents ≡ Some bytes → file.after.contents ≡ Some held → IsFileOf bytes old →
-    (status ≡ 4 → IsTrue file.before.is_model × AreImagesOf old file.before.images) →
-    MatchBool (is_cut status) (StandsForSome old commits held) (StandsForAll old commits held)
+    (status ≡ 4 → Rose file.before.faults file.after.faults → IsTrue file.before.is_model × AreImagesOf old file.before.images) →
+    StandsAsFar status old far held
+
+-- what a crash at any moment may leave of the commits: those that were made, and where the disk failed the due one
+abbrev pub reached : ℕ → Far → List (List Record)
+reached status far = if status == 4 then far.due else far.done
 
 -- whatever moment a crash comes at, it leaves the old records followed by some first commits
 abbrev pub IsWholeAtAnyMoment : File → List (List Record) → Type 0
 IsWholeAtAnyMoment file commits =
     IsModelled file.before → (old : List Record) → AreImagesOf old file.before.images → LeavesOnly file.before file.after (StandsForSome old commits)
 
--- a crash after the run leaves the old records and all commits, whatever one before it might have left
-abbrev pub IsDurable : File → List ℕ → List (List Record) → Type 0
-IsDurable file bytes commits =
-    IsModelled file.before → file.before.contents ≡ Some bytes → (old : List Record) → IsFileOf bytes old → (c : List ℕ) → file.after.images c → StandsForAll old commits c
+-- a crash after the run leaves the old records and the commits that were made, whatever one before it might have left; behind a cut that must be known
+abbrev pub IsDurable : File → List ℕ → ℕ → Far → Type 0
+IsDurable file bytes status far =
+    IsModelled file.before → file.before.contents ≡ Some bytes → (old : List Record) → IsFileOf bytes old →
+    (IsTrue (is_cut status) → AreImagesOf old file.before.images) → (c : List ℕ) → file.after.images c → StandsAsFar status old far c
 
 -- a file that is no repository stays as it is, at each moment and whatever the status
 abbrev pub IsRefusedKept : File → List ℕ → Type 0
@@ -166,7 +196,8 @@ pub record IsPeerKept (peer : File) : Type 0 where
 -- ---- a run
 
 -- a run that had these rounds: by one reading of its files, and by the commits that it comes to
-pub record SyncsBy (command : Command) (x : Objects) (Tells : Printed → Type 0) (status : ℕ) (rounds : Rounds) (broken : List Connection) (r : Read) (commits : List (List Record)) : Type 0 where
+pub record SyncsBy (command : Command) (x : Objects) (Tells : Printed → Type 0) (status : ℕ) (rounds : Rounds) (broken : List Connection) (r : Read)
+    (commits : List (List Record)) : Type 0 where
   -- what was read is what was told
   pub file_told : Agrees x.file.before.contents r.file
   pub peer_told : Agrees x.peer.before.contents r.peer
@@ -174,13 +205,17 @@ pub record SyncsBy (command : Command) (x : Objects) (Tells : Printed → Type 0
   -- the rounds come to these commits, or there was none
   pub led : AreCommits command r commits ⊎ ((rounds ≡ []) × (commits ≡ []))
   pub answer : IsAnswer command r broken commits x Tells
-  pub contents : IsFileLeft x.file r.file status commits
+  -- how many of them were made
+  pub far : Far
+  pub are_made : AreMade command r status broken commits far
+  pub contents : IsFileLeft x.file r.file status far
   pub kept : IsRefusedKept x.file r.file
-  pub any_moment : IsWholeAtAnyMoment x.file commits
-  pub durable : IsTrue (not (is_cut status)) → IsDurable x.file r.file commits
+  pub any_moment : IsWholeAtAnyMoment x.file (reached status far)
+  pub durable : IsDurable x.file r.file status far
   pub keeps : Keeps x.file.before x.file.after
   pub peer : IsTrue (command_asks_peer command) → IsPeerKept x.peer
-  -- no call of the dial failed but that with which the sync ended
+  -- no call of a disk or of the dial failed but that with which the sync ended
+  pub disk : status ≢ 4 → (x.file.after.faults ≡ x.file.before.faults) × (IsTrue (command_asks_peer command) → x.peer.after.faults ≡ x.peer.before.faults)
   pub dial : status ≢ 7 → x.dial.faults_after ≡ x.dial.faults_before
 
 -- the connections that the dial's list grew by are the rounds, and perhaps one that broke off

@@ -84,7 +84,7 @@ pub record HasMade (w : Way) (login : Option Login) (dial : LinkState × LinkSta
 -- the same of a pull from a peer, which stays as it is
 abbrev pub HasPulledFrom : DiskState × DiskState → Seen → Seen → Seen → Due → Type 0
 HasPulledFrom disk old new peer due =
-    (result : Result Pulled PullFault) × IsPulledFrom disk.0 disk.1 old new peer peer result × IsSyncDue result due
+    (result : Result Pulled PullFault) × IsPulledFrom disk.0 disk.1 old new peer result × IsSyncDue result due
 
 -- a way as a command
 abbrev pub command_by : Way → List ℕ → Option (List ℕ × List ℕ) → Command

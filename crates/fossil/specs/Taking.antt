@@ -78,11 +78,13 @@ pub record IsGathered (s : State) (g : Gathered) : Type 0 where
   pub held : (contents g.blobs.records).held ≡ (now s).held
   pub shunned : (contents g.blobs.records).shunned ≡ set.empty
   pub none : (now s).shunned ≡ set.empty
-  pub wanted : (items : List Item) → AreItems (now s).held items → (name : List ℕ) → contains bytes_cmp g.wanted name ≡ has (missing (map cluster_fact items)) name
+  pub wanted : (items : List Item) → AreItems (now s).held items → (name : List ℕ) →
+      contains bytes_cmp g.wanted name ≡ has (missing (map cluster_fact items)) name
 
 -- a file arrived in a set
 abbrev pub IsGatheredBy : Sent → Gathered → Gathered → Result Arrival ArriveFault → Type 0
-IsGatheredBy f old new (Ok a) = (s : State) → IsGathered s old → IsArrival s f.name f.bytes f.private (Ok a) × IsGathered (arrived s f.name f.bytes f.private (Ok a)) new
+IsGatheredBy f old new (Ok a) = (s : State) → IsGathered s old → IsArrival s f.name f.bytes f.private (Ok a)
+    × IsGathered (arrived s f.name f.bytes f.private (Ok a)) new
 IsGatheredBy f old new (Err arrive_fault.Memory) = ⊤
 IsGatheredBy f old new (Err fault) = (s : State) → IsGathered s old → IsArrival s f.name f.bytes f.private (Err fault)
 

@@ -38,7 +38,8 @@ fn obey<S: Source, K: Sink, D: Disk>(
 ) -> Done<D>
     requires obeyable { IsObeyable command }
     requires alone { command_meets command ≡ false }
-    ensures runs { RunsCommand command (S.state input.old, S.state input.new) (K.state out.old, K.state out.new) (D.state repo, D.state result.repo) result.status }
+    ensures runs { RunsCommand command (S.state input.old, S.state input.new) (K.state out.old, K.state out.new)
+        (D.state repo, D.state result.repo) result.status }
     ensures unread { command_reads command ≡ false → input.new ≡ input.old }
     ensures untouched { command_opens command ≡ false → result.repo ≡ repo }
 {
@@ -188,7 +189,7 @@ fn run_words<S: Source, K: Sink, D: Disk, P: Disk, N: Dial>(
 /// with all or none of the command's, and after each other status for the old ones. Whatever moment a crash comes at, what
 /// it leaves stands for the old ones with all or none of the command's; after status 0 and 6, for all, whatever a crash
 /// before the run might have left. A sync has one commit for each round that stores an artifact: after 7 and each status of its end all
-/// of them stand there, and after 4 and 9 the first ones. A clone refuses a file with bytes, which stays as it is; into an empty one
+/// of them stand there, and after 4 and 9 all, or all but that of the last round; of `pull-local`, some first ones. A clone refuses a file with bytes, which stays as it is; into an empty one
 /// the commit of its first reply writes the record of the repository too. The peer's file stands for what it stood for.
 pub fn run<S: Source, K: Sink, D: Disk, P: Disk, N: Dial>(
     alloc: Global,

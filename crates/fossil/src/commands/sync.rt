@@ -43,7 +43,8 @@ fn make<D: Disk, N: Dial, L: Ledger>(
     dial: &mut N,
     steps: &mut Steps<L>,
 ) -> Result<Pulled, PullFault>
-    ensures made { IsMadeOver way login.now (N.state dial.old, N.state dial.new) (D.state repo.old.disk, D.state repo.new.disk) repo.old.seen repo.new.seen result }
+    ensures made { IsMadeOver way login.now (N.state dial.old, N.state dial.new)
+        (D.state repo.old.disk, D.state repo.new.disk) repo.old.seen repo.new.seen result }
     ensures counts { IsDialCounted (N.state dial.old) (N.state dial.new) result }
     ensures keeps { Keeps (D.state repo.old.disk) (D.state repo.new.disk) }
 {
@@ -65,7 +66,8 @@ fn make_counted<D: Disk, N: Dial, L: Ledger>(
     requires name { blank.name ≡ L.name }
     requires parts { blank.parts ≡ L.parts }
     requires counts { 0 < L.parts }
-    ensures made { HasMade way login.now (N.state dial.old, N.state dial.new) (D.state repo.old.disk, D.state repo.new.disk) repo.old.seen repo.new.seen result }
+    ensures made { HasMade way login.now (N.state dial.old, N.state dial.new)
+        (D.state repo.old.disk, D.state repo.new.disk) repo.old.seen repo.new.seen result }
     ensures whole { IsWholeOn (D.state repo.new.disk) repo.new }
     ensures keeps { Keeps (D.state repo.old.disk) (D.state repo.new.disk) }
 {
@@ -83,7 +85,8 @@ fn sync_open<D: Disk, N: Dial>(
     repo: &mut Repo<D>,
     dial: &mut N,
 ) -> Due
-    ensures made { HasMade way login.now (N.state dial.old, N.state dial.new) (D.state repo.old.disk, D.state repo.new.disk) repo.old.seen repo.new.seen result }
+    ensures made { HasMade way login.now (N.state dial.old, N.state dial.new)
+        (D.state repo.old.disk, D.state repo.new.disk) repo.old.seen repo.new.seen result }
     ensures whole { IsWholeOn (D.state repo.new.disk) repo.new }
     ensures keeps { Keeps (D.state repo.old.disk) (D.state repo.new.disk) }
 {

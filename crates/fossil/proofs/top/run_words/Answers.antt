@@ -75,7 +75,7 @@ returns-in-Err-Memory g c =
           idle_synced command (g.D.Disk.state c.args.repo) (g.P.Disk.state c.args.peer) (g.N.Link.state c.args.dial.now) out c.print-status.result (λ model f left. g.met.D.Disk.only_now c.args.repo f model left)
           (λ model f left. g.met.P.Disk.only_now c.args.peer f model left) c.print-status.ensures;
       cloned = λ address server fields is.
-          idle_cloned g.D.Disk.state server fields c.args.repo (g.N.Link.state c.args.dial.now) (λ f model left. g.met.D.Disk.only_now c.args.repo f model left) out c.print-status.result c.print-status.ensures;
+          idle_cloned g.D.Disk.state server fields c.args.repo (g.N.Link.state c.args.dial.now) out c.print-status.result c.print-status.ensures;
       unread = λ h. refl {a = c.args.input.now};
       untouched = λ h. refl {a = c.args.repo};
       unasked = λ h. refl {a = c.args.peer};
