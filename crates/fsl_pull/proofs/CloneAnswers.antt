@@ -1,5 +1,5 @@
 -- The answers of a clone, by the rounds so far and by its last one.
-use Rattle.std.specs.Prelude.{◌≡◌, ◌≢◌, ℕ, ◌+◌, ◌≤◌, ◌⊎◌, List, [], ◌∷◌, ◌++◌, length, Option, Some, None, Result, Ok, Err}
+use Rattle.std.specs.Prelude.{◌≡◌, ℕ, ◌+◌, ◌<◌, ◌≤◌, ◌⊎◌, List, [], ◌∷◌, ◌++◌, length, Option, Some, None, Result, Ok, Err}
 use Rattle.std.proofs.Common.{refl, sym, subst, ◌∙◌, inl, inr, arith}
 use Rattle.fsl_order.specs.Causes.{Rose}
 use Rattle.fsl_outside.specs.Connections.{Connection, LinkState}
@@ -39,7 +39,7 @@ module _ (k : CloneOf) (IsKept : List (List Record) → Type 0) (l0 l l2 : LinkS
   from_start rounds commits (inl (e, h, is)) = inl (e, h, is)
   from_start rounds commits (inr (few, (p, go, is))) = inr (p, go, is)
 
-  refused_answer : (why : PullFault) (d : Dialled) (rounds : Rounds) → IsRefusal why → IsCloneEnd k (Some why) None rounds [] → IsCloneAnswer k d faults (Err why) rounds []
+  refused_answer : (why : PullFault) (d : Dialled) (rounds : Rounds) → IsRefusal why → IsCloneEnd k (Some why) None rounds [] → IsCloneAnswer k d faults IsKept (Err why) rounds []
   refused_answer (fault.NotEmpty len) d rounds r w = absurd r
   refused_answer (fault.NotRepository at) d rounds r w = absurd r
   refused_answer (fault.Project found) d rounds r w = w
@@ -81,7 +81,7 @@ module _ (k : CloneOf) (IsKept : List (List Record) → Type 0) (l0 l l2 : LinkS
     few_more : (r : Round (List ℕ) Exchanged) → length front + 1 ≤ most_rounds → length (front ++ r ∷ []) ≤ most_rounds
     few_more r lt = omega (arith, lt, length_behind front r)
 
-    told_step : (result : Result Pulled PullFault) (step : Then Cloning) (made : IsMade l l2 (λ r. R point r step)) → IsKept (commits_of step) → IsCloneAnswer k (dialled l0 l2) faults result (front ++ made.0 ∷ []) [] → Call result
+    told_step : (result : Result Pulled PullFault) (step : Then Cloning) (made : IsMade l l2 (λ r. R point r step)) → IsKept (commits_of step) → IsCloneAnswer k (dialled l0 l2) faults IsKept result (front ++ made.0 ∷ []) [] → Call result
     told_step result step made kept answer = (
       front ++ made.0 ∷ [],
       [],
@@ -115,7 +115,7 @@ module _ (k : CloneOf) (IsKept : List (List Record) → Type 0) (l0 l l2 : LinkS
         (refused_answer why (dialled l0 l2) (front ++ made.0 ∷ []) refusal (whole_by e made (Some why) None lt is (inl refl) left))
 
     -- its commit failed
-    pub lost : (step : Then Cloning) (made : IsMade l l2 (λ r. R point r step)) → length front + 1 ≤ most_rounds → (state_of step).committed ≡ length (state_of step).records → committed_before point ≢ length (state_of step).records
+    pub lost : (step : Then Cloning) (made : IsMade l l2 (λ r. R point r step)) → length front + 1 ≤ most_rounds → (state_of step).committed ≡ length (state_of step).records → committed_before point < length (state_of step).records
         → k.Loses (commits_before point (commits_of step)) (commits_of step) → Rose k.faults faults → IsKept (commits_of step) → Call (Err fault.Disk)
     lost step made lt due some left rose kept =
         told_step (Err fault.Disk) step made kept (
@@ -139,8 +139,8 @@ module _ (k : CloneOf) (IsKept : List (List Record) → Type 0) (l0 l l2 : LinkS
 
     -- there was no memory within it
     pub in_part : (r : Round (List ℕ) Exchanged) (reply : List WireCard) (commits : List (List Record)) → IsExchangeOf l l2 r.request r.reply → length front + 1 ≤ most_rounds → CloneAsks k.login point r.request → IsReplyRead r.reply (Ok reply)
-        → AreBegun k.server k.fields point reply commits → k.Leaves commits → ((step : Then Cloning) → R point r step → IsKept (commits_of step)) → Call (Err fault.Memory)
-    in_part r reply commits exchange lt asked read begun left kept = (
+        → AreBegun k.server k.fields point reply commits → k.Leaves commits → IsKept commits → ((step : Then Cloning) → R point r step → IsKept (commits_of step)) → Call (Err fault.Memory)
+    in_part r reply commits exchange lt asked read begun left no_more kept = (
       front ++ r ∷ [],
       [],
       grown l0 l l2 front grows r exchange,
@@ -161,6 +161,7 @@ module _ (k : CloneOf) (IsKept : List (List Record) → Type 0) (l0 l l2 : LinkS
             commits = commits;
             begun = begun;
             left = left;
+            kept = no_more;
           },
         ),
         λ those from.
@@ -171,7 +172,7 @@ module _ (k : CloneOf) (IsKept : List (List Record) → Type 0) (l0 l l2 : LinkS
   -- ---- the first round alone, and none
 
   module _ (r : Round (List ℕ) Exchanged) (exchange : IsExchangeOf l0 l2 r.request r.reply) (unmade : IsUnmade k (r ∷ [])) (kept : (step : Then Cloning) → R start r step → IsKept (commits_of step)) where
-    told_first : (result : Result Pulled PullFault) → IsCloneAnswer k (dialled l0 l2) faults result (r ∷ []) [] → Call result
+    told_first : (result : Result Pulled PullFault) → IsCloneAnswer k (dialled l0 l2) faults IsKept result (r ∷ []) [] → Call result
     told_first result answer = (
       r ∷ [],
       [],
@@ -188,7 +189,7 @@ module _ (k : CloneOf) (IsKept : List (List Record) → Type 0) (l0 l l2 : LinkS
     pub differs : (at : ℕ) → k.MayDiffer → Call (Err (fault.NotRepository at))
     differs at may = told_first (Err (fault.NotRepository at)) (may, refl, unmade)
 
-  pub no_round : (result : Result Pulled PullFault) → l2 ≡ l0 → IsKept [] → IsCloneAnswer k (dialled l0 l2) faults result [] [] → Call result
+  pub no_round : (result : Result Pulled PullFault) → l2 ≡ l0 → IsKept [] → IsCloneAnswer k (dialled l0 l2) faults IsKept result [] [] → Call result
   no_round result same kept answer = (
     [],
     [],
@@ -274,14 +275,15 @@ module _ (k : CloneOf) (Length : ℕ → Type 0) (Leaves : List (List Record) �
         left = loses_on (commits_before h.point (commits_of h.step)) (commits_of h.step) h.left;
       }))
 
-  answer_on : (d : Dialled) (faults : ℕ) (result : Result Pulled PullFault) (rounds : Rounds) (broken : List Connection) → UnlessDisk LeavesOn result → IsCloneAnswer k d faults result rounds broken → IsCloneAnswer q d faults result rounds broken
-  answer_on d faults (Ok pulled) rounds broken on h = end_on None (Some pulled) rounds broken on h
-  answer_on d faults (Err fault.Link) rounds broken on (rose, h) =
+  answer_on : (IsKept IsKeptToo : List (List Record) → Type 0) (d : Dialled) (faults : ℕ) (result : Result Pulled PullFault) (rounds : Rounds) (broken : List Connection) → UnlessDisk LeavesOn result → ((commits : List (List Record)) → IsKept commits → IsKeptToo commits)
+      → IsCloneAnswer k d faults IsKept result rounds broken → IsCloneAnswer q d faults IsKeptToo result rounds broken
+  answer_on IsKept IsKeptToo d faults (Ok pulled) rounds broken on kept_on h = end_on None (Some pulled) rounds broken on h
+  answer_on IsKept IsKeptToo d faults (Err fault.Link) rounds broken on kept_on (rose, h) =
       (rose, record { empty = length_on 0 h.empty; point = h.point; go = h.go; few = h.few; sent = h.sent; left = on (h.point).commits h.left })
-  answer_on d faults (Err fault.Disk) rounds broken on (rose, none, h) = (rose, none, failed_on rounds h)
-  answer_on d faults (Err fault.Memory) rounds broken on (inl h) =
+  answer_on IsKept IsKeptToo d faults (Err fault.Disk) rounds broken on kept_on (rose, none, h) = (rose, none, failed_on rounds h)
+  answer_on IsKept IsKeptToo d faults (Err fault.Memory) rounds broken on kept_on (inl h) =
       inl (record { empty = length_on 0 h.empty; point = h.point; go = h.go; few = h.few; sent = h.sent; left = on (h.point).commits h.left })
-  answer_on d faults (Err fault.Memory) rounds broken on (inr (none, h)) =
+  answer_on IsKept IsKeptToo d faults (Err fault.Memory) rounds broken on kept_on (inr (none, h)) =
       inr (
         none,
         record {
@@ -298,18 +300,19 @@ module _ (k : CloneOf) (Length : ℕ → Type 0) (Leaves : List (List Record) �
           commits = h.commits;
           begun = h.begun;
           left = on h.commits h.left;
+          kept = kept_on h.commits h.kept;
         },
       )
-  answer_on d faults (Err (fault.NotRepository at)) rounds broken on (may, none, h) = (may_on may, none, unmade_on rounds h)
-  answer_on d faults (Err (fault.NotEmpty len)) rounds broken on h = end_on (Some (fault.NotEmpty len)) None rounds broken on h
-  answer_on d faults (Err (fault.Project found)) rounds broken on h = end_on (Some (fault.Project found)) None rounds broken on h
-  answer_on d faults (Err (fault.Stopped count)) rounds broken on h = end_on (Some (fault.Stopped count)) None rounds broken on h
-  answer_on d faults (Err (fault.Peer why)) rounds broken on h = end_on (Some (fault.Peer why)) None rounds broken on h
-  answer_on d faults (Err (fault.TooLarge name size)) rounds broken on h = end_on (Some (fault.TooLarge name size)) None rounds broken on h
-  answer_on d faults (Err (fault.Full name)) rounds broken on h = end_on (Some (fault.Full name)) None rounds broken on h
-  answer_on d faults (Err (fault.Missing name)) rounds broken on h = end_on (Some (fault.Missing name)) None rounds broken on h
-  answer_on d faults (Err fault.Rounds) rounds broken on h = end_on (Some fault.Rounds) None rounds broken on h
+  answer_on IsKept IsKeptToo d faults (Err (fault.NotRepository at)) rounds broken on kept_on (may, none, h) = (may_on may, none, unmade_on rounds h)
+  answer_on IsKept IsKeptToo d faults (Err (fault.NotEmpty len)) rounds broken on kept_on h = end_on (Some (fault.NotEmpty len)) None rounds broken on h
+  answer_on IsKept IsKeptToo d faults (Err (fault.Project found)) rounds broken on kept_on h = end_on (Some (fault.Project found)) None rounds broken on h
+  answer_on IsKept IsKeptToo d faults (Err (fault.Stopped count)) rounds broken on kept_on h = end_on (Some (fault.Stopped count)) None rounds broken on h
+  answer_on IsKept IsKeptToo d faults (Err (fault.Peer why)) rounds broken on kept_on h = end_on (Some (fault.Peer why)) None rounds broken on h
+  answer_on IsKept IsKeptToo d faults (Err (fault.TooLarge name size)) rounds broken on kept_on h = end_on (Some (fault.TooLarge name size)) None rounds broken on h
+  answer_on IsKept IsKeptToo d faults (Err (fault.Full name)) rounds broken on kept_on h = end_on (Some (fault.Full name)) None rounds broken on h
+  answer_on IsKept IsKeptToo d faults (Err (fault.Missing name)) rounds broken on kept_on h = end_on (Some (fault.Missing name)) None rounds broken on h
+  answer_on IsKept IsKeptToo d faults (Err fault.Rounds) rounds broken on kept_on h = end_on (Some fault.Rounds) None rounds broken on h
 
   pub call_on : (IsKept IsKeptToo : List (List Record) → Type 0) (d : Dialled) (faults : ℕ) (result : Result Pulled PullFault) → UnlessDisk LeavesOn result → ((commits : List (List Record)) → IsKept commits → IsKeptToo commits) → IsCloneCall k d faults IsKept result → IsCloneCall q d faults IsKeptToo result
   call_on IsKept IsKeptToo d faults result on kept_on (rounds, broken, grows, (answer, kept)) =
-      (rounds, broken, grows, (answer_on d faults result rounds broken on answer, λ commits from. kept_on commits (kept commits from)))
+      (rounds, broken, grows, (answer_on IsKept IsKeptToo d faults result rounds broken on kept_on answer, λ commits from. kept_on commits (kept commits from)))

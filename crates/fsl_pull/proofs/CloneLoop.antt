@@ -1,5 +1,5 @@
 -- A clone as a loop of rounds, the first of which began its repository.
-use Rattle.std.specs.Prelude.{◌≡◌, ◌≢◌, ℕ, ◌+◌, ◌≤◌, Bool, List, [], ◌∷◌, ◌++◌, length, take, drop, Option, Some, None, Result, Ok, Err, MatchOption, IsTrue, if◌then◌else◌}
+use Rattle.std.specs.Prelude.{◌≡◌, ◌≢◌, ℕ, ◌+◌, ◌<◌, ◌≤◌, Bool, List, [], ◌∷◌, ◌++◌, length, take, drop, Option, Some, None, Result, Ok, Err, MatchOption, IsTrue, if◌then◌else◌}
 use Rattle.std.proofs.Common.{refl, sym, ap, subst, ◌∙◌, inl, inr, arith}
 use Rattle.std.proofs.lemmas.List.{take_all}
 use Rattle.fsl_order.specs.Causes.{Rose}
@@ -250,6 +250,7 @@ module _ {D : Type 0} (disk : D → DiskState) (server : List ℕ) (fields : Lis
         by (inr (is, (same, still))) =
             to_fault l1 x s why fault.Memory is
             (in_part (The s) (Kept x) l0 l0 l1 s.state.faults refl [] start refl (none_joined (all_of l0)) first reply (F ∷ []) h.exchange few h.asked h.read (made project refl h.pushes refl) (begins_some F (F ∷ []) ([], refl), same)
+            (kept_by x (F ∷ []) ([], refl) (subst (λ (y : D). Images y begun.commits) (sym still) at_first))
             (λ step r.
             let k = first_step step r in
             kept_by x (commits_of step) (first_begins step k) (longer_images x begun.commits (commits_of step) (first_longer step k) (subst (λ (y : D). Images y begun.commits) (sym still) at_first))))
@@ -324,8 +325,8 @@ module _ {D : Type 0} (disk : D → DiskState) (server : List ℕ) (fields : Lis
         left : s2.state ≡ (h.point).state → HasCommitted s2.state (h.point).commits
         left same = leaves_by s2 (h.point).state (h.point).commits h.begins h.committed (sym same)
 
-        some_before : (step : Then Cloning) → (h.point).state.committed ≢ length (state_of step).records → committed_before h.point ≢ length (state_of step).records
-        some_before step some = subst (λ (b : Bool). (if b then (h.point).state.committed else 1) ≢ length (state_of step).records) (sym (ap (λ (c : Cloning). c.begun) h.memory)) some
+        some_before : (step : Then Cloning) → (h.point).state.committed < length (state_of step).records → committed_before h.point < length (state_of step).records
+        some_before step some = subst (λ (b : Bool). (if b then (h.point).state.committed else 1) < length (state_of step).records) (sym (ap (λ (c : Cloning). c.begun) h.memory)) some
 
         loses : (step : Then Cloning) → IsUncommitted h.point step s2.state → AreCommitted [] (state_of step) (commits_of step)
             → take (h.point).state.committed (state_of step).records ≡ front (h.point).state → HasLost s2.state (commits_before h.point (commits_of step)) (commits_of step)
@@ -360,7 +361,7 @@ module _ {D : Type 0} (disk : D → DiskState) (server : List ℕ) (fields : Lis
             (cut_off l0 l l2 rounds h.grows IsLeft (CloneAsks login h.point) request joins asks) (left same) (still_kept x still))
         by (inr (still, inr (is, inr (r, exchange, (asked, (reply, read, same)))))) =
             to_fault l2 x s2 why fault.Memory is
-            (in_part (The s2) (Kept x) l0 l l2 s2.state.faults refl rounds h.point h.go h.grows r reply (h.point).commits exchange (more lt) asked read (as_before refl) (begins_some F (h.point).commits h.begins, same ∙ h.committed)
+            (in_part (The s2) (Kept x) l0 l l2 s2.state.faults refl rounds h.point h.go h.grows r reply (h.point).commits exchange (more lt) asked read (as_before refl) (begins_some F (h.point).commits h.begins, same ∙ h.committed) (still_kept x still)
             (λ step k. kept_by x (commits_of step) (more_begins r step k) (longer_images x (h.point).commits (commits_of step) (more_longer r step k) (still_images x still))))
 
     pub gives_up : m ≡ most_rounds → Tells l d s (Err fault.Rounds)

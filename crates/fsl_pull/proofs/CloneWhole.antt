@@ -170,10 +170,10 @@ module _ {D : Type 0} (disk : D → DiskState) (server : List ℕ) (fields : Lis
       unmade_answer : (why : PullFault) → Keeps (disk before) (disk x) → IsUnmadeBy (config_of project server fields) (disk before) (disk x) why → Tells l1 x (Err why)
       unmade_answer fault.Disk keeps rose = unmade_by_disk (The x) (Kept x) l0 l0 l1 (disk x).faults first exchange unmade kept_so rose
       unmade_answer fault.Memory keeps (inl left) =
-          in_part (The x) (Kept x) l0 l0 l1 (disk x).faults long [] (clone_start n) refl (none_joined (all_of l0)) first reply [] exchange few refl read (as_before refl) left.left kept_so
+          in_part (The x) (Kept x) l0 l0 l1 (disk x).faults long [] (clone_start n) refl (none_joined (all_of l0)) first reply [] exchange few refl read (as_before refl) left.left left.left kept_so
       unmade_answer fault.Memory keeps (inr left) =
           in_part (The x) (Kept x) l0 l0 l1 (disk x).faults long [] (clone_start n) refl (none_joined (all_of l0)) first reply ((first_record project server fields ∷ []) ∷ []) exchange few refl read (made project refl pushes refl)
-          left.left kept_so
+          left.left (λ emptied. inl (moments emptied)) kept_so
       unmade_answer (fault.NotRepository place) keeps (same, none) =
           differs (The x) (Kept x) l0 l0 l1 (disk x).faults first exchange unmade kept_so place (none_told (disk before) (disk x) keeps none)
       unmade_answer (fault.NotEmpty len) keeps h = absurd h

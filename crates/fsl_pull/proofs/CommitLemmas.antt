@@ -1,6 +1,6 @@
 -- The commit of a round.
-use Rattle.std.specs.Prelude.{◌≡◌, ◌≢◌, ℕ, ◌+◌, ◌≤◌, List, [], ◌∷◌, ◌++◌, length, take, drop, Option, None, Some, Result, Ok, Err}
-use Rattle.std.proofs.Common.{refl, sym, ap, subst, ◌∙◌, inl, inr, arith, append_assoc}
+use Rattle.std.specs.Prelude.{◌≡◌, ◌≢◌, ℕ, ◌+◌, ◌<◌, ◌≤◌, List, [], ◌∷◌, ◌++◌, length, take, drop, Option, None, Some, Result, Ok, Err}
+use Rattle.std.proofs.Common.{refl, sym, ap, subst, ◌∙◌, inl, inr, arith, append_assoc, length-append}
 use Rattle.std.proofs.lemmas.List.{append-nil, drop-append-le, take-append-le, take-append-drop, take_all}
 use Rattle.fsl_order.specs.Causes.{Rose}
 use Rattle.fsl_disk.specs.Disk.{DiskState, IsModelled, LeavesOnly}
@@ -73,6 +73,14 @@ module _ {M : Type 0} (p : Point M) (before after : DiskState) (old mid new : Se
       subst (λ (m : List (List Record)). LeavesOnly before after (StandsForSome base m)) (sym is_commits)
       (weaker before after (BeforeOrAll (log_in mid.state)) (StandsForSome base (commits_with p.commits mid.state)) (λ c. stands base c are) (k.moments model)))
 
+  -- there was something to commit
+  more_records : (step : Then M) → state_of step ≡ committed mid.state → (mid.state).committed ≢ length (mid.state).records → (p.state).committed < length (state_of step).records
+  more_records step is_state some =
+      let before : (p.state).committed ≡ (mid.state).committed = ap (λ (s : State). s.committed) at ∙ sym h.committed in
+      let behind : length (state_of step).records ≡ length (mid.state).records = ap (λ (s : State). length s.records) is_state in
+      let all : length (mid.state).records ≡ length (old.state).records + length h.more = ap (λ (x : List Record). length x) h.records ∙ length-append (old.state).records h.more in
+      omega (arith, before, behind, all, whole.committed, some)
+
   -- a commit that failed
   pub uncommitted_by : (step : Then M) → state_of step ≡ committed mid.state → Rose (mid.state).faults (new.state).faults → new.state ≡ record mid.state { stopped = Some (new.state).faults; faults = (new.state).faults }
       → (mid.state).committed ≢ length (mid.state).records → IsUncommitted p step new.state
@@ -80,7 +88,7 @@ module _ {M : Type 0} (p : Point M) (before after : DiskState) (old mid new : Se
       record {
         rose = subst (λ (n : ℕ). Rose n (new.state).faults) (h.faults ∙ ap (λ (s : State). s.faults) (sym at)) rose;
         is_due = ap (λ (s : State). s.committed) is_state ∙ ap (λ (s : State). length s.records) (sym is_state);
-        some = λ none. some (h.committed ∙ ap (λ (s : State). s.committed) (sym at) ∙ none ∙ ap (λ (s : State). length s.records) is_state);
+        some = more_records step is_state some;
         state =
             is ∙ (λ i. record mid.state { committed = (h.committed ∙ ap (λ (s : State). s.committed) (sym at)) i; stopped = Some (new.state).faults; faults = (new.state).faults })
             ∙ ap (λ (s : State). record s { committed = (p.state).committed; stopped = Some (new.state).faults; faults = (new.state).faults }) (sym is_state);

@@ -7,7 +7,7 @@ use Rattle.fsl_outside.specs.Connections.{Connection, LinkState, listed, IsTold}
 use Rattle.fsl_http.specs.Responses.{Exchanged}
 use Rattle.fsl_http.specs.Exchanges.{HasJoined, IsExchangeOf, Of}
 use Rattle.fsl_pull.specs.Rounds.{Round}
-use Rattle.fsl_pull.specs.Dialled.{Rounds, IsMet, HasBroken, Breaks, HasSent, AreMet, Grows}
+use Rattle.fsl_pull.specs.Dialled.{Rounds, IsMet, Breaks, HasSent, Grows}
 use Rattle.fsl_pull.specs.Asking.{IsIdle}
 
 -- all connections of a dial, where they are told

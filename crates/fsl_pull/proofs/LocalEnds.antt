@@ -28,10 +28,10 @@ use Rattle.fsl_pull.specs.declared.PullFault.{PullFault}
 use Rattle.fsl_pull.specs.Rounds.{Round, Point, End, Then, goes_on, ends, EndsIn}
 use Rattle.fsl_pull.specs.Requests.{igot_card, file_card}
 use Rattle.fsl_pull.specs.Replies.{announced_in, files_in}
-use Rattle.fsl_pull.specs.Arrivals.{Taken, Takes, AreWants, AreUnclustered, has_moved, any_moved, stopped_by, arrival_fault}
+use Rattle.fsl_pull.specs.Arrivals.{Taken, Takes, AreWants, has_moved, any_moved, stopped_by, arrival_fault}
 use Rattle.fsl_pull.specs.Pulls.{next_names, is_end, behind, ended, uncommitted, stopped_end, pull_start}
 use Rattle.fsl_pull.specs.Pushes.{public_bytes, public_file, is_public}
-use Rattle.fsl_pull.specs.Locals.{local_reply, local_then, LocalRound, AreLocalRounds, IsLocalPull, project_code, other_project_end}
+use Rattle.fsl_pull.specs.Locals.{local_reply, local_then, LocalRound, AreLocalRounds, project_code, other_project_end}
 use Rattle.fsl_pull.specs.Laws.{LocalPullsEnd}
 use Rattle.fsl_pull.proofs.EndsWell.{one_wants}
 use Rattle.fsl_pull.proofs.SomeEnd.{local_step, some_read, wants_for, unclustered_for}

@@ -1,5 +1,5 @@
 -- The code of a pull from another repository.
-use Rattle.std.specs.Prelude.{◌≡◌, ℕ, ◌+◌, ◌<◌, ◌≤◌, ◌||◌, Bool, true, false, List, [], ◌∷◌, ◌++◌, length, take, drop, get_or, map, cond, Option, Some, None, option_map, Result, Ok, Err, if◌then◌else◌, IsTrue}
+use Rattle.std.specs.Prelude.{◌≡◌, ℕ, ◌+◌, ◌<◌, ◌≤◌, Bool, true, false, List, [], ◌∷◌, ◌++◌, length, take, drop, get_or, Option, Some, None, option_map, Result, Ok, Err, if◌then◌else◌, IsTrue}
 use Rattle.std.specs.Option.{option_map_or}
 use Rattle.std.proofs.Common.{refl, sym, ap, subst, ◌∙◌, inl, arith}
 use Rattle.std.proofs.lemmas.List.{append-nil, take_more, take_all, take-append-drop}
@@ -12,7 +12,7 @@ use Rattle.fsl_blobs.specs.Fold.{Held, Contents}
 use Rattle.fsl_blobs.specs.Held.{state_of}
 use Rattle.fsl_blobs.specs.declared.BlobState.TheVariants as blob
 use Rattle.fsl_repo.specs.Machine.{State, now, wants}
-use Rattle.fsl_repo.specs.Whole.{Seen, front, stored}
+use Rattle.fsl_repo.specs.Whole.{Seen, front}
 use Rattle.fsl_repo.proofs.Loops.{rest_is}
 use Rattle.fsl_pull.specs.declared.PullFault.{PullFault}
 use Rattle.fsl_pull.specs.declared.next.Step.{Step}

@@ -316,7 +316,7 @@ module _ {D : Type 0} (disk : D → DiskState) (peer : Seen) (d0 : D) (s0 : Seen
                     (
                       h.rounds ++ made ∷ [],
                       (
-                        record { front = h.rounds; last = made; whole = refl; point = h.point; go = h.go; step = step; is_round = is_round; is_due = un.is_due; some = un.some; state = un.state },
+                        record { front = h.rounds; last = made; whole = refl; point = h.point; go = h.go; step = step; is_round = is_round; is_due = un.is_due; some = omega (arith, un.some); state = un.state },
                         step_images x step (longer_by There Told h.point made step is_round) kept,
                       ),
                     ),

@@ -1,24 +1,21 @@
 -- What a peer gives was taken, and what was announced before it.
-use Rattle.std.specs.Prelude.{◌≡◌, ℕ, ◌||◌, Bool, true, false, List, [], ◌∷◌, ◌++◌, map, filter_map, cond, Option, Some, None, Result, Ok, Err, option_map, option_to_list, length}
+use Rattle.std.specs.Prelude.{◌≡◌, ℕ, ◌||◌, Bool, true, false, List, [], ◌∷◌, ◌++◌, map, filter_map, Option, Some, None, Result, Ok, Err}
 use Rattle.std.specs.List.{cons_option}
-use Rattle.std.specs.Option.{option_map_or}
 use Rattle.std.proofs.Common.{refl, sym, ap, subst, ◌∙◌, inl, inr, append_assoc}
 use Rattle.std.proofs.lemmas.List.{append-nil}
 use Rattle.std.proofs.lemmas.List.Elements.{filter_map-append}
-use Rattle.std.specs.FinMap as map_of
 use Rattle.fsl_wire.specs.declared.WireCard.{WireCard}
-use Rattle.fsl_blobs.specs.Fold.{Held, Contents}
-use Rattle.fsl_repo.specs.Machine.{State, now}
+use Rattle.fsl_blobs.specs.Fold.{Contents}
+use Rattle.fsl_repo.specs.Machine.{State}
 use Rattle.fsl_repo.specs.Whole.{Seen}
-use Rattle.fsl_repo.specs.declared.Arrival.{Arrival}
 use Rattle.fsl_pull.specs.declared.PullFault.{PullFault}
 use Rattle.fsl_pull.specs.declared.PullFault.TheVariants as fault
 use Rattle.fsl_pull.specs.Requests.{igot_card, file_card}
 use Rattle.fsl_pull.specs.Replies.{announced_in}
-use Rattle.fsl_pull.specs.Arrivals.{Taken, Takes, any_moved}
+use Rattle.fsl_pull.specs.Arrivals.{Taken, Takes}
 use Rattle.fsl_pull.specs.Pushes.{public_file}
 use Rattle.fsl_pull.specs.Locals.{local_reply}
-use Rattle.fsl_pull.specs.Taking.{Appends, TakesTo, TakesSome, TakesCard, TakesUpTo, TakesFront, TakesAll}
+use Rattle.fsl_pull.specs.Taking.{TakesSome, TakesAll}
 use Rattle.fsl_pull.specs.LocalTurns.{TakesGiven}
 use Rattle.fsl_pull.proofs.TakingLemmas.{some_on, stops_there}
 

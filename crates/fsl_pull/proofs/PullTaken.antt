@@ -16,7 +16,7 @@ use Rattle.fsl_pull.specs.declared.PullFault.{PullFault}
 use Rattle.fsl_pull.specs.declared.PullFault.TheVariants as fault
 use Rattle.fsl_pull.specs.declared.next.Step.{Step}
 use Rattle.fsl_pull.specs.declared.next.Step.TheVariants as step_is
-use Rattle.fsl_pull.specs.Rounds.{Point, End, Then, goes_on, ends, state_of}
+use Rattle.fsl_pull.specs.Rounds.{Point, Then, goes_on, ends, state_of}
 use Rattle.fsl_pull.specs.Replies.{announced_in}
 use Rattle.fsl_pull.specs.Arrivals.{Taken, Takes, stored_in, committed, commits_with, IsPartlyTaken}
 use Rattle.fsl_pull.specs.Pulls.{next_names, missing, missing_fault, behind, ended, uncommitted}

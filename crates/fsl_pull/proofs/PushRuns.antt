@@ -1,5 +1,5 @@
 -- A push as a loop of rounds.
-use Rattle.std.specs.Prelude.{◌≡◌, ℕ, ◌≤◌, ◌⊎◌, Bool, true, false, List, [], ◌∷◌, ◌++◌, length, drop, Option, Some, None, Result, Ok, Err, MatchOption, if◌then◌else◌, IsTrue}
+use Rattle.std.specs.Prelude.{◌≡◌, ℕ, Bool, true, false, List, [], ◌∷◌, drop, Option, Some, None, Result, Ok, Err, MatchOption, if◌then◌else◌, IsTrue}
 use Rattle.std.specs.List.{list_all}
 use Rattle.std.proofs.Common.{refl, sym, ap, subst, ◌∙◌, inl, inr}
 use Rattle.std.proofs.lemmas.List.{append-nil}
@@ -16,7 +16,7 @@ use Rattle.fsl_pull.specs.declared.PeerFault.{PeerFault}
 use Rattle.fsl_pull.specs.declared.PeerFault.TheVariants as peer
 use Rattle.fsl_pull.specs.declared.PullFault.{PullFault}
 use Rattle.fsl_pull.specs.declared.PullFault.TheVariants as fault
-use Rattle.fsl_pull.specs.Rounds.{Round, Point, End, Then, goes_on, ends, GoOn, IsSync}
+use Rattle.fsl_pull.specs.Rounds.{Round, Point, End, Then, goes_on, ends, IsSync}
 use Rattle.fsl_pull.specs.Dialled.{Rounds}
 use Rattle.fsl_pull.specs.Arrivals.{Taken, commits_with}
 use Rattle.fsl_pull.specs.Pulls.{stopped_end}

@@ -1,5 +1,5 @@
 -- The cards of a reply to a push were taken, and committed.
-use Rattle.std.specs.Prelude.{◌≡◌, ◌≢◌, ℕ, ◌+◌, ◌⊎◌, Bool, true, false, List, [], ◌∷◌, ◌++◌, length, map, Option, Some, None, Result, Ok, Err, if◌then◌else◌}
+use Rattle.std.specs.Prelude.{◌≡◌, ◌≢◌, ℕ, ◌+◌, ◌⊎◌, Bool, true, false, List, [], ◌∷◌, ◌++◌, length, Option, Some, None, Result, Ok, Err, if◌then◌else◌}
 use Rattle.std.specs.List.{list_all}
 use Rattle.std.proofs.Common.{refl, sym, ap, subst, ◌∙◌, inl, inr, arith, length-append}
 use Rattle.std.proofs.lemmas.List.{append-nil, length-map}
@@ -17,7 +17,7 @@ use Rattle.fsl_pull.specs.declared.PullFault.TheVariants as fault
 use Rattle.fsl_pull.specs.declared.pushing.PushStep.{PushStep}
 use Rattle.fsl_pull.specs.declared.pushing.PushStep.TheVariants as push_is
 use Rattle.fsl_pull.specs.Sent.{SentNames}
-use Rattle.fsl_pull.specs.Rounds.{Point, End, Then, goes_on, ends, state_of}
+use Rattle.fsl_pull.specs.Rounds.{Point, Then, goes_on, ends, state_of}
 use Rattle.fsl_pull.specs.Replies.{asked_in}
 use Rattle.fsl_pull.specs.Arrivals.{Taken, Takes, committed, commits_with, IsPartlyTaken}
 use Rattle.fsl_pull.specs.Pushes.{Sending, names_of, asked_here, sent_on, push_ended, quiet_then, push_then, push_uncommitted, IsPushReply}

@@ -1,21 +1,19 @@
 -- One round of a push over a network.
-use Rattle.std.specs.Prelude.{◌≡◌, ℕ, List, ◌∷◌, ◌++◌, length, map, filter_map, Option, Some, None, Result, Ok, Err}
-use Rattle.std.specs.Option.{option_map_or}
+use Rattle.std.specs.Prelude.{◌≡◌, ℕ, List, length, filter_map, Option, Some, None, Result, Ok, Err}
 use Rattle.std.proofs.Common.{refl, sym, ap, subst, ◌∙◌, inl, inr}
 use Rattle.fsl_disk.specs.Disk.{DiskState}
 use Rattle.fsl_outside.specs.Connections.{LinkState}
 use Rattle.fsl_wire.specs.declared.WireCard.{WireCard}
 use Rattle.fsl_repo.specs.Machine.{State, AreItems, now, unclustered_names}
 use Rattle.fsl_repo.specs.Whole.{Seen}
-use Rattle.fsl_http.specs.Responses.{Exchanged, IsLeft}
-use Rattle.fsl_http.specs.Exchanges.{HasJoined, IsExchangeOf}
+use Rattle.fsl_http.specs.Responses.{IsLeft}
+use Rattle.fsl_http.specs.Exchanges.{HasJoined}
 use Rattle.fsl_pull.specs.declared.Login.{Login}
 use Rattle.fsl_pull.specs.declared.PeerFault.{PeerFault}
 use Rattle.fsl_pull.specs.declared.PullFault.{PullFault}
 use Rattle.fsl_pull.specs.declared.PullFault.TheVariants as fault
-use Rattle.fsl_pull.specs.Rounds.{Round, Point, End, Then, goes_on, ends}
+use Rattle.fsl_pull.specs.Rounds.{Point, Then, goes_on, ends}
 use Rattle.fsl_pull.specs.Requests.{push_cards, request_bytes}
-use Rattle.fsl_pull.specs.Replies.{IsReplyRead}
 use Rattle.fsl_pull.specs.Arrivals.{IsPartlyTaken}
 use Rattle.fsl_pull.specs.Pulls.{unread}
 use Rattle.fsl_pull.specs.Pushes.{Sending, public_file, files_to_send, names_of, IsPushReply, PushRound, PushAsks, BrokenPush}

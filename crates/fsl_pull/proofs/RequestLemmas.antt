@@ -1,5 +1,5 @@
 -- The bytes of a push.
-use Rattle.std.specs.Prelude.{◌≡◌, ℕ, ◌+◌, ◌<◌, List, [], ◌∷◌, ◌++◌, length, take, get_or, map, filter_map, flat_map, Option, Some, None, option_map, option_to_list, Result, Ok, Err, OnOk}
+use Rattle.std.specs.Prelude.{◌≡◌, ℕ, ◌+◌, ◌<◌, List, [], ◌∷◌, ◌++◌, length, take, get_or, map, filter_map, Option, Some, None, option_map, option_to_list, Result, Ok, Err, OnOk}
 use Rattle.std.specs.List.{cons_option}
 use Rattle.std.specs.Option.{option_map_or}
 use Rattle.std.specs.FinMap as map_of
@@ -9,7 +9,6 @@ use Rattle.std.proofs.lemmas.List.Concat.{flat_map-append}
 use Rattle.std.proofs.lemmas.List.Elements.{filter_map-append}
 use Rattle.fsl_name.specs.Name.{name_text}
 use Rattle.fsl_record.specs.declared.Config.{Config}
-use Rattle.fsl_wire.specs.declared.WireCard.{WireCard}
 use Rattle.fsl_wire.specs.declared.WireCard.TheVariants as cards
 use Rattle.fsl_wire.specs.Writing.{card_bytes, message_bytes}
 use Rattle.fsl_blobs.specs.Fold.{Contents}

@@ -1,5 +1,5 @@
 -- Names that rise.
-use Rattle.std.specs.Prelude.{◌≡◌, ℕ, ◌&&◌, Bool, true, false, T, List, [], ◌∷◌, ◌++◌, map, filter, find, flat_map, not, cond, Some}
+use Rattle.std.specs.Prelude.{◌≡◌, ℕ, ◌&&◌, Bool, true, false, T, List, [], ◌∷◌, map, filter, find, flat_map, not, cond, Some}
 use Rattle.std.proofs.Common.{refl, sym, ap, subst, ◌∙◌}
 use Rattle.std.specs.List.{AllByRecursion}
 use Rattle.std.specs.List.Sorted.{IsStrictlySortedBy}

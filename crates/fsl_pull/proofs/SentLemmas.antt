@@ -1,12 +1,11 @@
 -- The names that a push has sent, and those that it chooses.
-use Rattle.std.specs.Prelude.{◌≡◌, ℕ, zero, suc, ◌||◌, Bool, true, false, not, List, [], ◌∷◌, ◌++◌, length, take, map, filter, filter_map, cond, Option, Some, None, option_map, option_to_list, if◌then◌else◌}
-use Rattle.std.specs.List.{list_any, cons_option}
+use Rattle.std.specs.Prelude.{◌≡◌, ℕ, zero, suc, ◌||◌, Bool, true, false, not, List, [], ◌∷◌, ◌++◌, length, take, map, filter, filter_map, cond, Option, Some, None, option_map, if◌then◌else◌}
+use Rattle.std.specs.List.{cons_option}
 use Rattle.std.specs.Option.{option_map_or}
-use Rattle.std.specs.Str.{bytes_eq}
 use Rattle.std.specs.FinMap as map_of
 use Rattle.std.specs.FinSet as set
 use Rattle.std.specs.Cmp.Lexicographic.{texts_ties}
-use Rattle.std.proofs.Common.{refl, sym, ap, subst, ◌∙◌, arith, append_assoc}
+use Rattle.std.proofs.Common.{refl, sym, ap, ◌∙◌}
 use Rattle.std.proofs.lemmas.List.{take-map}
 use Rattle.std.proofs.lemmas.List.Folds.{list_any-append}
 use Rattle.fsl_order.specs.Names.{has}
@@ -15,10 +14,9 @@ use Rattle.fsl_answer.specs.Replies.{taken}
 use Rattle.fsl_blobs.specs.Fold.{Held, Contents}
 use Rattle.fsl_blobs.specs.Held.{state_of}
 use Rattle.fsl_blobs.specs.Kept.{is_same, stands}
-use Rattle.fsl_blobs.specs.declared.BlobState.{BlobState}
 use Rattle.fsl_blobs.specs.declared.BlobState.TheVariants as blob
 use Rattle.fsl_blobs.proofs.KeptLemmas.{turned}
-use Rattle.fsl_pull.specs.Pushes.{Sending, public_bytes, public_file, due_files, within_budget, files_to_send, names_of, is_public}
+use Rattle.fsl_pull.specs.Pushes.{Sending, public_bytes, public_file, due_files, files_to_send, names_of, is_public}
 use Rattle.fsl_pull.specs.Sent.{public_size, IsWith}
 
 abbrev Names : Type 0

@@ -1,7 +1,7 @@
 -- Syncs have an end: of each list of replies some first ones are a sync that ended, or all go on.
-use Rattle.std.specs.Prelude.{◌≡◌, ℕ, ◌+◌, ◌≤◌, ◌^◌, ◌==◌, ◌⊎◌, Bool, true, false, nat_lt, List, [], ◌∷◌, ◌++◌, length, Option, Some, None, Result, Ok, Err, MatchBool, MatchOption}
-use Rattle.std.proofs.Common.{refl, sym, ap, subst, ◌∙◌, inl, inr, arith, length-append}
-use Rattle.std.proofs.lemmas.List.{length-map, append-nil}
+use Rattle.std.specs.Prelude.{◌≡◌, ℕ, ◌+◌, ◌^◌, ◌==◌, ◌⊎◌, Bool, true, false, nat_lt, List, [], ◌∷◌, ◌++◌, length, Option, Some, None, Result, Ok, Err, MatchBool, MatchOption}
+use Rattle.std.proofs.Common.{refl, ap, ◌∙◌, inl, inr, arith, length-append}
+use Rattle.std.proofs.lemmas.List.{length-map}
 use Rattle.std.specs.Str.{bytes_eq}
 use Rattle.std.specs.FinMap as map_of
 use Rattle.std.specs.FinSet as set
@@ -30,10 +30,10 @@ use Rattle.fsl_pull.specs.Rounds.{Round, Point, End, Then, goes_on, ends, Course
 use Rattle.fsl_pull.specs.Requests.{request_bytes, pull_cards, push_cards, clone_cards}
 use Rattle.fsl_pull.specs.Replies.{IsReplyRead, sequel_in, cards_read, fault_line}
 use Rattle.fsl_pull.specs.Arrivals.{Taken, Takes, AreWants, AreUnclustered, arrival_fault, stopped_by, is_onward}
-use Rattle.fsl_pull.specs.Pulls.{pull_then, uncommitted, unread, IsPulled, IsPullReply, PullRound, pull_start, stopped_end, IsPull}
+use Rattle.fsl_pull.specs.Pulls.{pull_then, uncommitted, unread, IsPullReply, PullRound, pull_start, stopped_end, IsPull}
 use Rattle.fsl_pull.specs.Pushes.{Sending, files_to_send, push_then, push_uncommitted, IsPushReply, PushRound, push_start, IsPush}
 use Rattle.fsl_pull.specs.Clones.{Cloning, project_in, first_record, begun_with, clone_then, IsCloned, IsBegun, IsCloneReply, CloneRound, clone_start, not_empty_end, IsClone}
-use Rattle.fsl_pull.specs.Locals.{local_reply, local_then, IsLocalTaken, LocalRound}
+use Rattle.fsl_pull.specs.Locals.{local_reply, local_then, LocalRound}
 use Rattle.fsl_pull.specs.Laws.{replies, HasSomeEnd, SyncsHaveSomeEnd}
 
 -- ---- rounds, of which one thing is said of each reply

@@ -1,9 +1,9 @@
 -- A sync as a loop of rounds, whatever its course is.
-use Rattle.std.specs.Prelude.{◌≡◌, ⊤, ℕ, ◌+◌, ◌-◌, ◌≤◌, ◌<◌, ◌^◌, ◌⊎◌, min, List, [], ◌∷◌, ◌++◌, length, Option, Some, None, Result, Ok, Err, IsTrue}
+use Rattle.std.specs.Prelude.{◌≡◌, ℕ, ◌+◌, ◌-◌, ◌≤◌, ◌^◌, ◌⊎◌, min, List, [], ◌∷◌, ◌++◌, length, Option, Some, None, Result, Ok, Err, IsTrue}
 use Rattle.std.proofs.Common.{refl, sym, ap, subst, ◌∙◌, inl, inr, arith}
 use Rattle.std.proofs.lemmas.List.{append-nil}
 use Rattle.fsl_order.specs.Causes.{Rose}
-use Rattle.fsl_disk.specs.Disk.{DiskState, IsModelled, Keeps, LeavesOnly}
+use Rattle.fsl_disk.specs.Disk.{DiskState, Keeps}
 use Rattle.fsl_disk.proofs.Moments.{started, weaker, and_then, keeps_on, modelled_after}
 use Rattle.fsl_outside.specs.Connections.{Connection, LinkState}
 use Rattle.fsl_record.specs.declared.Record.{Record}
@@ -19,7 +19,7 @@ use Rattle.fsl_pull.specs.Dialled.{Rounds, Grows, HasSent, Breaks}
 use Rattle.fsl_pull.specs.Kept.{StandsForSome, IsKeptAtAnyMoment}
 use Rattle.fsl_pull.specs.Taking.{IsRefusal}
 use Rattle.fsl_pull.specs.Turns.{commits_of, AreCommitted, IsKeptBy, IsCarried, IsMade, TurnsTo, IsUncommitted}
-use Rattle.fsl_pull.specs.Calls.{Kind, Ended, IsWhole, IsSynced, AreCommitsOf, dialled, IsCall}
+use Rattle.fsl_pull.specs.Calls.{Kind, IsWhole, IsSynced, AreCommitsOf, dialled, IsCall}
 use Rattle.fsl_pull.proofs.OneEnd.{IsDetermined}
 use Rattle.fsl_pull.proofs.RoundLemmas.{go_behind, end_behind, length_behind, fronts_are, CommitsFrom, front_commits, step_commits, known_commits}
 use Rattle.fsl_pull.proofs.DialLemmas.{all_of, BreaksIn, grown, cut_off, idle, none_joined}
@@ -236,7 +236,7 @@ module _ {D M : Type 0} (disk : D → DiskState) (R : Course M (List ℕ) Exchan
                     step = step;
                     is_round = made.2;
                     is_due = un.is_due;
-                    some = un.some;
+                    some = omega (arith, un.some);
                     state = un.state;
                   }),
             )

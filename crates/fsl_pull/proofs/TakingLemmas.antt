@@ -1,7 +1,7 @@
 -- The cards of a reply are taken one after another.
-use Rattle.std.specs.Prelude.{◌≡◌, ℕ, ◌+◌, ◌<◌, ◌≤◌, ◌||◌, ◌⊎◌, Bool, true, false, List, [], ◌∷◌, ◌++◌, length, take, drop, get_or, count_by, Option, Some, None, Result, Ok, Err, MatchBool}
+use Rattle.std.specs.Prelude.{◌≡◌, ℕ, ◌+◌, ◌<◌, ◌≤◌, ◌||◌, ◌⊎◌, Bool, true, false, List, [], ◌∷◌, ◌++◌, length, take, drop, get_or, Option, Some, None, Result, Ok, Err, MatchBool}
 use Rattle.std.specs.List.{list_any}
-use Rattle.std.proofs.Common.{refl, sym, ap, subst, ◌∙◌, inl, inr, arith, cond, append_assoc}
+use Rattle.std.proofs.Common.{refl, sym, ap, subst, ◌∙◌, inl, inr, cond, append_assoc}
 use Rattle.std.proofs.lemmas.List.{append-nil, take_more, take_all, take-append-drop}
 use Rattle.fsl_repo.proofs.Loops.{rest_is}
 use Rattle.std.proofs.lemmas.List.Sums.{sum_by-append}
@@ -13,13 +13,13 @@ use Rattle.fsl_repo.specs.declared.Arrival.{Arrival}
 use Rattle.fsl_repo.specs.declared.Arrival.TheVariants as arrival
 use Rattle.fsl_repo.specs.declared.ArriveFault.{ArriveFault}
 use Rattle.fsl_repo.specs.declared.ArriveFault.TheVariants as arrive_fault
-use Rattle.fsl_repo.specs.Machine.{State, IsArrival, arrived}
+use Rattle.fsl_repo.specs.Machine.{State, arrived}
 use Rattle.fsl_repo.specs.Whole.{Seen, is_blob, blobs}
 use Rattle.fsl_pull.specs.declared.PullFault.{PullFault}
 use Rattle.fsl_pull.specs.declared.PullFault.TheVariants as fault
 use Rattle.fsl_pull.specs.declared.PeerFault.TheVariants as peer
 use Rattle.fsl_pull.specs.Arrivals.{Taken, Takes, arrival_fault, stopped_by, is_onward, is_stored, has_moved, stored_in, any_moved}
-use Rattle.fsl_pull.specs.Taking.{IsRefusal, IsArrived, GoesOnFrom, Appends, TakesTo, TakesSome, StopsAt, TakesCard, TakesUpTo, TakesFront, TakesAll}
+use Rattle.fsl_pull.specs.Taking.{IsRefusal, IsArrived, GoesOnFrom, Appends, TakesTo, TakesSome, TakesCard, TakesFront, TakesAll}
 
 -- ---- lists
 

@@ -1,6 +1,6 @@
 -- One round of a pull over a network.
 use Rattle.std.specs.Prelude.{◌≡◌, ℕ, List, [], ◌∷◌, Option, Some, None, Result, Ok, Err, map}
-use Rattle.std.proofs.Common.{refl, sym, ap, subst, ◌∙◌, inl, inr}
+use Rattle.std.proofs.Common.{refl, sym, ap, ◌∙◌, inl, inr}
 use Rattle.std.specs.Option.{option_map_or}
 use Rattle.fsl_disk.specs.Disk.{DiskState}
 use Rattle.fsl_outside.specs.Connections.{LinkState}
@@ -11,15 +11,14 @@ use Rattle.fsl_wire.specs.declared.WireCard.TheVariants as cards
 use Rattle.fsl_wire.specs.Writing.{message_bytes}
 use Rattle.fsl_repo.specs.Machine.{State, now}
 use Rattle.fsl_repo.specs.Whole.{Seen, stored}
-use Rattle.fsl_http.specs.Responses.{Exchanged, IsLeft}
-use Rattle.fsl_http.specs.Exchanges.{HasJoined, IsExchangeOf}
+use Rattle.fsl_http.specs.Responses.{IsLeft}
+use Rattle.fsl_http.specs.Exchanges.{HasJoined}
 use Rattle.fsl_pull.specs.declared.Login.{Login}
 use Rattle.fsl_pull.specs.declared.PeerFault.{PeerFault}
 use Rattle.fsl_pull.specs.declared.PullFault.{PullFault}
 use Rattle.fsl_pull.specs.declared.PullFault.TheVariants as fault
-use Rattle.fsl_pull.specs.Rounds.{Round, Point, End, Then, goes_on, ends}
+use Rattle.fsl_pull.specs.Rounds.{Point, Then, goes_on, ends}
 use Rattle.fsl_pull.specs.Requests.{signed_bytes, pull_cards, request_bytes}
-use Rattle.fsl_pull.specs.Replies.{IsReplyRead}
 use Rattle.fsl_pull.specs.Arrivals.{IsPartlyTaken}
 use Rattle.fsl_pull.specs.Pulls.{unread, missing_fault, IsPullReply, PullRound, PullAsks, BrokenPull}
 use Rattle.fsl_pull.specs.Asking.{IsAsked, IsLinkLost}

@@ -1,5 +1,5 @@
 -- What a clone says of its answer, of its rounds and of the file that it makes.
-use Rattle.std.specs.Prelude.{◌≡◌, ◌≢◌, ℕ, ◌+◌, ◌≤◌, ◌⊎◌, ⊤, false, List, [], ◌∷◌, ◌++◌, length, take, Option, Some, None, IsSome, Result, Ok, Err, if◌then◌else◌}
+use Rattle.std.specs.Prelude.{◌≡◌, ℕ, ◌+◌, ◌<◌, ◌≤◌, ◌⊎◌, ⊤, false, List, [], ◌∷◌, ◌++◌, length, take, Option, Some, None, IsSome, Result, Ok, Err, if◌then◌else◌}
 use Rattle.fsl_order.specs.Causes.{Rose}
 use Rattle.fsl_disk.specs.Disk.{DiskState, IsModelled, LeavesOnly, Quiet, Told}
 use Rattle.fsl_outside.specs.Connections.{Connection, LinkState}
@@ -102,7 +102,7 @@ pub data AreBegun (server : List ℕ) (fields : List (List ℕ)) (point : Point 
   made : (project : List ℕ) → point.memory.begun ≡ false → project_in reply ≡ Some project → commits ≡ (first_record project server fields ∷ []) ∷ [] → AreBegun server fields point reply commits
 
 -- the last of the rounds was read whole, and its commit wasn't reached
-pub record IsCloneBroken (k : CloneOf) (rounds : Rounds) : Type 0 where
+pub record IsCloneBroken (k : CloneOf) (IsKept : List (List Record) → Type 0) (rounds : Rounds) : Type 0 where
   pub empty : k.Length 0
   pub front : Rounds
   pub last : Round (List ℕ) Exchanged
@@ -116,6 +116,8 @@ pub record IsCloneBroken (k : CloneOf) (rounds : Rounds) : Type 0 where
   pub commits : List (List Record)
   pub begun : AreBegun k.server k.fields point reply commits
   pub left : k.Leaves commits
+  -- and no more was committed at any moment
+  pub kept : IsKept commits
 
 -- one round was made: its reply has a project, by which the file was to be made
 pub record IsUnmade (k : CloneOf) (rounds : Rounds) : Type 0 where
@@ -149,7 +151,7 @@ pub record IsCommitLost (k : CloneOf) (rounds : Rounds) : Type 0 where
   -- the commit is behind all arrivals: a round that a fault ended before its commit has none
   pub is_due : (state_of step).committed ≡ length (state_of step).records
   -- and there is something to commit
-  pub some : committed_before point ≢ length (state_of step).records
+  pub some : committed_before point < length (state_of step).records
   pub left : k.Loses (commits_before point (commits_of step)) (commits_of step)
 
 -- the disk failed before the first round, while the file was made, or in the last commit; what that leaves of the file is said of its images
@@ -157,13 +159,14 @@ abbrev pub IsCloneFailed : CloneOf → Rounds → Type 0
 IsCloneFailed k rounds = (rounds ≡ []) ⊎ (IsUnmade k rounds ⊎ IsCommitLost k rounds)
 
 -- what a clone answers: its end; a fault of the dial, whose count rose, within the limit of rounds; a fault of the disk, whose count rose; want of memory, behind some rounds or in the midst of the last; or that the file that it made reads back as another
-abbrev pub IsCloneAnswer : CloneOf → Dialled → ℕ → Result Pulled PullFault → Rounds → List Connection → Type 0
-IsCloneAnswer k d faults (Ok pulled) rounds broken = IsCloneEnd k None (Some pulled) rounds broken
-IsCloneAnswer k d faults (Err fault.Link) rounds broken = Rose d.faults_before d.faults_after × IsCloneLeftOff k IsBrokenOff 1 rounds broken
-IsCloneAnswer k d faults (Err fault.Disk) rounds broken = Rose k.faults faults × (broken ≡ []) × IsCloneFailed k rounds
-IsCloneAnswer k d faults (Err fault.Memory) rounds broken = IsCloneLeftOff k IsLeft (length broken) rounds broken ⊎ ((broken ≡ []) × IsCloneBroken k rounds)
-IsCloneAnswer k d faults (Err (fault.NotRepository at)) rounds broken = k.MayDiffer × (broken ≡ []) × IsUnmade k rounds
-IsCloneAnswer k d faults (Err why) rounds broken = IsCloneEnd k (Some why) None rounds broken
+abbrev pub IsCloneAnswer : CloneOf → Dialled → ℕ → (List (List Record) → Type 0) → Result Pulled PullFault → Rounds → List Connection → Type 0
+IsCloneAnswer k d faults IsKept (Ok pulled) rounds broken = IsCloneEnd k None (Some pulled) rounds broken
+IsCloneAnswer k d faults IsKept (Err fault.Link) rounds broken = Rose d.faults_before d.faults_after × IsCloneLeftOff k IsBrokenOff 1 rounds broken
+IsCloneAnswer k d faults IsKept (Err fault.Disk) rounds broken = Rose k.faults faults × (broken ≡ []) × IsCloneFailed k rounds
+IsCloneAnswer k d faults IsKept (Err fault.Memory) rounds broken =
+    IsCloneLeftOff k IsLeft (length broken) rounds broken ⊎ ((broken ≡ []) × IsCloneBroken k IsKept rounds)
+IsCloneAnswer k d faults IsKept (Err (fault.NotRepository at)) rounds broken = k.MayDiffer × (broken ≡ []) × IsUnmade k rounds
+IsCloneAnswer k d faults IsKept (Err why) rounds broken = IsCloneEnd k (Some why) None rounds broken
 
 -- of an answer other than `Disk` this holds
 abbrev pub UnlessDisk : {A : Type 0} → Type 0 → Result A PullFault → Type 0
@@ -178,7 +181,7 @@ AreCloneCommits k rounds commits = AreCommitsOf (IsClone k.server k.fields k.log
 abbrev pub IsCloneCall : CloneOf → Dialled → ℕ → (List (List Record) → Type 0) → Result Pulled PullFault → Type 0
 IsCloneCall k d faults IsKept result =
     HasRounds d.before d.after
-    (λ rounds broken. IsCloneAnswer k d faults result rounds broken × ((commits : List (List Record)) → AreCloneCommits k rounds commits → IsKept commits))
+    (λ rounds broken. IsCloneAnswer k d faults IsKept result rounds broken × ((commits : List (List Record)) → AreCloneCommits k rounds commits → IsKept commits))
 
 -- a clone onto a disk. What a fault of the disk leaves of the file is said of its images alone, since a call that failed may leave what is read half way; where the file is told it never reads back as another
 abbrev pub clone_onto : List ℕ → List (List ℕ) → Option Login → DiskState → DiskState → CloneOf

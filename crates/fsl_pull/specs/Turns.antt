@@ -1,5 +1,5 @@
 -- What the code says of one round, by where the sync stood before it.
-use Rattle.std.specs.Prelude.{◌≡◌, ◌≢◌, ◌⊎◌, ℕ, ◌+◌, ◌≤◌, List, ◌++◌, length, Option, Some, None, Result, Ok, Err}
+use Rattle.std.specs.Prelude.{◌≡◌, ◌⊎◌, ℕ, ◌+◌, ◌<◌, ◌≤◌, List, ◌++◌, length, Option, Some, None, Result, Ok, Err}
 use Rattle.fsl_order.specs.Causes.{Rose}
 use Rattle.fsl_disk.specs.Disk.{DiskState, IsModelled, LeavesOnly}
 use Rattle.fsl_outside.specs.Connections.{LinkState}
@@ -48,7 +48,7 @@ IsMade before after P = (r : Round (List ℕ) Exchanged) × IsExchangeOf before 
 pub record IsUncommitted {M : Type 0} (p : Point M) (step : Then M) (new : State) : Type 0 where
   pub rose : Rose p.state.faults new.faults
   pub is_due : (state_of step).committed ≡ length (state_of step).records
-  pub some : p.state.committed ≢ length (state_of step).records
+  pub some : p.state.committed < length (state_of step).records
   pub state : new ≡ record (state_of step) { committed = p.state.committed; stopped = Some new.faults; faults = new.faults }
 
 -- what the cards of a reply came to: this is said of the step, and of one that was committed that too

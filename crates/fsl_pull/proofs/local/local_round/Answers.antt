@@ -1,8 +1,8 @@
-use Rattle.std.proofs.Common.{◌≡◌, List, ℕ, Option, Result, Ok, Err, refl, sym, ap, subst, arith, ◌∙◌}
+use Rattle.std.proofs.Common.{◌≡◌, List, ℕ, Option, Result, Ok, Err, sym, ap, subst, arith, ◌∙◌}
 use Rattle.fsl_repo.specs.Machine.{now}
 use Rattle.fsl_pull.specs.declared.PullFault.{PullFault}
 use Rattle.fsl_pull.specs.Locals.{local_reply}
-use Rattle.fsl_pull.specs.Steps.{step_of, local_answer, IsCommitted}
+use Rattle.fsl_pull.specs.Steps.{step_of, IsCommitted}
 use Rattle.fsl_pull.specs.PullTurns.{IsTaken, none_missing}
 use Rattle.fsl_pull.proofs.PullTaken.{wrong_turn, behind_all, committed_turn, failed_turn}
 use Rattle.fsl_pull.proofs.LocalTaken.{given, behind_igots, announced_are}

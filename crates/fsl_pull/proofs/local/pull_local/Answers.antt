@@ -1,9 +1,8 @@
-use Rattle.std.proofs.Common.{◌≡◌, ℕ, ◌+◌, ◌-◌, ◌<◌, List, length, Option, Some, None, Result, Ok, Err, refl, sym, ap, subst, ◌∙◌, arith}
-use Rattle.std.specs.Prelude.{IfOk, OnOk, IsTrue}
+use Rattle.std.proofs.Common.{◌≡◌, ℕ, ◌+◌, ◌-◌, List, Option, Some, None, Result, Ok, Err, refl, sym, ap, subst, ◌∙◌, arith}
+use Rattle.std.specs.Prelude.{IfOk, OnOk}
 use Rattle.fsl_repo.specs.Machine.{now, unclustered_names}
 use Rattle.fsl_pull.specs.declared.PullFault.{PullFault}
 use Rattle.fsl_pull.specs.Steps.{NamesRise}
-use Rattle.fsl_pull.proofs.LocalEnds.{local_pulls_end}
 use Rattle.fsl_pull.proofs.LocalSync.{LocalAt, more_left, goes, ends_later, ends_well, fails, gives_up}
 use Rattle.fsl_pull.proofs.LocalMore.{same_project, project_refused, stopped_refused, local_wants_memory, local_begins, local_turn_is}
 use Rattle.fsl_pull.proofs.local.pull_local.Goals as goal

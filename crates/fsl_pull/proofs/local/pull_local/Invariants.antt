@@ -1,7 +1,6 @@
-use Rattle.std.proofs.Common.{◌≡◌, ◌-◌, ℕ, List, None, length}
+use Rattle.std.proofs.Common.{◌≡◌, ◌-◌, None, length}
 use Rattle.std.specs.List.Sorted.{IsStrictlySortedBy}
 use Rattle.fsl_order.specs.Names.{bytes_cmp}
-use Rattle.fsl_repo.specs.Whole.{stored}
 use Rattle.fsl_pull.specs.Calls.{MayBegin}
 use Rattle.fsl_pull.proofs.LocalEnds.{local_pulls_end}
 use Rattle.fsl_pull.proofs.LocalSync.{LocalAt}

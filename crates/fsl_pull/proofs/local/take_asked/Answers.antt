@@ -1,4 +1,4 @@
-use Rattle.std.proofs.Common.{◌+◌, List, ℕ, Ok, Err, None, refl, sym, ap, subst, take, drop, ◌∙◌}
+use Rattle.std.proofs.Common.{◌+◌, Ok, Err, None, refl, sym, ap, subst, take, drop, ◌∙◌}
 use Rattle.fsl_repo.specs.Machine.{State, now}
 use Rattle.fsl_pull.specs.Pushes.{public_file}
 use Rattle.fsl_pull.specs.LocalTurns.{TakesGiven}

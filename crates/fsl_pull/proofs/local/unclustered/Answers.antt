@@ -1,6 +1,5 @@
-use Rattle.std.proofs.Common.{map, ap, ◌∙◌}
+use Rattle.std.proofs.Common.{ap, ◌∙◌}
 use Rattle.fsl_cluster.specs.Clusters.{unclustered}
-use Rattle.fsl_cross.specs.Facts.{cluster_fact}
 use Rattle.fsl_cross.specs.Tables.{tables}
 use Rattle.fsl_repo.specs.Machine.{now}
 use Rattle.fsl_repo.proofs.Clusterings.{clusters_are}

@@ -1,6 +1,5 @@
 use Rattle.std.proofs.Common.{◌≡◌, ℕ, ◌+◌, ◌-◌, List, Option, Some, None, Result, Ok, Err, refl, sym, ap, subst, ◌∙◌, arith, rules}
-use Rattle.std.specs.Prelude.{IfOk, OnOk, IsTrue}
-use Rattle.fsl_repo.specs.Machine.{AreItems, now}
+use Rattle.std.specs.Prelude.{IfOk, OnOk}
 use Rattle.fsl_repo.specs.Whole.{stored}
 use Rattle.fsl_pull.specs.declared.Pulled.{Pulled}
 use Rattle.fsl_pull.specs.declared.PullFault.{PullFault}

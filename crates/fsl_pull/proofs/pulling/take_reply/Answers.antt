@@ -1,5 +1,4 @@
-use Rattle.std.proofs.Common.{◌≡◌, List, ℕ, Option, Result, Ok, Err, Bool, sym, subst, arith}
-use Rattle.fsl_disk.specs.Disk.{DiskState}
+use Rattle.std.proofs.Common.{◌≡◌, List, ℕ, Option, Result, Ok, Err, sym, subst, arith}
 use Rattle.fsl_pull.specs.declared.PullFault.{PullFault}
 use Rattle.fsl_pull.specs.Pulls.{missing_fault}
 use Rattle.fsl_pull.specs.Steps.{IsCommitted}

@@ -6,7 +6,7 @@ use Rattle.fsl_pull.specs.Pushes.{Sending, PushRound, PushAsks, BrokenPush, push
 use Rattle.fsl_pull.specs.Calls.{a_push}
 use Rattle.fsl_pull.specs.Asking.{IsDialCounted}
 use Rattle.fsl_pull.proofs.DialCounts.{counts_on}
-use Rattle.fsl_pull.specs.PushTurns.{sending, Remembers}
+use Rattle.fsl_pull.specs.PushTurns.{Remembers}
 use Rattle.fsl_pull.proofs.PushRuns.{push_runs, turn_is, stopped}
 use Rattle.fsl_pull.proofs.SyncLoop.{IsAt, begins, goes, ends_well, fails, gives_up}
 use Rattle.fsl_pull.proofs.pushing.push.Goals as goal

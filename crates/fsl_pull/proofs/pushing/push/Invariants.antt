@@ -1,4 +1,4 @@
-use Rattle.std.proofs.Common.{◌≡◌, ℕ, None, length}
+use Rattle.std.proofs.Common.{◌≡◌, None, length}
 use Rattle.fsl_pull.specs.Pushes.{Sending, PushRound, push_start}
 use Rattle.fsl_pull.specs.PushTurns.{Remembers}
 use Rattle.fsl_pull.proofs.SyncLoop.{IsAt}
