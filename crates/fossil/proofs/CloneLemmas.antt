@@ -1,5 +1,5 @@
 -- What a clone says of what it prints.
-use Rattle.std.proofs.Common.{◌≡◌, ◌⊎◌, inl, inr, ℕ, true, false, List, [], ◌∷◌, length, Option, Some, None, Result, Ok, Err, IsTrue, refl, sym, ap, subst, ◌∙◌, arith}
+use Rattle.std.proofs.Common.{◌≡◌, ◌⊎◌, inl, inr, ℕ, true, false, List, [], ◌∷◌, length, Option, Some, None, Result, Ok, Err, refl, sym, ap, subst, ◌∙◌, arith}
 use Rattle.fsl_outside.specs.Connections.{LinkState}
 use Rattle.fsl_outside.specs.Streams.{SinkState}
 use Rattle.fsl_disk.specs.Disk.{DiskState, Told}
@@ -18,7 +18,7 @@ use Rattle.fossil.specs.Outcome.{without_commit, command_clones}
 use Rattle.fossil.specs.Run.{Output, IsTold, disk_fault}
 use Rattle.fossil.specs.Acts.{IsWritten}
 use Rattle.fossil.specs.Served.{IsWrittenAs, with_text, link_fault, no_memory}
-use Rattle.fossil.specs.Serving.{printed, IsDue}
+use Rattle.fossil.specs.Serving.{printed}
 use Rattle.fossil.specs.Cloned.{result_printed, IsResultTold, ClonesBy, Clones, ClonesIf}
 use Rattle.fossil.specs.Syncing.{IsSyncDue, HasCloned}
 use Rattle.fossil.proofs.FileLemmas.{some_same, quiet_none}

@@ -2,7 +2,6 @@
 use Rattle.std.proofs.Common.{◌≡◌, inl, inr, ℕ, ◌≤◌, Bool, true, false, List, [], length, Option, Some, None, Result, Ok, Err, IfOk, IfErr, IsTrue, refl, sym, ap, subst, ◌∙◌, arith}
 use Rattle.std.specs.Prelude.{◌^◌, nat_lt, MatchBool}
 use Rattle.std.specs.Io.KnownBytes.{IsAtEnd}
-use Rattle.fsl_artifact.specs.Kind.{IsKind}
 use Rattle.fsl_text.specs.declared.memory.Memory.{Memory}
 use Rattle.fsl_disk.specs.Disk.{DiskState}
 use Rattle.fsl_words.specs.declared.Command.{Command}

@@ -16,7 +16,6 @@ use Rattle.fsl_order.specs.Names.{bytes_cmp, has}
 use Rattle.fsl_text.specs.declared.memory.Memory.{Memory}
 use Rattle.fsl_order.specs.Rows.{by_name}
 use Rattle.fsl_order.proofs.Orders.{bytes_cmp-IsAntisymmetric}
-use Rattle.fsl_record.specs.declared.Record.TheVariants as record_of
 use Rattle.fsl_rows.specs.Kept.{IsKept}
 use Rattle.fsl_rows.proofs.Keeping.{values-insert}
 use Rattle.fsl_blobs.specs.Fold.{Held, HeldSet, Contents, contents, nothing, after}
@@ -29,7 +28,6 @@ use Rattle.fsl_repo.specs.Machine.{IsItemOf, AreItems}
 use Rattle.fsl_repo.proofs.HeldMore.{any_alike, blob_after, items_more}
 use Rattle.fsl_repo.proofs.ItemLemmas.{same_names}
 use Rattle.fsl_repo.proofs.OneList.{are_one_list}
-use Rattle.fossil.specs.Printed.{Printed}
 use Rattle.fossil.specs.Outcome.{Outcome, without_commit, IsGen}
 use Rattle.fossil.specs.Gen.{public_record, IsSummed, IsSetOf, IsTextAdded, all_after, AreTextsAdded}
 

@@ -1,7 +1,7 @@
 -- What a serve says and leaves, stage by stage.
-use Rattle.std.proofs.Common.{◌≡◌, ◌⊎◌, inl, inr, ℕ, ◌+◌, ◌<◌, ◌≤◌, List, [], ◌∷◌, length, Option, Some, None, Result, Ok, Err, refl, sym, ap, subst, ◌∙◌, arith}
+use Rattle.std.proofs.Common.{◌≡◌, inl, inr, ℕ, ◌+◌, ◌<◌, ◌≤◌, List, [], ◌∷◌, length, Option, Some, None, refl, sym, ap, subst, arith}
 use Rattle.std.specs.Prelude.{slice_index_or}
-use Rattle.std.specs.Option.{option_map, option_map_or}
+use Rattle.std.specs.Option.{option_map_or}
 use Rattle.fsl_outside.specs.Connections.{Connection, Standing}
 use Rattle.fsl_outside.specs.Streams.{SourceState}
 use Rattle.fsl_disk.specs.Disk.{DiskState, IsModelled, Told, Keeps, Quiet, LeavesOnly}
@@ -12,13 +12,11 @@ use Rattle.fsl_journal.specs.Journal.{HeldOrSame}
 use Rattle.fsl_journal.specs.Log.{StandsBetween}
 use Rattle.fsl_journal.specs.declared.LoadFault.{LoadFault}
 use Rattle.fsl_blobs.specs.Fold.{contents}
-use Rattle.fsl_repo.specs.Whole.{Whole, IsWholeOn, IsLater, blobs, stored}
+use Rattle.fsl_repo.specs.Whole.{Whole, IsWholeOn, stored}
 use Rattle.fsl_repo.specs.Onward.{IsLaterOn}
 use Rattle.fsl_repo.specs.Opening.{IsOpened, OpenFailed}
 use Rattle.fsl_login.specs.declared.User.{User}
-use Rattle.fsl_login.specs.UserFiles.{IsUsersFile, IsFirstBadLine}
 use Rattle.fsl_serve.specs.declared.work.Work.{Work}
-use Rattle.fsl_serve.specs.Calls.{Call}
 use Rattle.fsl_serve.specs.Crews.{AllWorked}
 use Rattle.fossil.specs.declared.answers.due.Due.{Due}
 use Rattle.fossil.specs.Printed.{Printed}

@@ -1,5 +1,5 @@
 -- Words, an input and a file have an outcome.
-use Rattle.std.proofs.Common.{◌≡◌, ◌⊎◌, inl, inr, ℕ, Bool, true, false, List, [], ◌∷◌, length, map, Option, Some, None, Result, Ok, Err, refl}
+use Rattle.std.proofs.Common.{◌≡◌, ◌⊎◌, inl, inr, ℕ, Bool, true, false, List, [], length, map, Option, Some, None, Result, Ok, Err, refl}
 use Rattle.std.specs.Prelude.{◌^◌, nat_lt, MatchBool}
 use Rattle.fsl_record.specs.declared.Record.{Record}
 use Rattle.fsl_journal.specs.File.{IsFileOf, FailsAt}

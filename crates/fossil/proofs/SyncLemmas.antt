@@ -33,7 +33,7 @@ use Rattle.fossil.specs.Syncing.{IsSyncDue, IsReady}
 use Rattle.fossil.proofs.FileLemmas.{both, agrees}
 use Rattle.fossil.proofs.TakenLemmas.{IsTellable, Start, IsAt, same_at, IsEndAt}
 use Rattle.fossil.proofs.SoundLemmas.{IsSound, AreBefore, sent_as}
-use Rattle.fossil.proofs.SyncedLemmas.{Holds, holds, holds_either, IsLeftSo, made_all, reached_all, contents_left, durable_left, moments_left}
+use Rattle.fossil.proofs.SyncedLemmas.{holds, holds_either, IsLeftSo, made_all, reached_all, contents_left, durable_left, moments_left}
 
 -- ---- ends
 
@@ -148,6 +148,7 @@ module _ {D : Type 0} (command : Command) (peer peer_left : DiskState) (dial dia
         durable = durable_left file left bytes base file_told stands all_keeps o.status far left_so;
         keeps = all_keeps;
         peer = peer_kept;
+        unasked = λ told refused. absurd (no_file bytes refused.0 base refused.1 stands);
         disk = disk_kept;
         dial = dial_kept;
       })

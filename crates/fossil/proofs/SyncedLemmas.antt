@@ -24,10 +24,10 @@ use Rattle.fossil.specs.declared.commands.sync.Way.TheVariants as way
 use Rattle.fossil.specs.Printed.{Printed}
 use Rattle.fossil.specs.Outcome.{Outcome, without_commit, printed_of, command_syncs, command_clones, command_meets}
 use Rattle.fossil.specs.Run.{Output, Agrees, IsTold}
-use Rattle.fossil.specs.Acts.{KeepsImages}
+use Rattle.fossil.specs.Acts.{file_of, KeepsImages}
 use Rattle.fossil.specs.Served.{IsWrittenAs, all, front}
 use Rattle.fossil.specs.Serving.{printed}
-use Rattle.fossil.specs.Synced.{Read, Objects, IsSyncOutcome, AreCommitsSoFar, AreCommits, IsDue, IsCutOff, command_asks_peer, HasFailed, AreCommitsBefore, IsDiskDue, objects_of, IsAnswer, IsFaulted, Far, AreCutOff, AreMade, reached, StandsForAll, StandsAsFar, IsFileLeft, IsWholeAtAnyMoment, IsDurable, IsPeerKept, SyncsBy, HasSynced}
+use Rattle.fossil.specs.Synced.{Read, Objects, IsSyncOutcome, AreCommitsSoFar, AreCommits, IsDue, IsCutOff, command_asks_peer, HasFailed, AreCommitsBefore, IsDiskDue, objects_of, IsAnswer, IsFaulted, Far, AreCutOff, AreMade, reached, StandsForAll, StandsAsFar, StandsOrWasLeft, IsFileLeft, IsWholeAtAnyMoment, IsDurable, IsPeerKept, IsUntouched, SyncsBy, HasSynced}
 use Rattle.fossil.specs.Syncing.{command_by}
 use Rattle.fossil.proofs.InputLemmas.{some_bytes}
 use Rattle.fossil.proofs.FileLemmas.{both, some_same, agreed, quiet_none}
@@ -94,13 +94,13 @@ module _ (file left : DiskState) (bytes : List ℕ) (base : List Record) (told :
   pub contents_left : (left_reads : (held : List ℕ) → IsTrue left.is_model → left.contents ≡ Some held → left.images held) (status : ℕ) (far : Far) → IsLeftSo file left base status far → IsFileLeft (both file left) bytes status far
   contents_left left_reads status far (inl h) old held file_told left_told are known = inl (as_old old far.done held are (h.contents held left_told))
   contents_left left_reads status far (inr (four, rose, h)) old held file_told left_told are known =
-      let k = known four rose in
-      let modelled : IsModelled file = record { tells = ap is_some file_told; model = k.0 } in
-      as_either status old far held are four (h (modelled_after file left keeps modelled) held (left_reads held (keeps.model ∙ k.0) left_told))
+      let model = known four rose in
+      let modelled : IsModelled file = record { tells = ap is_some file_told; model = model } in
+      as_either status old far held are four (h (modelled_after file left keeps modelled) held (left_reads held (keeps.model ∙ model) left_told))
 
   pub durable_left : (status : ℕ) (far : Far) → IsLeftSo file left base status far → IsDurable (both file left) bytes status far
-  durable_left status far (inl h) modelled file_told old are known c image = inl (as_old old far.done c are (h.durable (modelled_after file left keeps modelled) c image))
-  durable_left status far (inr (four, rose, h)) modelled file_told old are known c image = as_either status old far c are four (h (modelled_after file left keeps modelled) c image)
+  durable_left status far (inl h) modelled file_told old are c image = inl (inl (as_old old far.done c are (h.durable (modelled_after file left keeps modelled) c image)))
+  durable_left status far (inr (four, rose, h)) modelled file_told old are c image = inl (as_either status old far c are four (h (modelled_after file left keeps modelled) c image))
 
   -- the moments of the load, and those of the sync behind it
   pub moments_left : (mid : DiskState) (commits : List (List Record)) → Keeps file mid → KeepsImages file mid → (IsModelled mid → (c : List ℕ) → mid.images c → IsFileOf c base)
@@ -123,6 +123,9 @@ moments_loaded file left commits stays modelled old are = weaker file left (λ c
 pub none_grown : (o : Option (List Connection)) → Grows o o [] []
 none_grown None = refl
 none_grown (Some connections) = ([], sym (append-nil connections), ([], refl, tt, tt))
+
+pub untouched : (file : DiskState) → IsUntouched (both file file)
+untouched file = record { quiet = quiet_none file; moment = refl; faults = refl }
 
 pub peer_idle : (peer : DiskState) → (IsTrue peer.is_model → (c : List ℕ) → peer.since peer.moment c → peer.images c) → IsPeerKept (both peer peer)
 peer_idle peer no_other = record {
@@ -178,6 +181,7 @@ module _ (command : Command) (x : Objects) (rounds : Rounds) (broken : List Conn
     durable = s.durable;
     keeps = s.keeps;
     peer = s.peer;
+    unasked = s.unasked;
     disk = s.disk;
     dial = s.dial;
   })
@@ -186,6 +190,10 @@ module _ (command : Command) (x : Objects) (rounds : Rounds) (broken : List Conn
   as_six : (old : List Record) (far : Far) (bytes : List ℕ) → StandsAsFar 0 old far bytes → StandsAsFar 6 old far bytes
   as_six old far bytes (inl h) = inl h
   as_six old far bytes (inr (four, h)) = absurd (not_four four)
+
+  durable_six : (old : List Record) (far : Far) (c : List ℕ) → StandsOrWasLeft x.file 0 old far c → StandsOrWasLeft x.file 6 old far c
+  durable_six old far c (inl h) = inl (as_six old far c h)
+  durable_six old far c (inr (cut, none, image)) = absurd (cc)
 
   cut_status : (n status : ℕ) → n ≡ 0 → status ≡ 6 → SyncsBy command x P n rounds broken r commits → SyncsBy command x Q status rounds broken r commits
   cut_status n status z six s =
@@ -202,9 +210,10 @@ module _ (command : Command) (x : Objects) (rounds : Rounds) (broken : List Conn
         contents = λ old held file_told left_told are known. as_six old at_zero.far held (at_zero.contents old held file_told left_told are (λ four rose. absurd (cc)));
         kept = at_zero.kept;
         any_moment = at_zero.any_moment;
-        durable = λ modelled file_told old are known c image. as_six old at_zero.far c (at_zero.durable modelled file_told old are known c image);
+        durable = λ modelled file_told old are c image. durable_six old at_zero.far c (at_zero.durable modelled file_told old are c image);
         keeps = at_zero.keeps;
         peer = at_zero.peer;
+        unasked = at_zero.unasked;
         disk = λ other. at_zero.disk (λ four. absurd (cc));
         dial = λ other. at_zero.dial (λ seven. absurd (cc));
       })
@@ -243,7 +252,7 @@ pub apart_by : (w : Way) (address : List ℕ) (login : Option (List ℕ × List 
 apart_by way.Pull address login = record { alone = λ asks. absurd (cc); outcome = λ bytes r o h. h; so_far = λ bytes r commits h. h; due = λ bytes r body h. h; cut_off = λ bytes r commits far h. h }
 apart_by way.Push address login = record { alone = λ asks. absurd (cc); outcome = λ bytes r o h. h; so_far = λ bytes r commits h. h; due = λ bytes r body h. h; cut_off = λ bytes r commits far h. h }
 
-module _ (command : Command) (apart : IsApart command) (file peer other : DiskState × DiskState) (dial : LinkState × LinkState) (Tells : Printed → Type 0) where
+module _ (command : Command) (apart : IsApart command) (file peer other : DiskState × DiskState) (still : IsUntouched (file_of other)) (dial : LinkState × LinkState) (Tells : Printed → Type 0) where
   abbrev there : List ℕ
   there = (some_bytes (other.0).contents).0
 
@@ -311,6 +320,7 @@ module _ (command : Command) (apart : IsApart command) (file peer other : DiskSt
         durable = s.durable;
         keeps = s.keeps;
         peer = λ asks. absurd (apart.alone asks);
+        unasked = λ told refused. still;
         disk = λ other. ((s.disk other).0, λ asks. absurd (apart.alone asks));
         dial = s.dial;
       },

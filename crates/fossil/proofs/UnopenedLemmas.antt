@@ -2,13 +2,15 @@
 use Rattle.std.proofs.Common.{◌≡◌, ◌≢◌, ◌⊎◌, inl, inr, ℕ, List, [], Option, Some, is_some, Err, IsTrue, refl, sym, ap, subst, ◌∙◌}
 use Rattle.fsl_order.specs.Causes.{Rose}
 use Rattle.fsl_outside.specs.Connections.{LinkState}
+use Rattle.fsl_record.specs.declared.Record.{Record}
 use Rattle.fsl_disk.specs.Disk.{DiskState, IsModelled, Keeps, LeavesOnly}
 use Rattle.fsl_disk.proofs.Moments.{started}
 use Rattle.fsl_journal.specs.File.{IsFileOf, FailsAt}
-use Rattle.fsl_journal.specs.Journal.{HeldOrSame, IsSpared}
+use Rattle.fsl_journal.specs.Journal.{OfBytes, HeldOrSame, IsSpared}
 use Rattle.fsl_journal.specs.declared.LoadFault.{LoadFault}
 use Rattle.fsl_journal.specs.declared.LoadFault.TheVariants as load_fault
 use Rattle.fsl_journal.proofs.Failing.{no_file}
+use Rattle.fsl_journal.proofs.Unique.{one_file}
 use Rattle.fsl_repo.specs.Whole.{Whole, IsWholeOn}
 use Rattle.fsl_repo.specs.Opening as opening
 use Rattle.fsl_pull.specs.Kept.{StandsForSome}
@@ -26,13 +28,13 @@ use Rattle.fossil.specs.Acts.{KeepsContents, IsUnopened, IsWritten}
 use Rattle.fossil.specs.Served.{with_text, no_memory}
 use Rattle.fossil.specs.Serving.{printed}
 use Rattle.fossil.specs.Syncs.{with_commits, no_peer}
-use Rattle.fossil.specs.Synced.{Read, Objects, IsSyncOutcome, command_asks_peer, IsAnswer, is_cut, reached, IsFileLeft, IsDurable, IsPeerKept, SyncsBy, HasSynced, objects_of}
+use Rattle.fossil.specs.Synced.{Read, Objects, IsSyncOutcome, command_asks_peer, IsAnswer, is_cut, reached, StandsAsFar, StandsOrWasLeft, IsFileLeft, IsDurable, IsPeerKept, SyncsBy, HasSynced, objects_of}
 use Rattle.fossil.specs.Syncing.{IsUnopenedDue, IsNoPeerDue, ComesTo, IsReady, command_by}
 use Rattle.fossil.proofs.InputLemmas.{some_bytes}
 use Rattle.fossil.proofs.FileLemmas.{both, agrees, some_same, quiet_none}
 use Rattle.fossil.proofs.LoadLemmas.{KeepsBetween}
 use Rattle.fossil.proofs.RepoLemmas.{repo_opened}
-use Rattle.fossil.proofs.SyncedLemmas.{holds, made_all, as_old_so_far, moments_loaded, none_grown, peer_idle}
+use Rattle.fossil.proofs.SyncedLemmas.{holds, made_all, as_old_so_far, moments_loaded, none_grown, untouched, peer_idle}
 use Rattle.fossil.proofs.SyncLemmas.{at_start, fresh, synced_by}
 
 -- a repository that was loaded just now
@@ -42,7 +44,7 @@ ready_of file left r is whole between keeps = record { loaded = repo_opened file
 -- ---- the repository's file
 
 module _ (command : Command) (no_repository : (r : Read) (at : ℕ) → FailsAt r.file at → r.rounds ≡ [] → IsSyncOutcome command r (not_repository at)) (file left peer : DiskState) (dial : LinkState)
-    (peer_kept : IsTrue (command_asks_peer command) → IsPeerKept (both peer peer)) (left_reads : (held : List ℕ) → IsTrue left.is_model → left.contents ≡ Some held → left.images held) (d : Due) where
+    (peer_kept : IsTrue (command_asks_peer command) → IsPeerKept (both peer peer)) (spared : IsSpared file left) (harmless : IsModelled file → LeavesOnly file left (HeldOrSame file)) (d : Due) where
   abbrev x : Objects
   x = objects_of (file, left) (peer, peer) (dial, dial)
 
@@ -51,6 +53,12 @@ module _ (command : Command) (no_repository : (r : Read) (at : ℕ) → FailsAt 
 
   abbrev Comes : Type 0
   Comes = ComesTo command (file, left) (peer, peer) (dial, dial) d
+
+  -- the records that were loaded are those that the bytes stand for
+  same_records : (bytes : List ℕ) → file.contents ≡ Some bytes → (records old : List Record) → OfBytes file (λ b. IsFileOf b records) → IsFileOf bytes old → (held : List ℕ) → IsFileOf held records
+      → IsFileOf held old
+  same_records bytes told records old of are held is =
+      subst (λ (rs : List Record). IsFileOf held rs) (one_file bytes records old (subst (λ (b : List ℕ). IsFileOf b records) (of.1 bytes told) of.2) are) is
 
   module _ (fault : LoadFault) (un : IsUnopened file left fault) (counts : (fault ≡ load_fault.Disk → ⊥) → left.faults ≡ file.faults) where
     by_text : (bytes : List ℕ) (o : Printed) → Agrees file.contents bytes → printed d ≡ o → IsAnswer command (read bytes) [] [] x (λ p. o ≡ p) → IsFileLeft (both file left) bytes o.status (made_all [])
@@ -77,6 +85,7 @@ module _ (command : Command) (no_repository : (r : Read) (at : ℕ) → FailsAt 
               durable = durable;
               keeps = un.keeps;
               peer = peer_kept;
+              unasked = λ file_told refused. untouched peer;
               disk = λ other. (steady other, λ asks. refl);
               dial = λ other. refl;
             }),
@@ -87,9 +96,22 @@ module _ (command : Command) (no_repository : (r : Read) (at : ℕ) → FailsAt 
     contents_by : (fault ≡ load_fault.Disk → ⊥) → (bytes : List ℕ) (status : ℕ) → IsFileLeft (both file left) bytes status (made_all [])
     contents_by other bytes status old held file_told left_told are known = as_old_so_far status old held (un.contents other bytes file_told old are held left_told)
 
-    -- and so do the images, where these are known
+    -- a crash leaves what it might have left before, or the same records
+    image_by : (bytes : List ℕ) (status : ℕ) → IsTrue (is_cut status) → file.contents ≡ Some bytes → (old : List Record) → IsFileOf bytes old → (c : List ℕ) → HeldOrSame file c
+        → StandsOrWasLeft (both file left) status old (made_all []) c
+    image_by bytes status cut told old are c (inl image) = inr (cut, refl, image)
+    image_by bytes status cut told old are c (inr (records, of, is)) = inl (as_old_so_far status old c (same_records bytes told records old of are c is))
+
     images_by : (bytes : List ℕ) (status : ℕ) → IsTrue (is_cut status) → IsDurable (both file left) bytes status (made_all [])
-    images_by bytes status cut modelled file_told old are known c image = as_old_so_far status old c ((un.any_moment modelled old (known cut)).now c image)
+    images_by bytes status cut modelled file_told old are c image = image_by bytes status cut file_told old are c ((harmless modelled).now c image)
+
+    -- the contents stand for the same records; where its disk failed, by the disk model
+    spared_by : (bytes : List ℕ) (status : ℕ) → IsSpared file left → file.contents ≡ Some bytes → (old : List Record) → IsFileOf bytes old → IsTrue file.is_model
+        → (held : List ℕ) → left.contents ≡ Some held → StandsAsFar status old (made_all []) held
+    spared_by bytes status (inl same) told old are model held left_told = as_old_so_far status old held (subst (λ (b : List ℕ). IsFileOf b old) (some_same (sym told ∙ sym same ∙ left_told)) are)
+    spared_by bytes status (inr (records, of, stands)) told old are model held left_told =
+        let modelled : IsModelled file = record { tells = ap is_some told; model = model } in
+        as_old_so_far status old held (same_records bytes told records old of are held (stands modelled held left_told))
 
     memory : (fault ≡ load_fault.Disk → ⊥) → printed d ≡ no_memory → Comes
     memory other told =
@@ -100,16 +122,12 @@ module _ (command : Command) (no_repository : (r : Read) (at : ℕ) → FailsAt 
     disk rose told =
         let bytes = some_bytes file.contents in
         by_text bytes.0 (with_text 4 disk_fault) bytes.1 told (inr (inl (refl, inl rose, inl refl, refl)))
-        (λ old held file_told left_told are known.
-        let k = known refl rose in
-        let modelled : IsModelled file = record { tells = ap is_some file_told; model = k.0 } in
-        as_old_so_far 4 old held ((un.any_moment modelled old k.1).now held (left_reads held (un.keeps.model ∙ k.0) left_told)))
-        (images_by bytes.0 4 refl) (λ other. absurd (other refl))
+        (λ old held file_told left_told are known. spared_by bytes.0 4 spared file_told old are (known refl rose) held left_told) (images_by bytes.0 4 refl) (λ other. absurd (other refl))
 
     nowhere : (fault ≡ load_fault.Disk → ⊥) → (bytes : List ℕ) (at : ℕ) → Agrees file.contents bytes → FailsAt bytes at → printed d ≡ printed_of (not_repository at) → Comes
     nowhere other bytes at agree fails told =
         by_text bytes (printed_of (not_repository at)) agree told (inl (not_repository at, refl, no_repository (read bytes) at fails refl, refl, refl)) (contents_by other bytes 2)
-        (λ modelled file_told old are known c image. absurd (no_file bytes at old fails are)) (λ status. counts other)
+        (λ modelled file_told old are c image. absurd (no_file bytes at old fails are)) (λ status. counts other)
 
   -- it wasn't loaded
   pub unopened_comes : (fault : LoadFault) → IsUnopened file left fault → ((fault ≡ load_fault.Disk → ⊥) → left.faults ≡ file.faults) → IsUnopenedDue fault d → Comes
@@ -221,9 +239,10 @@ idle_synced command file peer dial out status no_other no_other_peer written =
           contents = λ old held file_told left_told are known. as_old_so_far status old held (subst (λ (b : List ℕ). IsFileOf b old) (some_same (sym file_told ∙ left_told)) are);
           kept = λ told refused. quiet_none file;
           any_moment = λ modelled old are. started file (StandsForSome old (reached status (made_all []))) (no_other modelled.model) (λ c image. none_of_them old (reached status (made_all [])) c (are c image));
-          durable = λ modelled file_told old are known c image. as_old_so_far status old c (known (subst (λ (n : ℕ). IsTrue (is_cut n)) (sym nine) refl) c image);
+          durable = λ modelled file_told old are c image. inr (subst (λ (n : ℕ). IsTrue (is_cut n)) (sym nine) refl, refl, image);
           keeps = record { tells = refl; model = refl };
           peer = λ asks. peer_idle peer no_other_peer;
+          unasked = λ told refused. untouched peer;
           disk = λ other. (refl, λ asks. refl);
           dial = λ other. refl;
         },

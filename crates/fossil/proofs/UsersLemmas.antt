@@ -2,12 +2,12 @@
 use Rattle.std.proofs.Common.{◌≡◌, ◌⊎◌, inl, inr, ℕ, ◌+◌, ◌<◌, ◌≤◌, ◌^◌, List, [], length, Result, Ok, Err, IfOk, IfErr, subst}
 use Rattle.std.specs.Io.KnownBytes.{Consumes, IsAtEnd}
 use Rattle.fsl_login.specs.declared.User.{User}
-use Rattle.fsl_login.specs.UserFiles.{IsUsersFile, IsFirstBadLine}
+use Rattle.fsl_login.specs.UserFiles.{IsUsersFile}
 use Rattle.fsl_login.proofs.Fronts.{fronts_tell}
 use Rattle.fsl_login.proofs.OneReading.{users_read_one_way}
 use Rattle.fossil.specs.declared.answers.due.Due.{Due}
 use Rattle.fossil.specs.Run.{Input}
-use Rattle.fossil.specs.Served.{IsUsers, IsUsersRead, IsQuiet, AreNoUsers, unread, bad}
+use Rattle.fossil.specs.Served.{IsUsers, IsQuiet, AreNoUsers, unread, bad}
 use Rattle.fossil.specs.Serving.{printed, IsNoUserFile}
 
 -- bytes that are users are no more than 2^20

@@ -133,7 +133,8 @@ pub record Far : Type 0 where
   pub done : List (List Record)
   pub due : List (List Record)
 
--- where the last round wasn't committed: the commits of the rounds before it, and all. The rounds of a pull from a peer's file aren't told: some first commits, and at most one more
+-- where the last round wasn't committed: the commits of the rounds before it, and all. The rounds of a pull from a peer's file aren't told: some first
+-- commits, and at most one more
 abbrev pub AreCutOff : Command → Read → List (List Record) → Far → Type 0
 AreCutOff (PullLocal path) r commits far =
     ((more : List (List Record)) × (far.due ≡ far.done ++ more) × (length more ≤ 1)) × ((left : List (List Record)) × (commits ≡ far.due ++ left))
@@ -156,12 +157,12 @@ StandsAsFar status old far bytes = StandsForAll old far.done bytes ⊎ ((status 
 abbrev pub AreImagesOf : List Record → (List ℕ → Type 0) → Type 0
 AreImagesOf records images = (c : List ℕ) → images c → IsFileOf c records
 
--- where it is told, the file that is left stands for the old records and the commits that were made; of a disk that failed its images must be known
+-- where it is told, the file that is left stands for the old records and the commits that were made; of a disk that failed this is known by the disk
+-- model alone
 abbrev pub IsFileLeft : File → List ℕ → ℕ → Far → Type 0
 IsFileLeft file bytes status far =
     (old : List Record) (held : List ℕ) → file.before.contents ≡ Some bytes → file.after.contents ≡ Some held → IsFileOf bytes old →
-    (status ≡ 4 → Rose file.before.faults file.after.faults → IsTrue file.before.is_model × AreImagesOf old file.before.images) →
-    StandsAsFar status old far held
+    (status ≡ 4 → Rose file.before.faults file.after.faults → IsTrue file.before.is_model) → StandsAsFar status old far held
 
 -- what a crash at any moment may leave of the commits: those that were made, and where the disk failed the due one
 abbrev pub reached : ℕ → Far → List (List Record)
@@ -172,11 +173,15 @@ abbrev pub IsWholeAtAnyMoment : File → List (List Record) → Type 0
 IsWholeAtAnyMoment file commits =
     IsModelled file.before → (old : List Record) → AreImagesOf old file.before.images → LeavesOnly file.before file.after (StandsForSome old commits)
 
--- a crash after the run leaves the old records and the commits that were made, whatever one before it might have left; behind a cut that must be known
+-- the bytes stand for the old records and the commits that were made; behind a cut with no commit they may be what a crash might have left before the run
+abbrev pub StandsOrWasLeft : File → ℕ → List Record → Far → List ℕ → Type 0
+StandsOrWasLeft file status old far c = StandsAsFar status old far c ⊎ (IsTrue (is_cut status) × (far.due ≡ []) × file.before.images c)
+
+-- a crash after the run leaves such bytes, whatever one before it might have left
 abbrev pub IsDurable : File → List ℕ → ℕ → Far → Type 0
 IsDurable file bytes status far =
-    IsModelled file.before → file.before.contents ≡ Some bytes → (old : List Record) → IsFileOf bytes old →
-    (IsTrue (is_cut status) → AreImagesOf old file.before.images) → (c : List ℕ) → file.after.images c → StandsAsFar status old far c
+    IsModelled file.before → file.before.contents ≡ Some bytes → (old : List Record) → IsFileOf bytes old → (c : List ℕ) → file.after.images c →
+    StandsOrWasLeft file status old far c
 
 -- a file that is no repository stays as it is, at each moment and whatever the status
 abbrev pub IsRefusedKept : File → List ℕ → Type 0
@@ -192,6 +197,12 @@ pub record IsPeerKept (peer : File) : Type 0 where
   pub harmless : IsModelled peer.before → LeavesOnly peer.before peer.after (HeldOrSame peer.before)
   pub unreadable : KeepsUnreadable peer.before peer.after
   pub keeps : Keeps peer.before peer.after
+
+-- as a disk of which nothing was asked: its file is as it was, no moment passed, and no call failed
+pub record IsUntouched (file : File) : Type 0 where
+  pub quiet : Quiet file.before file.after
+  pub moment : file.after.moment ≡ file.before.moment
+  pub faults : file.after.faults ≡ file.before.faults
 
 -- ---- a run
 
@@ -214,6 +225,8 @@ pub record SyncsBy (command : Command) (x : Objects) (Tells : Printed → Type 0
   pub durable : IsDurable x.file r.file status far
   pub keeps : Keeps x.file.before x.file.after
   pub peer : IsTrue (command_asks_peer command) → IsPeerKept x.peer
+  -- a peer's file is looked at only behind a file that stands for records
+  pub unasked : x.file.before.contents ≡ Some r.file → IsNoRepository r.file → IsUntouched x.peer
   -- no call of a disk or of the dial failed but that with which the sync ended
   pub disk : status ≢ 4 → (x.file.after.faults ≡ x.file.before.faults) × (IsTrue (command_asks_peer command) → x.peer.after.faults ≡ x.peer.before.faults)
   pub dial : status ≢ 7 → x.dial.faults_after ≡ x.dial.faults_before

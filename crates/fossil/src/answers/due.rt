@@ -1,4 +1,4 @@
-//! What a serve says.
+//! What is due to be said of a serve or of a sync, and how it is written.
 ghost use Rattle.std.specs.Prelude.{◌≡◌, IfOk, IfErr};
 ghost use Rattle.fossil.specs.declared.answers.due.Due.TheVariants as due_is;
 ghost use Rattle.fossil.specs.Acts.{output_of};
@@ -12,20 +12,20 @@ use crate::answers::status::{
 use fsl_outside::{Sink, write_whole};
 use fsl_text::Memory;
 
-/// What a serve says.
+/// What is due to be said of a serve or of a sync.
 #[derive(Drop)]
 pub(crate) enum Due {
     /// How the program is called.
     Usage,
-    /// A call of the disk failed.
+    /// A call of a disk failed.
     Disk,
     /// A read of the users file failed.
     Input,
-    /// A door failed.
+    /// A door or the dial failed.
     Link,
     /// There was no memory.
     Memory,
-    /// A report or a refusal.
+    /// A report, a refusal, or what the peer did wrong.
     Answer(Answer),
 }
 

@@ -8,7 +8,7 @@ use Rattle.fossil.specs.declared.commands.sync.Way.TheVariants as way
 use Rattle.fossil.specs.Acts.{IsObeyable, output_of}
 use Rattle.fossil.specs.Serving.{printed}
 use Rattle.fossil.specs.Synced.{Syncs, objects_of}
-use Rattle.fossil.proofs.SyncedLemmas.{synced_printed, apart_by, other_peer, alone_meets, clone_alone, not_alone, is_alone}
+use Rattle.fossil.proofs.SyncedLemmas.{untouched, synced_printed, apart_by, other_peer, alone_meets, clone_alone, not_alone, is_alone}
 use Rattle.fossil.proofs.CloneLemmas.{cloned_printed, cloned_if, not_cloned, other_command}
 use Rattle.fossil.proofs.top.start.Goals as goal
 
@@ -25,7 +25,7 @@ returns-in-Pull-clause-syncs g c = λ asks.
     let due = c.sync-due.result.0 in
     subst (λ (x : Command). Syncs x file peer dial out c.print_due-status.result) (sym c.in-Pull.is)
     (synced_printed command (objects_of file peer dial) due (output_of out) c.print_due-status.result
-    (other_peer command (apart_by way.Pull c.in-Pull.address c.in-Pull.login) file (file.0, file.0) peer dial (λ o. printed due ≡ o) (printed due).status (c.sync-due.ensures c.in-Pull.address)) c.print_due-status.ensures)
+    (other_peer command (apart_by way.Pull c.in-Pull.address c.in-Pull.login) file (file.0, file.0) peer (untouched peer.0) dial (λ o. printed due ≡ o) (printed due).status (c.sync-due.ensures c.in-Pull.address)) c.print_due-status.ensures)
 
 pub returns-in-Pull-clause-cloned : goal.returns-in-Pull-clause-cloned
 returns-in-Pull-clause-cloned g c =
@@ -46,7 +46,7 @@ returns-in-Push-clause-syncs g c = λ asks.
     let due = c.sync-due-in-Push.result.0 in
     subst (λ (x : Command). Syncs x file peer dial out c.print_due-status-in-Push.result) (sym c.in-Push.is)
     (synced_printed command (objects_of file peer dial) due (output_of out) c.print_due-status-in-Push.result
-    (other_peer command (apart_by way.Push c.in-Push.address c.in-Push.login) file (file.0, file.0) peer dial (λ o. printed due ≡ o) (printed due).status (c.sync-due-in-Push.ensures c.in-Push.address)) c.print_due-status-in-Push.ensures)
+    (other_peer command (apart_by way.Push c.in-Push.address c.in-Push.login) file (file.0, file.0) peer (untouched peer.0) dial (λ o. printed due ≡ o) (printed due).status (c.sync-due-in-Push.ensures c.in-Push.address)) c.print_due-status-in-Push.ensures)
 
 pub returns-in-Push-clause-cloned : goal.returns-in-Push-clause-cloned
 returns-in-Push-clause-cloned g c =

@@ -1,4 +1,4 @@
-use Rattle.std.proofs.Common.{◌≡◌, false, true, sym, ap, ◌∙◌}
+use Rattle.std.proofs.Common.{false, true, sym, ap, ◌∙◌}
 use Rattle.fsl_name.specs.Name.{name_of}
 use Rattle.fossil.proofs.GenLemmas.{there_is, old_text}
 use Rattle.fossil.proofs.commands.generating.add_text.Goals as goal

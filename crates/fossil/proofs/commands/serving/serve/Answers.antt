@@ -1,7 +1,7 @@
-use Rattle.std.proofs.Common.{◌≡◌, Option, Some, None, ap, sym, refl, ◌∙◌, map}
+use Rattle.std.proofs.Common.{ap, sym, refl, ◌∙◌, map}
 use Rattle.std.specs.Prelude.{string_bytes}
-use Rattle.fossil.specs.Acts.{input_of, output_of}
-use Rattle.fossil.specs.ServeCall.{left_of, CrewsWorked}
+use Rattle.fossil.specs.Acts.{input_of}
+use Rattle.fossil.specs.ServeCall.{left_of}
 use Rattle.fossil.proofs.ServeLemmas.{unasked, asked_served}
 use Rattle.fossil.proofs.commands.serving.serve.Goals as goal
 

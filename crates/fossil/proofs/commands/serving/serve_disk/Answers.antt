@@ -1,4 +1,4 @@
-use Rattle.std.proofs.Common.{ap, sym}
+use Rattle.std.proofs.Common.{ap}
 use Rattle.fsl_repo.specs.Opening.{disk_of}
 use Rattle.fossil.specs.ServeCall.{left_of}
 use Rattle.fossil.proofs.ServeLemmas.{loaded_served, not_served, safe_as}
