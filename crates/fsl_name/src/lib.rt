@@ -4,6 +4,11 @@
 
 ghost use Rattle.std.specs.Prelude.{◌≡◌, ℕ, length, List, not, position, IsTrue, IfOk, IfErr};
 ghost use Rattle.std.specs.List.{list_all};
+ghost use Rattle.std.specs.Cmp.{partial_order_from_own_ties};
+ghost use Rattle.std.specs.Cmp.Lexicographic.{slice_cmp};
+ghost use Rattle.std.specs.Cmp.Rules.{comparing};
+ghost use Rattle.std.specs.Ordering.{nat_cmp, as_partial_cmp};
+ghost use Rattle.std.proofs.Common.{rules};
 ghost use Rattle.fsl_name.specs.Name.{
   name_of,
   name_text,
@@ -16,10 +21,11 @@ ghost use Rattle.fsl_name.specs.Name.{
 };
 
 use sha1::Sha1;
+use std::cmp::Ordering;
 use std::marker::Model;
 
 /// The name of an artifact: 20 bytes, ordered by them.
-#[derive(Clone, Copy, Debug, PartialEq, Eq, PartialOrd, Ord, Hash)]
+#[derive(Clone, Copy, Debug, PartialEq, Eq, Hash)]
 pub struct Name {
     bytes: [u8; 20],
 }
@@ -36,6 +42,41 @@ impl Model for Name {
     ghost invariant = { λ n. IsName n.bytes };
 
     ghost inverse = { λ bytes. record { bytes = bytes } };
+}
+
+impl PartialOrd for Name {
+    ghost partial_cmp = { as_partial_cmp (slice_cmp nat_cmp) };
+
+    ghost laws = { partial_order_from_own_ties (Prim.search (comparing, rules)) (Prim.search (comparing, rules)) };
+
+    fn partial_cmp(&self, other: &Name) -> Option<Ordering> {
+        Some(self.cmp(other))
+    }
+}
+
+impl Ord for Name {
+    ghost cmp = { slice_cmp nat_cmp };
+
+    ghost total = { Prim.search (comparing, rules) };
+
+    ghost matches_partial_cmp = { Prim.search (comparing, rules) };
+
+    ghost matches_eq = { Prim.search (comparing, rules) };
+
+    /// The bytes of a name are as random as a hash, so two names that differ mostly do so in one of their first bytes.
+    fn cmp(&self, other: &Name) -> Ordering {
+        let (these, those) = (&self.bytes, &other.bytes);
+        if these[0] != those[0] {
+            return these[0].cmp(&those[0]);
+        }
+        if these[1] != those[1] {
+            return these[1].cmp(&those[1]);
+        }
+        if these[2] != those[2] {
+            return these[2].cmp(&those[2]);
+        }
+        these.cmp(those)
+    }
 }
 
 /// Why a text is no name.
