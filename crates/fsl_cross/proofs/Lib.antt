@@ -36,3 +36,4 @@ pub mod TipLemmas
 pub mod FileLemmas
 pub mod TableLemmas
 pub mod Without
+mod Alone

@@ -51,8 +51,8 @@ pub(crate) fn text<'a>(tags: &'a Tags, name: Name, tag: &[u8], card: &'a [u8]) -
     }
 }
 
-/// The branch of a check-in: the value of the tag `branch` where it is in force on the name, else `trunk`.
-pub(crate) fn branch(tags: &Tags, name: Name) -> &[u8]
+/// The branch of a check-in, by a table of tags: the value of the tag `branch` where it is in force on the name, else `trunk`.
+pub fn branch(tags: &Tags, name: Name) -> &[u8]
     ensures { result.now ≡ branch_over tags.now.facts name }
 {
     text(tags, name, b"branch", b"trunk")

@@ -19,7 +19,7 @@ use std::marker::Model;
 
 /// Artifacts by rising name, one for each name. Contracts see their list.
 #[derive(Drop)]
-pub(crate) struct Items {
+pub struct Items {
     tree: BTreeMap<Name, Held>,
 }
 
@@ -84,7 +84,7 @@ impl Items {
     }
 
     /// Some artifacts, of which no two have one name. They are moved. `Memory` is the only error.
-    pub(crate) fn of(alloc: Global, items: List<Item>) -> Result<Items, Memory>
+    pub fn of(alloc: Global, items: List<Item>) -> Result<Items, Memory>
         requires { AreDistinct (map (λ i. i.name) items) }
         ensures items { IfOk result (λ set. set ≡ by_name (λ i. i.name) items) }
         ensures rising { IfOk result (λ set. IsStrictlySortedBy bytes_cmp (map (λ i. i.name) set)) }

@@ -5,6 +5,7 @@
 ghost use Rattle.fsl_cross.specs.Tables.{SameInAnyOrder, AddedInAnyOrder};
 
 mod adding;
+mod apart;
 mod attached;
 mod back;
 mod beside;
@@ -24,11 +25,13 @@ mod tip;
 mod undos;
 
 pub use back::Back;
+pub use checkin::branch;
 use fsl_artifact::Artifact;
 use fsl_date::Moment;
 use fsl_name::Name;
 use fsl_order::by_name_in_any_order;
 use fsl_text::Text;
+pub use items::Items;
 pub use tables::Tables;
 
 /// An artifact of the set.

@@ -14,7 +14,7 @@ use super::derived::Derived;
 use super::held::Held;
 use super::items::Items;
 use super::undos::{Undos, What};
-use super::{Item, Values, checkin, tip};
+use super::{Item, Values, checkin};
 use fsl_cluster::Clusters;
 use fsl_files::Files;
 use fsl_forum::Threads;
@@ -218,6 +218,7 @@ impl Tables {
 
     /// The table of tags.
     pub fn tags(&self) -> &Tags
+        ensures own { result.now.facts ≡ checkins.tags_facts self.now.items }
         ensures facts { result.now.facts ≡ (tables self.now.fields self.now.items).tags }
     {
         &self.derived.history.tags
@@ -293,9 +294,7 @@ impl Tables {
     pub fn tip(&self, alloc: Global, symbol: &[u8]) -> Result<Option<Name>, Memory>
         ensures { IfOk result (λ n. n ≡ checkins.tip self.now.items symbol.now) }
     {
-        let tag = tip::tag_of(alloc, symbol)?;
-        let holders = self.derived.history.tags.holders(alloc, tag.bytes())?;
-        Ok(tip::latest(&self.items, &self.derived.history.tags, holders.items()))
+        self.items.tip_by(alloc, &self.derived.history.tags, symbol)
     }
 
     /// The branch of a check-in: the value of the tag `branch` where it is in force on the name, else `trunk`.

@@ -1,16 +1,23 @@
 -- The report or the refusal that a question gets, by the contents and the items that the held artifacts are.
-use Rattle.std.specs.Prelude.{◌≡◌, ℕ, List, [], ◌∷◌, ◌++◌, filter, flat_map, zip, is_some, Result, Ok, Err}
+use Rattle.std.specs.Prelude.{◌≡◌, ℕ, List, [], ◌∷◌, ◌++◌, filter, flat_map, zip, is_some, Option, Result, Ok, Err}
 use Rattle.std.specs.Option.{option_map_or}
 use Rattle.std.specs.FinMap as map_of
 use Rattle.fsl_name.specs.Name.{name_text}
+use Rattle.fsl_tags.specs.declared.Fact as tags
 use Rattle.fsl_tags.specs.Tags.{in_force}
+use Rattle.fsl_leaves.specs.declared.Fact as leaves_of
 use Rattle.fsl_leaves.specs.Leaves.{leaves}
+use Rattle.fsl_files.specs.declared.Fact as files_of
 use Rattle.fsl_files.specs.declared.Listing.{Listing}
 use Rattle.fsl_files.specs.declared.Listing.TheVariants.{NotCheckin as not_checkin, NoBaseline as no_baseline, Known}
 use Rattle.fsl_files.specs.Files.{files, changes}
+use Rattle.fsl_timeline.specs.declared.Row.{Row}
 use Rattle.fsl_timeline.specs.Timeline.{latest}
+use Rattle.fsl_wiki.specs.declared.Fact as pages_of
 use Rattle.fsl_wiki.specs.Pages.{history, attached}
+use Rattle.fsl_ticket.specs.declared.Fact as tickets_of
 use Rattle.fsl_ticket.specs.Tickets.{fields}
+use Rattle.fsl_forum.specs.declared.Fact as posts_of
 use Rattle.fsl_forum.specs.Threads.{thread}
 use Rattle.fsl_cross.specs.declared.Item.{Item}
 use Rattle.fsl_cross.specs.Checkins.{branch, tip}
@@ -55,68 +62,68 @@ abbrev pub content : Contents → List ℕ → Result (List ℕ) Refused
 content c prefix = of_prefix c prefix (λ name. option_map_or (λ held. Ok held.bytes) (map_of.get c.held name) (Err (refused.NoArtifact prefix)))
 
 -- the first rows of the timeline
-abbrev pub timeline_report : TableFacts → ℕ → List ℕ
-timeline_report t count = flat_map timeline_line (latest t.timeline count)
+abbrev pub timeline_report : List Row → ℕ → List ℕ
+timeline_report rows count = flat_map timeline_line (latest rows count)
 
 -- the leaves by name, each with its branch
-abbrev pub leaves_report : TableFacts → List Item → List ℕ
-leaves_report t items = flat_map (λ name. leaf_line (branch items name) name) (leaves t.leaves)
+abbrev pub leaves_report : (List ℕ → List ℕ) → List leaves_of.Fact → List ℕ
+leaves_report branch_of facts = flat_map (λ name. leaf_line (branch_of name) name) (leaves facts)
 
 -- the tags in force on a name, by tag
-abbrev pub tags_report : TableFacts → List ℕ → List ℕ
-tags_report t name = flat_map tag_line (in_force t.tags name)
+abbrev pub tags_report : List tags.Fact → List ℕ → List ℕ
+tags_report facts name = flat_map tag_line (in_force facts name)
 
--- the check-in that is the tip of a symbolic name
-abbrev pub tip_report : List Item → List ℕ → Result (List ℕ) Refused
-tip_report items symbol = option_map_or (λ name. Ok (tip_line name)) (tip items symbol) (Err (refused.NoCheckin symbol))
+-- the check-in that is the tip of a symbolic name, where there is one
+abbrev pub tip_report : Option (List ℕ) → List ℕ → Result (List ℕ) Refused
+tip_report latest_of symbol = option_map_or (λ name. Ok (tip_line name)) latest_of (Err (refused.NoCheckin symbol))
 
 -- the files by path, and then the changes by path, where there are some
-abbrev pub listing_report : TableFacts → List ℕ → Listing → Result (List ℕ) Refused
-listing_report t name not_checkin = Err (refused.NotCheckin name)
-listing_report t name no_baseline = Err (refused.NoBaseline name)
-listing_report t name (Known rows) = Ok (flat_map file_line rows ++ option_map_or (flat_map change_line) (changes t.files name) [])
+abbrev pub listing_report : List files_of.Fact → List ℕ → Listing → Result (List ℕ) Refused
+listing_report facts name not_checkin = Err (refused.NotCheckin name)
+listing_report facts name no_baseline = Err (refused.NoBaseline name)
+listing_report facts name (Known rows) = Ok (flat_map file_line rows ++ option_map_or (flat_map change_line) (changes facts name) [])
 
-abbrev pub files_report : TableFacts → List ℕ → Result (List ℕ) Refused
-files_report t name = listing_report t name (files t.files name)
+abbrev pub files_report : List files_of.Fact → List ℕ → Result (List ℕ) Refused
+files_report facts name = listing_report facts name (files facts name)
 
 -- the attachments of a target that aren't deleted, by file
-abbrev pub attachments_report : TableFacts → List ℕ → List ℕ
-attachments_report t target = flat_map attachment_line (filter (λ a. is_some a.source) (attached t.pages target))
+abbrev pub attachments_report : List pages_of.Fact → List ℕ → List ℕ
+attachments_report facts target = flat_map attachment_line (filter (λ a. is_some a.source) (attached facts target))
 
 -- the versions of a page by date and name, and its attachments
-abbrev pub wiki_report : TableFacts → List ℕ → Result (List ℕ) Refused
-wiki_report t title =
-    let pages = history t.pages title in
-    unless_none pages (refused.NoPage title) (flat_map page_line pages ++ attachments_report t title)
+abbrev pub wiki_report : List pages_of.Fact → List ℕ → Result (List ℕ) Refused
+wiki_report facts title =
+    let pages = history facts title in
+    unless_none pages (refused.NoPage title) (flat_map page_line pages ++ attachments_report facts title)
 
 -- the configured fields in their order, and the attachments of the ticket
-abbrev pub ticket_report : TableFacts → List ℕ → Result (List ℕ) Refused
-ticket_report t id =
-    option_map_or (λ values. Ok (flat_map field_line (zip t.fields values) ++ attachments_report t (name_text id)))
-    (fields t.fields t.tickets id) (Err (refused.NoTicket id))
+abbrev pub ticket_report : List (List ℕ) → List tickets_of.Fact → List pages_of.Fact → List ℕ → Result (List ℕ) Refused
+ticket_report configured tickets pages id =
+    option_map_or (λ values. Ok (flat_map field_line (zip configured values) ++ attachments_report pages (name_text id)))
+    (fields configured tickets id) (Err (refused.NoTicket id))
 
 -- the valid posts of a thread by date and name
-abbrev pub thread_report : TableFacts → List ℕ → Result (List ℕ) Refused
-thread_report t name = let posts = thread t.threads name in unless_none posts (refused.NoThread name) (flat_map post_line posts)
+abbrev pub thread_report : List posts_of.Fact → List ℕ → Result (List ℕ) Refused
+thread_report facts name = let posts = thread facts name in unless_none posts (refused.NoThread name) (flat_map post_line posts)
 
--- the names that held artifacts refer to and that are neither held nor shunned, ascending
-abbrev pub phantoms_report : Contents → List Item → List ℕ
-phantoms_report c items = flat_map wanted_line (wants c items)
+-- a line for each of some names
+abbrev pub phantoms_report : List (List ℕ) → List ℕ
+phantoms_report names = flat_map wanted_line names
 
 -- ---- reports
 
--- the report on a question, or its refusal
+-- the report on a question, or its refusal; phantoms are the names that held artifacts refer to and that are neither held nor shunned
 abbrev pub report : Contents → List Item → Question → Result (List ℕ) Refused
 report c items (Cat prefix) = content c prefix
-report c items (Timeline count) = Ok (timeline_report (tables_now c items) count)
-report c items Leaves = Ok (leaves_report (tables_now c items) items)
-report c items (Tags prefix) = of_prefix c prefix (λ name. Ok (tags_report (tables_now c items) name))
-report c items (Tip symbol) = tip_report items symbol
-report c items (Files prefix) = of_prefix c prefix (files_report (tables_now c items))
-report c items (Wiki title) = wiki_report (tables_now c items) title
-report c items (Ticket id) = ticket_report (tables_now c items) id
-report c items (Thread name) = thread_report (tables_now c items) name
-report c items Phantoms = Ok (phantoms_report c items)
+report c items (Timeline count) = Ok (timeline_report (tables_now c items).timeline count)
+report c items Leaves = Ok (leaves_report (branch items) (tables_now c items).leaves)
+report c items (Tags prefix) = of_prefix c prefix (λ name. Ok (tags_report (tables_now c items).tags name))
+report c items (Tip symbol) = tip_report (tip items symbol) symbol
+report c items (Files prefix) = of_prefix c prefix (files_report (tables_now c items).files)
+report c items (Wiki title) = wiki_report (tables_now c items).pages title
+report c items (Ticket id) = let t = tables_now c items in ticket_report t.fields t.tickets t.pages id
+report c items (Thread name) = thread_report (tables_now c items).threads name
+report c items Phantoms = Ok (phantoms_report (wants c items))
 
 -- the report by the items that the held artifacts are; of a content alone they don't matter
 abbrev pub IsReport : Contents → Question → Result (List ℕ) Refused → Type 0

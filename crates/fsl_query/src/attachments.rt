@@ -1,13 +1,11 @@
 //! The attachments of pages and tickets, as the reports on these tell them.
 ghost use Rattle.std.specs.Prelude.{◌≡◌, ◌++◌, [], ◌∷◌, filter, flat_map, is_some, OnOk};
-ghost use Rattle.fsl_cross.specs.Tables as cross;
 ghost use Rattle.fsl_query.specs.Lines.{attachment_line};
 ghost use Rattle.fsl_query.specs.Reports.{attachments_report};
 
 use crate::lines::append_attachment;
-use fsl_cross::Tables;
 use fsl_text::{Memory, Text};
-use fsl_wiki::Attached;
+use fsl_wiki::{Attached, Pages};
 use std::alloc::Global;
 
 /// Puts the line of an attachment at the end of a text, unless it deletes that of its file.
@@ -24,12 +22,12 @@ fn append_unless_deleted(into: &mut Text, attached: &Attached) -> Result<(), Mem
 pub(crate) fn append_attachments(
     alloc: Global,
     into: &mut Text,
-    tables: &Tables,
+    table: &Pages,
     target: &[u8],
 ) -> Result<(), Memory>
-    ensures { OnOk result (into.new ≡ into.old ++ attachments_report (cross.tables tables.now.fields tables.now.items) target.now) }
+    ensures { OnOk result (into.new ≡ into.old ++ attachments_report table.now.facts target.now) }
 {
-    let attachments = tables.wiki().attached(alloc, target)?;
+    let attachments = table.attached(alloc, target)?;
     for attached in attachments.items() {
         append_unless_deleted(into, attached)?;
     }

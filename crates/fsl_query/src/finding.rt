@@ -30,6 +30,13 @@ fn one(alloc: Global, found: Found, prefix: &[u8]) -> Result<Name, QueryFault>
     }
 }
 
+/// The name of the one held artifact, of those that were loaded, whose digits begin with a prefix.
+pub(crate) fn named(alloc: Global, blobs: &Blobs, prefix: &[u8]) -> Result<Name, QueryFault>
+    ensures { IsAnswer (name_found (contents blobs.now.records) prefix.now) result }
+{
+    one(alloc, blobs.find(prefix), prefix)
+}
+
 /// The name of the one held artifact whose digits begin with a prefix.
 pub(crate) fn found<D: Disk>(
     alloc: Global,
@@ -67,7 +74,7 @@ pub fn content<'a>(alloc: Global, blobs: &'a Blobs, prefix: &[u8]) -> Result<&'a
     ensures ok { IfOk result (λ bytes. content (contents blobs.now.records) prefix.now ≡ Ok bytes.now) }
     ensures refused { (refused : Refused) → result ≡ Err (query_fault.Refused refused) → content (contents blobs.now.records) prefix.now ≡ Err refused }
 {
-    let name = one(alloc, blobs.find(prefix), prefix)?;
+    let name = named(alloc, blobs, prefix)?;
     match blobs.bytes_of(name) {
         Some(bytes) => Ok(bytes),
         None => Err(QueryFault::Refused(Refused::NoArtifact {

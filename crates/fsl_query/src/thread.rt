@@ -1,14 +1,12 @@
 //! The report on a thread.
 ghost use Rattle.std.specs.Prelude.{◌≡◌, ◌++◌, flat_map, OnOk};
-ghost use Rattle.fsl_cross.specs.Tables as cross;
 ghost use Rattle.fsl_query.specs.Answers.{IsAnswer};
 ghost use Rattle.fsl_query.specs.Lines.{post_line};
 ghost use Rattle.fsl_query.specs.Reports.{thread_report};
 
 use crate::lines::append_post;
 use crate::{QueryFault, Refused};
-use fsl_cross::Tables;
-use fsl_forum::Post;
+use fsl_forum::{Post, Threads};
 use fsl_name::Name;
 use fsl_text::{Memory, Text};
 use std::alloc::Global;
@@ -24,10 +22,10 @@ fn append_posts(into: &mut Text, posts: &[Post]) -> Result<(), Memory>
 }
 
 /// A line for each valid post of a thread, by date and name.
-pub(crate) fn report(alloc: Global, tables: &Tables, name: Name) -> Result<Text, QueryFault>
-    ensures { IsAnswer (thread_report (cross.tables tables.now.fields tables.now.items) name) result }
+pub(crate) fn report(alloc: Global, table: &Threads, name: Name) -> Result<Text, QueryFault>
+    ensures { IsAnswer (thread_report table.now.facts name) result }
 {
-    let posts = tables.forum().thread(alloc, name)?;
+    let posts = table.thread(alloc, name)?;
     if posts.items().is_empty() {
         return Err(QueryFault::Refused(Refused::NoThread { name }));
     }

@@ -1,6 +1,5 @@
 //! The report on a ticket.
 ghost use Rattle.std.specs.Prelude.{◌≡◌, ◌++◌, flat_map, zip, OnOk};
-ghost use Rattle.fsl_cross.specs.Tables as cross;
 ghost use Rattle.fsl_query.specs.Answers.{IsAnswer};
 ghost use Rattle.fsl_query.specs.Lines.{field_line};
 ghost use Rattle.fsl_query.specs.Reports.{ticket_report};
@@ -8,9 +7,10 @@ ghost use Rattle.fsl_query.specs.Reports.{ticket_report};
 use crate::attachments::append_attachments;
 use crate::lines::append_valued;
 use crate::{QueryFault, Refused};
-use fsl_cross::Tables;
 use fsl_name::Name;
 use fsl_text::{Memory, Text};
+use fsl_ticket::Tickets;
+use fsl_wiki::Pages;
 use std::alloc::Global;
 
 /// Puts a line for each field with its value at the end of a text.
@@ -24,21 +24,22 @@ fn append_fields(into: &mut Text, fields: &[Text], values: &[Text]) -> Result<()
 }
 
 /// A line for each configured field of a ticket, in their order, with its value where that isn't empty. Then a line for each
-/// attachment that isn't deleted, by file. The fields are those that the tables are configured with.
+/// attachment that isn't deleted, by file. The fields are those that the table of tickets is configured with.
 pub(crate) fn report(
     alloc: Global,
-    tables: &Tables,
+    table: &Tickets,
+    pages: &Pages,
     fields: &[Text],
     id: Name,
 ) -> Result<Text, QueryFault>
-    requires { fields.now ≡ tables.now.fields }
-    ensures { IsAnswer (ticket_report (cross.tables tables.now.fields tables.now.items) id) result }
+    requires { fields.now ≡ table.now.fields }
+    ensures { IsAnswer (ticket_report table.now.fields table.now.facts pages.now.facts id) result }
 {
-    let Some(values) = tables.ticket().fields(alloc, id)? else {
+    let Some(values) = table.fields(alloc, id)? else {
         return Err(QueryFault::Refused(Refused::NoTicket { id }));
     };
     let mut text = Text::empty(alloc);
     append_fields(&mut text, fields, values.items())?;
-    append_attachments(alloc, &mut text, tables, &id.text())?;
+    append_attachments(alloc, &mut text, pages, &id.text())?;
     Ok(text)
 }

@@ -5,15 +5,15 @@ ghost use Rattle.fsl_query.specs.Reports.{tip_report};
 
 use crate::lines::append_tip;
 use crate::{QueryFault, Refused};
-use fsl_cross::Tables;
+use fsl_name::Name;
 use fsl_text::Text;
 use std::alloc::Global;
 
-/// A line of the name of the tip: of the check-ins that have the symbolic name, the latest.
-pub(crate) fn report(alloc: Global, tables: &Tables, symbol: &[u8]) -> Result<Text, QueryFault>
-    ensures { IsAnswer (tip_report tables.now.items symbol.now) result }
+/// A line of the name of the tip that was found of a symbolic name, or that there is none.
+pub(crate) fn report(alloc: Global, latest: Option<Name>, symbol: &[u8]) -> Result<Text, QueryFault>
+    ensures { IsAnswer (tip_report latest symbol.now) result }
 {
-    let Some(name) = tables.tip(alloc, symbol)? else {
+    let Some(name) = latest else {
         return Err(QueryFault::Refused(Refused::NoCheckin {
             symbol: Text::of(alloc, symbol)?,
         }));

@@ -32,9 +32,10 @@ pub use laws::{
     held_are_items, held_are_one_list,
 };
 pub use machine::steps_go_on;
-pub use parsing::{read_artifact, tables_of};
+pub use parsing::{items_of, read_artifact, tables_of};
 pub use repo::Repo;
 use std::marker::Model;
+pub use wanting::wants_of;
 
 /// What became of an artifact that arrived.
 #[derive(Clone, Copy, PartialEq, Eq, Debug)]

@@ -3,9 +3,11 @@ ghost use Rattle.std.specs.Prelude.{◌≡◌, IfOk, filter, not};
 ghost use Rattle.std.specs.FinSet as set;
 ghost use Rattle.fsl_blobs.specs.Fold.{contents};
 ghost use Rattle.fsl_cluster.specs.Clusters as clusters;
+ghost use Rattle.fsl_repo.specs.Machine.{wants};
 
 use fsl_blobs::Blobs;
 use fsl_cluster::Clusters;
+use fsl_cross::Items;
 use fsl_name::Name;
 use fsl_text::{List, Memory};
 use std::alloc::Global;
@@ -30,4 +32,13 @@ pub(crate) fn wanted(alloc: Global, table: &Clusters, blobs: &Blobs) -> Result<L
     let missing = table.missing(alloc)?;
     let names = not_shunned(alloc, missing.items(), blobs)?;
     Ok(List::from_vec(names))
+}
+
+/// The names to which some artifacts refer, of which none is among them or shunned, ascending: where they are those that are
+/// held, the names that are wanted. `Memory` is the only error.
+pub fn wants_of(alloc: Global, blobs: &Blobs, items: &Items) -> Result<List<Name>, Memory>
+    ensures { IfOk result (λ names. names ≡ wants (contents blobs.now.records) items.now) }
+{
+    let clusters = items.cluster(alloc)?;
+    wanted(alloc, &clusters, blobs)
 }

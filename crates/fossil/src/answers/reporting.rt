@@ -15,10 +15,10 @@ use crate::answers::answer::{Answer, refusal};
 use crate::answers::fault::Fault;
 use crate::answers::say::made;
 use crate::answers::status::DONE;
-use crate::reading::load::not_loaded;
+use crate::reading::load::{load, not_loaded};
+use fsl_blobs::Blobs;
 use fsl_disk::Disk;
-use fsl_query::{QueryFault, Refused, refusal_text};
-use fsl_repo::Repo;
+use fsl_query::{QueryFault, Refused, refusal_text, report_from};
 use fsl_text::{Memory, Text};
 use fsl_words::Question;
 use std::alloc::Global;
@@ -42,29 +42,20 @@ fn answer_of(alloc: Global, found: Result<Text, QueryFault>) -> Result<Answer, M
     }
 }
 
-/// The report on a question, or the reason why there is none. The repository stays.
-fn report_on<D: Disk>(
-    alloc: Global,
-    repo: &mut Repo<D>,
-    question: &Question,
-) -> Result<Answer, Memory>
-    ensures answered { IfOk result (λ a. IsAnswered question.now repo.old.seen.state.records (without_commit a)) }
-    ensures same { repo.new ≡ repo.old }
+/// The report on a question about what was loaded, or the reason why there is none.
+fn report_on(alloc: Global, blobs: &Blobs, question: &Question) -> Result<Answer, Memory>
+    ensures { IfOk result (λ a. IsAnswered question.now blobs.now.records (without_commit a)) }
 {
-    let found = fsl_query::report(alloc, repo, question);
+    let found = report_from(alloc, blobs, question);
     answer_of(alloc, found)
 }
 
-/// Opens the repository, and answers with the report on a question, and the disk.
-pub fn report<D: Disk>(alloc: Global, question: &Question, disk: D) -> (Result<Answer, Fault>, D)
-    ensures { (input : SourceState) → Acts (command_of.Ask question.now) (input, input) (D.state disk, D.state result.1) result.0 }
+/// Loads the repository, and answers with the report on a question. All tables together are never made.
+pub fn report<D: Disk>(alloc: Global, question: &Question, disk: &mut D) -> Result<Answer, Fault>
+    ensures { (input : SourceState) → Acts (command_of.Ask question.now) (input, input) (D.state disk.old, D.state disk.new) result }
 {
-    match Repo::load(alloc, disk) {
-        Ok(mut repo) => {
-            repo.is_whole();
-            let answer = made(report_on(alloc, &mut repo, question));
-            (answer, repo.close())
-        }
-        Err((disk, fault)) => (not_loaded(alloc, fault), disk),
+    match load(alloc, disk) {
+        Ok(loaded) => made(report_on(alloc, &loaded.blobs, question)),
+        Err(fault) => not_loaded(alloc, fault),
     }
 }

@@ -20,14 +20,14 @@ pub(crate) fn ask<K: Sink, D: Disk>(
 ) -> Done<D>
     ensures { (input : SourceState) → RunsQuestion question.now (input, input) (K.state out.old, K.state out.new) (D.state repo, D.state result.repo) result.status }
 {
+    let mut repo = repo;
     match question {
         Question::Cat { prefix } => {
-            let mut repo = repo;
             let status = cat(alloc, prefix.bytes(), out, &mut repo);
             Done { status, repo }
         }
         _ => {
-            let (answer, repo) = report(alloc, question, repo);
+            let answer = report(alloc, question, &mut repo);
             let status = print(out, answer);
             Done { status, repo }
         }

@@ -5,4 +5,4 @@ use Rattle.fsl_query.proofs.phantoms.report.Given as goal
 
 -- the names that were passed have their lines
 abbrev pub invariant-loop-name : goal.invariant-loop-name
-invariant-loop-name g l = l.text ≡ flat_map wanted_line (take l.name-index l.name-items)
+invariant-loop-name l = l.text ≡ flat_map wanted_line (take l.name-index l.wanted)

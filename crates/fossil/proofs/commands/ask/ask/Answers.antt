@@ -16,5 +16,5 @@ returns-in-Cat g c = λ input.
 
 pub returns-in_default : goal.returns-in_default
 returns-in_default g c = λ input.
-    written (Some (command_of.Ask c.args.question.now)) (input_of (input, input)) (file_of (g.D.Disk.state c.args.repo, g.D.Disk.state c.report-answer.result.1)) c.report-answer.result.0
+    written (Some (command_of.Ask c.args.question.now)) (input_of (input, input)) (file_of (g.D.Disk.state c.args.repo, g.D.Disk.state c.report-answer.new.disk)) c.report-answer.result
     (output_of (g.K.Sink.state c.args.out.now, g.K.Sink.state c.print-status.new.out)) c.print-status.result (c.report-answer.ensures input) c.print-status.ensures

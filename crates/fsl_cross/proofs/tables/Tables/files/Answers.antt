@@ -1,8 +1,7 @@
-use Rattle.std.proofs.Common.{sym, ap, ◌∙◌}
+use Rattle.std.proofs.Common.{ap, ◌∙◌}
 use Rattle.fsl_order.specs.Rows.{by_name}
 use Rattle.fsl_cross.specs.Tables.{Seen, files_facts, item_set}
-use Rattle.fsl_cross.proofs.FactLemmas.{set-rising}
-use Rattle.fsl_cross.proofs.TableLemmas.{files-by_name}
+use Rattle.fsl_cross.proofs.Alone.{files-alone}
 use Rattle.fsl_cross.proofs.tables.Tables.files.Goals as goal
 
 pub returns : goal.returns
@@ -12,6 +11,6 @@ returns c =
     record {
       facts =
           c.self.invariant.contents.files
-          ∙ sym (ap (λ set. by_name (λ f. f.name) (files_facts set)) (set-rising items rise) ∙ files-by_name items rise)
+          ∙ files-alone items rise
           ∙ ap (λ (s : Seen). by_name (λ f. f.name) (files_facts (item_set s.items))) c.self.view_is;
     }

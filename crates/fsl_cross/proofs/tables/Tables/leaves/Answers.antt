@@ -1,7 +1,7 @@
-use Rattle.std.proofs.Common.{sym, ap, ◌∙◌}
+use Rattle.std.proofs.Common.{ap, ◌∙◌}
 use Rattle.fsl_order.specs.Rows.{by_name}
 use Rattle.fsl_cross.specs.Tables.{Seen, leaves_facts, item_set}
-use Rattle.fsl_cross.proofs.FactLemmas.{set-rising, leaves-by_name}
+use Rattle.fsl_cross.proofs.Alone.{leaves-alone}
 use Rattle.fsl_cross.proofs.tables.Tables.leaves.Goals as goal
 
 pub returns : goal.returns
@@ -11,6 +11,6 @@ returns c =
     record {
       facts =
           c.self.invariant.history.leaves
-          ∙ sym (ap (λ set. by_name (λ f. f.name) (leaves_facts set)) (set-rising items rise) ∙ leaves-by_name items rise)
+          ∙ leaves-alone items rise
           ∙ ap (λ (s : Seen). by_name (λ f. f.name) (leaves_facts (item_set s.items))) c.self.view_is;
     }

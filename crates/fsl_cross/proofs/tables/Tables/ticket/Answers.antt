@@ -1,8 +1,7 @@
-use Rattle.std.proofs.Common.{sym, ap, ◌∙◌}
+use Rattle.std.proofs.Common.{ap, ◌∙◌}
 use Rattle.fsl_order.specs.Rows.{by_name}
 use Rattle.fsl_cross.specs.Tables.{Seen, ticket_facts, item_set}
-use Rattle.fsl_cross.proofs.FactLemmas.{set-rising}
-use Rattle.fsl_cross.proofs.TableLemmas.{tickets-by_name}
+use Rattle.fsl_cross.proofs.Alone.{tickets-alone}
 use Rattle.fsl_cross.proofs.tables.Tables.ticket.Goals as goal
 
 pub returns-clause-fields : goal.returns-clause-fields
@@ -13,5 +12,5 @@ returns-clause-facts c =
     let items = c.self.inside.items in
     let rise = c.self.invariant.rising in
     c.self.invariant.contents.tickets
-    ∙ sym (ap (λ set. by_name (λ f. f.name) (ticket_facts set)) (set-rising items rise) ∙ tickets-by_name items rise)
+    ∙ tickets-alone items rise
     ∙ ap (λ (s : Seen). by_name (λ f. f.name) (ticket_facts (item_set s.items))) c.self.view_is

@@ -1,8 +1,7 @@
-use Rattle.std.proofs.Common.{sym, ap, ◌∙◌}
+use Rattle.std.proofs.Common.{ap, ◌∙◌}
 use Rattle.fsl_order.specs.Rows.{by_name}
 use Rattle.fsl_cross.specs.Tables.{Seen, timeline_rows, item_set}
-use Rattle.fsl_cross.proofs.FactLemmas.{set-rising}
-use Rattle.fsl_cross.proofs.TableLemmas.{rows-by_name}
+use Rattle.fsl_cross.proofs.Alone.{timeline-alone}
 use Rattle.fsl_cross.proofs.tables.Tables.timeline.Goals as goal
 
 pub returns : goal.returns
@@ -12,6 +11,6 @@ returns c =
     record {
       facts =
           c.self.invariant.timeline
-          ∙ sym (ap (λ set. by_name (λ r. r.name) (timeline_rows set)) (set-rising items rise) ∙ rows-by_name items rise)
+          ∙ timeline-alone items rise
           ∙ ap (λ (s : Seen). by_name (λ r. r.name) (timeline_rows (item_set s.items))) c.self.view_is;
     }

@@ -1,9 +1,8 @@
-use Rattle.std.proofs.Common.{sym, ap, ◌∙◌}
+use Rattle.std.proofs.Common.{ap, ◌∙◌}
 use Rattle.fsl_order.specs.Rows.{by_name}
 use Rattle.fsl_wiki.specs.Pages.{fact_name}
 use Rattle.fsl_cross.specs.Tables.{Seen, pages_facts, item_set}
-use Rattle.fsl_cross.proofs.FactLemmas.{set-rising}
-use Rattle.fsl_cross.proofs.TableLemmas.{pages-by_name}
+use Rattle.fsl_cross.proofs.Alone.{pages-alone}
 use Rattle.fsl_cross.proofs.tables.Tables.wiki.Goals as goal
 
 pub returns : goal.returns
@@ -13,6 +12,6 @@ returns c =
     record {
       facts =
           c.self.invariant.contents.pages
-          ∙ sym (ap (λ set. by_name fact_name (pages_facts set)) (set-rising items rise) ∙ pages-by_name items rise)
+          ∙ pages-alone items rise
           ∙ ap (λ (s : Seen). by_name fact_name (pages_facts (item_set s.items))) c.self.view_is;
     }

@@ -1,0 +1,46 @@
+use Rattle.std.proofs.Common.{Ok, ap, sym, subst, ◌∙◌}
+use Rattle.fsl_blobs.specs.Fold.{contents}
+use Rattle.fsl_cross.specs.Tables.{tables}
+use Rattle.fsl_repo.specs.Machine.{configured}
+use Rattle.fsl_query.specs.Answers.{IsAnswer}
+use Rattle.fsl_query.specs.Reports.{report, files_report, tags_report, wiki_report}
+use Rattle.fsl_query.proofs.Prefixes.{of_one}
+use Rattle.fsl_query.proofs.loaded.report_of.Goals as goal
+
+pub returns-in_ok-timeline_of-in-Timeline : goal.returns-in_ok-timeline_of-in-Timeline
+returns-in_ok-timeline_of-in-Timeline c =
+    let k = contents c.args.blobs.now.records in
+    ap (report k c.args.items.now) c.in-Timeline.is ∙ ap Ok (sym (c.in_ok-timeline_of-in-Timeline.ensures (configured k)))
+
+pub returns-in_ok-leaves_of-in-Leaves : goal.returns-in_ok-leaves_of-in-Leaves
+returns-in_ok-leaves_of-in-Leaves c =
+    let k = contents c.args.blobs.now.records in
+    ap (report k c.args.items.now) c.in-Leaves.is ∙ ap Ok (sym (c.in_ok-leaves_of-in-Leaves.ensures (configured k)))
+
+pub returns-in_ok-tags_of-in-Tags : goal.returns-in_ok-tags_of-in-Tags
+returns-in_ok-tags_of-in-Tags c =
+    let k = contents c.args.blobs.now.records in
+    let all = tables (configured k) c.args.items.now in
+    ap (report k c.args.items.now) c.in-Tags.is
+    ∙ of_one k c.bytes-in-Tags.result.now _ c.in_ok-name-in-Tags.name (λ name. Ok (tags_report all.tags name)) c.bytes-in-Tags.ensures c.in_ok-name-in-Tags.ensures
+    ∙ ap Ok (sym (c.in_ok-tags_of-in-Tags.ensures (configured k)))
+
+pub returns-in_ok-name-in-Files : goal.returns-in_ok-name-in-Files
+returns-in_ok-name-in-Files c =
+    let k = contents c.args.blobs.now.records in
+    let all = tables (configured k) c.args.items.now in
+    let due =
+    ap (report k c.args.items.now) c.in-Files.is
+    ∙ of_one k c.bytes-in-Files.result.now _ c.in_ok-name-in-Files.name (files_report all.files) c.bytes-in-Files.ensures c.in_ok-name-in-Files.ensures in
+    subst (λ d. IsAnswer d c.files_of.result) (sym due) (c.files_of.ensures (configured k))
+
+pub returns-in-Wiki : goal.returns-in-Wiki
+returns-in-Wiki c =
+    let k = contents c.args.blobs.now.records in
+    let all = tables (configured k) c.args.items.now in
+    subst (λ d. IsAnswer d c.wiki_of.result) (ap (wiki_report all.pages) c.bytes-in-Wiki.ensures ∙ sym (ap (report k c.args.items.now) c.in-Wiki.is)) (c.wiki_of.ensures (configured k))
+
+pub returns-in-Thread : goal.returns-in-Thread
+returns-in-Thread c =
+    let k = contents c.args.blobs.now.records in
+    subst (λ d. IsAnswer d c.thread_of.result) (sym (ap (report k c.args.items.now) c.in-Thread.is)) (c.thread_of.ensures (configured k))
