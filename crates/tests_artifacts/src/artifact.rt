@@ -29,11 +29,16 @@ pub fn parsed(alloc: Global, text: &[u8]) -> Result<Artifact, Memory> {
     read_counted::<Brand>(alloc, text, Blank::new(1))
 }
 
-/// The references of a text, and how many members it has.
+/// The references of an artifact, and how many members it has.
+fn references(alloc: Global, artifact: &Artifact) -> Result<(List<Name>, usize), Memory> {
+    let count = members(artifact).len();
+    Ok((refs(alloc, artifact)?, count))
+}
+
+/// The same of a text.
 fn names_of(alloc: Global, text: &[u8]) -> Result<(List<Name>, usize), Memory> {
     let artifact = parsed(alloc, text)?;
-    let count = members(&artifact).len();
-    Ok((refs(alloc, &artifact)?, count))
+    references(alloc, &artifact)
 }
 
 #[test]

@@ -1,8 +1,10 @@
-//! Tests of what is handed in: sources, sinks and disks, by their public calls alone. They stand apart, so that no crate is proved once more for its tests.
+//! Tests of what is handed in: sources, sinks, disks, doors and dials, by their public calls alone. They stand apart, so that no crate is proved once more for its tests.
 #![tactic(auto)]
 
 #[cfg(test)]
 mod disk;
+#[cfg(test)]
+mod doors;
 #[cfg(test)]
 mod outside;
 #[cfg(test)]

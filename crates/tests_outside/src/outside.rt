@@ -72,12 +72,20 @@ fn read_memory(
     Ok(count_read(alloc, &mut source, limit))
 }
 
+/// Four such reads: whole, over the limit, and where a read fails.
+fn reads_of_memory(alloc: Global) -> Result<[(Option<usize>, u64); 4], AllocError> {
+    Ok([
+        read_memory(alloc, 0, 70_000)?,
+        read_memory(alloc, 0, 69_999)?,
+        read_memory(alloc, 2, 70_000)?,
+        read_memory(alloc, 3, 70_000)?,
+    ])
+}
+
 #[test]
 fn reads_whole(rt: HostRuntime) -> Result<(), AllocError> {
-    assert_eq!(rt; read_memory(rt.alloc(), 0, 70_000)?, (Some(70_000), 0));
-    assert_eq!(rt; read_memory(rt.alloc(), 0, 69_999)?, (None, 0));
-    assert_eq!(rt; read_memory(rt.alloc(), 2, 70_000)?, (None, 1));
-    assert_eq!(rt; read_memory(rt.alloc(), 3, 70_000)?, (None, 1));
+    let found = reads_of_memory(rt.alloc())?;
+    assert_eq!(rt; found, [(Some(70_000), 0), (None, 0), (None, 1), (None, 1)]);
     Ok(())
 }
 

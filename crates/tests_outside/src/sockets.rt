@@ -20,7 +20,7 @@ fn pair(rt: HostRuntime) -> io::Result<(TcpDoor<HostRuntime>, TcpDial<HostRuntim
 }
 
 /// Whether these bytes, and no others, come in one read.
-fn gets<L: Link>(link: &mut L, bytes: &[u8]) -> bool {
+pub(crate) fn gets<L: Link>(link: &mut L, bytes: &[u8]) -> bool {
     let mut into = [0u8; 16];
     match link.read(&mut into) {
         Ok(count) => into.get(..count) == Some(bytes),
@@ -35,67 +35,91 @@ fn passes<A: Link, B: Link>(from: &mut A, to: &mut B, bytes: &[u8]) -> bool {
 
 /// Whether a connection begins, and bytes pass both ways.
 fn meets<A: Door, N: Dial>(door: &mut A, dial: &mut N) -> bool {
-    dial.connect().is_ok()
-        && door.accept() == Ok(Accepted::Connection)
-        && passes(dial, door, b"ask")
-        && passes(door, dial, b"answer")
+    let done = [
+        dial.connect().is_ok(),
+        door.accept() == Ok(Accepted::Connection),
+        passes(dial, door, b"ask"),
+        passes(door, dial, b"answer"),
+    ];
+    done == [true; 4]
+}
+
+/// Whether two connections begin, one after the other, and nothing fails.
+fn meets_twice<A: Door, N: Dial>(door: &mut A, dial: &mut N) -> bool {
+    let met = [meets(door, dial), meets(door, dial)];
+    let faults = [door.faults(), door.accept_faults(), dial.faults()];
+    met == [true; 2] && faults == [0; 3]
 }
 
 #[test]
 fn a_door_takes_what_a_dial_begins(rt: HostRuntime) -> Result<(), Fail> {
     let (mut door, mut dial) = pair(rt)?;
-    assert!(rt; meets(&mut door, &mut dial));
-    assert!(rt; meets(&mut door, &mut dial));
-    assert_eq!(rt;
-        (door.faults(), door.accept_faults(), dial.faults()),
-        (0, 0, 0)
-    );
+    assert!(rt; meets_twice(&mut door, &mut dial));
     Ok(())
+}
+
+/// Whether a connection that is left lets its peer see the end, and gives and takes nothing more.
+fn lets_go<A: Door, N: Dial>(door: &mut A, dial: &mut N) -> bool {
+    door.leave();
+    let done = [
+        gets(dial, b""),
+        door.read(&mut [0u8; 4]) == Err(Failed),
+        door.write(b"x") == Err(Failed),
+    ];
+    done == [true; 3]
+}
+
+/// Whether it is so between two connections, and only the two calls failed.
+fn lets_go_between<A: Door, N: Dial>(door: &mut A, dial: &mut N) -> bool {
+    let done = [meets(door, dial), lets_go(door, dial), meets(door, dial)];
+    done == [true; 3] && [door.faults(), dial.faults()] == [2, 0]
 }
 
 /// What is left lets its peer see the end, and gives and takes nothing more until the next one comes.
 #[test]
 fn a_door_lets_go_what_it_leaves(rt: HostRuntime) -> Result<(), Fail> {
     let (mut door, mut dial) = pair(rt)?;
-    assert!(rt; meets(&mut door, &mut dial));
-    door.leave();
-    assert!(rt; gets(&mut dial, b""));
-    assert_eq!(rt;
-        (door.read(&mut [0u8; 4]), door.write(b"x")),
-        (Err(Failed), Err(Failed))
-    );
-    assert!(rt; meets(&mut door, &mut dial));
-    assert_eq!(rt; (door.faults(), dial.faults()), (2, 0));
+    assert!(rt; lets_go_between(&mut door, &mut dial));
     Ok(())
+}
+
+/// Whether no connection begins.
+fn cannot_begin<N: Dial>(dial: &mut N) -> bool {
+    let failed = [dial.connect().is_err(), dial.write(b"x").is_err()];
+    failed == [true; 2] && dial.faults() == 2
 }
 
 #[test]
 fn a_dial_fails_where_nobody_listens(rt: HostRuntime) -> Result<(), Fail> {
     let (listener, mut dial) = listen(rt)?;
     drop(listener);
-    assert_eq!(rt;
-        (dial.connect(), dial.write(b"x")),
-        (Err(Failed), Err(Failed))
-    );
-    assert_eq!(rt; dial.faults(), 2);
+    assert!(rt; cannot_begin(&mut dial));
     Ok(())
+}
+
+/// Whether each call of a door fails, and is counted.
+fn is_no_door<A: Door>(door: &mut A) -> bool {
+    let failed = [
+        door.accept().is_err(),
+        door.read(&mut [0u8; 4]).is_err(),
+        door.write(b"x").is_err(),
+    ];
+    let counts = [door.accept_faults(), door.faults(), door.closings()];
+    failed == [true; 3] && counts == [1, 2, 0]
+}
+
+/// Whether each call of a dial fails, and is counted.
+fn is_no_dial<N: Dial>(dial: &mut N) -> bool {
+    let failed = [
+        dial.connect().is_err(),
+        dial.read(&mut [0u8; 4]).is_err(),
+        dial.write(b"x").is_err(),
+    ];
+    failed == [true; 3] && dial.faults() == 3
 }
 
 #[test]
 fn without_a_socket_each_call_fails(rt: HostRuntime) {
-    let mut door = TcpDoor::<HostRuntime>::none();
-    assert_eq!(rt;
-        (door.accept(), door.read(&mut [0u8; 4]), door.write(b"x")),
-        (Err(Failed), Err(Failed), Err(Failed))
-    );
-    assert_eq!(rt;
-        (door.accept_faults(), door.faults(), door.closings()),
-        (1, 2, 0)
-    );
-    let mut dial = TcpDial::<HostRuntime>::none();
-    assert_eq!(rt;
-        (dial.connect(), dial.read(&mut [0u8; 4]), dial.write(b"x")),
-        (Err(Failed), Err(Failed), Err(Failed))
-    );
-    assert_eq!(rt; dial.faults(), 3);
+    assert!(rt; is_no_door(&mut TcpDoor::<HostRuntime>::none()));
+    assert!(rt; is_no_dial(&mut TcpDial::<HostRuntime>::none()));
 }

@@ -1,5 +1,5 @@
 //! Doors over a network whose faults, and a clock whose seconds, the test sets.
-use fsl_outside::{Accepted, Dial, Door, Failed, Link, TcpDial, TcpDoor};
+use fsl_outside::{Accepted, Dial, Door, Failed, TcpDial, TcpDoor};
 use std::cell::Cell;
 use std::io;
 use std::io::ErrorKind;
@@ -125,29 +125,62 @@ const BROKEN_OFF: [i32; 10] = [103, 104, 100, 101, 113, 71, 92, 112, 64, 95];
 /// Too many open files.
 const OWN_FAULT: [i32; 1] = [24];
 
+/// Whether a connection begins and is taken, and no accept fails.
+fn takes<A: Door, N: Dial>(door: &mut A, dial: &mut N) -> bool {
+    let done = [
+        dial.connect().is_ok(),
+        door.accept() == Ok(Accepted::Connection),
+        door.accept_faults() == 0,
+    ];
+    done == [true; 3]
+}
+
 #[test]
 fn a_door_passes_over_what_broke_off(rt: HostRuntime) -> Result<(), Fail> {
     let hand = at_zero();
     let (mut door, mut dial) = pair(rt, &hand, &BROKEN_OFF)?;
-    assert!(rt; dial.connect().is_ok());
-    assert_eq!(rt;
-        (door.accept(), door.accept_faults()),
-        (Ok(Accepted::Connection), 0)
-    );
+    assert!(rt; takes(&mut door, &mut dial));
     Ok(())
+}
+
+/// Whether the first accept fails and is counted, and the second one takes the connection.
+fn fails_once<A: Door, N: Dial>(door: &mut A, dial: &mut N) -> bool {
+    let done = [
+        dial.connect().is_ok(),
+        door.accept() == Err(Failed),
+        door.accept_faults() == 1,
+        door.accept() == Ok(Accepted::Connection),
+        door.accept_faults() == 1,
+    ];
+    done == [true; 5]
 }
 
 #[test]
 fn a_door_fails_where_its_socket_does(rt: HostRuntime) -> Result<(), Fail> {
     let hand = at_zero();
     let (mut door, mut dial) = pair(rt, &hand, &OWN_FAULT)?;
-    assert!(rt; dial.connect().is_ok());
-    assert_eq!(rt; (door.accept(), door.accept_faults()), (Err(Failed), 1));
-    assert_eq!(rt;
-        (door.accept(), door.accept_faults()),
-        (Ok(Accepted::Connection), 1)
-    );
+    assert!(rt; fails_once(&mut door, &mut dial));
     Ok(())
+}
+
+/// Whether of two connections the first, which can't be timed, is let go, and the second one is taken.
+fn takes_second<A: Door, N: Dial>(
+    door: &mut A,
+    first: &mut N,
+    second: &mut N,
+    hand: &Hand,
+) -> bool {
+    let begun = [first.connect().is_ok(), second.connect().is_ok()];
+    hand.failing.set(1);
+    let taken = [
+        door.accept() == Ok(Accepted::Connection),
+        door.write(b"x") == Ok(1),
+    ];
+    let found = [
+        first.read(&mut [0u8; 2]) == Ok(0),
+        second.read(&mut [0u8; 2]) == Ok(1),
+    ];
+    [begun, taken, found] == [[true; 2]; 3]
 }
 
 /// A connection that can't be timed is let go, and the next one taken.
@@ -157,15 +190,44 @@ fn a_door_passes_over_what_has_no_time(rt: HostRuntime) -> Result<(), Fail> {
     let (mut door, address) = door(rt, &hand, &[])?;
     let mut first = TcpDial::new(rt, address.clone()?);
     let mut second = TcpDial::new(rt, address);
-    assert!(rt; first.connect().is_ok() && second.connect().is_ok());
-    hand.failing.set(1);
-    assert!(rt; door.accept() == Ok(Accepted::Connection) && door.write(b"x") == Ok(1));
-    let mut into = [0u8; 2];
-    assert_eq!(rt;
-        (first.read(&mut into), second.read(&mut into)),
-        (Ok(0), Ok(1))
-    );
+    assert!(rt; takes_second(&mut door, &mut first, &mut second, &hand));
     Ok(())
+}
+
+/// Whether a read is done within sixty seconds, and none later.
+fn reads_for_a_minute<A: Door>(door: &mut A, hand: &Hand) -> bool {
+    hand.seconds.set(59);
+    let within = door.read(&mut [0u8; 1]) == Ok(1);
+    hand.seconds.set(60);
+    let later = door.read(&mut [0u8; 1]) == Err(Failed);
+    within && later
+}
+
+/// Whether the first write, after ten minutes, gives sixty seconds more, and no write is done later.
+fn answers_for_a_minute<A: Door>(door: &mut A, hand: &Hand) -> bool {
+    hand.seconds.set(600);
+    let begun = door.write(b"a") == Ok(1);
+    hand.seconds.set(659);
+    let within = [
+        begun,
+        door.read(&mut [0u8; 1]) == Ok(1),
+        door.write(b"b") == Ok(1),
+    ];
+    hand.seconds.set(660);
+    let later = door.write(b"c") == Err(Failed);
+    within == [true; 3] && later
+}
+
+/// Whether both hold of a connection that begins at 0 with three bytes.
+fn is_timed<A: Door, N: Dial>(door: &mut A, dial: &mut N, hand: &Hand) -> bool {
+    let done = [
+        dial.connect().is_ok(),
+        dial.write(b"ask") == Ok(3),
+        door.accept() == Ok(Accepted::Connection),
+        reads_for_a_minute(door, hand),
+        answers_for_a_minute(door, hand),
+    ];
+    done == [true; 5]
 }
 
 /// Sixty seconds until the first write, and sixty from there on.
@@ -173,21 +235,6 @@ fn a_door_passes_over_what_has_no_time(rt: HostRuntime) -> Result<(), Fail> {
 fn the_time_begins_anew_at_the_first_write(rt: HostRuntime) -> Result<(), Fail> {
     let hand = at_zero();
     let (mut door, mut dial) = pair(rt, &hand, &[])?;
-    assert!(rt; dial.connect().is_ok() && dial.write(b"ask") == Ok(3));
-    assert!(rt; door.accept() == Ok(Accepted::Connection));
-    let mut into = [0u8; 1];
-    let mut done = [false; 6];
-    hand.seconds.set(59);
-    done[0] = door.read(&mut into) == Ok(1);
-    hand.seconds.set(60);
-    done[1] = door.read(&mut into) == Err(Failed);
-    hand.seconds.set(600);
-    done[2] = door.write(b"a") == Ok(1);
-    hand.seconds.set(659);
-    done[3] = door.read(&mut into) == Ok(1);
-    done[4] = door.write(b"b") == Ok(1);
-    hand.seconds.set(660);
-    done[5] = door.write(b"c") == Err(Failed);
-    assert_eq!(rt; done, [true; 6]);
+    assert!(rt; is_timed(&mut door, &mut dial, &hand));
     Ok(())
 }

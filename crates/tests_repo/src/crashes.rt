@@ -1,119 +1,94 @@
 //! What crashes leave of a commit, as repositories that are loaded again.
-use crate::histories::{artifacts, shown_by};
-use crate::printing::printed;
-use crate::repo::{ONE_BLOB, disk_of};
+use crate::events::{arrives, is_shunned};
+use crate::histories::artifact;
+use crate::printing::{Shown, show_all, shown_by};
+use crate::repo::{ONE_BLOB, disk_of, loaded};
 use fsl_disk::{FuseDisk, MemoryDisk};
-use fsl_name::Name;
-use fsl_repo::{Event, Repo};
-use fsl_text::{Memory, Text};
-use fsl_turn::step_uncounted;
+use fsl_repo::Repo;
+use fsl_text::Memory;
 use std::alloc::Global;
 use std::test::Fail;
 
-/// A repository over a disk that failed, and how its last commit went.
+/// What a repository showed before three steps and behind them, and the disk that it left behind a commit.
 #[derive(Drop)]
-struct Failed {
-    /// What it showed before three steps.
-    before: Vec<u8>,
-    /// What it showed behind them.
-    behind: Vec<u8>,
+struct Left {
+    before: Shown,
+    behind: Shown,
     is_committed: bool,
     disk: MemoryDisk,
 }
 
-/// The arrival of one of the artifacts of the histories.
-fn arrival(alloc: Global, number: usize) -> Result<Event, Memory> {
-    let bytes = match artifacts().get(number) {
-        Some(bytes) => *bytes,
-        None => b"",
+/// Whether a check-in and a file of it arrive, and `abc`, which was held, is shunned.
+fn takes_three(alloc: Global, repo: &mut Repo<FuseDisk<MemoryDisk>>) -> bool {
+    let checkin = arrives(alloc, repo, artifact(4));
+    let file = arrives(alloc, repo, artifact(0));
+    let shunned = is_shunned(repo, b"abc");
+    checkin && file && shunned
+}
+
+/// Takes the three steps and commits them, as far as the disk doesn't fail.
+fn take_and_commit(alloc: Global, mut repo: Repo<FuseDisk<MemoryDisk>>) -> Option<Left> {
+    let before = show_all(alloc, &repo);
+    let are_taken = takes_three(alloc, &mut repo);
+    let behind = show_all(alloc, &repo);
+    let is_committed = repo.commit().is_ok();
+    let left = Left {
+        before,
+        behind,
+        is_committed,
+        disk: repo.close().inner(),
     };
-    Ok(Event::Arrive {
-        name: Name::of(bytes),
-        bytes: Text::of(alloc, bytes)?,
-        private: false,
-    })
+    if are_taken { Some(left) } else { None }
 }
 
-/// Takes a step, whatever it answers: what it does is seen in what the repository shows.
-fn take(repo: &mut Repo<FuseDisk<MemoryDisk>>, event: Event) {
-    let answer = step_uncounted(repo, &event);
-    drop(event);
-    drop(answer);
-}
-
-/// A check-in and a file of it arrive, and `abc`, which was held, is shunned.
-fn take_three(alloc: Global, repo: &mut Repo<FuseDisk<MemoryDisk>>) -> Result<(), Memory> {
-    take(repo, arrival(alloc, 4)?);
-    take(repo, arrival(alloc, 0)?);
-    let shun = Event::Shun {
-        name: Name::of(b"abc"),
+/// Whether the file of one crash shows the repository as it is behind all three steps, or, where the commit failed, as it was.
+fn is_none_or_all(alloc: Global, left: &Left, pick: u64) -> Result<bool, Memory> {
+    let Some(shown) = shown_by(alloc, left.disk.crash(alloc, pick)?) else {
+        return Ok(false);
     };
-    take(repo, shun);
-    Ok(())
+    Ok(shown.is_like(&left.behind) || (!left.is_committed && shown.is_like(&left.before)))
 }
 
-/// What a repository shows before and behind the three steps.
-fn shown_around(
-    alloc: Global,
-    repo: &mut Repo<FuseDisk<MemoryDisk>>,
-) -> Result<(Vec<u8>, Vec<u8>), Memory> {
-    let before = printed(alloc, repo)?;
-    take_three(alloc, repo)?;
-    let behind = printed(alloc, repo)?;
-    Ok((before, behind))
-}
-
-/// Commits the three steps over a disk that fails after so many calls; nothing where it fails before the repository is
-/// loaded.
-fn failed_after(alloc: Global, calls: u64) -> Result<Option<Failed>, Memory> {
-    let disk = FuseDisk::new(disk_of(alloc, ONE_BLOB)?, calls);
-    match Repo::load(alloc, disk) {
-        Ok(mut repo) => {
-            let shown = shown_around(alloc, &mut repo);
-            let is_committed = repo.commit().is_ok();
-            let disk = repo.close().inner();
-            let (before, behind) = shown?;
-            Ok(Some(Failed {
-                before,
-                behind,
-                is_committed,
-                disk,
-            }))
-        }
-        Err((disk, _)) => {
-            drop(disk);
-            Ok(None)
-        }
-    }
-}
-
-/// How many of 16 files that crashes leave show the repository as it was, and how many as it is behind all three steps.
-fn counts(alloc: Global, failed: &Failed) -> Result<(u64, u64), Memory> {
-    let (mut none, mut all) = (0u64, 0u64);
+/// Whether each of 16 files that crashes leave shows none or all of the three steps.
+fn are_none_or_all(alloc: Global, left: &Left) -> Result<bool, Memory> {
+    let mut good = true;
     for pick in 0..16 {
-        let shown = shown_by(alloc, failed.disk.crash(alloc, pick)?)?;
-        if shown.as_slice() == failed.before.as_slice() {
-            none = none.saturating_add(1);
-        } else if shown.as_slice() == failed.behind.as_slice() {
-            all = all.saturating_add(1);
-        }
+        good = is_none_or_all(alloc, left, pick)? && good;
     }
-    Ok((none, all))
+    Ok(good)
 }
 
-/// Whatever device call fails, a crash leaves none or all of a commit; and all where the commit was done.
+/// Whether the three steps were committed, and each crash leaves none or all of them, over a disk that fails after so many
+/// calls; nothing where it fails before the repository is loaded.
+fn is_committed_after(alloc: Global, calls: u64) -> Result<Option<(bool, bool)>, Memory> {
+    let disk = FuseDisk::new(disk_of(alloc, ONE_BLOB)?, calls);
+    let Some(repo) = loaded(alloc, disk) else {
+        return Ok(None);
+    };
+    let Some(left) = take_and_commit(alloc, repo) else {
+        return Ok(Some((false, false)));
+    };
+    let good = are_none_or_all(alloc, &left);
+    let is_committed = left.is_committed;
+    drop(left);
+    Ok(Some((is_committed, good?)))
+}
+
+/// Whatever device call fails, a crash leaves none or all of a commit; and all where the commit was done. Three calls load the
+/// repository, and nine and more are enough for the commit too.
 #[test]
 fn crashes_leave_none_or_all(rt: HostRuntime) -> Result<(), Fail> {
-    let mut tries = 0u64;
     for calls in 0..16 {
-        if let Some(failed) = failed_after(rt.alloc(), calls)? {
-            tries = tries.saturating_add(1);
-            let (none, all) = counts(rt.alloc(), &failed)?;
-            assert_eq!(rt; none.saturating_add(all), 16, "after {calls} calls");
-            assert!(rt; !failed.is_committed || none == 0, "after {calls} calls");
-            assert!(rt; failed.is_committed || calls < 9, "after {calls} calls");
-        }
+        let wanted = if calls < 3 {
+            None
+        } else {
+            Some((9 <= calls, true))
+        };
+        assert_eq!(rt;
+            is_committed_after(rt.alloc(), calls)?,
+            wanted,
+            "after {calls} calls"
+        );
     }
-    assert_eq!(rt; tries, 13);
     Ok(())
 }

@@ -1,11 +1,11 @@
 //! Histories of a repository: what it holds when it is closed, and when it is loaded again.
-use crate::printing::printed;
-use crate::repo::{ONE_BLOB, disk_of};
+use crate::events::{arrival, is_done};
+use crate::printing::{Shown, show_all, shown_by};
+use crate::repo::{ONE_BLOB, disk_of, loaded};
 use fsl_disk::{FuseDisk, MemoryDisk};
 use fsl_name::Name;
-use fsl_repo::{Answer, Event, Repo};
-use fsl_text::{Memory, Text};
-use fsl_turn::step_uncounted;
+use fsl_repo::{Event, Repo};
+use fsl_text::Memory;
 use std::alloc::Global;
 use std::test::Fail;
 
@@ -36,6 +36,14 @@ pub(crate) fn artifacts() -> &'static [&'static [u8]] {
     &ARTIFACTS
 }
 
+/// One of them.
+pub(crate) fn artifact(number: usize) -> &'static [u8] {
+    match artifacts().get(number) {
+        Some(bytes) => *bytes,
+        None => b"",
+    }
+}
+
 /// Numbers that look random, and are the same in each run.
 #[derive(Drop)]
 pub(crate) struct Dice {
@@ -56,153 +64,91 @@ impl Dice {
         let [high, ..] = self.state.to_be_bytes();
         high
     }
+}
 
-    /// One of the artifacts.
-    fn artifact(&mut self) -> &'static [u8] {
-        match artifacts().get(usize::from(self.roll() % 14)) {
-            Some(bytes) => *bytes,
-            None => b"",
-        }
+/// An event that is no arrival.
+fn other_event(kind: u8, name: Name) -> Event {
+    match kind {
+        3 | 4 => Event::Announce { name },
+        5 => Event::Shun { name },
+        6 => Event::Cluster,
+        _ => Event::Commit,
     }
 }
 
 /// An event: mostly an arrival, one in five of them private, and now and then one under a wrong name.
 fn event_of(alloc: Global, dice: &mut Dice) -> Result<Event, Memory> {
-    let bytes = dice.artifact();
-    let name = Name::of(bytes);
-    Ok(match dice.roll() % 16 {
-        0 | 1 => Event::Arrive {
-            name,
-            bytes: Text::of(alloc, bytes)?,
-            private: true,
-        },
-        2 => Event::Arrive {
-            name: Name::of(b"wrong"),
-            bytes: Text::of(alloc, bytes)?,
-            private: false,
-        },
-        3 | 4 => Event::Announce { name },
-        5 => Event::Shun { name },
-        6 => Event::Cluster,
-        7 | 8 => Event::Commit,
-        _ => Event::Arrive {
-            name,
-            bytes: Text::of(alloc, bytes)?,
-            private: false,
-        },
-    })
+    let bytes = artifact(usize::from(dice.roll() % 14));
+    let kind = dice.roll() % 16;
+    if 3 <= kind && kind < 9 {
+        return Ok(other_event(kind, Name::of(bytes)));
+    }
+    let name = Name::of(if kind == 2 { b"wrong" } else { bytes });
+    arrival(alloc, name, bytes, kind < 2)
 }
 
-/// Whether an event is answered by a commit that succeeds.
+/// Whether an event is a commit that succeeds.
 fn commits(repo: &mut Repo<FuseDisk<MemoryDisk>>, event: Event) -> bool {
-    let answer = step_uncounted(repo, &event);
-    drop(event);
-    let committed = matches!(&answer, Answer::Commit(Ok(_)));
-    drop(answer);
-    committed
+    let is_commit = matches!(&event, Event::Commit);
+    is_done(repo, event) && is_commit
 }
 
-/// What a repository shows at its last commit and at its end.
-#[derive(Drop)]
-struct Shown {
-    committed: Vec<u8>,
-    end: Vec<u8>,
-}
-
-/// Takes so many steps.
+/// Takes so many steps. What a repository shows at its last commit.
 fn play(
     alloc: Global,
     repo: &mut Repo<FuseDisk<MemoryDisk>>,
     dice: &mut Dice,
 ) -> Result<Shown, Memory> {
-    let mut committed = printed(alloc, repo)?;
+    let mut committed = show_all(alloc, repo);
     for _ in 0..STEPS {
         let event = event_of(alloc, dice)?;
         if commits(repo, event) {
-            committed = printed(alloc, repo)?;
+            committed = show_all(alloc, repo);
         }
     }
-    let end = printed(alloc, repo)?;
-    Ok(Shown { committed, end })
+    Ok(committed)
 }
 
-/// How a repository comes back.
-#[derive(Clone, Copy, PartialEq, Eq, Debug)]
-enum Back {
-    /// As it was closed.
-    Whole,
-    /// As it was closed or at its last commit, behind a commit that failed.
-    Stopped,
-    /// Otherwise.
-    Lost,
-}
-
-/// What a disk shows that is loaded.
-pub(crate) fn shown_by(alloc: Global, disk: MemoryDisk) -> Result<Vec<u8>, Memory> {
-    match Repo::load(alloc, disk) {
-        Ok(repo) => {
-            let shown = printed(alloc, &repo);
-            drop(repo);
-            shown
-        }
-        Err((disk, _)) => {
-            drop(disk);
-            Err(Memory)
-        }
-    }
-}
-
-/// How a disk brings back what was shown, where the last commit was so.
-fn back_from(
+/// Whether a repository that is closed shows what it showed at its end when it is loaded again, or, where a commit fails, what
+/// it showed at the last one that succeeded.
+fn returns(
     alloc: Global,
-    disk: MemoryDisk,
-    shown: Result<Shown, Memory>,
-    ended: bool,
-) -> Result<Back, Memory> {
-    let again = shown_by(alloc, disk)?;
-    let shown = shown?;
-    let is_end = again.as_slice() == shown.end.as_slice();
-    let is_one = is_end || again.as_slice() == shown.committed.as_slice();
-    Ok(match ended {
-        true if is_end => Back::Whole,
-        false if is_one => Back::Stopped,
-        _ => Back::Lost,
-    })
+    mut repo: Repo<FuseDisk<MemoryDisk>>,
+    committed: &Shown,
+    fails: bool,
+) -> bool {
+    let end = show_all(alloc, &repo);
+    let ends = repo.commit().is_ok();
+    let Some(again) = shown_by(alloc, repo.close().inner()) else {
+        return false;
+    };
+    ends != fails && (again.is_like(&end) || (fails && again.is_like(committed)))
 }
 
-/// Plays a history over a disk that fails after so many calls, closes the repository and loads it again.
-fn history(alloc: Global, number: u64, calls: u64) -> Result<Back, Memory> {
+/// Plays a history over a disk that fails after so many calls. Whether it comes back, and a commit fails just where one is to.
+fn comes_back_after(alloc: Global, number: u64, calls: u64, fails: bool) -> Result<bool, Memory> {
     let disk = FuseDisk::new(disk_of(alloc, ONE_BLOB)?, calls);
-    match Repo::load(alloc, disk) {
-        Ok(mut repo) => {
-            let shown = play(alloc, &mut repo, &mut Dice { state: number });
-            let ended = repo.commit().is_ok();
-            let disk = repo.close().inner();
-            back_from(alloc, disk, shown, ended)
-        }
-        Err((disk, _)) => {
-            drop(disk);
-            Ok(Back::Lost)
+    let Some(mut repo) = loaded(alloc, disk) else {
+        return Ok(false);
+    };
+    match play(alloc, &mut repo, &mut Dice::of(number)) {
+        Ok(committed) => Ok(returns(alloc, repo, &committed, fails)),
+        Err(memory) => {
+            drop(repo.close());
+            Err(memory)
         }
     }
 }
 
-/// Each of 24 histories comes back whole.
+/// Each of 24 histories comes back whole, and six more, whose disk fails in the second commit or later, as at the end or at a
+/// commit before.
 #[test]
 fn comes_back(rt: HostRuntime) -> Result<(), Fail> {
-    for number in 0..24 {
-        let back = history(rt.alloc(), number, 1_000_000)?;
-        assert_eq!(rt; back, Back::Whole, "history {number}");
-    }
-    Ok(())
-}
-
-/// Six more, whose disk fails in the second commit or later, come back as at the end or at a commit before.
-#[test]
-fn comes_back_after_a_failure(rt: HostRuntime) -> Result<(), Fail> {
-    for number in 24..30 {
-        let back = history(rt.alloc(), number, number - 12)?;
-        assert_eq!(rt; back, Back::Stopped, "history {number}");
+    for number in 0..30 {
+        let fails = 24 <= number;
+        let calls = if fails { number - 12 } else { 1_000_000 };
+        let back = comes_back_after(rt.alloc(), number, calls, fails)?;
+        assert!(rt; back, "history {number}");
     }
     Ok(())
 }

@@ -2,9 +2,9 @@
 #![tactic(auto)]
 
 #[cfg(test)]
-mod answers;
-#[cfg(test)]
 mod crashes;
+#[cfg(test)]
+mod events;
 #[cfg(test)]
 mod histories;
 #[cfg(test)]
@@ -18,8 +18,8 @@ mod printing;
 #[cfg(test)]
 mod pulls;
 #[cfg(test)]
+mod questions;
+#[cfg(test)]
 mod repo;
 #[cfg(test)]
-mod shuffled;
-#[cfg(test)]
-mod steps;
+mod stopping;

@@ -1,23 +1,15 @@
 //! Worked sets of artifacts that arrive in every order: whatever the order, a repository shows the same, and so it does when
-//! its disk is loaded anew.
-use crate::printing::{printed, printed_of};
-use crate::repo::disk_of;
-use fsl_cross::Tables;
+//! its disk is loaded anew. Its tables are changed, and not made anew.
+use crate::events::{arrives, is_done, is_shunned};
+use crate::histories::artifacts;
+use crate::printing::{Shown, show_all, show_of, shown_by};
+use crate::repo::{CONFIGURED, opened};
 use fsl_disk::MemoryDisk;
-use fsl_files::Listing;
 use fsl_name::Name;
-use fsl_repo::{Answer, Event, Repo};
-use fsl_text::{Memory, Text};
-use fsl_turn::step_uncounted;
+use fsl_repo::{Event, Repo};
+use fsl_text::Memory;
 use std::alloc::Global;
 use std::test::Fail;
-
-// A file with a Config of the fields `comment` and `status`, 83 bytes.
-const CONFIGURED: &[u8] =
-    b"fossil-blobs-1\nO\0\0\0\0\0\0\0\x3ACabcdefghijklmnopqrstABCDEFGHIJKLMNOPQRST\0\x02\x07comment\x06statusC";
-
-/// An order is a number of five digits to the base 5, each a place in a set: so many there are.
-const CODES: u64 = 3125;
 
 /// Check-ins of a branch, of which the last closes the first.
 const BRANCHED: [&[u8]; 3] = [
@@ -70,109 +62,95 @@ const PAGES: [&[u8]; 4] = [
     b"A note.txt Home\nD 2024-01-04T00:00:00\nU ann\nZ 7dc6d31b5479217c69337bf64660968c\n",
 ];
 
-/// The sets stand behind a call without a contract, which keeps them out of the proof.
+/// The sets, and behind the artifacts of all kinds two again of which a name is shunned. They stand behind a call without a
+/// contract, which keeps them out of the proof.
 fn set_of(number: u64) -> &'static [&'static [u8]] {
     match number {
         0 => &BRANCHED,
         1 => &TAGGED,
-        2 => &CANCELLED,
+        2 | 8 => &CANCELLED,
         3 => &DELTA,
         4 => &TICKETS,
-        5 => &FORUM,
-        _ => &PAGES,
+        5 | 9 => &FORUM,
+        6 => &PAGES,
+        _ => artifacts(),
     }
 }
 
-/// The digit of an order at a place.
-fn digit(code: u64, place: u64) -> u64 {
-    match place {
-        0 => code % 5,
-        1 => code / 5 % 5,
-        2 => code / 25 % 5,
-        3 => code / 125 % 5,
-        _ => code / 625 % 5,
-    }
-}
-
-/// The artifact that comes at a place of an order; none behind the end of the set.
-fn coming(set: &'static [&'static [u8]], code: u64, place: u64) -> Option<&'static [u8]> {
-    if place >= set.len() as u64 {
-        return None;
-    }
-    match set.get(digit(code, place) as usize) {
-        Some(bytes) => Some(*bytes),
-        None => None,
-    }
-}
-
-/// Whether an artifact of a set comes at one of the places of an order.
-fn comes(set: &'static [&'static [u8]], code: u64, number: u64) -> bool {
-    for place in 0..5 {
-        if place < set.len() as u64 && digit(code, place) == number {
-            return true;
-        }
-    }
-    false
-}
-
-/// Whether a number is an order of a set: each artifact comes, and the other digits are zero.
-fn is_order(set: &'static [&'static [u8]], code: u64) -> bool {
-    for number in 0..5 {
-        if number < set.len() as u64 {
-            if !comes(set, code, number) {
-                return false;
-            }
-        } else if digit(code, number) != 0 {
-            return false;
-        }
-    }
-    true
-}
-
-/// Whether an event is answered as one that succeeds.
-fn succeeds(repo: &mut Repo<MemoryDisk>, event: Event) -> bool {
-    let answer = step_uncounted(repo, &event);
-    drop(event);
-    let good = matches!(
-        &answer,
-        Answer::Arrive(Ok(_)) | Answer::Shun(Ok(_)) | Answer::Commit(Ok(_))
-    );
-    drop(answer);
-    good
-}
-
-/// What is done to a repository: a set comes in an order, and a name may be shunned before the artifact at a place.
+/// What happens in some order: each artifact of a set arrives, and perhaps the name of one is shunned.
 #[derive(Clone, Copy)]
 struct Play {
     set: &'static [&'static [u8]],
-    code: u64,
-    shunned: Option<Name>,
-    at: u64,
-    upto: u64,
+    shunned: Option<&'static [u8]>,
 }
 
-/// One step of it, with a commit behind it.
-fn step(
-    alloc: Global,
-    repo: &mut Repo<MemoryDisk>,
-    play: &Play,
-    place: u64,
-) -> Result<bool, Memory> {
-    let mut good = true;
-    if play.at == place {
-        if let Some(name) = play.shunned {
-            good = succeeds(repo, Event::Shun { name });
+/// The play of a number: in play 8 the control of the cancelled tag is shunned, in play 9 the answer that would join two
+/// threads.
+fn play_of(number: u64) -> Play {
+    let set = set_of(number);
+    let place = match number {
+        8 => 3,
+        9 => 2,
+        _ => set.len(),
+    };
+    Play {
+        set,
+        shunned: set.get(place).copied(),
+    }
+}
+
+impl Play {
+    /// How many steps it has.
+    fn steps(&self) -> usize {
+        self.set
+            .len()
+            .saturating_add(usize::from(self.shunned.is_some()))
+    }
+
+    /// Each order of up to five steps, and thirty of more.
+    fn orders(&self) -> u64 {
+        match self.steps() {
+            2 => 2,
+            3 => 6,
+            4 => 24,
+            5 => 120,
+            _ => 30,
         }
     }
-    if let Some(bytes) = coming(play.set, play.code, place) {
-        let event = Event::Arrive {
-            name: Name::of(bytes),
-            bytes: Text::of(alloc, bytes)?,
-            private: false,
-        };
-        good = succeeds(repo, event) && good;
+}
+
+/// So many places in the order of this number: each one goes in where its own digit says. For few places the first numbers
+/// give each order once.
+fn places(alloc: Global, count: usize, number: u64) -> Result<Vec<usize>, Memory> {
+    let mut rest = number as usize;
+    let mut places = Vec::new(alloc);
+    for place in 0..count {
+        let choices = places.len().saturating_add(1);
+        let at = (rest % choices).min(places.len());
+        rest /= choices;
+        if places.insert(at, place).is_err() {
+            return Err(Memory);
+        }
     }
-    Ok(succeeds(repo, Event::Commit) && good)
+    Ok(places)
+}
+
+/// Whether a step of it is done and committed.
+fn is_taken(alloc: Global, repo: &mut Repo<MemoryDisk>, play: &Play, place: usize) -> bool {
+    let done = match play.set.get(place) {
+        Some(bytes) => arrives(alloc, repo, bytes),
+        None => is_shunned(repo, play.shunned.unwrap_or(b"")),
+    };
+    done && is_done(repo, Event::Commit)
+}
+
+/// Whether all steps are taken in an order, and each artifact is stored where none is shunned.
+fn are_taken(alloc: Global, repo: &mut Repo<MemoryDisk>, play: &Play, places: &[usize]) -> bool {
+    let mut good = true;
+    for place in places {
+        good = is_taken(alloc, repo, play, *place) && good;
+    }
+    good && (play.shunned.is_some() || repo.stored() == places.len() as u64)
 }
 
 /// The names of a set.
@@ -184,475 +162,65 @@ fn names_of(alloc: Global, set: &'static [&'static [u8]]) -> Result<Vec<Name>, M
     Ok(names)
 }
 
-/// What a repository shows after it, whatever the order, and with its places; nothing of the first where a step failed.
-fn shown(
-    alloc: Global,
-    repo: &mut Repo<MemoryDisk>,
-    play: &Play,
-) -> Result<(Vec<u8>, Vec<u8>), Memory> {
-    let mut good = true;
-    for place in 0..6 {
-        if place < play.upto {
-            good = step(alloc, repo, play, place)? && good;
-        }
-    }
-    let whole = printed(alloc, repo)?;
-    if !good {
-        return Ok((Vec::new(alloc), whole));
-    }
+/// What a repository shows behind a play in the order of this number; nothing where a step wasn't taken, or where it shows
+/// something else when it is loaded anew.
+fn played(alloc: Global, play: &Play, number: u64) -> Result<Option<Shown>, Memory> {
+    let places = places(alloc, play.steps(), number)?;
     let names = names_of(alloc, play.set)?;
-    Ok((printed_of(alloc, repo, &names)?, whole))
-}
-
-/// A line.
-fn tell(into: &mut Vec<u8>, text: &[u8]) -> Result<(), Memory> {
-    into.extend_from_slice(text)?;
-    into.push(b'\n')?;
-    Ok(())
-}
-
-/// The tags of an artifact and their values, a line each.
-fn tell_tags(alloc: Global, into: &mut Vec<u8>, tables: &Tables, name: Name) -> Result<(), Memory> {
-    for assertion in tables.tags().in_force(alloc, name)?.items() {
-        tell(into, assertion.tag.bytes())?;
-        tell(into, assertion.value.bytes())?;
-    }
-    Ok(())
-}
-
-/// The files of an artifact, and then those in which it differs from the one before it.
-fn tell_files(
-    alloc: Global,
-    into: &mut Vec<u8>,
-    tables: &Tables,
-    name: Name,
-) -> Result<(), Memory> {
-    match tables.files().files(alloc, name)? {
-        Listing::Known(files) => {
-            for file in files.items() {
-                tell(into, file.path.bytes())?;
-            }
-        }
-        Listing::NoBaseline => tell(into, b"unknown")?,
-        Listing::NotCheckin => {}
-    }
-    if let Some(changes) = tables.files().changes(alloc, name)? {
-        for change in changes.items() {
-            tell(into, change.path.bytes())?;
-        }
-    }
-    Ok(())
-}
-
-/// How many posts the thread of an artifact has, and how many texts and files the page.
-fn tell_counts(
-    alloc: Global,
-    into: &mut Vec<u8>,
-    tables: &Tables,
-    name: Name,
-) -> Result<(), Memory> {
-    for _ in tables.forum().thread(alloc, name)?.items() {
-        tell(into, b"post")?;
-    }
-    for _ in tables.wiki().history(alloc, b"Home")?.items() {
-        tell(into, b"text")?;
-    }
-    for file in tables.wiki().attached(alloc, b"Home")?.items() {
-        if file.source.is_some() {
-            tell(into, file.file.bytes())?;
-        }
-    }
-    Ok(())
-}
-
-/// The fields of the ticket.
-fn tell_ticket(alloc: Global, into: &mut Vec<u8>, tables: &Tables) -> Result<(), Memory> {
-    if let Some(fields) = tables.ticket().fields(alloc, Name::from_bytes([0x11; 20]))? {
-        for field in fields.items() {
-            tell(into, field.bytes())?;
-        }
-    }
-    Ok(())
-}
-
-/// What is told of an artifact and of the lists.
-fn told_of(alloc: Global, tables: &Tables, name: Name) -> Result<Vec<u8>, Memory> {
-    let mut into = Vec::new(alloc);
-    tell_tags(alloc, &mut into, tables, name)?;
-    tell_files(alloc, &mut into, tables, name)?;
-    tell_counts(alloc, &mut into, tables, name)?;
-    tell_ticket(alloc, &mut into, tables)?;
-    Ok(into)
-}
-
-/// Takes the steps, and says what is told of an artifact then.
-fn told_in(
-    alloc: Global,
-    repo: &mut Repo<MemoryDisk>,
-    play: &Play,
-    name: Name,
-) -> Result<Vec<u8>, Memory> {
-    for place in 0..6 {
-        if place < play.upto {
-            step(alloc, repo, play, place)?;
-        }
-    }
-    told_of(alloc, repo.tables(), name)
-}
-
-/// What is told of an artifact of a set, after the set came in an order up to a place and a name was shunned.
-fn told(alloc: Global, play: &Play, name: Option<Name>) -> Result<Vec<u8>, Memory> {
-    let Some(name) = name else {
-        return Ok(Vec::new(alloc));
-    };
-    match Repo::load(alloc, disk_of(alloc, CONFIGURED)?) {
-        Ok(mut repo) => {
-            let found = told_in(alloc, &mut repo, play, name);
-            drop(repo.close());
-            found
-        }
-        Err((disk, _)) => {
-            drop(disk);
-            Ok(Vec::new(alloc))
-        }
-    }
-}
-
-/// What a disk shows that is loaded.
-fn shown_by(alloc: Global, disk: MemoryDisk) -> Result<Vec<u8>, Memory> {
-    match Repo::load(alloc, disk) {
-        Ok(repo) => {
-            let shown = printed(alloc, &repo);
-            drop(repo);
-            shown
-        }
-        Err((disk, _)) => {
-            drop(disk);
-            Err(Memory)
-        }
-    }
-}
-
-/// What a new repository shows after it; nothing where it shows something else when it is loaded anew.
-fn played(alloc: Global, play: &Play) -> Result<Vec<u8>, Memory> {
-    match Repo::load(alloc, disk_of(alloc, CONFIGURED)?) {
-        Ok(mut repo) => {
-            let found = shown(alloc, &mut repo, play);
-            let again = shown_by(alloc, repo.close())?;
-            let (text, whole) = found?;
-            if again.as_slice() == whole.as_slice() {
-                return Ok(text);
-            }
-            Ok(Vec::new(alloc))
-        }
-        Err((disk, _)) => {
-            drop(disk);
-            Ok(Vec::new(alloc))
-        }
-    }
-}
-
-/// The name of the artifact of a set at a place, if there is one.
-fn name_at(number: u64, place: Option<usize>) -> Option<Name> {
-    match place {
-        Some(place) => name_in(number, place),
-        None => None,
-    }
-}
-
-/// What a set shows in an order, where the code is one of it.
-fn shown_in(
-    alloc: Global,
-    number: u64,
-    code: u64,
-    shunned: Option<usize>,
-    at: u64,
-) -> Result<Option<Vec<u8>>, Memory> {
-    let set = set_of(number);
-    if !is_order(set, code) {
+    let Some(mut repo) = opened(alloc, CONFIGURED) else {
         return Ok(None);
-    }
-    let play = Play {
-        set,
-        code,
-        shunned: name_at(number, shunned),
-        at,
-        upto: 6,
     };
-    Ok(Some(played(alloc, &play)?))
+    let taken = are_taken(alloc, &mut repo, play, places.as_slice());
+    let shown = show_of(alloc, &repo, names.as_slice());
+    let same = shows_again(alloc, repo);
+    Ok(if taken && same { Some(shown) } else { None })
 }
 
-/// Counts one for what is shown as it was shown first.
-fn count_alike(first: &mut Vec<u8>, shown: Option<Vec<u8>>) -> u64 {
-    match shown {
-        Some(text) if first.is_empty() => {
-            *first = text;
-            1
-        }
-        Some(text) => u64::from(text.as_slice() == first.as_slice()),
-        None => 0,
+/// Whether a repository shows the same when its disk is loaded anew.
+fn shows_again(alloc: Global, repo: Repo<MemoryDisk>) -> bool {
+    let shown = show_all(alloc, &repo);
+    match shown_by(alloc, repo.close()) {
+        Some(again) => again.is_like(&shown),
+        None => false,
     }
 }
 
-/// How many orders of a set show what the first shows.
-fn orders_alike(
-    alloc: Global,
-    number: u64,
-    shunned: Option<usize>,
-    at: u64,
-) -> Result<u64, Memory> {
-    let mut first: Vec<u8> = Vec::new(alloc);
+/// Whether the order of this number shows what another one showed.
+fn shows(alloc: Global, play: &Play, number: u64, first: &Shown) -> Result<bool, Memory> {
+    Ok(match played(alloc, play, number)? {
+        Some(shown) => shown.is_like(first),
+        None => false,
+    })
+}
+
+/// How many orders of a play show what the first shows.
+fn count_alike(alloc: Global, play: &Play) -> Result<u64, Memory> {
     let mut alike: u64 = 0;
-    for code in 0..CODES {
-        let shown = shown_in(alloc, number, code, shunned, at)?;
-        alike = alike.wrapping_add(count_alike(&mut first, shown));
+    if let Some(first) = played(alloc, play, 0)? {
+        for order in 0..play.orders() {
+            // No two orders of many steps are near each other.
+            let number = if play.orders() == 30 {
+                order.wrapping_mul(2_862_933_553)
+            } else {
+                order
+            };
+            let same = shows(alloc, play, number, &first)?;
+            alike = alike.saturating_add(u64::from(same));
+        }
     }
     Ok(alike)
 }
 
-/// Each of the sets shows one thing in all its orders, which are so many.
+/// Each of the plays shows one thing in all its orders.
 #[test]
 fn orders_show_one(rt: HostRuntime) -> Result<(), Fail> {
-    for (number, orders) in [(0, 6), (1, 6), (2, 24), (3, 2), (4, 6), (5, 24), (6, 24)] {
+    for number in 0..10 {
+        let play = play_of(number);
         assert_eq!(rt;
-            orders_alike(rt.alloc(), number, None, 5)?,
-            orders,
-            "set {number}"
+            count_alike(rt.alloc(), &play)?,
+            play.orders(),
+            "play {number}"
         );
     }
-    Ok(())
-}
-
-/// The name of an artifact of a set.
-fn name_in(number: u64, place: usize) -> Option<Name> {
-    match set_of(number).get(place) {
-        Some(bytes) => Some(Name::of(bytes)),
-        None => None,
-    }
-}
-
-/// So do those in which a name is shunned at one of the places: the control of the cancelled tag, and the answer that would
-/// join two threads.
-#[test]
-fn orders_with_a_shun_show_one(rt: HostRuntime) -> Result<(), Fail> {
-    for at in 0..5 {
-        let tags = orders_alike(rt.alloc(), 2, Some(3), at)?;
-        assert_eq!(rt; tags, 24, "a tag, at {at}");
-        let posts = orders_alike(rt.alloc(), 5, Some(2), at)?;
-        assert_eq!(rt; posts, 24, "a post, at {at}");
-    }
-    Ok(())
-}
-
-/// The first check-in of a branch has its tags, and the one that closes it.
-#[test]
-fn a_branch_is_closed(rt: HostRuntime) -> Result<(), Fail> {
-    let play = Play {
-        set: set_of(0),
-        code: 55,
-        shunned: None,
-        at: 5,
-        upto: 6,
-    };
-    let text = told(rt.alloc(), &play, name_in(0, 0))?;
-    assert_eq!(rt;
-        text.as_slice(),
-        b"branch\nb\nclosed\n\nsym-b\n\n".as_slice()
-    );
-    Ok(())
-}
-
-/// The tags that go down reach the last check-in, and the closing one does not.
-#[test]
-fn tags_go_down(rt: HostRuntime) -> Result<(), Fail> {
-    let play = Play {
-        set: set_of(0),
-        code: 51,
-        shunned: None,
-        at: 5,
-        upto: 6,
-    };
-    let text = told(rt.alloc(), &play, name_in(0, 2))?;
-    assert_eq!(rt; text.as_slice(), b"branch\nb\nsym-b\n\n".as_slice());
-    Ok(())
-}
-
-/// Of two tags of one moment that of the greater name counts.
-#[test]
-fn the_greater_name_counts(rt: HostRuntime) -> Result<(), Fail> {
-    let play = Play {
-        set: set_of(1),
-        code: 55,
-        shunned: None,
-        at: 5,
-        upto: 6,
-    };
-    let text = told(rt.alloc(), &play, name_in(1, 0))?;
-    assert_eq!(rt; text.as_slice(), b"k\nv2\n".as_slice());
-    Ok(())
-}
-
-/// A cancelled tag goes down no further.
-#[test]
-fn a_cancelled_tag_ends(rt: HostRuntime) -> Result<(), Fail> {
-    let play = Play {
-        set: set_of(2),
-        code: 430,
-        shunned: None,
-        at: 5,
-        upto: 6,
-    };
-    let text = told(rt.alloc(), &play, name_in(2, 2))?;
-    assert_eq!(rt; text.as_slice(), b"".as_slice());
-    Ok(())
-}
-
-/// It does once the control is shunned.
-#[test]
-fn a_tag_comes_back(rt: HostRuntime) -> Result<(), Fail> {
-    let play = Play {
-        set: set_of(2),
-        code: 430,
-        shunned: name_in(2, 3),
-        at: 5,
-        upto: 6,
-    };
-    let text = told(rt.alloc(), &play, name_in(2, 2))?;
-    assert_eq!(rt; text.as_slice(), b"k\ng\n".as_slice());
-    Ok(())
-}
-
-/// A check-in over a baseline that is not held has no known files.
-#[test]
-fn a_baseline_is_missing(rt: HostRuntime) -> Result<(), Fail> {
-    let play = Play {
-        set: set_of(3),
-        code: 1,
-        shunned: None,
-        at: 5,
-        upto: 1,
-    };
-    let text = told(rt.alloc(), &play, name_in(3, 1))?;
-    assert_eq!(rt; text.as_slice(), b"unknown\n".as_slice());
-    Ok(())
-}
-
-/// Over its baseline it has what that has, but for the file that it takes out.
-#[test]
-fn a_file_is_gone(rt: HostRuntime) -> Result<(), Fail> {
-    let play = Play {
-        set: set_of(3),
-        code: 1,
-        shunned: None,
-        at: 5,
-        upto: 6,
-    };
-    let text = told(rt.alloc(), &play, name_in(3, 1))?;
-    assert_eq!(rt; text.as_slice(), b"e.txt\na.txt\n".as_slice());
-    Ok(())
-}
-
-/// A ticket is changed in the order of the dates, whatever came first.
-#[test]
-fn a_ticket_is_appended_to(rt: HostRuntime) -> Result<(), Fail> {
-    let play = Play {
-        set: set_of(4),
-        code: 51,
-        shunned: None,
-        at: 5,
-        upto: 2,
-    };
-    let text = told(rt.alloc(), &play, name_in(4, 0))?;
-    assert_eq!(rt; text.as_slice(), b"hello world\nclosed\n".as_slice());
-    Ok(())
-}
-
-/// A later change empties a field.
-#[test]
-fn a_field_is_emptied(rt: HostRuntime) -> Result<(), Fail> {
-    let play = Play {
-        set: set_of(4),
-        code: 51,
-        shunned: None,
-        at: 5,
-        upto: 6,
-    };
-    let text = told(rt.alloc(), &play, name_in(4, 0))?;
-    assert_eq!(rt; text.as_slice(), b"hello world\n\n".as_slice());
-    Ok(())
-}
-
-/// A post that answers one of an other thread stands there, so far as that is not known.
-#[test]
-fn an_answer_starts_a_thread(rt: HostRuntime) -> Result<(), Fail> {
-    let play = Play {
-        set: set_of(5),
-        code: 330,
-        shunned: None,
-        at: 5,
-        upto: 3,
-    };
-    let text = told(rt.alloc(), &play, name_in(5, 0))?;
-    assert_eq!(rt; text.as_slice(), b"post\npost\n".as_slice());
-    Ok(())
-}
-
-/// Once it is known the answer moves there.
-#[test]
-fn an_answer_moves_threads(rt: HostRuntime) -> Result<(), Fail> {
-    let play = Play {
-        set: set_of(5),
-        code: 330,
-        shunned: None,
-        at: 5,
-        upto: 6,
-    };
-    let text = told(rt.alloc(), &play, name_in(5, 0))?;
-    assert_eq!(rt; text.as_slice(), b"post\n".as_slice());
-    Ok(())
-}
-
-/// And back once the post that it answers is shunned.
-#[test]
-fn an_answer_comes_back(rt: HostRuntime) -> Result<(), Fail> {
-    let play = Play {
-        set: set_of(5),
-        code: 330,
-        shunned: name_in(5, 2),
-        at: 5,
-        upto: 6,
-    };
-    let text = told(rt.alloc(), &play, name_in(5, 0))?;
-    assert_eq!(rt; text.as_slice(), b"post\npost\n".as_slice());
-    Ok(())
-}
-
-/// A page has its texts and its file.
-#[test]
-fn a_page_has_a_file(rt: HostRuntime) -> Result<(), Fail> {
-    let play = Play {
-        set: set_of(6),
-        code: 430,
-        shunned: None,
-        at: 5,
-        upto: 3,
-    };
-    let text = told(rt.alloc(), &play, name_in(6, 0))?;
-    assert_eq!(rt; text.as_slice(), b"text\ntext\nnote.txt\n".as_slice());
-    Ok(())
-}
-
-/// A later attachment without content removes the file.
-#[test]
-fn a_file_is_removed(rt: HostRuntime) -> Result<(), Fail> {
-    let play = Play {
-        set: set_of(6),
-        code: 430,
-        shunned: None,
-        at: 5,
-        upto: 6,
-    };
-    let text = told(rt.alloc(), &play, name_in(6, 0))?;
-    assert_eq!(rt; text.as_slice(), b"text\ntext\n".as_slice());
     Ok(())
 }

@@ -1,7 +1,5 @@
 // A dial into the server of a repository at hand.
-ghost use Rattle.std.specs.Prelude.{◌≡◌, ◌≤◌, None};
-ghost use Rattle.fsl_order.specs.Causes.{Rose};
-ghost use Rattle.fsl_outside.specs.Memory.{next};
+ghost use Rattle.std.specs.Prelude.{None};
 
 use fsl_disk::MemoryDisk;
 use fsl_login::Users;
@@ -9,165 +7,126 @@ use fsl_outside::{Dial, Failed, Link, MemoryLink, MemorySource, NoGate, Source};
 use fsl_repo::Repo;
 use fsl_serve::session_alone;
 use fsl_turn::{Solo, SoloPass};
-use std::alloc::{AllocError, Global};
-use std::marker::Model;
+use std::alloc::Global;
 use std::mem;
 use std::sync::Wait;
 
-/// A dial whose connections the server of a repository answers, each at its first read. What comes and goes is untold.
-#[derive(Drop)]
+/// A dial whose connections the server of a repository answers, each at its first read. What comes and goes is untold. No call
+/// of it fails: where memory lacks, a request is lost or a reply is empty, and the sync goes wrong. It is closed and never let
+/// go, so that no part of a repository is let go here.
 pub(crate) struct PeerDial<'a, R> {
     rt: &'a R,
     alloc: Global,
-    users: Users,
-    repo: Option<Repo<MemoryDisk>>,
-    talk: Talk,
-    faults: u64,
-}
-
-/// How far a connection is.
-#[derive(Drop)]
-enum Talk {
-    /// There is none, or it has broken off.
-    Idle,
+    turns: Solo<Repo<MemoryDisk>>,
+    pass: SoloPass<Repo<MemoryDisk>>,
     /// So much of the request was written.
-    Asks(Vec<u8>),
-    /// The reply is being read.
-    Hears(MemorySource),
-}
-
-impl<'a, R> Model for PeerDial<'a, R> {
-    ghost use Rattle.std.specs.Prelude.{ℕ};
-
-    ghost Value = { ℕ };
-
-    ghost view = { λ d. d.faults };
+    request: Vec<u8>,
+    /// The reply that is being read.
+    reply: Option<MemorySource>,
 }
 
 impl<'a, R> PeerDial<'a, R> {
-    /// A dial into this repository's server for these users.
-    pub(crate) fn new(
-        rt: &'a R,
-        alloc: Global,
-        users: Users,
-        repo: Repo<MemoryDisk>,
-    ) -> PeerDial<'a, R> {
+    /// A dial into this repository's server.
+    pub(crate) fn new(rt: &'a R, alloc: Global, repo: Repo<MemoryDisk>) -> PeerDial<'a, R> {
+        let (turns, pass) = Solo::make(repo);
         PeerDial {
             rt,
             alloc,
-            users,
-            repo: Some(repo),
-            talk: Talk::Idle,
-            faults: 0,
+            turns,
+            pass,
+            request: Vec::new(alloc),
+            reply: None,
         }
     }
 
     /// The repository.
-    pub(crate) fn repo(&self) -> Option<&Repo<MemoryDisk>> {
-        self.repo.as_ref()
+    pub(crate) fn repo(&self) -> &Repo<MemoryDisk> {
+        &self.pass.machine
     }
 
-    /// Counts a call that failed.
-    fn fail(&mut self) -> Failed
-        ensures counted { self.new ≡ next self.old }
-        ensures later { self.old ≤ self.new }
-        ensures rose { Rose self.old self.new }
-    {
-        self.faults = self.faults.saturating_add(1);
-        Failed
+    /// Closes the repository.
+    pub(crate) fn close(self) {
+        let PeerDial {
+            rt: _,
+            alloc: _,
+            turns: _,
+            pass,
+            request,
+            reply,
+        } = self;
+        drop(request);
+        drop(reply);
+        let SoloPass { machine, told: _ } = pass;
+        drop(machine.close());
     }
 }
 
-/// Lets a repository's server answer a request, and gives the repository back with what was answered.
+/// Lets a repository's server answer a request, for users of whom everybody may pull and push.
 fn answer<R: Wait>(
     rt: &R,
     alloc: Global,
-    users: &Users,
-    repo: Repo<MemoryDisk>,
-    request: Vec<u8>,
-) -> (Repo<MemoryDisk>, Result<Vec<u8>, AllocError>) {
-    let project = repo.config().project;
-    let (turns, mut pass) = Solo::make(repo);
-    let mut link = MemoryLink::new(alloc, request, Vec::new(alloc));
-    session_alone(
-        rt,
-        alloc,
-        &turns,
-        &mut pass,
-        users,
-        project,
-        &mut link,
-        &mut NoGate,
-        0,
-    );
-    let SoloPass { machine, told: _ } = pass;
-    (machine, link.sent().to_vec(alloc))
+    turns: &Solo<Repo<MemoryDisk>>,
+    pass: &mut SoloPass<Repo<MemoryDisk>>,
+    link: &mut MemoryLink,
+) {
+    if let Ok(users) = Users::read(alloc, b"nobody oi -\n") {
+        let project = pass.machine.config().project;
+        session_alone(
+            rt,
+            alloc,
+            turns,
+            pass,
+            &users,
+            project,
+            link,
+            &mut NoGate,
+            0,
+        );
+        drop(users);
+    }
 }
 
 impl<'a, R: Wait> PeerDial<'a, R> {
-    /// Lets the server answer a request.
-    fn reply(&mut self, repo: Repo<MemoryDisk>, request: Vec<u8>)
-        ensures { self.new ≡ self.old }
-    {
-        let (repo, reply) = answer(self.rt, self.alloc, &self.users, repo, request);
-        self.repo = Some(repo);
-        if let Ok(bytes) = reply {
-            self.talk = Talk::Hears(MemorySource::new(bytes, Vec::new(self.alloc)));
-        }
-    }
-
-    /// Adds a piece to the request. It tells whether there is one, and memory for it.
-    fn take(&mut self, piece: &[u8]) -> bool
-        ensures { self.new ≡ self.old }
-    {
-        match &mut self.talk {
-            Talk::Asks(request) => request.extend_from_slice(piece).is_ok(),
-            _ => false,
-        }
-    }
-
     /// Lets the server answer the request that was written.
-    fn hear(&mut self)
-        ensures { self.new ≡ self.old }
-    {
-        if let Talk::Asks(request) = mem::replace(&mut self.talk, Talk::Idle) {
-            if let Some(repo) = self.repo.take() {
-                self.reply(repo, request);
-            }
+    fn hear(&mut self) {
+        let request = mem::replace(&mut self.request, Vec::new(self.alloc));
+        let mut link = MemoryLink::new(self.alloc, request, Vec::new(self.alloc));
+        answer(self.rt, self.alloc, &self.turns, &mut self.pass, &mut link);
+        if let Ok(bytes) = link.sent().to_vec(self.alloc) {
+            self.reply = Some(MemorySource::new(bytes, Vec::new(self.alloc)));
         }
     }
 }
 
 impl<'a, R: Wait> Link for PeerDial<'a, R> {
-    ghost state = { λ d. record { present = None; standing = record { earlier = None; accept_faults = 0; closings = 0 }; faults = d } };
+    ghost state = { λ _. record { present = None; standing = record { earlier = None; accept_faults = 0; closings = 0 }; faults = 0 } };
 
     fn faults(&self) -> u64 {
-        self.faults
+        0
     }
 
     fn read(&mut self, into: &mut [u8]) -> Result<usize, Failed> {
-        if let Talk::Asks(_) = &self.talk {
+        if self.reply.is_none() {
             self.hear();
         }
-        if let Talk::Hears(reply) = &mut self.talk {
-            if let Ok(count) = reply.read(into) {
-                return Ok(count);
-            }
+        match &mut self.reply {
+            Some(reply) => Ok(reply.read(into).unwrap_or(0)),
+            None => Ok(0),
         }
-        Err(self.fail())
     }
 
     fn write(&mut self, piece: &[u8]) -> Result<usize, Failed> {
-        if self.take(piece) {
-            return Ok(piece.len());
+        if self.request.extend_from_slice(piece).is_err() {
+            self.request.clear();
         }
-        Err(self.fail())
+        Ok(piece.len())
     }
 }
 
 impl<'a, R: Wait> Dial for PeerDial<'a, R> {
     fn connect(&mut self) -> Result<(), Failed> {
-        self.talk = Talk::Asks(Vec::new(self.alloc));
+        self.request = Vec::new(self.alloc);
+        self.reply = None;
         Ok(())
     }
 }

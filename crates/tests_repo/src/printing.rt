@@ -1,227 +1,297 @@
 //! What a repository shows, as one text.
+use crate::repo::loaded;
 use fsl_blobs::{BlobState, Placed};
-use fsl_cross::Tables;
-use fsl_disk::Disk;
+use fsl_cross::{Tables, Values};
+use fsl_disk::{Disk, MemoryDisk};
 use fsl_files::{Change, FileRow, How, Listing};
 use fsl_forum::{Post, PostKind};
 use fsl_name::Name;
 use fsl_repo::Repo;
 use fsl_tags::Assertion;
-use fsl_text::{Memory, Text};
+use fsl_text::{List, Memory, Text};
 use fsl_timeline::Row;
 use fsl_wiki::{Attached, Page};
 use std::alloc::Global;
 
-/// A text behind its length.
-fn print_text(into: &mut Vec<u8>, text: &[u8]) -> Result<(), Memory> {
-    into.extend_from_slice((text.len() as u64).to_be_bytes().as_slice())?;
-    into.extend_from_slice(text)?;
-    Ok(())
+/// What is shown, and whether there was memory for all of it.
+#[derive(Drop)]
+pub(crate) struct Shown {
+    text: Vec<u8>,
+    is_whole: bool,
 }
 
-/// How many names there are, and the names.
-fn print_names(into: &mut Vec<u8>, names: &[Name]) -> Result<(), Memory> {
-    into.extend_from_slice((names.len() as u64).to_be_bytes().as_slice())?;
-    for name in names {
-        print_text(into, name.bytes().as_slice())?;
-    }
-    Ok(())
-}
-
-fn print_rows(into: &mut Vec<u8>, rows: &[Row]) -> Result<(), Memory> {
-    for row in rows {
-        print_text(into, row.name.bytes().as_slice())?;
-        print_text(into, row.user.bytes())?;
-        print_text(into, row.text.bytes())?;
-    }
-    Ok(())
-}
-
-fn print_tags(into: &mut Vec<u8>, tags: &[Assertion]) -> Result<(), Memory> {
-    for assertion in tags {
-        print_text(into, assertion.source.bytes().as_slice())?;
-        print_text(into, assertion.tag.bytes())?;
-        print_text(into, assertion.value.bytes())?;
-    }
-    Ok(())
-}
-
-fn print_files(into: &mut Vec<u8>, files: &[FileRow]) -> Result<(), Memory> {
-    for file in files {
-        print_text(into, file.path.bytes())?;
-        if let Some(hash) = file.hash {
-            print_text(into, hash.bytes().as_slice())?;
+impl Shown {
+    fn new(alloc: Global) -> Shown {
+        Shown {
+            text: Vec::new(alloc),
+            is_whole: true,
         }
     }
-    Ok(())
+
+    /// Whether both show the same.
+    pub(crate) fn is_like(&self, other: &Shown) -> bool {
+        self.is_whole && other.is_whole && self.text.as_slice() == other.text.as_slice()
+    }
+
+    /// Shows bytes as they are.
+    fn put(&mut self, bytes: &[u8]) {
+        if self.text.extend_from_slice(bytes).is_err() {
+            self.is_whole = false;
+        }
+    }
+
+    fn number(&mut self, number: u64) {
+        self.put(number.to_be_bytes().as_slice());
+    }
+
+    /// Shows a text behind its length.
+    fn text(&mut self, text: &[u8]) {
+        self.number(text.len() as u64);
+        self.put(text);
+    }
+
+    fn name(&mut self, name: Name) {
+        self.put(name.bytes().as_slice());
+    }
+
+    fn some_name(&mut self, name: Option<Name>) {
+        match name {
+            Some(name) => {
+                self.number(1);
+                self.name(name);
+            }
+            None => self.number(0),
+        }
+    }
 }
 
-fn print_changes(into: &mut Vec<u8>, changes: &[Change]) -> Result<(), Memory> {
-    for change in changes {
-        print_text(into, change.path.bytes())?;
-        into.push(match change.how {
+/// What is shown of one line of a list.
+trait Line {
+    fn show(&self, into: &mut Shown);
+}
+
+impl Line for Name {
+    fn show(&self, into: &mut Shown) {
+        into.name(*self);
+    }
+}
+
+impl Line for Text {
+    fn show(&self, into: &mut Shown) {
+        into.text(self.bytes());
+    }
+}
+
+impl Line for Row {
+    fn show(&self, into: &mut Shown) {
+        into.name(self.name);
+        into.text(self.user.bytes());
+        into.text(self.text.bytes());
+    }
+}
+
+impl Line for Assertion {
+    fn show(&self, into: &mut Shown) {
+        into.name(self.source);
+        into.text(self.tag.bytes());
+        into.text(self.value.bytes());
+    }
+}
+
+impl Line for FileRow {
+    fn show(&self, into: &mut Shown) {
+        into.text(self.path.bytes());
+        into.some_name(self.hash);
+    }
+}
+
+impl Line for Change {
+    fn show(&self, into: &mut Shown) {
+        into.text(self.path.bytes());
+        into.number(match self.how {
             How::Added => 0,
             How::Edited => 1,
             How::Deleted => 2,
-        })?;
+        });
     }
-    Ok(())
 }
 
-fn print_posts(into: &mut Vec<u8>, posts: &[Post]) -> Result<(), Memory> {
-    for post in posts {
-        print_text(into, post.name.bytes().as_slice())?;
-        print_text(into, post.user.bytes())?;
-        into.push(match post.how {
+impl Line for Post {
+    fn show(&self, into: &mut Shown) {
+        into.name(self.name);
+        into.text(self.user.bytes());
+        into.number(match self.how {
             PostKind::Start => 0,
             PostKind::Edit => 1,
             PostKind::Reply => 2,
-        })?;
+        });
     }
-    Ok(())
 }
 
-fn print_pages(into: &mut Vec<u8>, pages: &[Page]) -> Result<(), Memory> {
-    for page in pages {
-        print_text(into, page.name.bytes().as_slice())?;
-        print_text(into, page.user.bytes())?;
+impl Line for Page {
+    fn show(&self, into: &mut Shown) {
+        into.name(self.name);
+        into.text(self.user.bytes());
     }
-    Ok(())
 }
 
-fn print_attached(into: &mut Vec<u8>, attached: &[Attached]) -> Result<(), Memory> {
-    for file in attached {
-        print_text(into, file.name.bytes().as_slice())?;
-        print_text(into, file.file.bytes())?;
-        if let Some(source) = file.source {
-            print_text(into, source.bytes().as_slice())?;
+impl Line for Attached {
+    fn show(&self, into: &mut Shown) {
+        into.name(self.name);
+        into.text(self.file.bytes());
+        into.some_name(self.source);
+    }
+}
+
+/// How many lines a list has, and each of them.
+fn show_lines<T: Line>(into: &mut Shown, lines: &[T]) {
+    into.number(lines.len() as u64);
+    for line in lines {
+        line.show(into);
+    }
+}
+
+/// A list that was asked for.
+fn show_list<T: Line + Drop>(into: &mut Shown, list: Result<List<T>, Memory>) {
+    match &list {
+        Ok(list) => show_lines(into, list.items()),
+        Err(_) => into.is_whole = false,
+    }
+    drop(list);
+}
+
+/// A list that was asked for, where there is one.
+fn show_some<T: Line + Drop>(into: &mut Shown, list: Result<Option<List<T>>, Memory>) {
+    match &list {
+        Ok(Some(list)) => show_lines(into, list.items()),
+        Ok(None) => {}
+        Err(_) => into.is_whole = false,
+    }
+    drop(list);
+}
+
+/// The files of a check-in, where they are known.
+fn show_files(into: &mut Shown, files: Result<Listing, Memory>) {
+    match &files {
+        Ok(Listing::Known(files)) => show_lines(into, files.items()),
+        Ok(_) => {}
+        Err(_) => into.is_whole = false,
+    }
+    drop(files);
+}
+
+/// The values of a check-in.
+fn show_values(into: &mut Shown, values: Result<Option<Values>, Memory>) {
+    match &values {
+        Ok(Some(values)) => {
+            into.text(values.comment.bytes());
+            into.text(values.user.bytes());
+            into.text(values.branch.bytes());
         }
+        Ok(None) => {}
+        Err(_) => into.is_whole = false,
     }
-    Ok(())
+    drop(values);
 }
 
-/// The fields of a ticket, where there is one.
-fn print_ticket(
-    alloc: Global,
-    into: &mut Vec<u8>,
-    tables: &Tables,
-    id: Name,
-) -> Result<(), Memory> {
-    if let Some(fields) = tables.ticket().fields(alloc, id)? {
-        for field in fields.items() {
-            print_text(into, field.bytes())?;
-        }
+/// The check-in at the tip of a branch.
+fn show_tip(into: &mut Shown, tip: Result<Option<Name>, Memory>) {
+    match tip {
+        Ok(tip) => into.some_name(tip),
+        Err(_) => into.is_whole = false,
     }
-    Ok(())
 }
 
-/// What a page and its files are, and what a ticket is.
-fn print_pages_and_tickets(
-    alloc: Global,
-    into: &mut Vec<u8>,
-    tables: &Tables,
-) -> Result<(), Memory> {
-    print_pages(into, tables.wiki().history(alloc, b"Home")?.items())?;
-    print_attached(into, tables.wiki().attached(alloc, b"Home")?.items())?;
-    print_ticket(alloc, into, tables, Name::from_bytes([0x11; 20]))
+/// What the tables say of one artifact by itself.
+fn show_artifact(alloc: Global, into: &mut Shown, tables: &Tables, name: Name) {
+    show_list(into, tables.links().children(alloc, name));
+    show_list(into, tables.tags().in_force(alloc, name));
+    into.text(tables.branch(name));
+    show_values(into, tables.values(alloc, name));
 }
 
-/// The check-in at the tip of each of two branches.
-fn print_tips(alloc: Global, into: &mut Vec<u8>, tables: &Tables) -> Result<(), Memory> {
-    for branch in [b"trunk".as_slice(), b"b".as_slice()] {
-        if let Some(name) = tables.tip(alloc, branch)? {
-            print_text(into, name.bytes().as_slice())?;
-        }
-    }
-    Ok(())
+/// What the tables say of its files and in its thread.
+fn show_following(alloc: Global, into: &mut Shown, tables: &Tables, name: Name) {
+    show_files(into, tables.files().files(alloc, name));
+    show_some(into, tables.files().changes(alloc, name));
+    into.some_name(tables.forum().place(name));
+    show_list(into, tables.forum().thread(alloc, name));
 }
 
-/// What the tables say of one artifact in its thread and against the one before it.
-fn print_following(
-    alloc: Global,
-    into: &mut Vec<u8>,
-    tables: &Tables,
-    name: Name,
-) -> Result<(), Memory> {
-    if let Some(changes) = tables.files().changes(alloc, name)? {
-        print_changes(into, changes.items())?;
-    }
-    if let Some(root) = tables.forum().place(name) {
-        print_text(into, root.bytes().as_slice())?;
-    }
-    print_posts(into, tables.forum().thread(alloc, name)?.items())
+/// Whether a name is held, as what, and what the tables say of it.
+fn show_name<D: Disk>(alloc: Global, into: &mut Shown, repo: &Repo<D>, name: Name) {
+    into.name(name);
+    into.number(match repo.state(name) {
+        BlobState::Absent => 0,
+        BlobState::Shunned => 1,
+        BlobState::Private { size: _ } => 2,
+        BlobState::Public { size: _ } => 3,
+    });
+    show_artifact(alloc, into, repo.tables(), name);
+    show_following(alloc, into, repo.tables(), name);
 }
 
-/// What the tables say of one artifact.
-fn print_artifact(
-    alloc: Global,
-    into: &mut Vec<u8>,
-    tables: &Tables,
-    name: Name,
-) -> Result<(), Memory> {
-    print_names(into, tables.links().children(alloc, name)?.items())?;
-    print_tags(into, tables.tags().in_force(alloc, name)?.items())?;
-    print_text(into, tables.branch(name))?;
-    if let Some(values) = tables.values(alloc, name)? {
-        print_text(into, values.comment.bytes())?;
-        print_text(into, values.user.bytes())?;
-        print_text(into, values.branch.bytes())?;
-    }
-    if let Listing::Known(files) = tables.files().files(alloc, name)? {
-        print_files(into, files.items())?;
-    }
-    print_following(alloc, into, tables, name)
+/// The leaves and tips, and the names that stand in no cluster or are missing.
+fn show_names(alloc: Global, into: &mut Shown, tables: &Tables) {
+    show_list(into, tables.cluster().unclustered(alloc));
+    show_list(into, tables.cluster().missing(alloc));
+    show_list(into, tables.leaves().leaves(alloc));
+    show_tip(into, tables.tip(alloc, b"trunk"));
+    show_tip(into, tables.tip(alloc, b"b"));
 }
 
-/// The held artifacts by place, and what the tables say of each.
-fn print_held<D: Disk>(
-    alloc: Global,
-    into: &mut Vec<u8>,
-    repo: &Repo<D>,
-    held: &[Placed],
-) -> Result<(), Memory> {
-    for placed in held {
-        let private = matches!(repo.state(placed.name), BlobState::Private { .. });
-        into.push(u8::from(private))?;
-        into.extend_from_slice(placed.place.to_be_bytes().as_slice())?;
-        print_text(into, placed.name.bytes().as_slice())?;
-        print_artifact(alloc, into, repo.tables(), placed.name)?;
-    }
-    Ok(())
+/// The timeline, a page, its files and a ticket.
+fn show_rows(alloc: Global, into: &mut Shown, tables: &Tables) {
+    show_list(into, tables.timeline().latest(alloc, 1000));
+    show_list(into, tables.wiki().history(alloc, b"Home"));
+    show_list(into, tables.wiki().attached(alloc, b"Home"));
+    let id = Name::from_bytes([0x11; 20]);
+    show_some(into, tables.ticket().fields(alloc, id));
 }
 
-/// The wanted, shunned, unclustered and missing names, the leaves and tips, the timeline, a page, its files and a ticket.
-fn print_lists<D: Disk>(alloc: Global, into: &mut Vec<u8>, repo: &Repo<D>) -> Result<(), Memory> {
-    print_names(into, repo.wants()?.items())?;
-    print_names(into, repo.shuns()?.items())?;
-    let tables = repo.tables();
-    print_names(into, tables.cluster().unclustered(alloc)?.items())?;
-    print_names(into, tables.cluster().missing(alloc)?.items())?;
-    print_names(into, tables.leaves().leaves(alloc)?.items())?;
-    print_tips(alloc, into, tables)?;
-    print_rows(into, tables.timeline().latest(alloc, 1000)?.items())?;
-    print_pages_and_tickets(alloc, into, tables)
+/// The wanted and shunned names, and all lists of the tables.
+fn show_lists<D: Disk>(alloc: Global, into: &mut Shown, repo: &Repo<D>) {
+    show_list(into, repo.wants());
+    show_list(into, repo.shuns());
+    show_names(alloc, into, repo.tables());
+    show_rows(alloc, into, repo.tables());
+}
+
+/// The held names by place.
+pub(crate) fn held<D: Disk>(alloc: Global, repo: &Repo<D>) -> List<Placed> {
+    match repo.held(0) {
+        Ok(held) => held,
+        Err(_) => List::new(alloc),
+    }
 }
 
 /// The held names by place with what the tables say of each, and all lists.
-pub(crate) fn printed<D: Disk>(alloc: Global, repo: &Repo<D>) -> Result<Vec<u8>, Memory> {
-    let mut into = Vec::new(alloc);
-    print_held(alloc, &mut into, repo, repo.held(0)?.items())?;
-    print_lists(alloc, &mut into, repo)?;
-    Ok(into)
+pub(crate) fn show_all<D: Disk>(alloc: Global, repo: &Repo<D>) -> Shown {
+    let mut into = Shown::new(alloc);
+    for placed in held(alloc, repo).items() {
+        into.number(placed.place);
+        show_name(alloc, &mut into, repo, placed.name);
+    }
+    show_lists(alloc, &mut into, repo);
+    into
 }
 
-/// What a repository shows whatever the order in which its artifacts came: what the tables say of each of these names,
-/// and all lists.
-pub(crate) fn printed_of<D: Disk>(
-    alloc: Global,
-    repo: &Repo<D>,
-    names: &[Name],
-) -> Result<Vec<u8>, Memory> {
-    let mut into = Vec::new(alloc);
+/// What a repository shows whatever the order in which its artifacts came: how many it holds, what is said of each of these
+/// names, and all lists.
+pub(crate) fn show_of<D: Disk>(alloc: Global, repo: &Repo<D>, names: &[Name]) -> Shown {
+    let mut into = Shown::new(alloc);
+    into.number(held(alloc, repo).items().len() as u64);
     for name in names {
-        print_artifact(alloc, &mut into, repo.tables(), *name)?;
+        show_name(alloc, &mut into, repo, *name);
     }
-    print_lists(alloc, &mut into, repo)?;
-    Ok(into)
+    show_lists(alloc, &mut into, repo);
+    into
+}
+
+/// What a disk shows that is loaded; nothing where it doesn't load.
+pub(crate) fn shown_by(alloc: Global, disk: MemoryDisk) -> Option<Shown> {
+    let repo = loaded(alloc, disk)?;
+    let shown = show_all(alloc, &repo);
+    drop(repo.close());
+    Some(shown)
 }

@@ -1,7 +1,7 @@
 // A served repository. One session pushes an artifact and asks for it, the other one pulls; each stays at its gate until the other one is inside.
 use super::doors::CountingDoor;
 use super::gates::{Signals, TurnGate};
-use super::staffing::is_for;
+use super::staffing::is_for_two;
 use fossil::{Served, State, serve};
 use fsl_blobs::BlobState;
 use fsl_disk::MemoryDisk;
@@ -11,7 +11,6 @@ use fsl_serve::Crew;
 use std::alloc::{AllocError, Global};
 use std::sync::atomic::{AtomicU64, Ordering};
 use std::sync::{Arc, Wait};
-use std::test::Fail;
 use std::thread::Threads;
 
 type TurnCrew = Crew<CountingDoor<MemoryDoor>, TurnGate>;
@@ -78,15 +77,22 @@ struct Seen {
     crews: Vec<TurnCrew>,
 }
 
-/// Whether a repository was left that holds the artifact `abc`.
-fn holds_abc(state: &State<MemoryDisk>) -> bool {
+/// Whether a repository was left that holds the artifact `abc`. It is closed, so that none of its parts is let go here.
+fn holds_abc(state: State<MemoryDisk>) -> bool {
     match state {
-        State::Loaded(repo) => repo.state(Name::of(b"abc")) == BlobState::Public { size: 3 },
-        State::Unloaded(_) => false,
+        State::Loaded(repo) => {
+            let holds = repo.state(Name::of(b"abc")) == BlobState::Public { size: 3 };
+            drop(repo.close());
+            holds
+        }
+        State::Unloaded(disk) => {
+            drop(disk);
+            false
+        }
     }
 }
 
-/// Serves a new repository, where the words ask for as many workers as there are crews.
+/// Serves a new repository by two crews, as the words ask.
 fn serve_new<R: Threads + Wait + Sync>(
     rt: &R,
     alloc: Global,
@@ -97,8 +103,7 @@ fn serve_new<R: Threads + Wait + Sync>(
     let words = words.as_slice();
     let mut users = MemorySource::new(b"nobody oi -".to_vec(alloc)?, Vec::new(alloc));
     let disk = MemoryDisk::new(alloc, NEW_FILE.to_vec(alloc)?, Vec::new(alloc));
-    let workers = crews.len() as u64;
-    if !is_for(alloc, words, workers) {
+    if crews.len() != 2 || !is_for_two(alloc, words) {
         return Ok(None);
     }
     Ok(Some(watched(serve(rt, alloc, words, &mut users, disk, crews, out))))
@@ -113,7 +118,7 @@ fn watched(served: Served<MemoryDisk, CountingDoor<MemoryDoor>, TurnGate>) -> Se
     } = served;
     Seen {
         status,
-        holds_abc: holds_abc(&state),
+        holds_abc: holds_abc(state),
         crews,
     }
 }
@@ -129,10 +134,8 @@ fn is_served(crews: &[TurnCrew], at: usize, end: &[u8]) -> bool {
     }
 }
 
-// With one thread the first session would wait in vain for the second one, and its gate would be late.
-#[test]
-fn serves_two_at_once_and_lets_each_connection_go(rt: HostRuntime) -> Result<(), Fail> {
-    let alloc = rt.alloc();
+/// Whether two sessions are served at once, and each connection is let go once.
+fn are_served_at_once<R: Threads + Wait + Sync>(rt: &R, alloc: Global) -> Result<bool, AllocError> {
     let signals = Arc::new(
         alloc,
         Signals {
@@ -142,12 +145,23 @@ fn serves_two_at_once_and_lets_each_connection_go(rt: HostRuntime) -> Result<(),
         },
     )?;
     let mut out = MemorySink::new(alloc, Vec::new(alloc));
-    let seen = serve_new(&rt, alloc, crews(alloc, &signals)?, &mut out)?.ok_or("other words")?;
-    assert_eq!(rt; seen.status, 0);
-    assert!(rt; out.taken() == b"sessions 2\nstored 1\n".as_slice());
-    assert!(rt; seen.holds_abc);
-    assert!(rt; is_served(seen.crews.as_slice(), 0, PUSHED));
-    assert!(rt; is_served(seen.crews.as_slice(), 1, PULLED));
-    assert_eq!(rt; signals.late.load(Ordering::SeqCst), 0);
-    Ok(())
+    let good = match serve_new(rt, alloc, crews(alloc, &signals)?, &mut out)? {
+        Some(seen) => are_as_wanted(&seen),
+        None => false,
+    };
+    let printed = out.taken() == b"sessions 2\nstored 1\n".as_slice();
+    Ok(good && printed && signals.late.load(Ordering::SeqCst) == 0)
+}
+
+/// Whether all went well, and the repository holds what was pushed.
+fn are_as_wanted(seen: &Seen) -> bool {
+    let crews = seen.crews.as_slice();
+    seen.status == 0 && seen.holds_abc && is_served(crews, 0, PUSHED) && is_served(crews, 1, PULLED)
+}
+
+// With one thread the first session would wait in vain for the second one, and its gate would be late.
+#[test]
+fn serves_two_at_once_and_lets_each_connection_go(rt: HostRuntime) {
+    let served = matches!(are_served_at_once(&rt, rt.alloc()), Ok(true));
+    assert!(rt; served);
 }

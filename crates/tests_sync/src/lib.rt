@@ -1,8 +1,6 @@
-//! Tests of messages, logins and replies, by their public calls alone. They stand apart, so that no crate is proved once more for its tests.
+//! Tests of messages and logins, by their public calls alone. They stand apart, so that no crate is proved once more for its tests.
 #![tactic(auto)]
 
-#[cfg(test)]
-mod answer;
 #[cfg(test)]
 mod login;
 #[cfg(test)]

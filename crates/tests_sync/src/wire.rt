@@ -1,45 +1,8 @@
-//! Messages, read and written. Digits are those of `sha1sum`.
+//! Messages, read and written: what no answer of a server shows. Digits are those of `sha1sum`.
 use fsl_name::Name;
 use fsl_text::{List, Memory, Text};
-use fsl_wire::{Draft, Message, WireCard, WireFault, line_of, read, read_bare, write};
+use fsl_wire::{Draft, Message, WireCard, line_of, read, read_bare, write};
 use std::alloc::Global;
-
-/// A message with a comment, blanks, two files, a cookie, and a last line without a newline.
-const CARDS: &[u8] =
-    b"# x\n \tpush s p\r\npull s p\nfile a9993e364706816aba3e25717850c26c9cd0d89d 3\nabc\nfile da39a3ee5e6b4b0d3255bfef95601890afd80709 0\n\ncookie a b\nprivate\nclone 3 17\nclone_seqno 007\nigot 86f7e437faa5a7fce15d1ddcb9eaeaea377667b8 1\ngimme 86f7e437faa5a7fce15d1ddcb9eaeaea377667b8\nerror a\\sb\nmessage x\npragma send-private";
-
-/// A letter for each kind of card.
-fn letter(card: &WireCard) -> u8 {
-    match card {
-        WireCard::Login { .. } => b'l',
-        WireCard::Push { .. } => b'p',
-        WireCard::Pull { .. } => b'q',
-        WireCard::Clone { .. } => b'c',
-        WireCard::CloneSeqno { .. } => b'n',
-        WireCard::File { .. } => b'f',
-        WireCard::Private => b'x',
-        WireCard::Igot { .. } => b'i',
-        WireCard::Gimme { .. } => b'g',
-        WireCard::Error { .. } => b'e',
-        WireCard::Message { .. } => b'm',
-        WireCard::SendPrivate => b's',
-    }
-}
-
-/// Whether bytes read as cards of these kinds.
-fn has_kinds(alloc: Global, bytes: &[u8], kinds: &[u8]) -> bool {
-    match read(alloc, bytes) {
-        Ok(message) => message.cards().iter().map(letter).eq(kinds.iter().copied()),
-        Err(_) => false,
-    }
-}
-
-#[test]
-fn reads_each_kind_of_card(rt: HostRuntime) {
-    assert!(rt; has_kinds(rt.alloc(), CARDS, b"pqffxcnigems"));
-    assert!(rt; has_kinds(rt.alloc(), b"", b""));
-    assert!(rt; has_kinds(rt.alloc(), b"login u n s", b"l"));
-}
 
 /// The tail of the login that is the first of two cards, once it is settled; the message has the same.
 fn tail_of_first(alloc: Global, bytes: &[u8]) -> Option<Name> {
@@ -112,45 +75,6 @@ fn reads_bare_logins(rt: HostRuntime) {
     assert!(rt; bare_logins(rt.alloc(), 20_000) == Some(20_000));
 }
 
-fn has_fault(alloc: Global, bytes: &[u8], fault: WireFault) -> bool {
-    match read(alloc, bytes) {
-        Ok(_) => false,
-        Err(found) => found == fault,
-    }
-}
-
-#[test]
-fn tells_the_first_line_that_does_not_read(rt: HostRuntime) {
-    let rows: [(&[u8], WireFault); 8] = [
-        (
-            b"file a9993e364706816aba3e25717850c26c9cd0d89d 3\nab",
-            WireFault::Short { line: 1 },
-        ),
-        (
-            b"file a9993e364706816aba3e25717850c26c9cd0d89d 3",
-            WireFault::Short { line: 1 },
-        ),
-        (
-            b"\n# x\nfile a9993e364706816aba3e25717850c26c9cd0d89d da39a3ee5e6b4b0d3255bfef95601890afd80709 3\nabc",
-            WireFault::Delta { line: 3 },
-        ),
-        (
-            b"file a9993e364706816aba3e25717850c26c9cd0d89d x\n",
-            WireFault::Size { line: 1 },
-        ),
-        (b"igot\n", WireFault::Args { line: 1 }),
-        (b"frob\n", WireFault::Unknown { line: 1 }),
-        (
-            b"file a9993e364706816aba3e25717850c26c9cd0d89d 3\nabc\nfrob\n",
-            WireFault::Unknown { line: 3 },
-        ),
-        (b"file abc 3 4\n", WireFault::Args { line: 1 }),
-    ];
-    for (row, (bytes, fault)) in rows.into_iter().enumerate() {
-        assert!(rt; has_fault(rt.alloc(), bytes, fault), "row {row}");
-    }
-}
-
 /// The line of the second card, where there is one.
 fn second_line(alloc: Global, bytes: &[u8]) -> Option<u64> {
     let Ok(message) = read(alloc, bytes) else {
@@ -167,8 +91,6 @@ fn tells_the_line_of_a_card(rt: HostRuntime) {
     let bytes =
         b"file a9993e364706816aba3e25717850c26c9cd0d89d 3\nabc\nigot 86f7e437faa5a7fce15d1ddcb9eaeaea377667b8\n";
     assert_eq!(rt; second_line(rt.alloc(), bytes), Some(3));
-    assert_eq!(rt; second_line(rt.alloc(), CARDS), Some(3));
-    assert_eq!(rt; second_line(rt.alloc(), b"clone"), None);
 }
 
 /// The text of a message of one file.

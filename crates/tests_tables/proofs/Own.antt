@@ -1,22 +1,25 @@
 -- What stands after a fact is put, and that a table is as it is.
 use Rattle.std.proofs.Common.{◌≡◌, ◌≤◌, ℕ, List, [], ◌∷◌, ◌||◌, true, false, is_some, map, refl, sym, ap, ◌∙◌, arith}
 use Rattle.std.specs.Cmp.Lexicographic.{nat_list_eq_equiv}
+use Rattle.std.specs.Str.{bytes_eq}
 use Rattle.fsl_order.specs.Names.{has}
 use Rattle.fsl_order.specs.Rows.{by_name}
 use Rattle.fsl_order.specs.TableState.{TableState, AreAtMost, IsAsBefore}
 use Rattle.fsl_order.proofs.RowLemmas.{is_some-named}
 use Rattle.fsl_order.proofs.NamedLemmas.{named-by_name}
 
-pub has_own : {F : Type 0} (name_of : F → List ℕ) (f : F) (fs now : List F) → now ≡ by_name name_of (f ∷ fs) → has (map name_of now) (name_of f) ≡ true
-has_own name_of f fs now is =
-    ap (λ xs. has (map name_of xs) (name_of f)) is
+-- a name is there where a fact of that name was put
+pub has_put : {F : Type 0} (name_of : F → List ℕ) (q : List ℕ) (f : F) (fs now : List F) → now ≡ by_name name_of (f ∷ fs) → q ≡ name_of f → has (map name_of now) q ≡ true
+has_put name_of q f fs now is same =
+    ap (λ xs. has (map name_of xs) q) is ∙ ap (λ n. has (map name_of (by_name name_of (f ∷ fs))) n) same
     ∙ sym (is_some-named name_of (by_name name_of (f ∷ fs)) (name_of f)) ∙ ap is_some (named-by_name name_of (f ∷ fs) (name_of f)) ∙ is_some-named name_of (f ∷ fs) (name_of f)
     ∙ ap (λ b. b || has (map name_of fs) (name_of f)) (nat_list_eq_equiv.refl (name_of f))
 
+-- no name is there where there are no facts
 pub has_none : {F : Type 0} (name_of : F → List ℕ) (q : List ℕ) (now : List F) → now ≡ [] → has (map name_of now) q ≡ false
 has_none name_of q now is = ap (λ xs. has (map name_of xs) q) is
 
-same_spare : (ns : List ℕ) → AreAtMost ns ns
+pub same_spare : (ns : List ℕ) → AreAtMost ns ns
 same_spare [] = tt
 same_spare (n ∷ ns) = (omega arith, same_spare ns)
 

@@ -1,69 +1,31 @@
-//! Tables that change by one fact: what each change tells of the names whose rows differ, and that it can be taken back.
-ghost use Rattle.std.specs.Prelude.{◌≡◌, ◌<◌, [], IfOk};
+//! Tables of rows, of parents and of leaves that change by one fact: what each change tells of the names whose rows differ, and
+//! that it can be taken back.
+ghost use Rattle.std.specs.Prelude.{◌≡◌, [], true, map, IfOk, OnOk};
+ghost use Rattle.fsl_order.specs.Names.{has};
 
-use crate::names::{add, are_distinct, letter, put_names};
-use fsl_date::Moment;
+use crate::names::{add, are_distinct, letter, moment, names_of, put_names};
+use crate::plays::{Play, shown};
 use fsl_leaves::Leaves;
 use fsl_links::Links;
 use fsl_name::Name;
-use fsl_text::{List, Memory, Steps, Text};
+use fsl_text::{Memory, Steps, Text};
 use fsl_timeline::{Row, RowKind, Timeline};
 use std::alloc::Global;
-use std::marker::Brand;
-use std::sync::ledger::{Blank, Ledger};
-use std::test::Fail;
+use std::sync::ledger::Ledger;
 
 /// A row at a time.
-fn row_at(alloc: Global, time: Moment, name: Name, text: &[u8]) -> Result<Row, Memory>
+fn row_at(alloc: Global, time: i64, name: Name, text: &[u8]) -> Result<Row, Memory>
     ensures { IfOk result (λ row. row.name ≡ name) }
 {
+    let time = moment(time)?;
+    let text = Text::of(alloc, text)?;
     Ok(Row {
         time,
         name,
         kind: RowKind::Checkin,
         user: Text::empty(alloc),
-        text: Text::of(alloc, text)?,
+        text,
     })
-}
-
-/// Takes a row out and puts it back, and counts the names that this tells.
-fn retire<L: Ledger>(
-    alloc: Global,
-    table: &mut Timeline,
-    row: Row,
-    steps: &mut Steps<L>,
-) -> Result<usize, Memory>
-    requires { table.old.facts ≡ [] }
-{
-    let name = row.name;
-    table.add(alloc, row, steps)?;
-    let retired = table.retire(alloc, name, steps)?;
-    let count = retired.changed().items().len();
-    table.undo(retired);
-    Ok(count)
-}
-
-fn timed<L: Ledger>(alloc: Global, row: Row, blank: Blank) -> Result<usize, Memory>
-    requires name { blank.name ≡ L.name }
-    requires parts { blank.parts ≡ L.parts }
-    requires counts { 0 < L.parts }
-{
-    let mut steps: Steps<L> = Steps::new(blank);
-    let mut table = Timeline::new(alloc);
-    retire(alloc, &mut table, row, &mut steps)
-}
-
-fn count_retired(alloc: Global) -> Result<usize, Fail> {
-    let time = Moment::new(1).ok_or("no moment")?;
-    let row = row_at(alloc, time, letter(b'p'), b"old")?;
-    Ok(timed::<Brand>(alloc, row, Blank::new(1))?)
-}
-
-/// A row that is taken out changes the row of its name.
-#[test]
-fn a_retired_row_is_told(rt: HostRuntime) -> Result<(), Fail> {
-    assert_eq!(rt; count_retired(rt.alloc())?, 1);
-    Ok(())
 }
 
 /// Adds the texts of the latest rows.
@@ -74,180 +36,154 @@ fn add_latest(alloc: Global, table: &Timeline, into: &mut Text) -> Result<(), Me
     Ok(())
 }
 
+/// The same, as far as there is memory.
+fn show_latest(alloc: Global, table: &Timeline, into: &mut Text) {
+    let _ = add_latest(alloc, table, into);
+}
+
 /// Puts a row in the place of one of its name and takes that back: what it tells, and what stands after each.
 fn change_back<L: Ledger>(
     alloc: Global,
     table: &mut Timeline,
-    first: Row,
-    second: Row,
+    name: Name,
     into: &mut Text,
     steps: &mut Steps<L>,
 ) -> Result<(), Memory>
-    requires empty { table.old.facts ≡ [] }
-    requires same { second.name ≡ first.name }
+    requires { table.old.facts ≡ [] }
+    ensures { OnOk result (has (map (λ r. r.name) table.new.facts) name ≡ true) }
 {
-    table.add(alloc, first, steps)?;
-    let undo = table.change(alloc, second, steps)?;
+    table.add(alloc, row_at(alloc, 1, name, b"old")?, steps)?;
+    let undo = table.change(alloc, row_at(alloc, 1, name, b"new")?, steps)?;
     put_names(into, undo.changed().items());
-    let _ = add_latest(alloc, table, into);
+    show_latest(alloc, table, into);
     table.undo(undo);
-    let _ = add_latest(alloc, table, into);
+    show_latest(alloc, table, into);
     Ok(())
 }
 
-fn changed<L: Ledger>(
+/// Takes a row out and puts it back: what it tells, and what stands after each.
+fn retire_back<L: Ledger>(
     alloc: Global,
-    first: Row,
-    second: Row,
+    table: &mut Timeline,
+    name: Name,
     into: &mut Text,
-    blank: Blank,
+    steps: &mut Steps<L>,
 ) -> Result<(), Memory>
-    requires name { blank.name ≡ L.name }
-    requires parts { blank.parts ≡ L.parts }
-    requires counts { 0 < L.parts }
-    requires same { second.name ≡ first.name }
+    requires { has (map (λ r. r.name) table.old.facts) name ≡ true }
 {
-    let mut steps: Steps<L> = Steps::new(blank);
-    let mut table = Timeline::new(alloc);
-    change_back(alloc, &mut table, first, second, into, &mut steps)
+    let retired = table.retire(alloc, name, steps)?;
+    put_names(into, retired.changed().items());
+    show_latest(alloc, table, into);
+    table.undo(retired);
+    show_latest(alloc, table, into);
+    Ok(())
 }
 
-fn change_row(alloc: Global, into: &mut Text) -> Result<(), Fail> {
-    let time = Moment::new(1).ok_or("no moment")?;
+fn change_and_retire<L: Ledger>(
+    alloc: Global,
+    table: &mut Timeline,
+    into: &mut Text,
+    steps: &mut Steps<L>,
+) -> Result<(), Memory>
+    requires { table.old.facts ≡ [] }
+{
     let name = letter(b'p');
-    let first = row_at(alloc, time, name, b"old")?;
-    let second = row_at(alloc, time, name, b"new")?;
-    Ok(changed::<Brand>(alloc, first, second, into, Blank::new(1))?)
+    change_back(alloc, table, name, into, steps)?;
+    retire_back(alloc, table, name, into, steps)
 }
 
-/// A row in the place of one of its name is told, and goes back.
-#[test]
-fn a_changed_row_is_told(rt: HostRuntime) -> Result<(), Fail> {
-    let mut text = Text::empty(rt.alloc());
-    change_row(rt.alloc(), &mut text)?;
-    assert_eq!(rt; text.bytes(), b" 516b new old".as_slice());
-    Ok(())
-}
+/// A row is changed, and then taken out.
+struct OfRows;
 
-fn build_rows(alloc: Global, into: &mut Text) -> Result<(), Fail> {
-    let early = Moment::new(1).ok_or("no moment")?;
-    let late = Moment::new(2).ok_or("no moment")?;
-    let rows = [
-        row_at(alloc, early, letter(b'p'), b"early")?,
-        row_at(alloc, late, letter(b'q'), b"late")?,
-    ];
-    if are_distinct(&[rows[0].name, rows[1].name]) {
-        add_latest(alloc, &Timeline::build(alloc, &rows)?, into)?;
+impl Play for OfRows {
+    fn play<L: Ledger>(alloc: Global, into: &mut Text, steps: &mut Steps<L>) -> Result<(), Memory> {
+        let mut table = Timeline::new(alloc);
+        change_and_retire(alloc, &mut table, into, steps)
     }
+}
+
+/// A row in the place of one of its name is told, and one that is taken out, and both go back.
+#[test]
+fn rows_change_and_go(rt: HostRuntime) -> Result<(), Memory> {
+    let text = shown::<OfRows>(rt.alloc())?;
+    assert_eq!(rt; text.bytes(), b" 516b new old 516b old".as_slice());
     Ok(())
+}
+
+/// Two rows, of which the later one stands first.
+fn two_rows(alloc: Global) -> Result<Timeline, Memory> {
+    let rows = [
+        row_at(alloc, 1, letter(b'p'), b"early")?,
+        row_at(alloc, 2, letter(b'q'), b"late")?,
+    ];
+    if !are_distinct(rows[0].name, rows[1].name) {
+        return Err(Memory);
+    }
+    Timeline::build(alloc, &rows)
+}
+
+fn latest_of_two(alloc: Global) -> Result<Text, Memory> {
+    let mut into = Text::empty(alloc);
+    add_latest(alloc, &two_rows(alloc)?, &mut into)?;
+    Ok(into)
 }
 
 /// The latest row comes first.
 #[test]
-fn rows_are_built(rt: HostRuntime) -> Result<(), Fail> {
-    let mut text = Text::empty(rt.alloc());
-    build_rows(rt.alloc(), &mut text)?;
+fn rows_are_built(rt: HostRuntime) -> Result<(), Memory> {
+    let text = latest_of_two(rt.alloc())?;
     assert_eq!(rt; text.bytes(), b" late early".as_slice());
     Ok(())
-}
-
-/// A check-in with the parent `q`, and one of its name with other parents: how many names this changes.
-fn relink<L: Ledger>(
-    alloc: Global,
-    table: &mut Links,
-    first: fsl_links::Fact,
-    second: fsl_links::Fact,
-    steps: &mut Steps<L>,
-) -> Result<usize, Memory>
-    requires empty { table.old.facts ≡ [] }
-    requires same { second.name ≡ first.name }
-{
-    table.add(alloc, first, steps)?;
-    let changed = table.change(alloc, second, steps)?;
-    let count = changed.changed().items().len();
-    table.undo(changed);
-    Ok(count)
-}
-
-fn linked<L: Ledger>(
-    alloc: Global,
-    first: fsl_links::Fact,
-    second: fsl_links::Fact,
-    blank: Blank,
-) -> Result<usize, Memory>
-    requires name { blank.name ≡ L.name }
-    requires parts { blank.parts ≡ L.parts }
-    requires counts { 0 < L.parts }
-    requires same { second.name ≡ first.name }
-{
-    let mut steps: Steps<L> = Steps::new(blank);
-    let mut table = Links::new(alloc);
-    relink(alloc, &mut table, first, second, &mut steps)
 }
 
 /// A check-in with a parent.
 fn child_of(alloc: Global, name: Name, parent: u8) -> Result<fsl_links::Fact, Memory>
     ensures { IfOk result (λ fact. fact.name ≡ name) }
 {
-    let mut parents = List::new(alloc);
-    parents.append(letter(parent))?;
+    let parents = names_of(alloc, &[parent])?;
     Ok(fsl_links::Fact { name, parents })
 }
 
-fn count_relinked(alloc: Global) -> Result<usize, Memory> {
+/// A check-in, and one of its name with another parent: the names whose rows this changes.
+fn relink<L: Ledger>(
+    alloc: Global,
+    table: &mut Links,
+    into: &mut Text,
+    steps: &mut Steps<L>,
+) -> Result<(), Memory>
+    requires { table.old.facts ≡ [] }
+{
     let name = letter(b'p');
-    let first = child_of(alloc, name, b'q')?;
-    let second = child_of(alloc, name, b'r')?;
-    linked::<Brand>(alloc, first, second, Blank::new(1))
+    table.add(alloc, child_of(alloc, name, b'q')?, steps)?;
+    let undo = table.change(alloc, child_of(alloc, name, b'r')?, steps)?;
+    put_names(into, undo.changed().items());
+    table.undo(undo);
+    Ok(())
+}
+
+/// A check-in gets another parent.
+struct OfLinks;
+
+impl Play for OfLinks {
+    fn play<L: Ledger>(alloc: Global, into: &mut Text, steps: &mut Steps<L>) -> Result<(), Memory> {
+        let mut table = Links::new(alloc);
+        relink(alloc, &mut table, into, steps)
+    }
 }
 
 /// Another parent changes the rows of the old parent and of the new one.
 #[test]
-fn other_parents_are_told(rt: HostRuntime) -> Result<(), Fail> {
-    assert_eq!(rt; count_relinked(rt.alloc())?, 2);
+fn other_parents_are_told(rt: HostRuntime) -> Result<(), Memory> {
+    let text = shown::<OfLinks>(rt.alloc())?;
+    assert_eq!(rt; text.bytes(), b" 22ea 4dc7".as_slice());
     Ok(())
-}
-
-/// A check-in, and one of its name: how many names this changes.
-fn regrow<L: Ledger>(
-    alloc: Global,
-    table: &mut Leaves,
-    first: fsl_leaves::Fact,
-    second: fsl_leaves::Fact,
-    steps: &mut Steps<L>,
-) -> Result<usize, Memory>
-    requires empty { table.old.facts ≡ [] }
-    requires same { second.name ≡ first.name }
-{
-    table.add(alloc, first, steps)?;
-    let changed = table.change(alloc, second, steps)?;
-    let count = changed.changed().items().len();
-    table.undo(changed);
-    Ok(count)
-}
-
-fn grown<L: Ledger>(
-    alloc: Global,
-    first: fsl_leaves::Fact,
-    second: fsl_leaves::Fact,
-    blank: Blank,
-) -> Result<usize, Memory>
-    requires name { blank.name ≡ L.name }
-    requires parts { blank.parts ≡ L.parts }
-    requires counts { 0 < L.parts }
-    requires same { second.name ≡ first.name }
-{
-    let mut steps: Steps<L> = Steps::new(blank);
-    let mut table = Leaves::new(alloc);
-    regrow(alloc, &mut table, first, second, &mut steps)
 }
 
 /// A check-in with a parent, in a branch without a name.
 fn leaf_of(alloc: Global, name: Name, parent: u8) -> Result<fsl_leaves::Fact, Memory>
     ensures { IfOk result (λ fact. fact.name ≡ name) }
 {
-    let mut parents = List::new(alloc);
-    parents.append(letter(parent))?;
+    let parents = names_of(alloc, &[parent])?;
     Ok(fsl_leaves::Fact {
         name,
         parents,
@@ -255,16 +191,37 @@ fn leaf_of(alloc: Global, name: Name, parent: u8) -> Result<fsl_leaves::Fact, Me
     })
 }
 
-fn count_regrown(alloc: Global) -> Result<usize, Memory> {
+/// A check-in, and one of its name that names itself: the names whose rows this changes.
+fn regrow<L: Ledger>(
+    alloc: Global,
+    table: &mut Leaves,
+    into: &mut Text,
+    steps: &mut Steps<L>,
+) -> Result<(), Memory>
+    requires { table.old.facts ≡ [] }
+{
     let name = letter(b'p');
-    let first = leaf_of(alloc, name, b'q')?;
-    let second = leaf_of(alloc, name, b'p')?;
-    grown::<Brand>(alloc, first, second, Blank::new(1))
+    table.add(alloc, leaf_of(alloc, name, b'q')?, steps)?;
+    let undo = table.change(alloc, leaf_of(alloc, name, b'p')?, steps)?;
+    put_names(into, undo.changed().items());
+    table.undo(undo);
+    Ok(())
+}
+
+/// A check-in comes to name itself.
+struct OfLeaves;
+
+impl Play for OfLeaves {
+    fn play<L: Ledger>(alloc: Global, into: &mut Text, steps: &mut Steps<L>) -> Result<(), Memory> {
+        let mut table = Leaves::new(alloc);
+        regrow(alloc, &mut table, into, steps)
+    }
 }
 
 /// A check-in that comes to name itself is no leaf any more.
 #[test]
-fn its_own_parent_is_told(rt: HostRuntime) -> Result<(), Fail> {
-    assert_eq!(rt; count_regrown(rt.alloc())?, 1);
+fn its_own_parent_is_told(rt: HostRuntime) -> Result<(), Memory> {
+    let text = shown::<OfLeaves>(rt.alloc())?;
+    assert_eq!(rt; text.bytes(), b" 516b".as_slice());
     Ok(())
 }

@@ -1,14 +1,11 @@
 //! Facts in a circle, which no artifacts make, since each name stands for what is named in it.
-use crate::names::{are_distinct, letter, names_of};
-use fsl_date::Moment;
+use crate::names::{are_distinct, letter, moment, names_of};
 use fsl_forum::{PostKind, end_by_next};
 use fsl_leaves::Leaves;
 use fsl_links::Links;
-use fsl_name::Name;
 use fsl_tags::effective_by_parent;
-use fsl_text::{List, Memory, Text};
+use fsl_text::{Memory, Text};
 use std::alloc::Global;
-use std::test::Fail;
 
 /// A check-in with a parent.
 fn child(alloc: Global, name: u8, parent: u8) -> Result<fsl_links::Fact, Memory> {
@@ -19,26 +16,32 @@ fn child(alloc: Global, name: u8, parent: u8) -> Result<fsl_links::Fact, Memory>
     })
 }
 
-/// The children and the primary parent of `r`, where `r` and `p` are the parents of each other.
-fn around(alloc: Global) -> Result<(List<Name>, Option<Name>), Memory> {
+/// The check-ins `r` and `p`, of which each is the parent of the other.
+fn links(alloc: Global) -> Result<Links, Memory> {
     let facts = [child(alloc, b'r', b'p')?, child(alloc, b'p', b'r')?];
-    if !are_distinct(&[facts[0].name, facts[1].name]) {
-        return Ok((List::new(alloc), None));
+    if !are_distinct(facts[0].name, facts[1].name) {
+        return Err(Memory);
     }
-    let links = Links::build(alloc, &facts)?;
-    Ok((
-        links.children(alloc, letter(b'r'))?,
-        links.primary(letter(b'r')),
-    ))
+    Links::build(alloc, &facts)
+}
+
+/// Whether `p` is the one child of `r`, and its primary parent.
+fn are_around(alloc: Global, links: &Links) -> Result<bool, Memory> {
+    let children = links.children(alloc, letter(b'r'))?;
+    let is_child = children.items() == [letter(b'p')].as_slice();
+    Ok(is_child && links.primary(letter(b'r')) == Some(letter(b'p')))
+}
+
+fn linked(alloc: Global) -> Result<bool, Memory> {
+    let links = links(alloc)?;
+    are_around(alloc, &links)
 }
 
 #[test]
 fn parents_in_a_circle_are_children(rt: HostRuntime) -> Result<(), Memory> {
     effective_by_parent();
     end_by_next();
-    let (children, primary) = around(rt.alloc())?;
-    assert_eq!(rt; children.items(), [letter(b'p')].as_slice());
-    assert_eq!(rt; primary, Some(letter(b'p')));
+    assert!(rt; linked(rt.alloc())?);
     Ok(())
 }
 
@@ -53,25 +56,30 @@ fn grown(alloc: Global, name: u8, parent: u8) -> Result<fsl_leaves::Fact, Memory
     })
 }
 
-/// How many leaves two check-ins have of which each is the parent of the other.
-fn count_leaves(alloc: Global) -> Result<Option<usize>, Memory> {
+/// Two check-ins of which each is the parent of the other.
+fn leaves(alloc: Global) -> Result<Leaves, Memory> {
     let facts = [grown(alloc, b'r', b'p')?, grown(alloc, b'p', b'r')?];
-    if !are_distinct(&[facts[0].name, facts[1].name]) {
-        return Ok(None);
+    if !are_distinct(facts[0].name, facts[1].name) {
+        return Err(Memory);
     }
-    let leaves = Leaves::build(alloc, &facts)?;
-    Ok(Some(leaves.leaves(alloc)?.items().len()))
+    Leaves::build(alloc, &facts)
+}
+
+/// How many leaves they have.
+fn count_leaves(alloc: Global) -> Result<usize, Memory> {
+    let leaves = leaves(alloc)?;
+    Ok(leaves.leaves(alloc)?.items().len())
 }
 
 #[test]
 fn check_ins_in_a_circle_have_no_leaf(rt: HostRuntime) -> Result<(), Memory> {
-    assert_eq!(rt; count_leaves(rt.alloc())?, Some(0));
+    assert_eq!(rt; count_leaves(rt.alloc())?, 0);
     Ok(())
 }
 
 /// A post that replies to one and edits another.
-fn reply_and_edit(alloc: Global) -> Result<fsl_forum::Fact, Fail> {
-    let date = Moment::new(1).ok_or("no moment")?;
+fn reply_and_edit(alloc: Global) -> Result<fsl_forum::Fact, Memory> {
+    let date = moment(1)?;
     Ok(fsl_forum::Fact {
         name: letter(b'a'),
         date,
@@ -83,7 +91,7 @@ fn reply_and_edit(alloc: Global) -> Result<fsl_forum::Fact, Fail> {
 }
 
 #[test]
-fn a_post_that_replies_and_edits_follows_its_reply(rt: HostRuntime) -> Result<(), Fail> {
+fn a_post_that_replies_and_edits_follows_its_reply(rt: HostRuntime) -> Result<(), Memory> {
     let both = reply_and_edit(rt.alloc())?;
     assert_eq!(rt;
         (both.next(), both.kind()),

@@ -1,23 +1,26 @@
-//! Artifacts that come in either order and become public, and are taken back.
-ghost use Rattle.std.specs.Prelude.{◌≡◌, ◌<◌, false};
-ghost use Rattle.std.specs.Str.{bytes_eq};
+//! Artifacts that become public or get other members, and are taken back.
+ghost use Rattle.std.specs.Prelude.{◌≡◌, [], true, map, IfOk, OnOk};
+ghost use Rattle.fsl_order.specs.Names.{has};
 
 use crate::names::{letter, names_of, put, put_names};
+use crate::plays::{Play, shown};
 use fsl_cluster::{Clusters, Fact};
 use fsl_name::Name;
 use fsl_text::{Memory, Steps, Text};
 use std::alloc::Global;
-use std::marker::Brand;
-use std::sync::ledger::{Blank, Ledger};
-use std::test::Fail;
+use std::sync::ledger::Ledger;
 
-/// An artifact of a letter, with some letters as its members and as the names that it refers to.
-fn artifact(alloc: Global, name: u8, private: bool, letters: &[u8]) -> Result<Fact, Memory> {
+/// An artifact with some letters as its members and as the names that it refers to.
+fn artifact(alloc: Global, name: Name, private: bool, letters: &[u8]) -> Result<Fact, Memory>
+    ensures { IfOk result (λ fact. fact.name ≡ name) }
+{
+    let members = names_of(alloc, letters)?;
+    let refs = names_of(alloc, letters)?;
     Ok(Fact {
-        name: letter(name),
+        name,
         private,
-        members: names_of(alloc, letters)?,
-        refs: names_of(alloc, letters)?,
+        members,
+        refs,
     })
 }
 
@@ -53,129 +56,79 @@ fn show(alloc: Global, clusters: &Clusters, into: &mut Text) {
     put_kind(alloc, clusters, b'k', into);
 }
 
-/// Takes two artifacts in and the second back, and shows what stands then.
-fn come_and_go<L: Ledger>(
+/// A private artifact becomes public and is taken back: what it tells, and what stands then.
+fn become_public<L: Ledger>(
     alloc: Global,
-    first: Fact,
-    second: Fact,
+    clusters: &mut Clusters,
+    name: Name,
     into: &mut Text,
-    blank: Blank,
+    steps: &mut Steps<L>,
 ) -> Result<(), Memory>
-    requires name { blank.name ≡ L.name }
-    requires parts { blank.parts ≡ L.parts }
-    requires counts { 0 < L.parts }
-    requires differ { bytes_eq second.name first.name ≡ false }
+    requires { clusters.old.facts ≡ [] }
+    ensures { OnOk result (has (map (λ f. f.name) clusters.new.facts) name ≡ true) }
 {
-    let mut steps: Steps<L> = Steps::new(blank);
-    let mut clusters = Clusters::new(alloc);
-    clusters.add(alloc, first, &mut steps)?;
-    show(alloc, &clusters, into);
-    let undo = clusters.add(alloc, second, &mut steps)?;
+    clusters.add(alloc, artifact(alloc, name, true, b"")?, steps)?;
+    show(alloc, clusters, into);
+    let undo = clusters.change(alloc, artifact(alloc, name, false, b"")?, steps)?;
     put_names(into, undo.changed().items());
-    show(alloc, &clusters, into);
+    show(alloc, clusters, into);
     clusters.undo(undo);
-    show(alloc, &clusters, into);
+    show(alloc, clusters, into);
     Ok(())
 }
 
-/// Puts an artifact in the place of one of its name and takes that back, and shows what stands then.
+/// A cluster of two comes to be one of itself and is taken back: what it tells, and what stands then.
+fn get_members<L: Ledger>(
+    alloc: Global,
+    clusters: &mut Clusters,
+    name: Name,
+    into: &mut Text,
+    steps: &mut Steps<L>,
+) -> Result<(), Memory>
+    requires { has (map (λ f. f.name) clusters.old.facts) name ≡ true }
+{
+    let first = artifact(alloc, name, false, b"ab")?;
+    clusters.change(alloc, first, steps)?;
+    show(alloc, clusters, into);
+    let second = artifact(alloc, name, false, b"k")?;
+    let undo = clusters.change(alloc, second, steps)?;
+    put_names(into, undo.changed().items());
+    show(alloc, clusters, into);
+    clusters.undo(undo);
+    show(alloc, clusters, into);
+    Ok(())
+}
+
 fn be_changed<L: Ledger>(
     alloc: Global,
-    first: Fact,
-    second: Fact,
+    clusters: &mut Clusters,
     into: &mut Text,
-    blank: Blank,
+    steps: &mut Steps<L>,
 ) -> Result<(), Memory>
-    requires name { blank.name ≡ L.name }
-    requires parts { blank.parts ≡ L.parts }
-    requires counts { 0 < L.parts }
-    requires same { second.name ≡ first.name }
+    requires { clusters.old.facts ≡ [] }
 {
-    let mut steps: Steps<L> = Steps::new(blank);
-    let mut clusters = Clusters::new(alloc);
-    clusters.add(alloc, first, &mut steps)?;
-    show(alloc, &clusters, into);
-    let undo = clusters.change(alloc, second, &mut steps)?;
-    put_names(into, undo.changed().items());
-    show(alloc, &clusters, into);
-    clusters.undo(undo);
-    show(alloc, &clusters, into);
-    Ok(())
+    let name = letter(b'k');
+    become_public(alloc, clusters, name, into, steps)?;
+    put(into, b"then");
+    get_members(alloc, clusters, name, into, steps)
 }
 
-fn in_order(alloc: Global, first: Fact, second: Fact, into: &mut Text) -> Result<(), Memory> {
-    if second.name != first.name {
-        return come_and_go::<Brand>(alloc, first, second, into, Blank::new(1));
+/// An artifact becomes public, and a cluster gets other members.
+struct OfClusters;
+
+impl Play for OfClusters {
+    fn play<L: Ledger>(alloc: Global, into: &mut Text, steps: &mut Steps<L>) -> Result<(), Memory> {
+        let mut clusters = Clusters::new(alloc);
+        be_changed(alloc, &mut clusters, into, steps)
     }
-    Ok(())
-}
-
-fn cluster_first(alloc: Global, into: &mut Text) -> Result<(), Memory> {
-    let member = artifact(alloc, b'a', false, b"")?;
-    let cluster = artifact(alloc, b'k', false, b"ab")?;
-    in_order(alloc, cluster, member, into)
-}
-
-fn cluster_last(alloc: Global, into: &mut Text) -> Result<(), Memory> {
-    let member = artifact(alloc, b'a', false, b"")?;
-    let cluster = artifact(alloc, b'k', false, b"ab")?;
-    in_order(alloc, member, cluster, into)
-}
-
-fn becomes_public(alloc: Global, into: &mut Text) -> Result<(), Memory> {
-    let first = artifact(alloc, b'a', true, b"")?;
-    let mut second = artifact(alloc, b'a', false, b"")?;
-    second.name = first.name;
-    be_changed::<Brand>(alloc, first, second, into, Blank::new(1))
-}
-
-fn other_members(alloc: Global, into: &mut Text) -> Result<(), Memory> {
-    let first = artifact(alloc, b'k', false, b"ab")?;
-    let mut second = artifact(alloc, b'k', false, b"k")?;
-    second.name = first.name;
-    be_changed::<Brand>(alloc, first, second, into, Blank::new(1))
 }
 
 #[test]
-fn a_cluster_comes_before_a_member(rt: HostRuntime) -> Result<(), Fail> {
-    let mut text = Text::empty(rt.alloc());
-    cluster_first(rt.alloc(), &mut text)?;
+fn artifacts_become_public_and_clusters_get_other_members(rt: HostRuntime) -> Result<(), Memory> {
+    let text = shown::<OfClusters>(rt.alloc())?;
     assert_eq!(rt;
         text.bytes(),
-        b" are m m u 86f7 are - m u are m m u".as_slice()
-    );
-    Ok(())
-}
-
-#[test]
-fn a_cluster_comes_after_a_member(rt: HostRuntime) -> Result<(), Fail> {
-    let mut text = Text::empty(rt.alloc());
-    cluster_last(rt.alloc(), &mut text)?;
-    assert_eq!(rt;
-        text.bytes(),
-        b" are u - - 13fb 86f7 e9d7 are - m u are u - -".as_slice()
-    );
-    Ok(())
-}
-
-#[test]
-fn a_private_artifact_becomes_public(rt: HostRuntime) -> Result<(), Fail> {
-    let mut text = Text::empty(rt.alloc());
-    becomes_public(rt.alloc(), &mut text)?;
-    assert_eq!(rt;
-        text.bytes(),
-        b" are - - - 86f7 are u - - are - - -".as_slice()
-    );
-    Ok(())
-}
-
-#[test]
-fn a_cluster_gets_other_members(rt: HostRuntime) -> Result<(), Fail> {
-    let mut text = Text::empty(rt.alloc());
-    other_members(rt.alloc(), &mut text)?;
-    assert_eq!(rt;
-        text.bytes(),
-        b" are m m u 13fb 86f7 e9d7 are - - - are m m u".as_slice()
+        b" are - - - 13fb are - - u are - - - then are m m u 13fb 86f7 e9d7 are - - - are m m u".as_slice()
     );
     Ok(())
 }

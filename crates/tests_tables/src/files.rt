@@ -1,69 +1,36 @@
-//! Check-ins that come before the primary parent and the baseline that they name, and after them, and are taken back.
-ghost use Rattle.std.specs.Prelude.{◌≡◌, ◌<◌, [], false, IfOk};
+//! A check-in under another one that gets another file, and is taken back.
+ghost use Rattle.std.specs.Prelude.{◌≡◌, [], true, false, map, IfOk, OnOk};
 ghost use Rattle.std.specs.Str.{bytes_eq};
+ghost use Rattle.fsl_order.specs.Names.{has};
 ghost use Rattle.fsl_files.specs.Conditions.{IsFilesFact};
 
-use crate::names::{add, letter, put, put_names};
-use fsl_files::{Change, Fact, FileRow, Files, How, Perm, Undo};
+use crate::names::{add, letter, put_names};
+use crate::plays::{Play, shown};
+use fsl_files::{Change, Fact, FileRow, Files, How, Listing, Perm};
 use fsl_name::Name;
 use fsl_text::{List, Memory, Steps, Text};
 use std::alloc::Global;
-use std::marker::Brand;
-use std::sync::ledger::{Blank, Ledger};
-use std::test::Fail;
+use std::sync::ledger::Ledger;
 
 /// A check-in with one F card.
-fn checkin(
-    alloc: Global,
-    name: Name,
-    baseline: Option<Name>,
-    parent: Option<Name>,
-    path: &[u8],
-) -> Result<Fact, Memory>
+fn checkin(alloc: Global, name: Name, baseline: Option<Name>, path: &[u8]) -> Result<Fact, Memory>
     ensures name { IfOk result (λ fact. fact.name ≡ name) }
     ensures fit { IfOk result (λ fact. IsFilesFact fact) }
 {
+    let path = Text::of(alloc, path)?;
     let mut files = List::new(alloc);
     files.append(FileRow {
-        path: Text::of(alloc, path)?,
+        path,
         hash: Some(name),
         perm: Perm::Plain,
     })?;
+    let parent = baseline;
     Ok(Fact {
         name,
         baseline,
         parent,
         files,
     })
-}
-
-/// Takes three check-ins in, and then another in the place of the last.
-fn arrive<L: Ledger>(
-    alloc: Global,
-    files: &mut Files,
-    first: Fact,
-    second: Fact,
-    third: Fact,
-    other: Fact,
-    steps: &mut Steps<L>,
-) -> Result<(Undo, Undo), Memory>
-    requires none { files.old.facts ≡ [] }
-    requires second { bytes_eq second.name first.name ≡ false }
-    requires third { bytes_eq third.name second.name ≡ false }
-    requires third_first { bytes_eq third.name first.name ≡ false }
-    requires same { other.name ≡ third.name }
-    requires first_fit { IsFilesFact first }
-    requires second_fit { IsFilesFact second }
-    requires third_fit { IsFilesFact third }
-    requires other_fit { IsFilesFact other }
-    ensures chained { IfOk result (λ undos. undos.0.after ≡ undos.1.before) }
-    ensures last { IfOk result (λ undos. undos.1.after ≡ files.new) }
-{
-    files.add(alloc, first, steps)?;
-    files.add(alloc, second, steps)?;
-    let added = files.add(alloc, third, steps)?;
-    let changed = files.change(alloc, other, steps)?;
-    Ok((added, changed))
 }
 
 /// Adds the path of a file and how it differs.
@@ -88,134 +55,94 @@ fn add_changes(alloc: Global, files: &Files, name: Name, into: &mut Text) -> Res
     Ok(())
 }
 
-/// Adds what two check-ins change, as far as there is memory.
-fn show(alloc: Global, files: &Files, into: &mut Text) {
-    put(into, b"delta");
-    let _ = add_changes(alloc, files, letter(b'd'), into);
-    put(into, b"child");
-    let _ = add_changes(alloc, files, letter(b'c'), into);
-}
-
-/// The names that the last check-in changed, and those that another in its place did, and what stands then and once each is taken
-/// back.
-fn there_and_back<L: Ledger>(
-    alloc: Global,
-    files: &mut Files,
-    first: Fact,
-    second: Fact,
-    third: Fact,
-    other: Fact,
-    into: &mut Text,
-    steps: &mut Steps<L>,
-) -> Result<(), Memory>
-    requires none { files.old.facts ≡ [] }
-    requires second { bytes_eq second.name first.name ≡ false }
-    requires third { bytes_eq third.name second.name ≡ false }
-    requires third_first { bytes_eq third.name first.name ≡ false }
-    requires same { other.name ≡ third.name }
-    requires first_fit { IsFilesFact first }
-    requires second_fit { IsFilesFact second }
-    requires third_fit { IsFilesFact third }
-    requires other_fit { IsFilesFact other }
-{
-    let (added, change) = arrive(alloc, files, first, second, third, other, steps)?;
-    put_names(into, added.changed().items());
-    put_names(into, change.changed().items());
-    show(alloc, files, into);
-    files.undo(change);
-    show(alloc, files, into);
-    files.undo(added);
-    show(alloc, files, into);
-    Ok(())
-}
-
-fn in_a_table<L: Ledger>(
-    alloc: Global,
-    first: Fact,
-    second: Fact,
-    third: Fact,
-    other: Fact,
-    into: &mut Text,
-    blank: Blank,
-) -> Result<(), Memory>
-    requires name { blank.name ≡ L.name }
-    requires parts { blank.parts ≡ L.parts }
-    requires counts { 0 < L.parts }
-    requires second { bytes_eq second.name first.name ≡ false }
-    requires third { bytes_eq third.name second.name ≡ false }
-    requires third_first { bytes_eq third.name first.name ≡ false }
-    requires same { other.name ≡ third.name }
-    requires first_fit { IsFilesFact first }
-    requires second_fit { IsFilesFact second }
-    requires third_fit { IsFilesFact third }
-    requires other_fit { IsFilesFact other }
-{
-    let mut steps: Steps<L> = Steps::new(blank);
-    let mut files = Files::new(alloc);
-    there_and_back(
-        alloc, &mut files, first, second, third, other, into, &mut steps,
-    )
-}
-
-/// The same, where the three have names of their own.
-fn come(
-    alloc: Global,
-    first: Fact,
-    second: Fact,
-    third: Fact,
-    other: Fact,
-    into: &mut Text,
-) -> Result<(), Memory>
-    requires same { other.name ≡ third.name }
-    requires first_fit { IsFilesFact first }
-    requires second_fit { IsFilesFact second }
-    requires third_fit { IsFilesFact third }
-    requires other_fit { IsFilesFact other }
-{
-    if second.name != first.name && third.name != second.name && third.name != first.name {
-        return in_a_table::<Brand>(alloc, first, second, third, other, into, Blank::new(1));
+/// Adds the paths of the files of a check-in, or a question mark.
+fn add_files(alloc: Global, files: &Files, name: Name, into: &mut Text) -> Result<(), Memory> {
+    add(into, b"=")?;
+    let Listing::Known(rows) = files.files(alloc, name)? else {
+        return add(into, b"?");
+    };
+    for row in rows.items() {
+        add(into, row.path.bytes())?;
     }
     Ok(())
 }
 
-/// A check-in `c`, its primary parent `d`, whose baseline is `a`, and then `a`, which another takes the place of.
-fn baseline_last(alloc: Global, into: &mut Text) -> Result<(), Memory> {
-    let (a, c, d) = (letter(b'a'), letter(b'c'), letter(b'd'));
-    let child = checkin(alloc, c, None, Some(d), b"x")?;
-    let delta = checkin(alloc, d, Some(a), Some(a), b"y")?;
-    let base = checkin(alloc, a, None, None, b"x")?;
-    let other = checkin(alloc, a, None, None, b"z")?;
-    come(alloc, child, delta, base, other, into)
+/// Adds the files of the check-in `d` and what it changes, as far as there is memory.
+fn show(alloc: Global, files: &Files, into: &mut Text) {
+    let _ = add_files(alloc, files, letter(b'd'), into);
+    let _ = add_changes(alloc, files, letter(b'd'), into);
 }
 
-/// The same in the other order, and another check-in in the place of `c`.
-fn baseline_first(alloc: Global, into: &mut Text) -> Result<(), Memory> {
-    let (a, c, d) = (letter(b'a'), letter(b'c'), letter(b'd'));
-    let base = checkin(alloc, a, None, None, b"x")?;
-    let delta = checkin(alloc, d, Some(a), Some(a), b"y")?;
-    let child = checkin(alloc, c, None, Some(d), b"x")?;
-    let other = checkin(alloc, c, None, Some(a), b"x")?;
-    come(alloc, base, delta, child, other, into)
-}
-
-#[test]
-fn a_baseline_comes_after_its_delta(rt: HostRuntime) -> Result<(), Fail> {
-    let mut text = Text::empty(rt.alloc());
-    baseline_last(rt.alloc(), &mut text)?;
-    assert_eq!(rt;
-        text.bytes(),
-        b" 3c36 84a5 86f7 3c36 84a5 86f7 delta / +y child / +x -y -z delta / +y child / *x -y delta / ? child / ?".as_slice()
-    );
+/// Takes a check-in in that is the baseline and the primary parent of another one, which comes first.
+fn come<L: Ledger>(
+    alloc: Global,
+    files: &mut Files,
+    name: Name,
+    delta: Name,
+    into: &mut Text,
+    steps: &mut Steps<L>,
+) -> Result<(), Memory>
+    requires none { files.old.facts ≡ [] }
+    requires differ { bytes_eq name delta ≡ false }
+    ensures { OnOk result (has (map (λ f. f.name) files.new.facts) name ≡ true) }
+{
+    files.add(alloc, checkin(alloc, delta, Some(name), b"x")?, steps)?;
+    show(alloc, files, into);
+    files.add(alloc, checkin(alloc, name, None, b"x")?, steps)?;
     Ok(())
 }
 
+/// Puts a check-in with another file in the place of that and takes it back: what it tells, and what stands after each.
+fn change_back<L: Ledger>(
+    alloc: Global,
+    files: &mut Files,
+    name: Name,
+    into: &mut Text,
+    steps: &mut Steps<L>,
+) -> Result<(), Memory>
+    requires { has (map (λ f. f.name) files.old.facts) name ≡ true }
+{
+    show(alloc, files, into);
+    let undo = files.change(alloc, checkin(alloc, name, None, b"z")?, steps)?;
+    put_names(into, undo.changed().items());
+    show(alloc, files, into);
+    files.undo(undo);
+    show(alloc, files, into);
+    Ok(())
+}
+
+fn there_and_back<L: Ledger>(
+    alloc: Global,
+    files: &mut Files,
+    into: &mut Text,
+    steps: &mut Steps<L>,
+) -> Result<(), Memory>
+    requires { files.old.facts ≡ [] }
+{
+    let (name, delta) = (letter(b'a'), letter(b'd'));
+    if name == delta {
+        return Err(Memory);
+    }
+    come(alloc, files, name, delta, into, steps)?;
+    change_back(alloc, files, name, into, steps)
+}
+
+/// The baseline of a check-in is changed.
+struct OfFiles;
+
+impl Play for OfFiles {
+    fn play<L: Ledger>(alloc: Global, into: &mut Text, steps: &mut Steps<L>) -> Result<(), Memory> {
+        let mut files = Files::new(alloc);
+        there_and_back(alloc, &mut files, into, steps)
+    }
+}
+
 #[test]
-fn a_baseline_comes_before_its_delta(rt: HostRuntime) -> Result<(), Fail> {
-    let mut text = Text::empty(rt.alloc());
-    baseline_first(rt.alloc(), &mut text)?;
+fn a_baseline_comes_after_its_delta_and_changes(rt: HostRuntime) -> Result<(), Memory> {
+    let text = shown::<OfFiles>(rt.alloc())?;
     assert_eq!(rt;
         text.bytes(),
-        b" 84a5 84a5 delta / +y child / *x delta / +y child / *x -y delta / +y child / ?".as_slice()
+        b" = ? / ? = x / *x 3c36 86f7 = x z / +x = x / *x".as_slice()
     );
     Ok(())
 }

@@ -1,14 +1,19 @@
-//! Names of one letter each.
-ghost use Rattle.std.specs.Prelude.{◌≡◌, IsTrue, not};
-ghost use Rattle.fsl_order.specs.Names.{has};
+//! Names of one letter each, moments, and words of what is shown.
+ghost use Rattle.std.specs.Prelude.{◌∷◌, [], IsTrue};
 ghost use Rattle.fsl_order.specs.Rows.{AreDistinct};
 
+use fsl_date::Moment;
 use fsl_name::Name;
 use fsl_text::{List, Memory, Text};
 use std::alloc::Global;
 
 pub fn letter(byte: u8) -> Name {
     Name::of(&[byte])
+}
+
+/// A moment, which is one that there is.
+pub fn moment(ms: i64) -> Result<Moment, Memory> {
+    Moment::new(ms).ok_or(Memory)
 }
 
 pub fn names_of(alloc: Global, letters: &[u8]) -> Result<List<Name>, Memory> {
@@ -19,21 +24,11 @@ pub fn names_of(alloc: Global, letters: &[u8]) -> Result<List<Name>, Memory> {
     Ok(List::from_vec(names))
 }
 
-fn is_none_of(names: &[Name], name: &Name) -> bool
-    ensures { result ≡ not (has names.now name.now) }
+/// Whether two names differ.
+pub fn are_distinct(first: Name, second: Name) -> bool
+    ensures { IsTrue result → AreDistinct (first ∷ second ∷ []) }
 {
-    names.iter().all(|other| *name != *other)
-}
-
-/// Whether no name stands twice.
-pub fn are_distinct(names: &[Name]) -> bool
-    ensures { IsTrue result → AreDistinct names.now }
-{
-    if names.is_empty() {
-        return true;
-    }
-    let rest = &names[1..];
-    is_none_of(rest, &names[0]) && are_distinct(rest)
+    first != second
 }
 
 /// Adds a word behind a space.

@@ -1,164 +1,97 @@
-//! Technotes that come one after the other, in the order of their dates and against it, one that becomes an attachment, and that
-//! taken back.
-ghost use Rattle.std.specs.Prelude.{◌≡◌, ◌<◌, ◌∷◌, [], false, IfOk};
-ghost use Rattle.std.specs.Str.{bytes_eq};
-ghost use Rattle.fsl_order.specs.Rows.{by_name};
+//! A technote that becomes an attachment, and that taken back.
+ghost use Rattle.std.specs.Prelude.{◌≡◌, [], IfOk};
 ghost use Rattle.fsl_wiki.specs.Pages.{fact_name};
 
-use crate::names::{letter, put};
-use fsl_date::Moment;
+use crate::names::{letter, moment, put, put_names};
+use crate::plays::{Play, shown};
 use fsl_name::Name;
 use fsl_text::{Memory, Steps, Text};
-use fsl_wiki::{Attached, Fact, Note, Page, Pages};
+use fsl_wiki::{Attached, Fact, Note, Pages};
 use std::alloc::Global;
-use std::marker::Brand;
-use std::sync::ledger::{Blank, Ledger};
-use std::test::Fail;
+use std::sync::ledger::Ledger;
 
 /// A technote of the id `x`.
-fn note(name: u8, date: i64) -> Result<Fact, Fail> {
-    let date = Moment::new(date).ok_or("no moment")?;
+fn note(name: Name) -> Result<Fact, Memory>
+    ensures { IfOk result (λ fact. fact_name fact ≡ name) }
+{
+    let date = moment(1)?;
     Ok(Fact::Note(Note {
-        name: letter(name),
+        name,
         date,
         time: date,
         id: letter(b'x'),
     }))
 }
 
-/// A version of the page `t`.
-fn page(alloc: Global, name: u8, date: i64) -> Result<Fact, Fail> {
-    Ok(Fact::Page(Page {
-        name: letter(name),
-        date: Moment::new(date).ok_or("no moment")?,
-        title: Text::of(alloc, b"t")?,
-        user: Text::of(alloc, b"ann")?,
-    }))
-}
-
 /// An attachment to the page `t`.
-fn attachment(alloc: Global, name: Name, date: Moment) -> Result<Fact, Memory>
+fn attachment(alloc: Global, name: Name) -> Result<Fact, Memory>
     ensures { IfOk result (λ fact. fact_name fact ≡ name) }
 {
+    let date = moment(3)?;
+    let target = Text::of(alloc, b"t")?;
     Ok(Fact::Attached(Attached {
         name,
         date,
-        target: Text::of(alloc, b"t")?,
+        target,
         file: Text::of(alloc, b"f")?,
         source: None,
     }))
 }
 
-/// Whether the page `t` has an attachment, or a version.
-fn has_page(alloc: Global, pages: &Pages) -> Result<bool, Memory> {
-    let attached = pages.attached(alloc, b"t")?.items().is_empty();
-    Ok(!attached || !pages.history(alloc, b"t")?.items().is_empty())
+/// Adds as many letters as the page `t` has attachments.
+fn put_attached(alloc: Global, pages: &Pages, into: &mut Text) {
+    match pages.attached(alloc, b"t") {
+        Ok(list) => {
+            for _ in list.items() {
+                put(into, b"attached");
+            }
+        }
+        Err(Memory) => put(into, b"?"),
+    }
 }
 
-/// Adds the first digits of the current technote, or a dash, and a word for the attachments.
+/// Adds the first digits of the current technote, or a dash, and a word for each attachment.
 fn show(alloc: Global, pages: &Pages, into: &mut Text) {
     match pages.note(letter(b'x')) {
         None => put(into, b"-"),
         Some(name) => put(into, &name.text()[..4]),
     }
-    if has_page(alloc, pages) != Ok(false) {
-        put(into, b"attached");
-    }
+    put_attached(alloc, pages, into);
 }
 
-/// Takes two facts in, and shows what stands after each.
-fn arrive<L: Ledger>(
-    alloc: Global,
-    pages: &mut Pages,
-    first: &Fact,
-    second: &Fact,
-    into: &mut Text,
-    steps: &mut Steps<L>,
-) -> Result<(), Memory>
-    requires none { pages.old.facts ≡ [] }
-    requires differ { bytes_eq (fact_name second.now) (fact_name first.now) ≡ false }
-    ensures facts { IfOk result (λ _. pages.new.facts ≡ by_name fact_name (second.now ∷ first.now ∷ [])) }
-{
-    pages.add(alloc, first.copied(alloc)?, steps)?;
-    show(alloc, pages, into);
-    pages.add(alloc, second.copied(alloc)?, steps)?;
-    show(alloc, pages, into);
-    Ok(())
-}
-
-/// Puts a fact in the place of the second, takes that back, and shows what stands after each.
+/// Takes a technote in, puts an attachment in its place and takes that back: what it tells, and what stands after each.
 fn move_back<L: Ledger>(
     alloc: Global,
     pages: &mut Pages,
-    first: &Fact,
-    second: &Fact,
-    moved: Fact,
     into: &mut Text,
     steps: &mut Steps<L>,
-) -> Result<usize, Memory>
-    requires there { pages.old.facts ≡ by_name fact_name (second.now ∷ first.now ∷ []) }
-    requires same { fact_name moved ≡ fact_name second.now }
+) -> Result<(), Memory>
+    requires { pages.old.facts ≡ [] }
 {
-    let undo = pages.change(alloc, moved, steps)?;
-    let changed = undo.changed().items().len();
+    let name = letter(b'b');
+    pages.add(alloc, note(name)?, steps)?;
+    show(alloc, pages, into);
+    let undo = pages.change(alloc, attachment(alloc, name)?, steps)?;
+    put_names(into, undo.changed().items());
     show(alloc, pages, into);
     pages.undo(undo);
     show(alloc, pages, into);
-    Ok(changed)
-}
-
-fn in_a_table<L: Ledger>(
-    alloc: Global,
-    first: &Fact,
-    second: &Fact,
-    moved: Fact,
-    into: &mut Text,
-    blank: Blank,
-) -> Result<usize, Memory>
-    requires name { blank.name ≡ L.name }
-    requires parts { blank.parts ≡ L.parts }
-    requires counts { 0 < L.parts }
-    requires differ { bytes_eq (fact_name second.now) (fact_name first.now) ≡ false }
-    requires same { fact_name moved ≡ fact_name second.now }
-{
-    let mut steps: Steps<L> = Steps::new(blank);
-    let mut pages = Pages::new(alloc);
-    arrive(alloc, &mut pages, first, second, into, &mut steps)?;
-    move_back(alloc, &mut pages, first, second, moved, into, &mut steps)
-}
-
-fn shown(alloc: Global, first: &Fact, second: &Fact, into: &mut Text) -> Result<usize, Fail> {
-    let name = second.name();
-    if name == first.name() {
-        return Err(Fail::new("one name"));
-    }
-    let date = Moment::new(3).ok_or("no moment")?;
-    let moved = attachment(alloc, name, date)?;
-    Ok(in_a_table::<Brand>(alloc, first, second, moved, into, Blank::new(1))?)
-}
-
-#[test]
-fn technotes_come_and_go(rt: HostRuntime) -> Result<(), Fail> {
-    let old = note(b'a', 1)?;
-    let new = note(b'b', 2)?;
-    let mut text = Text::empty(rt.alloc());
-    assert_eq!(rt; shown(rt.alloc(), &old, &new, &mut text)?, 2);
-    assert_eq!(rt; text.bytes(), b" 86f7 e9d7 86f7 attached e9d7".as_slice());
-    let mut text = Text::empty(rt.alloc());
-    assert_eq!(rt; shown(rt.alloc(), &new, &old, &mut text)?, 1);
-    assert_eq!(rt; text.bytes(), b" e9d7 e9d7 e9d7 attached e9d7".as_slice());
     Ok(())
 }
 
+/// A technote becomes an attachment.
+struct OfPages;
+
+impl Play for OfPages {
+    fn play<L: Ledger>(alloc: Global, into: &mut Text, steps: &mut Steps<L>) -> Result<(), Memory> {
+        let mut pages = Pages::new(alloc);
+        move_back(alloc, &mut pages, into, steps)
+    }
+}
+
 #[test]
-fn a_page_stays_while_a_technote_comes_and_goes(rt: HostRuntime) -> Result<(), Fail> {
-    let page = page(rt.alloc(), b'a', 1)?;
-    let note = note(b'b', 2)?;
-    let mut text = Text::empty(rt.alloc());
-    assert_eq!(rt; shown(rt.alloc(), &page, &note, &mut text)?, 1);
-    assert_eq!(rt;
-        text.bytes(),
-        b" - attached e9d7 attached - attached e9d7 attached".as_slice()
-    );
+fn a_technote_becomes_an_attachment(rt: HostRuntime) -> Result<(), Memory> {
+    let text = shown::<OfPages>(rt.alloc())?;
+    assert_eq!(rt; text.bytes(), b" e9d7 e9d7 - attached e9d7".as_slice());
     Ok(())
 }

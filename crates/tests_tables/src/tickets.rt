@@ -1,30 +1,36 @@
-//! Ticket changes that come one after the other, against the order of their dates, and are taken back.
-ghost use Rattle.std.specs.Prelude.{◌≡◌, ◌<◌, ◌∷◌, [], false, IfOk};
-ghost use Rattle.std.specs.Str.{bytes_eq};
-ghost use Rattle.fsl_order.specs.Rows.{by_name};
+//! A ticket change that comes to be one of another ticket, and is taken back.
+ghost use Rattle.std.specs.Prelude.{◌≡◌, [], IfOk};
 
-use crate::names::{add, letter};
-use fsl_date::Moment;
+use crate::names::{add, letter, moment, put_names};
+use crate::plays::{Play, shown};
+use fsl_name::Name;
 use fsl_text::{List, Memory, Steps, Text};
 use fsl_ticket::{Fact, FieldChange, Tickets};
 use std::alloc::Global;
-use std::marker::Brand;
-use std::sync::ledger::{Blank, Ledger};
-use std::test::Fail;
+use std::sync::ledger::Ledger;
 
-/// A change that puts a text at the end of the field `f`.
-fn change(alloc: Global, name: u8, id: u8, date: i64, value: &[u8]) -> Result<Fact, Fail> {
-    let mut changes = Vec::new(alloc);
-    changes.push(FieldChange {
+/// The text of a change, at the end of the field `f`.
+fn field_change(alloc: Global) -> Result<FieldChange, Memory> {
+    let field = Text::of(alloc, b"f")?;
+    Ok(FieldChange {
         append: true,
-        field: Text::of(alloc, b"f")?,
-        value: Text::of(alloc, value)?,
-    })?;
+        field,
+        value: Text::of(alloc, b"1")?,
+    })
+}
+
+/// A change of a ticket.
+fn change_of(alloc: Global, name: Name, id: u8) -> Result<Fact, Memory>
+    ensures { IfOk result (λ fact. fact.name ≡ name) }
+{
+    let date = moment(1)?;
+    let mut changes = List::new(alloc);
+    changes.append(field_change(alloc)?)?;
     Ok(Fact {
-        name: letter(name),
-        date: Moment::new(date).ok_or("no moment")?,
+        name,
+        date,
         id: letter(id),
-        changes: List::from_vec(changes),
+        changes,
     })
 }
 
@@ -45,85 +51,49 @@ fn show(alloc: Global, tickets: &Tickets, into: &mut Text) {
     let _ = add_field(alloc, tickets, b'y', into);
 }
 
-/// Puts the second change in the place of that of its name, takes that back, and shows what stood after each.
+/// Takes a change of `x` in, puts one of `y` in its place and takes that back: how many tickets that changes, and what stands
+/// after each.
 fn move_back<L: Ledger>(
     alloc: Global,
     tickets: &mut Tickets,
-    first: &Fact,
-    second: &Fact,
-    moved: Fact,
-    into: &mut Text,
-    steps: &mut Steps<L>,
-) -> Result<usize, Memory>
-    requires there { tickets.old.facts ≡ by_name (λ f. f.name) (second.now ∷ first.now ∷ []) }
-    requires same { moved.name ≡ second.now.name }
-{
-    let undo = tickets.change(alloc, moved, steps)?;
-    let changed = undo.changed().items().len();
-    show(alloc, tickets, into);
-    tickets.undo(undo);
-    show(alloc, tickets, into);
-    Ok(changed)
-}
-
-/// Takes two changes in, and shows what stands then.
-fn arrive<L: Ledger>(
-    alloc: Global,
-    tickets: &mut Tickets,
-    first: &Fact,
-    second: &Fact,
     into: &mut Text,
     steps: &mut Steps<L>,
 ) -> Result<(), Memory>
-    requires none { tickets.old.facts ≡ [] }
-    requires differ { bytes_eq second.now.name first.now.name ≡ false }
-    ensures facts { IfOk result (λ _. tickets.new.facts ≡ by_name (λ f. f.name) (second.now ∷ first.now ∷ [])) }
+    requires { tickets.old.facts ≡ [] }
 {
-    tickets.add(alloc, first.copied(alloc)?, steps)?;
+    let name = letter(b'a');
+    tickets.add(alloc, change_of(alloc, name, b'x')?, steps)?;
     show(alloc, tickets, into);
-    tickets.add(alloc, second.copied(alloc)?, steps)?;
+    let undo = tickets.change(alloc, change_of(alloc, name, b'y')?, steps)?;
+    put_names(into, undo.changed().items());
+    show(alloc, tickets, into);
+    tickets.undo(undo);
     show(alloc, tickets, into);
     Ok(())
 }
 
-fn in_a_table<L: Ledger>(
-    alloc: Global,
-    first: &Fact,
-    second: &Fact,
-    moved: Fact,
-    into: &mut Text,
-    blank: Blank,
-) -> Result<usize, Memory>
-    requires name { blank.name ≡ L.name }
-    requires parts { blank.parts ≡ L.parts }
-    requires counts { 0 < L.parts }
-    requires differ { bytes_eq second.now.name first.now.name ≡ false }
-    requires same { moved.name ≡ second.now.name }
+/// A table of tickets with the field `f`.
+fn table(alloc: Global) -> Result<Tickets, Memory>
+    ensures { IfOk result (λ tickets. tickets.facts ≡ []) }
 {
-    let mut steps: Steps<L> = Steps::new(blank);
     let mut fields = List::new(alloc);
     fields.append(Text::of(alloc, b"f")?)?;
-    let mut tickets = Tickets::build(alloc, &fields, &[])?;
-    arrive(alloc, &mut tickets, first, second, into, &mut steps)?;
-    move_back(alloc, &mut tickets, first, second, moved, into, &mut steps)
+    Tickets::build(alloc, &fields, &[])
 }
 
-fn shown(alloc: Global, into: &mut Text) -> Result<usize, Fail> {
-    let first = change(alloc, b'b', b'x', 2, b"2")?;
-    let second = change(alloc, b'a', b'x', 1, b"1")?;
-    let mut moved = change(alloc, b'a', b'y', 1, b"1")?;
-    if second.name == first.name {
-        return Err(Fail::new("one name"));
+/// A change comes to be one of another ticket.
+struct OfTickets;
+
+impl Play for OfTickets {
+    fn play<L: Ledger>(alloc: Global, into: &mut Text, steps: &mut Steps<L>) -> Result<(), Memory> {
+        let mut tickets = table(alloc)?;
+        move_back(alloc, &mut tickets, into, steps)
     }
-    moved.name = second.name;
-    Ok(in_a_table::<Brand>(alloc, &first, &second, moved, into, Blank::new(1))?)
 }
 
 #[test]
-fn changes_of_tickets_come_and_go(rt: HostRuntime) -> Result<(), Fail> {
-    let mut text = Text::empty(rt.alloc());
-    let changed = shown(rt.alloc(), &mut text)?;
-    assert_eq!(rt; changed, 2);
-    assert_eq!(rt; text.bytes(), b" 2 - 12 - 2 1 12 -".as_slice());
+fn a_change_moves_to_another_ticket(rt: HostRuntime) -> Result<(), Memory> {
+    let text = shown::<OfTickets>(rt.alloc())?;
+    assert_eq!(rt; text.bytes(), b" 1 - 11f6 95cb - 1 1 -".as_slice());
     Ok(())
 }

@@ -2,4 +2,4 @@ use Rattle.tests_tables.proofs.Own.{as_is}
 use Rattle.tests_tables.proofs.posts.there_and_back.Goals as goal
 
 pub undo-requires : goal.undo-requires
-undo-requires g c = as_is c.in_ok-undo.change.after c.arrive.new.threads c.in_ok-undo.ensures.last
+undo-requires g c = as_is c.in_ok-undo.undo.after c.change.new.self c.in_ok-undo.ensures.after

@@ -1,6 +1,0 @@
-use Rattle.std.specs.List.{IsDistinct}
-use Rattle.tests_tables.proofs.tickets.in_a_table.Goals as goal
-
-pub build-requires : goal.build-requires
-unfolding IsDistinct
-build-requires g c = tt
