@@ -81,23 +81,30 @@ fn of_text(alloc: Global, word: u8, text: &[u8]) -> Result<Question, Memory> {
 }
 
 /// Whether each question that has an answer gets its report.
-fn are_reported(
-    alloc: Global,
-    repo: &mut Repo<MemoryDisk>,
-    blobs: &Blobs,
-    post: Name,
-) -> bool {
+fn are_reported(alloc: Global, repo: &mut Repo<MemoryDisk>, blobs: &Blobs, post: Name) -> bool {
     let digits = Name::of(CHECKIN).text();
     let id = Name::of(b"0");
     is_answered(alloc, repo, blobs, of_text(alloc, b'c', &digits), true)
-        && is_answered(alloc, repo, blobs, Ok(Question::Timeline { count: 20 }), true)
+        && is_answered(
+            alloc,
+            repo,
+            blobs,
+            Ok(Question::Timeline { count: 20 }),
+            true,
+        )
         && is_answered(alloc, repo, blobs, Ok(Question::Leaves), true)
         && is_answered(alloc, repo, blobs, of_text(alloc, b'g', &digits), true)
         && is_answered(alloc, repo, blobs, of_text(alloc, b't', b"stable"), true)
         && is_answered(alloc, repo, blobs, of_text(alloc, b'f', &digits), true)
         && is_answered(alloc, repo, blobs, of_text(alloc, b'w', b"Page"), true)
         && is_answered(alloc, repo, blobs, Ok(Question::Ticket { id }), true)
-        && is_answered(alloc, repo, blobs, Ok(Question::Thread { name: post }), true)
+        && is_answered(
+            alloc,
+            repo,
+            blobs,
+            Ok(Question::Thread { name: post }),
+            true,
+        )
         && is_answered(alloc, repo, blobs, Ok(Question::Phantoms), true)
 }
 
