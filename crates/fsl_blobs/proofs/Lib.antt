@@ -11,4 +11,3 @@ pub mod Totals
 pub mod NameLists
 pub mod ShunnedNames
 pub mod NamedHeld
-mod WorkedRows

@@ -1,4 +1,4 @@
-pub mod WorkedRows
+mod Circle
 pub mod NameLemmas
 pub mod FactLemmas
 pub mod Turning

@@ -1,4 +1,3 @@
-mod WorkedRows
 pub mod Canonical
 pub mod Deciding
 pub mod Differing

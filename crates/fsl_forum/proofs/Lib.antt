@@ -1,4 +1,4 @@
-mod WorkedRows
+mod Circle
 pub mod ChainLaw
 pub mod Climbs
 pub mod Changing

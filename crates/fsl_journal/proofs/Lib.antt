@@ -10,4 +10,3 @@ mod Walking
 mod Records
 pub mod SomeFile
 pub mod Unique
-mod WorkedRows

@@ -1,4 +1,3 @@
-mod WorkedRows
 pub mod Canonical
 pub mod Changed
 pub mod Facts

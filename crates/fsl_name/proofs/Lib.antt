@@ -1,4 +1,3 @@
-mod Examples
 pub mod ReadAgain
 pub mod ByteLists
 pub mod Reading

@@ -1,4 +1,3 @@
-pub mod Examples
 pub mod FirstLines
 mod Fronts
 pub mod Unescaping

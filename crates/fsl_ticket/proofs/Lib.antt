@@ -1,4 +1,3 @@
-mod WorkedRows
 pub mod Canonical
 pub mod Changing
 pub mod Looking

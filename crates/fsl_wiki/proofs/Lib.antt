@@ -1,4 +1,3 @@
-mod WorkedRows
 pub mod Answering
 pub mod Canonical
 pub mod Changing

@@ -1,4 +1,3 @@
 pub mod WordLemmas
 pub mod GrammarLemmas
 pub mod PlaceLemmas
-mod Rows
