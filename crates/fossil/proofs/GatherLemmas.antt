@@ -1,7 +1,7 @@
 -- Files that arrive in a set.
 use Rattle.std.proofs.Common.{◌≡◌, inl, ℕ, ◌+◌, ◌≤◌, ◌<◌, take, get_or, Bool, true, false, cond, not, List, [], ◌∷◌, ◌++◌, length, map, Option, Some, None, Result, Ok, Err, refl, sym, ap, subst, ◌∙◌, arith}
 use Rattle.std.specs.Prelude.{◌^◌, ◌&&◌, ◌||◌, nat_lt, filter, flat_map, codes, if◌then◌else◌, is_some}
-use Rattle.std.proofs.lemmas.Bool.{le-ltb}
+use Rattle.std.proofs.lemmas.Bool.{le-ltb, or_parts}
 use Rattle.std.specs.List.{AllZip, list_any}
 use Rattle.std.specs.List.Sorted.{IsStrictlySortedBy}
 use Rattle.std.specs.Option.{option_map, option_map_or}
@@ -54,7 +54,7 @@ use Rattle.fossil.specs.Ingest.{fresh, IsSetPrinted}
 use Rattle.fossil.specs.Taking.{IsGathered, IsGatheredBy, AreReferences, IsFactOf, report_of}
 use Rattle.fsl_repo.proofs.SomeArrival.{some_items}
 use Rattle.fossil.proofs.ArrivalLemmas.{is_arrival, never_stopped, GoesOn, one_more, refused_here, none_left}
-use Rattle.fossil.proofs.SetLemmas.{facts_of, public, or_parts, names_held, none_shunned, items_with, missing_with, missing_published, items_of_facts}
+use Rattle.fossil.proofs.SetLemmas.{facts_of, public, names_held, none_shunned, items_with, missing_with, missing_published, items_of_facts}
 
 abbrev Told : Type 0
 Told = Result Arrival ArriveFault

@@ -12,6 +12,7 @@ use Rattle.std.specs.FinMap.Entries.{by_order, below_all}
 use Rattle.std.specs.FinSet as set
 use Rattle.std.proofs.lemmas.List.Elements.{filter_agree}
 use Rattle.std.proofs.lemmas.List.Sorted.{list_any-IsPermutation, IsPermutation-map}
+use Rattle.std.proofs.lemmas.Bool.{or_parts}
 use Rattle.fsl_order.specs.Names.{bytes_cmp, has}
 use Rattle.fsl_order.specs.Rows.{ascending, AreDistinct}
 use Rattle.fsl_order.proofs.Orders.{bytes_cmp-IsTotalOrder}
@@ -79,10 +80,6 @@ names_held held items q are =
     ∙ any_alike q (map_of.keys held) ∙ sym (map_of.contains_key-keys held q)
 
 -- ---- one artifact more
-
-pub or_parts : (a b : Bool) → (a || b) ≡ false → (a ≡ false) × (b ≡ false)
-or_parts true b h = absurd cc
-or_parts false b h = (refl, h)
 
 none_of : (q : List ℕ) (xs : List (List ℕ)) → has xs q ≡ false → AllByRecursion (λ n. bytes_eq q n ≡ false) xs
 none_of q [] h = tt

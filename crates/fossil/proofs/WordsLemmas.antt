@@ -1,10 +1,10 @@
 -- What words say, as a command that can be obeyed.
 use Rattle.std.proofs.Common.{◌≡◌, ℕ, ◌<◌, ◌≤◌, Bool, true, false, not, cond, List, [], ◌∷◌, length, Option, Some, None, refl, ap, subst, arith}
-use Rattle.std.specs.Prelude.{◌&&◌, ◌||◌, nat_le, IfSome, option_and_then, codes}
+use Rattle.std.specs.Prelude.{◌&&◌, nat_le, IfSome, option_and_then, codes}
 use Rattle.std.specs.Option.{option_map}
 use Rattle.std.specs.List.{IsDistinct, AllByRecursion, list_any, list_all}
 use Rattle.std.specs.Str.{bytes_eq}
-use Rattle.std.proofs.lemmas.Bool.{and_parts}
+use Rattle.std.proofs.lemmas.Bool.{and_parts, or_parts, not-true}
 use Rattle.fsl_order.specs.Names.{has}
 use Rattle.fsl_name.specs.Name.{name_in}
 use Rattle.fsl_text.specs.Decimals.{is_decimal_text, decimal_value}
@@ -19,24 +19,16 @@ use Rattle.fossil.specs.Acts.{IsObeyable}
 
 -- ---- fields
 
-neither : (a b : Bool) → (a || b) ≡ false → (a ≡ false) × (b ≡ false)
-neither true b e = absurd (cc)
-neither false b e = (refl, e)
-
-not_true : (b : Bool) → not b ≡ true → b ≡ false
-not_true true e = absurd (cc)
-not_true false e = refl
-
 none_equal : (word : List ℕ) (words : List (List ℕ)) → list_any (bytes_eq word) words ≡ false → AllByRecursion (λ w. bytes_eq word w ≡ false) words
 none_equal word [] e = tt
-none_equal word (w ∷ words) e = let parts = neither (bytes_eq word w) (list_any (bytes_eq word) words) e in (parts.0, none_equal word words parts.1)
+none_equal word (w ∷ words) e = let parts = or_parts (bytes_eq word w) (list_any (bytes_eq word) words) e in (parts.0, none_equal word words parts.1)
 
 distinct : (words : List (List ℕ)) → all_differ words ≡ true → IsDistinct bytes_eq words
 unfolding IsDistinct
 distinct [] e = tt
 distinct (word ∷ words) e =
     let parts = and_parts (not (has words word)) (all_differ words) e in
-    (none_equal word words (not_true (has words word) parts.0), distinct words parts.1)
+    (none_equal word words (not-true (has words word) parts.0), distinct words parts.1)
 
 few : (n : ℕ) → nat_le n 256 ≡ true → n ≤ 256
 few n e = grind (arith)

@@ -7,10 +7,11 @@ use Rattle.std.proofs.lemmas.List.{append-nil, drop-drop, length-take-le, take-a
 use Rattle.std.proofs.lemmas.List.Concat.{flat_map-append}
 use Rattle.std.proofs.lemmas.List.Folds.{list_all-append}
 use Rattle.std.proofs.lemmas.List.Sums.{prefix_len-le-length}
+use Rattle.fsl_order.proofs.Booleans.{first_holds, second_holds}
 use Rattle.fsl_text.specs.Bytes.{is_empty}
 use Rattle.fsl_card.specs.Cards.{is_argument, is_argument_byte, are_arguments, are_field_arguments}
 use Rattle.fsl_card.specs.Parts.{AreArgumentsTo, IsRun, arguments_text, argument_length, next_argument, some_length, stops}
-use Rattle.fsl_card.proofs.ReadAgain.{clean, clean-from_arguments, clean_by, first_holds, second_holds}
+use Rattle.fsl_card.proofs.ReadAgain.{clean, clean-from_arguments, clean_by}
 
 -- ---- the first byte that can't stand in an argument
 

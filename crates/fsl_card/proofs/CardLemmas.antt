@@ -5,12 +5,13 @@ use Rattle.std.specs.List.{AllByRecursion}
 use Rattle.std.proofs.lemmas.List.{append-nil}
 use Rattle.std.proofs.lemmas.List.Concat.{flat_map-append}
 use Rattle.std.proofs.lemmas.Bool.{both_ways}
+use Rattle.fsl_order.proofs.Booleans.{and_true, first_holds, second_holds}
 use Rattle.fsl_text.specs.Lines.{first_line}
 use Rattle.fsl_card.specs.declared.types.Card.{Card}
 use Rattle.fsl_card.specs.Cards.{IsCard, card_text, text_of, in_order, may_follow}
 use Rattle.fsl_card.specs.Reading.{◌>>=◌, card_of_line}
 use Rattle.fsl_card.specs.Parts.{AreOrdered, may_follow_all}
-use Rattle.fsl_card.proofs.ReadAgain.{first_holds, second_holds, card_of_line_again, line_again}
+use Rattle.fsl_card.proofs.ReadAgain.{card_of_line_again, line_again}
 
 -- the card that some bytes begin with, and what follows it
 abbrev read_card : List ℕ → Option (Card × List ℕ)
@@ -89,10 +90,6 @@ text_of-push cs c x =
 and_assoc : (a b c : Bool) → (a && (b && c)) ≡ ((a && b) && c)
 and_assoc true b c = refl
 and_assoc false b c = refl
-
-and_true : (a : Bool) → (a && true) ≡ a
-and_true true = refl
-and_true false = refl
 
 pub in_order-push : (cs : List Card) (c : Card) → in_order (cs ++ c ∷ []) ≡ (in_order cs && may_follow_all cs c)
 in_order-push [] c = refl

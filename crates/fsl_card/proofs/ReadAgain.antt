@@ -3,21 +3,13 @@ use Rattle.std.proofs.Common.{◌≡◌, ℕ, zero, suc, ◌≤◌, Bool, true, 
 use Rattle.std.specs.Prelude.{◌&&◌, not, nat_le, flat_map}
 use Rattle.std.specs.List.{list_all, slice_split, AllByRecursion}
 use Rattle.std.proofs.lemmas.List.{take_at, drop_at, length-append}
-use Rattle.std.proofs.lemmas.Bool.{eqb-true}
+use Rattle.std.proofs.lemmas.Bool.{eqb-true, not-true}
+use Rattle.fsl_order.proofs.Booleans.{first_holds, second_holds}
 use Rattle.fsl_text.specs.Decimals.{IsDecimal}
 use Rattle.fsl_card.specs.declared.types.Card.{Card}
 use Rattle.fsl_card.specs.Cards.{IsCards, IsCard, BodyFits, card_text, body_text, text_of, is_argument, is_argument_byte, are_field_arguments}
 use Rattle.fsl_text.specs.Lines.{first_line}
 use Rattle.fsl_card.specs.Reading.{◌>>=◌, arguments_of, body_of, card_at, card_of_line, cards_from}
-
--- both parts of a test hold
-pub first_holds : (a b : Bool) → (a && b) ≡ true → a ≡ true
-first_holds true b h = refl
-first_holds false b h = h
-
-pub second_holds : (a b : Bool) → (a && b) ≡ true → b ≡ true
-second_holds true b h = h
-second_holds false b h = absurd cc
 
 -- a byte of an argument is no space and no newline
 no_space : (b : ℕ) (t : Bool) → eqb b 32 ≡ t → is_argument_byte b ≡ true → t ≡ false
@@ -32,16 +24,12 @@ no_newline b true e h = absurd (let s : b ≡ 10 = eqb-true b 10 e in let P : �
 abbrev pub one_line : List ℕ → Bool
 one_line text = list_all (λ b. not (eqb b 10)) text
 
-not_true : (b : Bool) → not b ≡ true → b ≡ false
-not_true true h = absurd cc
-not_true false h = refl
-
 -- the first line is what stands before the first newline
 pub first_line_at : (line rest : List ℕ) → one_line line ≡ true → first_line (line ++ 10 ∷ rest) ≡ Some (line, rest)
 first_line_at [] rest h = refl
 first_line_at (b ∷ line) rest h =
     rw (
-      not_true (eqb b 10) (first_holds (not (eqb b 10)) (one_line line) h),
+      not-true (eqb b 10) (first_holds (not (eqb b 10)) (one_line line) h),
       first_line_at line rest (second_holds (not (eqb b 10)) (one_line line) h),
     ) refl
 
@@ -117,7 +105,7 @@ body_again size body rest h =
 
 -- a card is read from its letter, its arguments and its body
 card_at_again : (letter : ℕ) (args : List (List ℕ)) (body : Option (List ℕ)) (rest : List ℕ) → BodyFits letter args body → card_at letter args (body_text body ++ rest) ≡ Some (record { letter = letter; args = args; body = body }, rest)
-card_at_again letter args None rest h = rw (not_true (eqb letter 87) h) refl
+card_at_again letter args None rest h = rw (not-true (eqb letter 87) h) refl
 card_at_again letter [] (Some body) rest h = absurd h
 card_at_again letter (size ∷ []) (Some body) rest h = rw (h.0, body_again size body rest h.1) refl
 card_at_again letter (size ∷ next ∷ args) (Some body) rest h = absurd h

@@ -10,11 +10,11 @@ use Rattle.md5.specs.Md5.{md5, digest_bytes}
 use Rattle.md5.proofs.StandardFacts.{length-md5}
 use Rattle.hex.specs.Hex.{encode_lower, encode_with, lower_digits}
 use Rattle.hex.proofs.HexLemmas.{length-encode_with}
+use Rattle.fsl_order.proofs.Booleans.{first_holds, second_holds}
 use Rattle.fsl_card.specs.declared.types.Card.{Card}
 use Rattle.fsl_card.specs.Cards.{IsCard, IsCards, in_order, is_argument, is_argument_byte, may_follow, seal, text_of}
 use Rattle.fsl_card.specs.Writing.{IsFinished, IsReadBack, finished, is_before_seal}
 use Rattle.fsl_card.specs.Parts.{AreOrdered, may_follow_all, seal_line}
-use Rattle.fsl_card.proofs.ReadAgain.{first_holds, second_holds}
 use Rattle.fsl_card.proofs.CardLemmas.{AllByRecursion-push, cards_prefix, in_order-left, in_order-push, text_of-push}
 
 -- ---- the digits

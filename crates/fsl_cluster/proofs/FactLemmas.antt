@@ -13,6 +13,7 @@ use Rattle.fsl_order.specs.Names.{has}
 use Rattle.fsl_order.specs.Rows.{ascending, by_name, AreDistinct}
 use Rattle.fsl_order.proofs.AscendingLemmas.{ascending-same, has-ascending}
 use Rattle.fsl_order.proofs.MovedLemmas.{IsPermutation-by_name}
+use Rattle.fsl_order.proofs.Booleans.{and_false}
 use Rattle.fsl_cluster.specs.declared.Fact.{Fact}
 use Rattle.fsl_cluster.specs.Clusters.{names, unclustered, missing}
 
@@ -30,10 +31,6 @@ pub has-flat_map : (g : Fact → List (List ℕ)) (facts : List Fact) (q : List 
 has-flat_map g [] q = refl
 has-flat_map g (f ∷ facts) q = list_any-append (bytes_eq q) (g f) (flat_map g facts) ∙ ap (λ b. has (g f) q || b) (has-flat_map g facts q)
 
-no_more : (b : Bool) → (b && false) ≡ false
-no_more true = refl
-no_more false = refl
-
 pub has-filter : (p : List ℕ → Bool) (xs : List (List ℕ)) (q : List ℕ) → has (filter p xs) q ≡ (has xs q && p q)
 has-filter p [] q = refl
 has-filter p (x ∷ xs) q =
@@ -42,7 +39,7 @@ has-filter p (x ∷ xs) q =
         | true ↦ λ keeps. ap (λ b. b || has (filter p xs) q) e ∙ sym (ap p ((bytes_decides q x).0 e) ∙ keeps)
         | false ↦ λ drops.
             let none : p q ≡ false = ap p ((bytes_decides q x).0 e) ∙ drops in
-            has-filter p xs q ∙ ap (λ b. has xs q && b) none ∙ no_more (has xs q) ∙ sym none
+            has-filter p xs q ∙ ap (λ b. has xs q && b) none ∙ and_false (has xs q) ∙ sym none
       ] refl
       | false ↦ λ e. elim (p x) as (λ b. has (cond b (x ∷ filter p xs) (filter p xs)) q ≡ (has xs q && p q)) [
         | true ↦ ap (λ b. b || has (filter p xs) q) e ∙ has-filter p xs q

@@ -7,6 +7,7 @@ use Rattle.std.specs.BTreeMap.{is_at}
 use Rattle.std.specs.List.Sorted.{IsStrictlySortedBy}
 use Rattle.std.specs.Map.{keys_of}
 use Rattle.std.specs.Cmp.Lexicographic.{texts_ties, bytes_decides, nat_list_eq_equiv}
+use Rattle.std.proofs.lemmas.Bool.{or_right}
 use Rattle.fsl_order.specs.Names.{bytes_cmp, has}
 use Rattle.fsl_order.proofs.Orders.{bytes_cmp-IsTotalOrder}
 use Rattle.fsl_table.specs.declared.key.Pair.{Pair}
@@ -15,7 +16,7 @@ use Rattle.fsl_table.specs.Contents.{value_at, with_entry, without_key, first_of
 use Rattle.fsl_table.specs.Pairs.{is_name, seconds}
 use Rattle.fsl_table.proofs.Entries.{none_above, sorted-insert_entry, sorted-remove_entry}
 use Rattle.fsl_table.proofs.Finding.{value-with, value-without}
-use Rattle.fsl_table.proofs.Finds.{Finds, same_finds, or-true}
+use Rattle.fsl_table.proofs.Finds.{Finds, same_finds}
 use Rattle.fsl_table.proofs.Seconds.{has_seconds}
 use Rattle.fsl_cluster.specs.declared.entry.Entry.{Entry}
 use Rattle.fsl_cluster.specs.Kept.{Entries, ArePairs, lists, is_listed, is_named}
@@ -58,7 +59,7 @@ module _ (f : Entry → List (List ℕ)) where
     where
       by : (lists f (value_at bytes_cmp c es) q ≡ true → is_listed f es q ≡ true) → (s : Bool) → lists f (cond s (Some e.1) (value_at bytes_cmp c es)) q ≡ true → (has (f e.1) q || is_listed f es q) ≡ true
       by rest true h = ap (λ x. x || is_listed f es q) h
-      by rest false h = or-true (has (f e.1) q) (is_listed f es q) (rest h)
+      by rest false h = or_right (has (f e.1) q) (is_listed f es q) (rest h)
 
   finds_listed : (es : Entries) → Sorted es → (q : List ℕ) → Finds (is_listed f es q) (λ c. lists f (value_at bytes_cmp c es) q)
   finds_listed es sorted q = record { found = listed_found es sorted q; there = listed_there es q }
@@ -87,7 +88,7 @@ module _ (f : Entry → List (List ℕ)) where
 
     more_there : (q c : List ℕ) (s : Bool) → lists f (cond s (Some v) (value_at bytes_cmp c es)) q ≡ true → (has (f v) q || is_listed f es q) ≡ true
     more_there q c true h = ap (λ x. x || is_listed f es q) h
-    more_there q c false h = or-true (has (f v) q) (is_listed f es q) (listed_there es q c h)
+    more_there q c false h = or_right (has (f v) q) (is_listed f es q) (listed_there es q c h)
 
     pub listed_with : (q : List ℕ) → is_listed f (with_entry bytes_cmp name v es) q ≡ (has (f v) q || is_listed f es q)
     listed_with q =
@@ -133,7 +134,7 @@ module _ (f : Entry → List (List ℕ)) where
     less_there q c true s h =
         ap (λ x. x || is_listed f (without_key bytes_cmp name es) q) (sym (ap (λ o. lists f o q) (ap (λ n. value_at bytes_cmp n es) ((bytes_decides c name).0 s) ∙ there)) ∙ h)
     less_there q c false s h =
-        or-true (has (f v) q) (is_listed f (without_key bytes_cmp name es) q)
+        or_right (has (f v) q) (is_listed f (without_key bytes_cmp name es) q)
         (listed_there (without_key bytes_cmp name es) q c (ap (λ o. lists f o q) (value-without name es sorted c ∙ ap (λ b. cond b None (value_at bytes_cmp c es)) s) ∙ h))
 
     pub listed_less : (q : List ℕ) → is_listed f es q ≡ (has (f v) q || is_listed f (without_key bytes_cmp name es) q)

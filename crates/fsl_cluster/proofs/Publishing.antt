@@ -1,29 +1,19 @@
 -- A fact that becomes public, and is else the same.
-use Rattle.std.proofs.Common.{◌≡◌, ℕ, List, [], ◌∷◌, Bool, true, false, not, ◌&&◌, Option, Some, None, refl, sym, ap, ◌∙◌}
+use Rattle.std.proofs.Common.{◌≡◌, ℕ, List, [], ◌∷◌, true, false, not, ◌&&◌, Option, Some, None, refl, sym, ap, ◌∙◌}
 use mathlib.Core.Bool.{true≢false}
 use Rattle.std.specs.Str.{bytes_eq}
 use Rattle.std.specs.Cmp.Lexicographic.{pointwise, bytes_decides, nat_list_eq_equiv}
+use Rattle.std.proofs.lemmas.Bool.{not-true}
+use Rattle.fsl_order.proofs.Booleans.{first_holds, second_holds}
 use Rattle.fsl_cluster.specs.declared.entry.Entry.{Entry}
 use Rattle.fsl_cluster.specs.Kept.{publishes}
-
-and_left : (a b : Bool) → (a && b) ≡ true → a ≡ true
-and_left true b h = refl
-and_left false b h = h
-
-and_right : (a b : Bool) → (a && b) ≡ true → b ≡ true
-and_right true b h = h
-and_right false b h = absurd (true≢false (sym h))
-
-not_true : (a : Bool) → not a ≡ true → a ≡ false
-not_true true h = absurd (true≢false (sym h))
-not_true false h = refl
 
 names_true : (xs ys : List (List ℕ)) → pointwise bytes_eq xs ys ≡ true → xs ≡ ys
 names_true [] [] h = refl
 names_true [] (y ∷ ys) h = absurd (true≢false (sym h))
 names_true (x ∷ xs) [] h = absurd (true≢false (sym h))
 names_true (x ∷ xs) (y ∷ ys) h =
-    λ i. (bytes_decides x y).0 (and_left (bytes_eq x y) (pointwise bytes_eq xs ys) h) i ∷ names_true xs ys (and_right (bytes_eq x y) (pointwise bytes_eq xs ys) h) i
+    λ i. (bytes_decides x y).0 (first_holds (bytes_eq x y) (pointwise bytes_eq xs ys) h) i ∷ names_true xs ys (second_holds (bytes_eq x y) (pointwise bytes_eq xs ys) h) i
 
 names_itself : (xs : List (List ℕ)) → pointwise bytes_eq xs xs ≡ true
 names_itself [] = refl
@@ -41,15 +31,15 @@ pub record Publishes (o : Option Entry) (w : Entry) : Type 0 where
 pub published : (o : Option Entry) (w : Entry) → publishes o w ≡ true → Publishes o w
 published None w h = absurd (true≢false (sym h))
 published (Some v) w h =
-    let first = and_left (v.private && not w.private) (pointwise bytes_eq v.members w.members && pointwise bytes_eq v.refs w.refs) h in
-    let second = and_right (v.private && not w.private) (pointwise bytes_eq v.members w.members && pointwise bytes_eq v.refs w.refs) h in
+    let first = first_holds (v.private && not w.private) (pointwise bytes_eq v.members w.members && pointwise bytes_eq v.refs w.refs) h in
+    let second = second_holds (v.private && not w.private) (pointwise bytes_eq v.members w.members && pointwise bytes_eq v.refs w.refs) h in
     record {
       entry = v;
       is = refl;
-      was = and_left v.private (not w.private) first;
-      public = not_true w.private (and_right v.private (not w.private) first);
-      members = names_true v.members w.members (and_left (pointwise bytes_eq v.members w.members) (pointwise bytes_eq v.refs w.refs) second);
-      refs = names_true v.refs w.refs (and_right (pointwise bytes_eq v.members w.members) (pointwise bytes_eq v.refs w.refs) second);
+      was = first_holds v.private (not w.private) first;
+      public = not-true w.private (second_holds v.private (not w.private) first);
+      members = names_true v.members w.members (first_holds (pointwise bytes_eq v.members w.members) (pointwise bytes_eq v.refs w.refs) second);
+      refs = names_true v.refs w.refs (second_holds (pointwise bytes_eq v.members w.members) (pointwise bytes_eq v.refs w.refs) second);
     }
 
 -- where it is said

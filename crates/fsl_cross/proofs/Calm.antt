@@ -6,6 +6,7 @@ use Rattle.std.specs.Option.{option_map_or}
 use Rattle.std.specs.Str.{bytes_eq}
 use Rattle.std.specs.Cmp.Lexicographic.{nat_list_eq_equiv}
 use Rattle.std.proofs.lemmas.Map.Made.{length-le_from_is_member}
+use Rattle.std.proofs.lemmas.Bool.{and_parts, not-true, or_right, or_left, or_parts}
 use Rattle.fsl_order.specs.TableState.{TableState, Change}
 use Rattle.fsl_order.specs.Names.{has}
 use Rattle.fsl_order.specs.Rows.{ascending, by_name, named}
@@ -42,7 +43,6 @@ use Rattle.fsl_cross.proofs.Sets.{named-out, mixed-end}
 use Rattle.fsl_cross.proofs.Added.{given-absent, mixed-added, rising-out}
 use Rattle.fsl_cross.proofs.Parents.{primary-same, tags-fit-added}
 use Rattle.fsl_cross.proofs.Gifts.{if_some}
-use Rattle.fsl_cross.proofs.Pushing.{or-false}
 use Rattle.fsl_cross.proofs.Retiring.{told-other}
 use Rattle.fsl_cross.proofs.Unnamed.{tags-own_targets}
 
@@ -53,14 +53,6 @@ has-append (x ∷ xs) ys q = ap (λ b. bytes_eq q x || b) (has-append xs ys q) �
     assoc : (a b c : Bool) → (a || (b || c)) ≡ ((a || b) || c)
     assoc true b c = refl
     assoc false b c = refl
-
-pub and-true : (a b : Bool) → (a && b) ≡ true → (a ≡ true) × (b ≡ true)
-and-true true b e = (refl, e)
-and-true false b e = cc
-
-pub not-true : (b : Bool) → not b ≡ true → b ≡ false
-not-true true e = cc
-not-true false e = refl
 
 pub bits-apart : true ≡ false → ⊥
 bits-apart e = cc
@@ -88,7 +80,7 @@ Calm others name a = ((as_manifest a ≡ None) × (tag_cards a ≡ None)) ⊎ ((
 pub calm-kind : (others : List Item) (name : List ℕ) (a : Artifact) → is_calm others name a ≡ true → Calm others name a
 calm-kind others name kind.Plain e = inl (refl, refl)
 calm-kind others name (kind.Wiki w) e = inl (refl, refl)
-calm-kind others name (kind.Manifest m) e = let parts = and-true (is_unnamed others name) (are_own m.tags) e in inr (m, refl, parts.0, parts.1)
+calm-kind others name (kind.Manifest m) e = let parts = and_parts (is_unnamed others name) (are_own m.tags) e in inr (m, refl, parts.0, parts.1)
 calm-kind others name (kind.Cluster w) e = cc
 calm-kind others name (kind.Control w) e = cc
 calm-kind others name (kind.Ticket w) e = cc
@@ -98,28 +90,20 @@ calm-kind others name (kind.Forum w) e = cc
 
 -- ---- names that a check-in has
 
-or-right : (a b : Bool) → b ≡ true → (a || b) ≡ true
-or-right true b e = refl
-or-right false b e = e
-
-or-left : (a b : Bool) → a ≡ true → (a || b) ≡ true
-or-left true b e = refl
-or-left false b e = cc
-
 module _ (b f p q t : List (List ℕ)) (n : List ℕ) where
   five-apart : has (b ++ f ++ p ++ q ++ t) n ≡ false → (has b n ≡ false) × (has p n ≡ false)
   five-apart whole =
-      let four = or-false (has (b ++ f ++ p ++ q) n) (has t n) (sym (has-append (b ++ f ++ p ++ q) t n) ∙ whole) in
-      let three = or-false (has (b ++ f ++ p) n) (has q n) (sym (has-append (b ++ f ++ p) q n) ∙ four.0) in
-      let two = or-false (has (b ++ f) n) (has p n) (sym (has-append (b ++ f) p n) ∙ three.0) in
-      let one = or-false (has b n) (has f n) (sym (has-append b f n) ∙ two.0) in
+      let four = or_parts (has (b ++ f ++ p ++ q) n) (has t n) (sym (has-append (b ++ f ++ p ++ q) t n) ∙ whole) in
+      let three = or_parts (has (b ++ f ++ p) n) (has q n) (sym (has-append (b ++ f ++ p) q n) ∙ four.0) in
+      let two = or_parts (has (b ++ f) n) (has p n) (sym (has-append (b ++ f) p n) ∙ three.0) in
+      let one = or_parts (has b n) (has f n) (sym (has-append b f n) ∙ two.0) in
       (one.0, two.1)
 
   five-among : has p n ≡ true → has (b ++ f ++ p ++ q ++ t) n ≡ true
   five-among there =
       has-append (b ++ f ++ p ++ q) t n
-      ∙ or-left (has (b ++ f ++ p ++ q) n) (has t n) (has-append (b ++ f ++ p) q n
-      ∙ or-left (has (b ++ f ++ p) n) (has q n) (has-append (b ++ f) p n ∙ or-right (has (b ++ f) n) (has p n) there))
+      ∙ or_left (has (b ++ f ++ p ++ q) n) (has t n) (has-append (b ++ f ++ p) q n
+      ∙ or_left (has (b ++ f ++ p) n) (has q n) (has-append (b ++ f) p n ∙ or_right (has (b ++ f) n) (has p n) there))
 
 module _ (n : List ℕ) where
   abbrev IsApart : Item → Type 0
@@ -127,7 +111,7 @@ module _ (n : List ℕ) where
 
   pub all-apart : (xs : List Item) → list_any (λ (item : Item). has (references item.artifact) n) xs ≡ false → AllByRecursion IsApart xs
   all-apart [] h = tt
-  all-apart (x ∷ xs) h = let parts = or-false (has (references x.artifact) n) _ h in (parts.0, all-apart xs parts.1)
+  all-apart (x ∷ xs) h = let parts = or_parts (has (references x.artifact) n) _ h in (parts.0, all-apart xs parts.1)
 
   manifest-apart : (x : Item) (m : Manifest) → as_manifest x.artifact ≡ Some m → IsApart x → (has (option_to_list m.baseline) n ≡ false) × (has m.parents n ≡ false)
   manifest-apart x m is apart =
@@ -161,11 +145,11 @@ module _ (n : List ℕ) where
   -- .. or as its baseline
   none-some : (o : Option (List ℕ)) → has (option_to_list o) n ≡ false → option_map_or (bytes_eq n) o false ≡ false
   none-some None h = refl
-  none-some (Some b) h = (or-false (bytes_eq n b) false h).0
+  none-some (Some b) h = (or_parts (bytes_eq n b) false h).0
 
   none-first : (ps : List (List ℕ)) → has ps n ≡ false → option_map_or (bytes_eq n) (slice_get ps 0) false ≡ false
   none-first [] h = refl
-  none-first (p ∷ ps) h = (or-false (bytes_eq n p) (has ps n) h).0
+  none-first (p ∷ ps) h = (or_parts (bytes_eq n p) (has ps n) h).0
 
   pub no-follower : (xs : List Item) → AllByRecursion IsApart xs → is_followed (files_facts xs) n ≡ false
   no-follower [] all = refl
@@ -222,7 +206,7 @@ module _ (items : List Item) (rise : Rise items) (x : Item) (at : named item_nam
   tags-more childless =
       sym (mixed-end item_name (λ (f : tags.Fact). f.name) (tags_fact old) (tags_fact items) (tags_own old) (tags_own items) items rise (n ∷ [])
       (λ y found out.
-      let apart : bytes_eq y.name n ≡ false = (or-false (bytes_eq y.name n) false out).0 in
+      let apart : bytes_eq y.name n ≡ false = (or_parts (bytes_eq y.name n) false out).0 in
       ap (λ up. option_map (λ cards. let g : tags.Fact = record { name = y.name; checkin = is_some (as_manifest y.artifact); parent = up; tags = assertions y cards } in g) (tag_cards y.artifact))
       (primary-same items rise x at y.name apart (sym (ap (λ b. not b && is_name (primary (links_facts items) y.name) n) apart) ∙ childless y.name))))
       ∙ mixed-added item_name (λ (f : tags.Fact). f.name) (tags_fact old) (tags_fact items) (tags_own old) (tags_own items) items rise x at
@@ -253,12 +237,12 @@ module _ (items : List Item) (rise : Rise items) (x : Item) (at : named item_nam
 
 all-not : (x : List ℕ) (xs : List (List ℕ)) → list_all (λ y. not (bytes_eq x y)) xs ≡ true → AllByRecursion (λ y. bytes_eq x y ≡ false) xs
 all-not x [] h = tt
-all-not x (y ∷ ys) h = let parts = and-true (not (bytes_eq x y)) _ h in (not-true (bytes_eq x y) parts.0, all-not x ys parts.1)
+all-not x (y ∷ ys) h = let parts = and_parts (not (bytes_eq x y)) _ h in (not-true (bytes_eq x y) parts.0, all-not x ys parts.1)
 
 distinct : (xs : List (List ℕ)) → all_differ xs ≡ true → IsDistinct bytes_eq xs
 unfolding IsDistinct
 distinct [] h = tt
-distinct (x ∷ xs) h = let parts = and-true (list_all (λ y. not (bytes_eq x y)) xs) (all_differ xs) h in (all-not x xs parts.0, distinct xs parts.1)
+distinct (x ∷ xs) h = let parts = and_parts (list_all (λ y. not (bytes_eq x y)) xs) (all_differ xs) h in (all-not x xs parts.0, distinct xs parts.1)
 
 -- names that differ are no more than the list that has them
 pub differ-within : (xs ys : List (List ℕ)) → all_differ xs ≡ true → ((q : List ℕ) → has xs q ≡ true → has ys q ≡ true) → length xs ≤ length ys

@@ -5,9 +5,11 @@ use Rattle.std.specs.List.{AllByRecursion, IsDistinct, cons_option, list_any}
 use Rattle.std.specs.Option.{option_eq, option_map_or}
 use Rattle.std.specs.Str.{bytes_eq}
 use Rattle.std.specs.Cmp.Lexicographic.{bytes_decides, nat_list_eq_equiv}
+use Rattle.std.proofs.lemmas.Bool.{not-true, not-false, or_parts}
 use Rattle.fsl_order.specs.TableState.{TableState, Change}
 use Rattle.fsl_order.specs.Names.{has}
 use Rattle.fsl_order.specs.Rows.{by_name, named, AreDistinct}
+use Rattle.fsl_order.proofs.Booleans.{or_false}
 use Rattle.fsl_name.specs.Name.{IsName}
 use Rattle.fsl_forms.specs.declared.technote.Technote.{Technote}
 use Rattle.fsl_artifact.specs.declared.Artifact.{Artifact}
@@ -39,23 +41,11 @@ use Rattle.fsl_cross.proofs.TableLemmas.{pages-own}
 use Rattle.fsl_cross.proofs.Mapped.{distinct-given, rising-given, named-given}
 use Rattle.fsl_cross.proofs.Sets.{named-out}
 use Rattle.fsl_cross.proofs.Added.{given-added, given-absent, rising-out}
-use Rattle.fsl_cross.proofs.Pushing.{or-false, pushed-before, pushed-out, told-same}
+use Rattle.fsl_cross.proofs.Pushing.{pushed-before, pushed-out, told-same}
 use Rattle.fsl_cross.proofs.Stays.{posts-stay}
 use Rattle.fsl_cross.proofs.Rekinded.{attachment-kept}
 use Rattle.fsl_cross.proofs.Alike.{other-same}
 use Rattle.fsl_cross.proofs.Retiring.{gone-behind, old-shown, told-other}
-
-or-none : (b : Bool) → (b || false) ≡ b
-or-none true = refl
-or-none false = refl
-
-not-true : (b : Bool) → not b ≡ true → b ≡ false
-not-true true e = cc
-not-true false e = refl
-
-not-false : (b : Bool) → not b ≡ false → b ≡ true
-not-false true e = refl
-not-false false e = cc
 
 true-unless : (b : Bool) → (b ≡ false → ⊥) → b ≡ true
 true-unless true never = refl
@@ -80,7 +70,7 @@ module _ {X : Type 0} (name : X → List ℕ) where
   any-named p [] apart q = refl
   any-named p (x ∷ xs) apart q =
       elim (bytes_eq (name x) q) as (λ b. bytes_eq (name x) q ≡ b → ((b && p x) || list_any (λ x. bytes_eq (name x) q && p x) xs) ≡ option_map_or p (cond b (Some x) (named name xs q)) false) [
-        | true ↦ λ t. ap (λ b. p x || b) (subst (λ n. list_any (λ x. bytes_eq (name x) n && p x) xs ≡ false) ((bytes_decides (name x) q).0 t) (none-any p (name x) xs apart.0)) ∙ or-none (p x)
+        | true ↦ λ t. ap (λ b. p x || b) (subst (λ n. list_any (λ x. bytes_eq (name x) n && p x) xs ≡ false) ((bytes_decides (name x) q).0 t) (none-any p (name x) xs apart.0)) ∙ or_false (p x)
         | false ↦ λ t. any-named p xs apart.1 q
       ] refl
 
@@ -173,7 +163,7 @@ pushed-skips test (x ∷ names) done q out =
 
 all-other : (n : List ℕ) (names : List (List ℕ)) → has names n ≡ false → AllByRecursion (λ z. bytes_eq n z ≡ false) names
 all-other n [] h = tt
-all-other n (x ∷ names) h = let parts = or-false (bytes_eq n x) (has names n) h in (parts.0, all-other n names parts.1)
+all-other n (x ∷ names) h = let parts = or_parts (bytes_eq n x) (has names n) h in (parts.0, all-other n names parts.1)
 
 more-distinct : (n : List ℕ) (names : List (List ℕ)) → has names n ≡ false → AreDistinct names → AreDistinct (n ∷ names)
 unfolding IsDistinct

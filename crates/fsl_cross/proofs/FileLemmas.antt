@@ -5,8 +5,8 @@ use Rattle.std.specs.List.{list_all, cons_option}
 use Rattle.std.proofs.lemmas.List.Elements.{All-nil, All-cons, All-head, All-tail}
 use Rattle.fsl_order.specs.Names.{is_before}
 use Rattle.fsl_order.specs.Rows.{rises}
+use Rattle.fsl_order.proofs.Booleans.{first_holds, second_holds}
 use Rattle.fsl_grammar.specs.Forms.{all_differ, is_tag_written}
-use Rattle.fsl_grammar.proofs.Apart.{first_holds, second_holds}
 use Rattle.fsl_manifest.specs.declared.FileCard.{FileCard}
 use Rattle.fsl_manifest.specs.declared.Manifest.{Manifest}
 use Rattle.fsl_manifest.specs.Manifests.{files_rise, has_hashes}

@@ -5,9 +5,11 @@ use Rattle.std.specs.List.{list_any, cons_option}
 use Rattle.std.specs.Option.{option_map_or}
 use Rattle.std.specs.Str.{bytes_eq}
 use Rattle.std.specs.Cmp.Lexicographic.{bytes_decides, nat_list_eq_equiv}
+use Rattle.std.proofs.lemmas.Bool.{or_left, or_right, or_parts}
 use Rattle.fsl_order.specs.Names.{has}
 use Rattle.fsl_order.specs.Rows.{named, greater, greatest}
 use Rattle.fsl_order.proofs.RowLemmas.{is_some-named}
+use Rattle.fsl_order.proofs.Booleans.{second_holds}
 use Rattle.fsl_name.specs.Name.{IsName, name_in, name_text}
 use Rattle.fsl_name.proofs.ReadAgain.{name_from_text}
 use Rattle.fsl_table.specs.Contents.{first_of, entries_after}
@@ -32,7 +34,6 @@ use Rattle.fsl_cross.proofs.FactLemmas.{Rise}
 use Rattle.fsl_cross.proofs.Mapped.{named-given, named-has}
 use Rattle.fsl_cross.proofs.Added.{given-absent}
 use Rattle.fsl_cross.proofs.PairsAdded.{any-added, pair-is}
-use Rattle.fsl_cross.proofs.Pushing.{or-false}
 use Rattle.fsl_cross.proofs.Ids.{same-test, any-text, none-text, tickets-named, notes-named}
 
 some_is : {X : Type 0} {a b : X} → Some a ≡ Some b → a ≡ b
@@ -41,18 +42,6 @@ some_is e = cc
 is_name-some : (o : Option (List ℕ)) (id : List ℕ) → is_name o id ≡ true → o ≡ Some id
 is_name-some None id e = cc
 is_name-some (Some p) id e = ap Some ((bytes_decides p id).0 e)
-
-or-left : (a b : Bool) → a ≡ true → (a || b) ≡ true
-or-left true b e = refl
-or-left false b e = cc
-
-or-right : (a b : Bool) → b ≡ true → (a || b) ≡ true
-or-right true b e = refl
-or-right false b e = e
-
-and-second : (a b : Bool) → (a && b) ≡ true → b ≡ true
-and-second true b e = e
-and-second false b e = cc
 
 -- ---- the names that belong to an id
 
@@ -70,8 +59,8 @@ module _ (id_of : Item → Option (List ℕ)) where
       by None rest h = rest h
       by (Some p) rest h =
           elim (is_pair (pair_of q id) (pair_of x.name p)) as (λ b. is_pair (pair_of q id) (pair_of x.name p) ≡ b → (b || list_any (is_pair (pair_of q id)) (filter_map give xs)) ≡ true → (bytes_eq p id || list_any (λ (y : Item). is_name (id_of y) id) xs) ≡ true) [
-            | true ↦ λ t _. or-left (bytes_eq p id) _ (nat_list_eq_equiv.symm p id ∙ and-second (bytes_eq q x.name) (bytes_eq id p) t)
-            | false ↦ λ _ more. or-right (bytes_eq p id) _ (rest more)
+            | true ↦ λ t _. or_left (bytes_eq p id) _ (nat_list_eq_equiv.symm p id ∙ second_holds (bytes_eq q x.name) (bytes_eq id p) t)
+            | false ↦ λ _ more. or_right (bytes_eq p id) _ (rest more)
           ] refl h
 
   -- .. and where an item has the id, the pair with its name is there
@@ -84,8 +73,8 @@ module _ (id_of : Item → Option (List ℕ)) where
       by None rest h = rest h
       by (Some p) rest h =
           elim (bytes_eq p id) as (λ b. bytes_eq p id ≡ b → (b || list_any (λ (y : Item). is_name (id_of y) id) xs) ≡ true → (q : List ℕ) × (list_any (is_pair (pair_of q id)) (pair_of x.name p ∷ filter_map give xs) ≡ true)) [
-            | true ↦ λ t _. (x.name, or-left (is_pair (pair_of x.name id) (pair_of x.name p)) _ ((λ i. (bytes_decides x.name x.name).1 refl i && bytes_eq id p) ∙ nat_list_eq_equiv.symm id p ∙ t))
-            | false ↦ λ _ more. let found = rest more in (found.0, or-right (is_pair (pair_of found.0 id) (pair_of x.name p)) _ found.1)
+            | true ↦ λ t _. (x.name, or_left (is_pair (pair_of x.name id) (pair_of x.name p)) _ ((λ i. (bytes_decides x.name x.name).1 refl i && bytes_eq id p) ∙ nat_list_eq_equiv.symm id p ∙ t))
+            | false ↦ λ _ more. let found = rest more in (found.0, or_right (is_pair (pair_of found.0 id) (pair_of x.name p)) _ found.1)
           ] refl h
 
   -- a name belongs to the id where an item has it
@@ -98,7 +87,7 @@ module _ (id_of : Item → Option (List ℕ)) where
     where
       forth : (l : List (List ℕ)) → seconds id es ≡ l → is_some (first_of l) ≡ true → list_any (λ (y : Item). is_name (id_of y) id) items ≡ true
       forth [] e h = cc
-      forth (q ∷ qs) e h = any-back id q items (sym (are.there (pair_of q id)) ∙ sym (has_seconds id q es) ∙ ap (λ l. has l q) e ∙ or-left (bytes_eq q q) (has qs q) ((bytes_decides q q).1 refl))
+      forth (q ∷ qs) e h = any-back id q items (sym (are.there (pair_of q id)) ∙ sym (has_seconds id q es) ∙ ap (λ l. has l q) e ∙ or_left (bytes_eq q q) (has qs q) ((bytes_decides q q).1 refl))
 
       back : (l : List (List ℕ)) (q : List ℕ) → has l q ≡ true → is_some (first_of l) ≡ true
       back [] q h = cc
@@ -113,7 +102,7 @@ module _ (id_of : Item → Option (List ℕ)) where
   none-pair : (id q : List ℕ) (ps : List Pair) → has (map pair_name ps) q ≡ false → list_any (is_pair (pair_of q id)) ps ≡ false
   none-pair id q [] h = refl
   none-pair id q (p ∷ ps) h =
-      let parts = or-false (bytes_eq q (pair_name p)) (has (map pair_name ps) q) h in
+      let parts = or_parts (bytes_eq q (pair_name p)) (has (map pair_name ps) q) h in
       λ i. (parts.0 i && bytes_eq id p.first) || none-pair id q ps parts.1 i
 
   -- the pair of an id and a name is there where the item of the name has the id

@@ -7,6 +7,7 @@ use Rattle.std.specs.Str.{bytes_eq}
 use Rattle.std.specs.Cmp.Lexicographic.{nat_list_eq_equiv}
 use Rattle.std.proofs.lemmas.List.Sorted.{list_any-IsPermutation, All-permutation}
 use Rattle.std.proofs.lemmas.List.Elements.{All-cons}
+use Rattle.std.proofs.lemmas.Bool.{or_parts}
 use Rattle.fsl_order.specs.Names.{has}
 use Rattle.fsl_order.specs.Rows.{by_name, named, AreDistinct}
 use Rattle.fsl_order.proofs.MovedLemmas.{IsPermutation-by_name}
@@ -20,12 +21,11 @@ use Rattle.fsl_cross.specs.Tables.{IsItem, without}
 use Rattle.fsl_cross.proofs.Moved.{item_name}
 use Rattle.fsl_cross.proofs.FactLemmas.{Rise}
 use Rattle.fsl_cross.proofs.Mapped.{by_name-given, distinct-given, distinct-rising}
-use Rattle.fsl_cross.proofs.Pushing.{or-false}
 use Rattle.fsl_cross.proofs.Added.{given-added, given-absent, rising-out}
 
 all-apart : (q : List ℕ) (names : List (List ℕ)) → has names q ≡ false → AllByRecursion (λ n. bytes_eq q n ≡ false) names
 all-apart q [] h = tt
-all-apart q (n ∷ names) h = let parts = or-false (bytes_eq q n) (has names q) h in (parts.0, all-apart q names parts.1)
+all-apart q (n ∷ names) h = let parts = or_parts (bytes_eq q n) (has names q) h in (parts.0, all-apart q names parts.1)
 
 -- whether a key is the pair, either way
 pub pair-is : (k : Pair) (id : Option (List ℕ)) (name : List ℕ) → (is_name k.second name && is_name id k.first) ≡ is_pair_of k id name

@@ -6,6 +6,7 @@ use Rattle.std.specs.List.{cons_option}
 use Rattle.std.specs.Str.{bytes_eq}
 use Rattle.std.specs.Cmp.Lexicographic.{bytes_decides, nat_list_eq_equiv}
 use mathlib.Core.Bool.{true≢false}
+use Rattle.std.proofs.lemmas.Bool.{or_parts}
 use Rattle.fsl_order.specs.TableState.{TableState, Change}
 use Rattle.fsl_order.specs.Names.{has}
 use Rattle.fsl_order.specs.Rows.{by_name, named}
@@ -32,7 +33,7 @@ use Rattle.fsl_cross.proofs.Added.{given-added, given-absent, mixed-added, risin
 use Rattle.fsl_cross.proofs.Gifts.{if_some, gift-behind, gift-none}
 use Rattle.fsl_cross.proofs.Going.{goes-put, goes-none}
 use Rattle.fsl_cross.proofs.Late.{primary-other}
-use Rattle.fsl_cross.proofs.Pushing.{or-false, pushed-before, pushed-out, told-same}
+use Rattle.fsl_cross.proofs.Pushing.{pushed-before, pushed-out, told-same}
 
 -- ---- whether a found fact is a check-in's
 
@@ -180,7 +181,7 @@ module _ (items : List Item) (rise : Rise items) (x : Item) (at : named item_nam
     where
       parent_same : (q : List ℕ) → has (pushed (is_child items n) (all_changed us) (n ∷ [])) q ≡ false → primary (links_facts items) q ≡ primary (links_facts old) q
       parent_same q out =
-          let apart : bytes_eq q n ≡ false = (or-false (bytes_eq q n) false (pushed-before (is_child items n) (all_changed us) (n ∷ []) q out)).0 in
+          let apart : bytes_eq q n ≡ false = (or_parts (bytes_eq q n) false (pushed-before (is_child items n) (all_changed us) (n ∷ []) q out)).0 in
           elim (is_name (primary (links_facts items) q) n) as (λ b. is_name (primary (links_facts items) q) n ≡ b → primary (links_facts items) q ≡ primary (links_facts old) q) [
             | true ↦ λ t.
                 let same = told-same links_row first us now lead told q (pushed-out (is_child items n) (all_changed us) (n ∷ []) q out (λ i. not (apart i) && t i)) in

@@ -5,6 +5,7 @@ use Rattle.std.specs.Bool.{MatchBool}
 use Rattle.std.specs.Str.{bytes_eq}
 use Rattle.std.specs.Cmp.Lexicographic.{bytes_decides}
 use Rattle.std.proofs.lemmas.List.{take_more}
+use Rattle.std.proofs.lemmas.Bool.{or_parts}
 use Rattle.fsl_order.specs.TableState.{TableState, Change}
 use Rattle.fsl_order.specs.Names.{has}
 use Rattle.fsl_cross.specs.Mixed.{pushed, all_changed}
@@ -30,17 +31,13 @@ has-append (x ∷ xs) ys q = ap (λ b. bytes_eq q x || b) (has-append xs ys q) �
     assoc true b c = refl
     assoc false b c = refl
 
-pub or-false : (a b : Bool) → (a || b) ≡ false → (a ≡ false) × (b ≡ false)
-or-false false b e = (refl, e)
-or-false true b e = cc
-
 -- what isn't done then wasn't done before ..
 pub pushed-before : (test : List ℕ → Bool) (names done : List (List ℕ)) (q : List ℕ) → has (pushed test names done) q ≡ false → has done q ≡ false
 pushed-before test [] done q e = e
 pushed-before test (x ∷ names) done q e = by (test x) (pushed-before test names (cond (test x) (x ∷ done) done) q e)
   where
     by : (b : Bool) → has (cond b (x ∷ done) done) q ≡ false → has done q ≡ false
-    by true h = (or-false (bytes_eq q x) (has done q) h).1
+    by true h = (or_parts (bytes_eq q x) (has done q) h).1
     by false h = h
 
 -- .. and isn't among the names, or fails the test
@@ -51,7 +48,7 @@ pushed-out test (x ∷ names) done q e t =
       | true ↦ λ same.
           let is : q ≡ x = (bytes_decides q x).0 same in
           let front : (bytes_eq q x || has done q) ≡ false = subst (λ b. has (cond b (x ∷ done) done) q ≡ false) (ap test (sym is) ∙ t) (pushed-before test names (cond (test x) (x ∷ done) done) q e) in
-          sym same ∙ (or-false (bytes_eq q x) (has done q) front).0
+          sym same ∙ (or_parts (bytes_eq q x) (has done q) front).0
       | false ↦ λ _. pushed-out test names (cond (test x) (x ∷ done) done) q e t
     ] refl
 
@@ -62,7 +59,7 @@ pub told-same : {F Row : Type 0} (row : List F → List ℕ → Row) (first : Ta
     → row now.facts q ≡ row first.facts q
 told-same row first [] now lead told q out = ap (λ fs. row fs q) lead.facts
 told-same row first (u ∷ us) now lead told q out =
-    let parts = or-false (has u.changed q) (has (all_changed us) q) (sym (has-append u.changed (all_changed us) q) ∙ out) in
+    let parts = or_parts (has u.changed q) (has (all_changed us) q) (sym (has-append u.changed (all_changed us) q) ∙ out) in
     told-same row u.after us now lead.1 told.1 q parts.1
     ∙ sym (subst (λ b. MatchBool b (row u.before.facts q ≢ row u.after.facts q) (row u.before.facts q ≡ row u.after.facts q)) parts.0 (told.0.differ q))
     ∙ ap (λ fs. row fs q) lead.0.facts

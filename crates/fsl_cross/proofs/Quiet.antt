@@ -6,6 +6,7 @@ use Rattle.std.specs.Str.{bytes_eq}
 use Rattle.fsl_order.specs.TableState.{Change}
 use Rattle.fsl_order.specs.Names.{has}
 use Rattle.fsl_order.specs.Rows.{named}
+use Rattle.fsl_order.proofs.Booleans.{or_true}
 use Rattle.fsl_manifest.specs.declared.Manifest.{Manifest}
 use Rattle.fsl_leaves.specs.declared.Fact as leaves
 use Rattle.fsl_timeline.specs.declared.Row.{Row}
@@ -14,10 +15,6 @@ use Rattle.fsl_cross.specs.Facts.{as_manifest}
 use Rattle.fsl_cross.specs.Checkins.{checkin}
 use Rattle.fsl_cross.specs.Mixed.{is_other_checkin, all_changed}
 use Rattle.fsl_cross.specs.Touches.{NoneOf, Untouched}
-
-or-true : (b : Bool) → (b || true) ≡ true
-or-true true = refl
-or-true false = refl
 
 has-append : (xs ys : List (List ℕ)) (q : List ℕ) → has (xs ++ ys) q ≡ (has xs q || has ys q)
 has-append [] ys q = refl
@@ -32,7 +29,7 @@ pub none-at : {F : Type 0} (test : List ℕ → Bool) (us : List (Change F)) (i 
 none-at test [] i u lt is none = absurd (omega (arith, lt))
 none-at test (v ∷ us) zero u lt is none = λ q h. none q (has-append v.changed (all_changed us) q ∙ ap (λ b. b || has (all_changed us) q) (ap (λ (w : Change _). has w.changed q) (sym is) ∙ h))
 none-at test (v ∷ us) (suc i) u lt is none =
-    none-at test us i u (omega (arith, lt)) is (λ p k. none p (has-append v.changed (all_changed us) p ∙ ap (λ b. has v.changed p || b) k ∙ or-true (has v.changed p)))
+    none-at test us i u (omega (arith, lt)) is (λ p k. none p (has-append v.changed (all_changed us) p ∙ ap (λ b. has v.changed p || b) k ∙ or_true (has v.changed p)))
 
 -- nothing is done, and then nothing again
 pub quiet-on : {U : Type 0} (a b c : ℕ) (us vs ws : List U) → Untouched a b us vs → Untouched b c vs ws → Untouched a c us ws

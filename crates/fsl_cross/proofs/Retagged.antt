@@ -3,6 +3,7 @@ use Rattle.std.proofs.Common.{◌≡◌, ℕ, true, false, ◌&&◌, List, [], �
 use Rattle.std.specs.Prelude.{is_some, option_map, option_and_then, unwrap_or, codes, OnOk, Result}
 use Rattle.std.specs.List.{cons_option}
 use Rattle.std.specs.Str.{bytes_eq}
+use Rattle.std.proofs.lemmas.Bool.{or_parts}
 use Rattle.fsl_order.specs.TableState.{TableState, Change}
 use Rattle.fsl_order.specs.Names.{has}
 use Rattle.fsl_order.specs.Rows.{by_name, named}
@@ -32,7 +33,7 @@ use Rattle.fsl_cross.proofs.Added.{given-absent, mixed-added}
 use Rattle.fsl_cross.proofs.Mapped.{named-has}
 use Rattle.fsl_cross.proofs.Gifts.{behind, if_some, gift-behind, gift-next, gift-there}
 use Rattle.fsl_cross.proofs.Going.{goes-stay, goes-put}
-use Rattle.fsl_cross.proofs.Pushing.{or-false, pushed-before, pushed-out, told-same}
+use Rattle.fsl_cross.proofs.Pushing.{pushed-before, pushed-out, told-same}
 
 -- a check-in, and nothing else, gives a leaf's fact
 leaf_some : (b : List ℕ) (item : Item) → is_some (option_map (λ m. let g : leaves.Fact = record { name = item.name; parents = m.parents; branch = b } in g) (as_manifest item.artifact)) ≡ is_some (as_manifest item.artifact)
@@ -116,7 +117,7 @@ module _ (items : List Item) (rise : Rise items) (x : Item) (at : named item_nam
     -- a check-in that isn't done has the row of tags that it had
     row-kept : (y : Item) (m : Manifest) → named item_name items y.name ≡ Some y → as_manifest y.artifact ≡ Some m → has done y.name ≡ false → tags_row (tags_facts items) y.name ≡ tags_row (tags_facts old) y.name
     row-kept y m found is out =
-        let apart : bytes_eq y.name n ≡ false = (or-false (bytes_eq y.name n) false (pushed-before (is_other_checkin items n) (all_changed us) (n ∷ []) y.name out)).0 in
+        let apart : bytes_eq y.name n ≡ false = (or_parts (bytes_eq y.name n) false (pushed-before (is_other_checkin items n) (all_changed us) (n ∷ []) y.name out)).0 in
         let checks : is_some (checkin items y.name) ≡ true = ap is_some (ap (option_and_then (λ (item : Item). as_manifest item.artifact)) found ∙ is) in
         ap (λ fs. tags_row fs y.name) (sym after)
         ∙ told-same tags_row first us now lead told y.name (pushed-out (is_other_checkin items n) (all_changed us) (n ∷ []) y.name out (λ i. not (apart i) && checks i))

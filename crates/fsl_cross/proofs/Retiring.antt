@@ -9,6 +9,7 @@ use Rattle.std.specs.Ordering.{is_eq}
 use Rattle.std.specs.declared.cmp.Ordering.TheVariants.{Less}
 use Rattle.std.specs.Str.{bytes_eq}
 use Rattle.std.specs.Cmp.Lexicographic.{texts_ties, nat_list_eq_equiv, bytes_decides}
+use Rattle.std.proofs.lemmas.Bool.{not-true}
 use Rattle.fsl_order.specs.TableState.{TableState, Change}
 use Rattle.fsl_order.specs.Names.{bytes_cmp, has}
 use Rattle.fsl_order.specs.Rows.{named}
@@ -90,10 +91,6 @@ others-retired (Ok x) name before after out = λ q apart.
     ∙ ap is_some (named-out row_name name q before ∙ ap (λ b. cond b None (named row_name before q)) (nat_list_eq_equiv.symm name q ∙ apart))
     ∙ is_some-named row_name before q
 others-retired (Err e) name before after out = tt
-
-not-true : (b : Bool) → not b ≡ true → b ≡ false
-not-true true e = cc
-not-true false e = refl
 
 -- an artifact that is so has no row
 pub rowless-none : (items : List Item) (name : List ℕ) (a : Artifact) → is_rowless (pages_facts items) (forum_facts items) name a ≡ true → timeline_row_of items name a ≡ None

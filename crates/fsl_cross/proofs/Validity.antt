@@ -4,6 +4,7 @@ use Rattle.std.specs.Prelude.{◌&&◌, ◌||◌, not, filter_map, is_some, is_n
 use Rattle.std.specs.List.{cons_option, list_any}
 use Rattle.std.specs.Option.{option_eq, option_map_or}
 use Rattle.std.specs.Str.{bytes_eq}
+use Rattle.std.proofs.lemmas.Bool.{not-true, not-false, or_parts}
 use Rattle.fsl_order.specs.TableState.{TableState, Change}
 use Rattle.fsl_order.specs.Names.{has}
 use Rattle.fsl_order.specs.Rows.{by_name, named}
@@ -35,7 +36,7 @@ use Rattle.fsl_cross.proofs.FactLemmas.{Rise}
 use Rattle.fsl_cross.proofs.TableLemmas.{pages-own, ticket-own, forum-own, row-own}
 use Rattle.fsl_cross.proofs.Sets.{mixed-end}
 use Rattle.fsl_cross.proofs.Added.{given-added, given-absent}
-use Rattle.fsl_cross.proofs.Pushing.{or-false, pushed-before, pushed-out, told-same}
+use Rattle.fsl_cross.proofs.Pushing.{pushed-before, pushed-out, told-same}
 use Rattle.fsl_cross.proofs.Retagged.{row-checkin}
 use Rattle.fsl_cross.proofs.Stays.{facts-stay}
 use Rattle.fsl_cross.proofs.Alike.{other-same, tags-stay, gave, gives}
@@ -64,14 +65,6 @@ some-unless (Some x) never = refl
 none-is : {X : Type 0} (o : Option X) → is_some o ≡ false → o ≡ None
 none-is None e = refl
 none-is (Some x) e = cc
-
-not-true : (b : Bool) → not b ≡ true → b ≡ false
-not-true true e = cc
-not-true false e = refl
-
-not-false : (b : Bool) → not b ≡ false → b ≡ true
-not-false true e = refl
-not-false false e = cc
 
 is-some-on : (b : Bool) (r : Row) → b ≡ true → is_some (if b then Some r else None) ≡ true
 is-some-on b r e = ap (λ b. is_some (if b then Some r else None)) e
@@ -144,7 +137,7 @@ module _ (items : List Item) (rise : Rise items) (x : Item) (at : named item_nam
     valid-same law y f found out is = by (has names y.name) refl (is_gone items n y.name) refl
       where
         apart : bytes_eq y.name n ≡ false
-        apart = (or-false (bytes_eq y.name n) false (pushed-before (is_gone items n) names (n ∷ []) y.name out)).0
+        apart = (or_parts (bytes_eq y.name n) false (pushed-before (is_gone items n) names (n ∷ []) y.name out)).0
 
         by : (listed : Bool) → has names y.name ≡ listed → (gone : Bool) → is_gone items n y.name ≡ gone → is_some (place (forum_facts items) y.name) ≡ is_some (place (forum_facts old) y.name)
         by false h gone g = sym (shown-place (forum_facts items) y.name) ∙ ap is_some (unlisted y.name h) ∙ shown-place (forum_facts old) y.name

@@ -3,6 +3,7 @@ use Rattle.std.proofs.Common.{◌≡◌, ◌≤◌, ◌+◌, ◌*◌, ℕ, suc, 
 use Rattle.std.specs.Prelude.{◌&&◌, option_map, option_and_then, slice_get, IfSome}
 use Rattle.std.specs.List.{AllByRecursion, list_any}
 use Rattle.std.specs.Option.{option_map_or}
+use Rattle.std.proofs.lemmas.Bool.{not-true}
 use Rattle.fsl_order.specs.TableState.{TableState, Change}
 use Rattle.fsl_order.specs.Names.{has}
 use Rattle.fsl_order.specs.Rows.{named}
@@ -32,7 +33,7 @@ use Rattle.fsl_cross.proofs.Moved.{item_name}
 use Rattle.fsl_cross.proofs.FactLemmas.{Rise}
 use Rattle.fsl_cross.proofs.Unnamed.{tags_with}
 use Rattle.fsl_cross.proofs.Quiet.{quiet-within}
-use Rattle.fsl_cross.proofs.Calm.{counted-is, parents-within, Calm, calm-kind, manifest-is, all-apart, no-children, no-parent, no-follower, no-child, none-retagged, bits-apart, not-true}
+use Rattle.fsl_cross.proofs.Calm.{counted-is, parents-within, Calm, calm-kind, manifest-is, all-apart, no-children, no-parent, no-follower, no-child, none-retagged, bits-apart}
 
 calm-by : {P : Type 0} (others : List Item) (name : List ℕ) (a : Artifact) → Calm others name a → (as_manifest a ≡ None → tag_cards a ≡ None → P) → ((m : Manifest) → as_manifest a ≡ Some m → is_unnamed others name ≡ true → has_own_tags a ≡ true → P) → P
 calm-by others name a (inl k) none some = none k.0 k.1

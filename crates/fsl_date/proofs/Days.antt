@@ -2,6 +2,7 @@
 use Rattle.std.proofs.Common.{◌≡◌, ℕ, zero, suc, ◌+◌, ◌-◌, ◌<◌, ◌≤◌, true, refl, sym, ap, subst, ◌∙◌, arith, ℤ, pos, negsuc, ◌+ℤ◌, ◌-ℤ◌, ◌≤ℤ◌, unsigned_abs, to_z, of_z, w16, w32, w64}
 use Rattle.std.specs.Prelude.{◌&&◌, nat_le}
 use Rattle.std.proofs.lemmas.Int.{by_lt_z}
+use Rattle.std.proofs.lemmas.Bool.{and_from}
 use Rattle.jiff_core.specs.Calendar.{day_count, days_from_civil, IsCivilDate, IsEpochDay}
 use Rattle.jiff_core.specs.Calendar.{days_of_months as their_days_of_months, days_in_month as their_days_in_month}
 use Rattle.jiff_core.proofs.SignedLemmas.{signed_arith, signed_casts}
@@ -9,7 +10,7 @@ use Rattle.jiff_core.proofs.MarchLemmas.{day_count-early}
 use Rattle.jiff_core.proofs.CalendarLemmas.{day_count-day_of_year, day_count-lt_year, days_from_civil-day_count, day_count_bounds}
 use Rattle.fsl_date.specs.Calendar.{days_of_years, days_of_months, days_in_month, day_number}
 use Rattle.fsl_date.specs.Parts.{is_day}
-use Rattle.fsl_date.proofs.Conditions.{both_hold, le_to}
+use Rattle.fsl_date.proofs.Conditions.{le_to}
 
 -- the days of the months of a year are the same
 pub days_of_months-same : (y n : ℕ) → their_days_of_months (pos y) n ≡ days_of_months y n
@@ -43,10 +44,10 @@ year_from_zero y m d h late =
 pub is_day-from : (y m d : ℕ) → IsCivilDate (pos y) m d → is_day y m d ≡ true
 is_day-from y m d h =
     let year : y ≤ 9999 = omega (arith, signed_arith, h.0.1) in
-    both_hold (nat_le y 9999 && nat_le 1 m && nat_le m 12 && nat_le 1 d) (nat_le d (days_in_month y m))
-    (both_hold (nat_le y 9999 && nat_le 1 m && nat_le m 12) (nat_le 1 d)
-    (both_hold (nat_le y 9999 && nat_le 1 m) (nat_le m 12)
-    (both_hold (nat_le y 9999) (nat_le 1 m) (le_to y 9999 year) (le_to 1 m h.1.0))
+    and_from (nat_le y 9999 && nat_le 1 m && nat_le m 12 && nat_le 1 d) (nat_le d (days_in_month y m))
+    (and_from (nat_le y 9999 && nat_le 1 m && nat_le m 12) (nat_le 1 d)
+    (and_from (nat_le y 9999 && nat_le 1 m) (nat_le m 12)
+    (and_from (nat_le y 9999) (nat_le 1 m) (le_to y 9999 year) (le_to 1 m h.1.0))
     (le_to m 12 h.1.1))
     (le_to 1 d h.2.0))
     (le_to d (days_in_month y m) h.2.1)

@@ -1,13 +1,13 @@
 -- Each moment has a text: each number of a day is that of a day of the calendar, counted up a day at a time.
 use Rattle.std.proofs.Common.{◌≡◌, ℕ, zero, suc, ◌+◌, ◌-◌, ◌/◌, ◌%◌, ◌<◌, ◌≤◌, true, List, inl, inr, refl, arith, pos}
 use Rattle.std.specs.Prelude.{◌&&◌, nat_le}
-use Rattle.std.proofs.lemmas.Bool.{cases_lt}
+use Rattle.std.proofs.lemmas.Bool.{cases_lt, and_from}
 use Rattle.jiff_core.proofs.SignedLemmas.{signed_arith}
 use Rattle.jiff_core.proofs.CalendarLemmas.{days_of_months_all, day_count-next_year}
 use Rattle.fsl_date.specs.Calendar.{days_in_month, days_of_months, days_of_years, day_number}
 use Rattle.fsl_date.specs.Parts.{is_day, is_time, time_ms}
 use Rattle.fsl_date.specs.Moment.{Civil, IsMoment, IsPrinted, millis_text}
-use Rattle.fsl_date.proofs.Conditions.{both_hold, le_to}
+use Rattle.fsl_date.proofs.Conditions.{le_to}
 use Rattle.fsl_date.proofs.Days.{days_of_months-same, day_count-new_year}
 use Rattle.fsl_date.proofs.Printed.{printed_by}
 
@@ -82,19 +82,19 @@ year_in y m d n h small = omega (arith, h.number, small)
 
 is_day-by : (y m d n : ℕ) → IsDay y m d n → y ≤ 9999 → is_day y m d ≡ true
 is_day-by y m d n h year =
-    both_hold (nat_le y 9999 && nat_le 1 m && nat_le m 12 && nat_le 1 d) (nat_le d (days_in_month y m))
-    (both_hold (nat_le y 9999 && nat_le 1 m && nat_le m 12) (nat_le 1 d)
-    (both_hold (nat_le y 9999 && nat_le 1 m) (nat_le m 12)
-    (both_hold (nat_le y 9999) (nat_le 1 m) (le_to y 9999 year) (le_to 1 m h.from_january))
+    and_from (nat_le y 9999 && nat_le 1 m && nat_le m 12 && nat_le 1 d) (nat_le d (days_in_month y m))
+    (and_from (nat_le y 9999 && nat_le 1 m && nat_le m 12) (nat_le 1 d)
+    (and_from (nat_le y 9999 && nat_le 1 m) (nat_le m 12)
+    (and_from (nat_le y 9999) (nat_le 1 m) (le_to y 9999 year) (le_to 1 m h.from_january))
     (le_to m 12 h.to_december))
     (le_to 1 d h.from_first))
     (le_to d (days_in_month y m) h.to_last)
 
 is_time-by : (t : ℕ) → t < 86400000 → is_time (t / 3600000) (t / 60000 % 60) (t / 1000 % 60) (t % 1000) ≡ true
 is_time-by t h =
-    both_hold (nat_le (t / 3600000) 23 && nat_le (t / 60000 % 60) 59 && nat_le (t / 1000 % 60) 59) (nat_le (t % 1000) 999)
-    (both_hold (nat_le (t / 3600000) 23 && nat_le (t / 60000 % 60) 59) (nat_le (t / 1000 % 60) 59)
-    (both_hold (nat_le (t / 3600000) 23) (nat_le (t / 60000 % 60) 59) (le_to (t / 3600000) 23 (omega (arith, h))) (le_to (t / 60000 % 60) 59 (omega arith)))
+    and_from (nat_le (t / 3600000) 23 && nat_le (t / 60000 % 60) 59 && nat_le (t / 1000 % 60) 59) (nat_le (t % 1000) 999)
+    (and_from (nat_le (t / 3600000) 23 && nat_le (t / 60000 % 60) 59) (nat_le (t / 1000 % 60) 59)
+    (and_from (nat_le (t / 3600000) 23) (nat_le (t / 60000 % 60) 59) (le_to (t / 3600000) 23 (omega (arith, h))) (le_to (t / 60000 % 60) 59 (omega arith)))
     (le_to (t / 1000 % 60) 59 (omega arith)))
     (le_to (t % 1000) 999 (omega arith))
 

@@ -1,11 +1,11 @@
 -- The text of a day and a time of day.
 use Rattle.std.proofs.Common.{◌≡◌, ℕ, ◌+◌, ◌*◌, Bool, true, false, List, Some, refl, ◌∙◌, arith, inl}
 use Rattle.std.specs.Prelude.{◌&&◌, nat_le}
+use Rattle.std.proofs.lemmas.Bool.{and_from}
 use Rattle.fsl_date.specs.Calendar.{day_number}
 use Rattle.fsl_date.specs.Parts.{is_day, is_time, time_ms}
 use Rattle.fsl_date.specs.Moment.{Civil, is_civil, civil_ms, date_in, millis_text, IsPrinted}
 use Rattle.fsl_date.proofs.ReadAgain.{read-from_written}
-use Rattle.fsl_date.proofs.Conditions.{both_hold}
 
 and_assoc : (p q r s t : Bool) → (p && q && r && s && t) ≡ (p && (q && r && s && t))
 and_assoc true q r s t = refl
@@ -25,4 +25,4 @@ printed_is_read ms text h = read-from_written text ms (h.0, h.1, h.2, inl h.3)
 -- a day and a time of day, printed
 pub printed_by : (c : Civil) (ms : ℕ) → is_day c.year c.month c.day ≡ true → is_time c.hour c.minute c.second c.milli ≡ true
     → day_number c.year c.month c.day * 86400000 + time_ms c.hour c.minute c.second c.milli ≡ ms → (text : List ℕ) → text ≡ millis_text c → IsPrinted ms text
-printed_by c ms hd ht e text same = (c, is_civil-parts c ∙ both_hold (is_day c.year c.month c.day) (is_time c.hour c.minute c.second c.milli) hd ht, civil_ms-parts c ∙ e, same)
+printed_by c ms hd ht e text same = (c, is_civil-parts c ∙ and_from (is_day c.year c.month c.day) (is_time c.hour c.minute c.second c.milli) hd ht, civil_ms-parts c ∙ e, same)

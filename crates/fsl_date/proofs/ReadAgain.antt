@@ -1,10 +1,11 @@
 -- A date that is written is read again.
 use Rattle.std.proofs.Common.{◌≡◌, ℕ, ◌+◌, ◌/◌, ◌%◌, ◌≤◌, Bool, true, false, cond, eqb, List, Some, refl, sym, ap, subst, ◌∙◌, arith, inl, inr}
 use Rattle.std.specs.Prelude.{◌⊎◌, nat_le}
+use Rattle.fsl_order.proofs.Booleans.{first_holds, second_holds}
 use Rattle.fsl_text.specs.Decimals.{is_decimal_digit, decimal_value}
 use Rattle.fsl_date.specs.Calendar.{days_in_month}
 use Rattle.fsl_date.specs.Moment.{Civil, is_civil, civil_ms, date_in, civil_in, has_date_shape, two_digits, three_digits, four_digits, seconds_text, millis_text, IsDateText}
-use Rattle.fsl_date.proofs.Conditions.{first_holds, second_holds, le_from}
+use Rattle.fsl_date.proofs.Conditions.{le_from}
 
 digit : (n : ℕ) → n ≤ 9 → is_decimal_digit (48 + n) ≡ true
 digit n h = grind arith

@@ -2,10 +2,10 @@
 use Rattle.std.proofs.Common.{◌≡◌, ℕ, ◌+◌, ◌-◌, ◌*◌, ◌/◌, ◌%◌, ◌≤◌, Bool, true, false, cond, List, [], ◌∷◌, ◌++◌, Option, Some, None, refl, sym, arith, inl, inr}
 use Rattle.std.specs.Prelude.{◌&&◌, ◌⊎◌, codes, nat_le}
 use Rattle.std.specs.Cmp.Lexicographic.{pointwise}
-use Rattle.std.proofs.lemmas.Bool.{eqb-true}
+use Rattle.std.proofs.lemmas.Bool.{eqb-true, or_cases}
+use Rattle.fsl_order.proofs.Booleans.{first_holds, second_holds}
 use Rattle.fsl_text.specs.Decimals.{is_decimal_digit, decimal_value}
 use Rattle.fsl_date.specs.Moment.{is_civil, civil_ms, date_in, civil_in, fits_place, has_date_shape, two_digits, three_digits, four_digits, seconds_text, millis_text, IsDateText}
-use Rattle.fsl_date.proofs.Conditions.{first_holds, second_holds, or_holds}
 
 -- a digit is 48 and a number up to 9
 pub record IsDigit (b : ℕ) : Type 0 where
@@ -176,7 +176,7 @@ written-from_read text ms e =
     let g = given_is (has_date_shape text && is_civil (civil_in text)) (civil_ms (civil_in text)) ms e in
     let shape = first_holds (has_date_shape text) (is_civil (civil_in text)) g.0 in
     let civil = second_holds (has_date_shape text) (is_civil (civil_in text)) g.0 in
-    (civil_in text, civil, g.1, by (or_holds (pointwise fits_place (codes "9999-99-99T99:99:99") text) (pointwise fits_place (codes "9999-99-99T99:99:99.999") text) shape))
+    (civil_in text, civil, g.1, by (or_cases (pointwise fits_place (codes "9999-99-99T99:99:99") text) (pointwise fits_place (codes "9999-99-99T99:99:99.999") text) shape))
   where
     by : ((pointwise fits_place (codes "9999-99-99T99:99:99") text ≡ true) ⊎ (pointwise fits_place (codes "9999-99-99T99:99:99.999") text ≡ true)) → (text ≡ millis_text (civil_in text)) ⊎ (((civil_in text).milli ≡ 0) × (text ≡ seconds_text (civil_in text)))
     by (inl h) = inr (no_millis text h, seconds_only text h)

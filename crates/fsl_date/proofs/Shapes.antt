@@ -5,10 +5,11 @@ use Rattle.std.specs.List.{list_all, zip}
 use Rattle.std.proofs.lemmas.List.{take-append-le, drop-append-le, drop_all}
 use Rattle.std.proofs.Math.Seq.{drop-append-add}
 use Rattle.std.specs.Cmp.Lexicographic.{pointwise}
+use Rattle.std.proofs.lemmas.Bool.{and_from, or_cases}
+use Rattle.fsl_order.proofs.Booleans.{first_holds, second_holds}
 use Rattle.fsl_text.specs.Decimals.{is_decimal_digit, decimal_value}
 use Rattle.fsl_date.specs.Moment.{fits_place, has_date_shape, civil_in, is_civil, civil_ms, date_in}
 use Rattle.fsl_date.proofs.ReadOnly.{no_millis}
-use Rattle.fsl_date.proofs.Conditions.{first_holds, second_holds, both_hold, or_holds}
 
 module _ (f : ℕ → ℕ → Bool) where
   pub pointwise-zip : (xs ys : List ℕ) → length ys ≡ length xs → pointwise f xs ys ≡ list_all (λ p. f p.0 p.1) (zip xs ys)
@@ -41,7 +42,7 @@ module _ (f : ℕ → ℕ → Bool) where
   pointwise-take (suc n) [] (y ∷ ys) h = absurd cc
   pointwise-take (suc n) (x ∷ xs) [] h = absurd cc
   pointwise-take (suc n) (x ∷ xs) (y ∷ ys) h =
-      both_hold (f x y) (pointwise f (take n xs) (take n ys)) (first_holds (f x y) (pointwise f xs ys) h) (pointwise-take n xs ys (second_holds (f x y) (pointwise f xs ys) h))
+      and_from (f x y) (pointwise f (take n xs) (take n ys)) (first_holds (f x y) (pointwise f xs ys) h) (pointwise-take n xs ys (second_holds (f x y) (pointwise f xs ys) h))
 
   -- a part of the text fits the same part of the shape
   pub pointwise-range : (xs ys : List ℕ) (from to : ℕ) → pointwise f xs ys ≡ true → pointwise f (slice_range xs from to) (slice_range ys from to) ≡ true
@@ -57,7 +58,7 @@ nines-digits zero [] h = refl
 nines-digits zero (b ∷ text) h = absurd cc
 nines-digits (suc n) [] h = absurd cc
 nines-digits (suc n) (b ∷ text) h =
-    both_hold (is_decimal_digit b) (list_all is_decimal_digit text)
+    and_from (is_decimal_digit b) (list_all is_decimal_digit text)
     (first_holds (is_decimal_digit b) (pointwise fits_place (nines n) text) h) (nines-digits n text (second_holds (is_decimal_digit b) (pointwise fits_place (nines n) text) h))
 
 -- nines of both shapes stand for digits
@@ -65,7 +66,7 @@ pub digits_at : (text : List ℕ) (from to n : ℕ) → has_date_shape text ≡ 
     → slice_range (codes "9999-99-99T99:99:99") from to ≡ nines n → slice_range (codes "9999-99-99T99:99:99.999") from to ≡ nines n
     → list_all is_decimal_digit (slice_range text from to) ≡ true
 digits_at text from to n h short long =
-    elim (or_holds (pointwise fits_place (codes "9999-99-99T99:99:99") text) (pointwise fits_place (codes "9999-99-99T99:99:99.999") text) h) [
+    elim (or_cases (pointwise fits_place (codes "9999-99-99T99:99:99") text) (pointwise fits_place (codes "9999-99-99T99:99:99.999") text) h) [
       | inl s ↦ nines-digits n (slice_range text from to) (subst (λ (shape : List ℕ). pointwise fits_place shape (slice_range text from to) ≡ true) short (pointwise-range fits_place _ text from to s))
       | inr l ↦ nines-digits n (slice_range text from to) (subst (λ (shape : List ℕ). pointwise fits_place shape (slice_range text from to) ≡ true) long (pointwise-range fits_place _ text from to l))
     ]
@@ -73,7 +74,7 @@ digits_at text from to n h short long =
 -- a text that is not as long as the second shape says no milliseconds
 pub no_fraction : (text : List ℕ) → has_date_shape text ≡ true → (length text ≡ 23 → ⊥) → (civil_in text).milli ≡ 0
 no_fraction text h other =
-    elim (or_holds (pointwise fits_place (codes "9999-99-99T99:99:99") text) (pointwise fits_place (codes "9999-99-99T99:99:99.999") text) h) [
+    elim (or_cases (pointwise fits_place (codes "9999-99-99T99:99:99") text) (pointwise fits_place (codes "9999-99-99T99:99:99.999") text) h) [
       | inl s ↦ no_millis text s
       | inr l ↦ absurd (no (sym l ∙ pointwise-other fits_place (codes "9999-99-99T99:99:99.999") text other))
     ]

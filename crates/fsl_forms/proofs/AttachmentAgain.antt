@@ -3,6 +3,8 @@ use Rattle.std.proofs.Common.{◌≡◌, ℕ, true, not, List, [], ◌∷◌, �
 use Rattle.std.specs.Prelude.{◌&&◌, option_to_list}
 use Rattle.std.specs.List.{list_all, AllByRecursion}
 use Rattle.std.proofs.lemmas.List.{append-nil}
+use Rattle.std.proofs.lemmas.Bool.{and_from}
+use Rattle.fsl_order.proofs.Booleans.{first_holds, second_holds}
 use Rattle.fsl_text.specs.Bytes.{is_empty}
 use Rattle.fsl_text.specs.Escapes.{escape}
 use Rattle.fsl_text.proofs.Unescaping.{unescape-escape}
@@ -14,8 +16,7 @@ use Rattle.fsl_card.specs.Cards.{IsTextOf, is_argument}
 use Rattle.fsl_grammar.specs.Letters.{attachment_letters}
 use Rattle.fsl_grammar.specs.Forms.{date_form, is_filled, text_form, user_form}
 use Rattle.fsl_grammar.specs.Writing.{card, card_if, written_if}
-use Rattle.fsl_grammar.proofs.Apart.{first_holds, second_holds}
-use Rattle.fsl_grammar.proofs.WrittenArguments.{both_hold, is_argument-date, is_argument-escape, is_argument-name}
+use Rattle.fsl_grammar.proofs.WrittenArguments.{is_argument-date, is_argument-escape, is_argument-name}
 use Rattle.fsl_grammar.proofs.Blocks.{AreBlocks, at_most_one_if, one_block, single_block}
 use Rattle.fsl_grammar.proofs.FormsAgain.{date_again}
 use Rattle.fsl_grammar.proofs.BlockLemmas.{by_form, letters_are, one_read, text_block, text_is, text_read, user_read}
@@ -39,7 +40,7 @@ attached_again file target (Some name) h = rw (name_again name h.0, unescape-esc
 
 source_argument : (source : Option (List ℕ)) → AllByRecursion IsName (option_to_list source) → list_all is_argument (written_if name_text source) ≡ true
 source_argument None h = refl
-source_argument (Some name) h = both_hold _ _ (is_argument-name name h.0) refl
+source_argument (Some name) h = and_from _ _ (is_argument-name name h.0) refl
 
 module _ (a : Attachment) (named : AllByRecursion IsName (option_to_list a.source)) (moment : IsMoment a.date) (w : is_attachment_well_formed a ≡ true) where
   w3 : (not (is_empty a.file) && not (is_empty a.target) && is_filled a.comment && is_filled a.mime) ≡ true
@@ -53,8 +54,8 @@ module _ (a : Attachment) (named : AllByRecursion IsName (option_to_list a.sourc
 
   arguments_fit : list_all is_argument (escape a.file ∷ escape a.target ∷ written_if name_text a.source) ≡ true
   arguments_fit =
-      both_hold _ _ (is_argument-escape a.file (first_holds _ (not (is_empty a.target)) w1))
-      (both_hold _ _ (is_argument-escape a.target (second_holds (not (is_empty a.file)) _ w1)) (source_argument a.source named))
+      and_from _ _ (is_argument-escape a.file (first_holds _ (not (is_empty a.target)) w1))
+      (and_from _ _ (is_argument-escape a.target (second_holds (not (is_empty a.file)) _ w1)) (source_argument a.source named))
 
   are_blocks : AreBlocks (blocks a)
   are_blocks = (
@@ -79,7 +80,7 @@ module _ (a : Attachment) (named : AllByRecursion IsName (option_to_list a.sourc
       text_is (blocks a) b IsAttachment a text (attachment_cards a) refl same made (record {
         letters = letters_are (blocks a) b attachment_letters (record {
           once = refl;
-          optional = both_hold _ _ (at_most_one_if 67 escape a.comment) (both_hold _ _ (at_most_one_if 78 escape a.mime) (both_hold _ _ (at_most_one_if 85 escape a.user) refl));
+          optional = and_from _ _ (at_most_one_if 67 escape a.comment) (and_from _ _ (at_most_one_if 78 escape a.mime) (and_from _ _ (at_most_one_if 85 escape a.user) refl));
           some = refl;
           known = refl;
         });

@@ -8,8 +8,7 @@ use Rattle.fsl_card.specs.Cards.{IsTextOf, in_order}
 use Rattle.fsl_grammar.specs.Letters.{cluster_letters}
 use Rattle.fsl_grammar.specs.Forms.{hash_form}
 use Rattle.fsl_grammar.specs.Writing.{card}
-use Rattle.fsl_grammar.proofs.Apart.{first_holds, second_holds}
-use Rattle.fsl_grammar.proofs.WrittenArguments.{both_hold, is_argument-name}
+use Rattle.fsl_grammar.proofs.WrittenArguments.{is_argument-name}
 use Rattle.fsl_grammar.proofs.Blocks.{AreBlocks, block_each, plain_card}
 use Rattle.fsl_grammar.proofs.FormsAgain.{hash_again, read_each}
 use Rattle.fsl_grammar.proofs.BlockLemmas.{by_form, letters_are, some_cards, text_is}
@@ -18,7 +17,9 @@ use Rattle.fsl_forms.specs.Kinds.{IsCluster}
 use Rattle.fsl_forms.specs.WellFormed.{is_cluster_well_formed}
 use Rattle.fsl_forms.specs.Writing.{IsClusterText, cluster_cards}
 use Rattle.std.proofs.lemmas.List.{append-nil}
+use Rattle.std.proofs.lemmas.Bool.{and_from}
 use Rattle.fsl_order.specs.Rows.{rises}
+use Rattle.fsl_order.proofs.Booleans.{first_holds, second_holds}
 use Rattle.fsl_forms.proofs.NameOrder.{digits_before}
 
 abbrev member : List ℕ → Card
@@ -28,7 +29,7 @@ members_ordered : (names : List (List ℕ)) → AllByRecursion IsName names → 
 members_ordered [] h k = refl
 members_ordered (a ∷ []) h k = refl
 members_ordered (a ∷ b ∷ names) h k =
-    both_hold _ _ (digits_before a b (h.0).1 (h.1.0).1 (first_holds _ (rises (b ∷ names)) k)) (members_ordered (b ∷ names) h.1 (second_holds _ (rises (b ∷ names)) k))
+    and_from _ _ (digits_before a b (h.0).1 (h.1.0).1 (first_holds _ (rises (b ∷ names)) k)) (members_ordered (b ∷ names) h.1 (second_holds _ (rises (b ∷ names)) k))
 
 -- the cards before the Z card
 abbrev blocks : Cluster → List (ℕ × List Card)
@@ -37,7 +38,7 @@ blocks c = (77, map member c.members) ∷ []
 module _ (c : Cluster) (named : AllByRecursion IsName c.members) (w : is_cluster_well_formed c ≡ true) where
   are_blocks : AreBlocks (blocks c)
   are_blocks = (
-    block_each 77 member IsName (λ name. refl) (λ name h. plain_card 77 (name_text name ∷ []) refl (both_hold _ _ (is_argument-name name h) refl)) c.members named
+    block_each 77 member IsName (λ name. refl) (λ name h. plain_card 77 (name_text name ∷ []) refl (and_from _ _ (is_argument-name name h) refl)) c.members named
         (members_ordered c.members named (second_holds (not (is_empty c.members)) _ w)),
     tt,
   )
@@ -48,7 +49,7 @@ module _ (c : Cluster) (named : AllByRecursion IsName c.members) (w : is_cluster
         letters = letters_are (blocks c) are_blocks cluster_letters (record {
           once = refl;
           optional = refl;
-          some = both_hold _ _ (some_cards member c.members (first_holds _ (rises c.members) w)) refl;
+          some = and_from _ _ (some_cards member c.members (first_holds _ (rises c.members) w)) refl;
           known = refl;
         });
         members = by_form (blocks c) are_blocks 77 hash_form _ (read_each member hash_form IsName (λ name h. hash_again name h) c.members named);

@@ -2,6 +2,8 @@
 use Rattle.std.proofs.Common.{◌≡◌, ℕ, true, not, List, [], ◌∷◌, map, refl}
 use Rattle.std.specs.Prelude.{◌&&◌, option_to_list}
 use Rattle.std.specs.List.{list_all, AllByRecursion}
+use Rattle.std.proofs.lemmas.Bool.{and_from}
+use Rattle.fsl_order.proofs.Booleans.{first_holds, second_holds}
 use Rattle.fsl_text.specs.Bytes.{is_empty}
 use Rattle.fsl_text.specs.Escapes.{escape}
 use Rattle.fsl_name.specs.Name.{IsName}
@@ -11,8 +13,7 @@ use Rattle.fsl_card.specs.Cards.{IsTextOf}
 use Rattle.fsl_grammar.specs.Letters.{control_letters}
 use Rattle.fsl_grammar.specs.Forms.{date_form, is_tag_written, tag_form, user_form}
 use Rattle.fsl_grammar.specs.Writing.{card, tag_card}
-use Rattle.fsl_grammar.proofs.Apart.{first_holds, second_holds}
-use Rattle.fsl_grammar.proofs.WrittenArguments.{both_hold, is_argument-date, is_argument-escape}
+use Rattle.fsl_grammar.proofs.WrittenArguments.{is_argument-date, is_argument-escape}
 use Rattle.fsl_grammar.proofs.Blocks.{AreBlocks, single_block}
 use Rattle.fsl_grammar.proofs.FormsAgain.{IsTagFit, date_again, read_each, tag_again, tags_block, tags_fit, user_again}
 use Rattle.fsl_grammar.proofs.BlockLemmas.{by_form, letters_are, one_read, some_cards, text_is}
@@ -47,7 +48,7 @@ module _ (c : Control) (named : AllByRecursion (λ t. AllByRecursion IsName (opt
         letters = letters_are (blocks c) b control_letters (record {
           once = refl;
           optional = refl;
-          some = both_hold _ _ (some_cards tag_card c.tags (first_holds _ (list_all is_tag_written c.tags) begin)) refl;
+          some = and_from _ _ (some_cards tag_card c.tags (first_holds _ (list_all is_tag_written c.tags) begin)) refl;
           known = refl;
         });
         date = by_form (blocks c) b 68 date_form _ (one_read date_form (date ∷ []) c.date (date_again c.date moment));

@@ -2,16 +2,16 @@
 use Rattle.std.proofs.Common.{◌≡◌, ℕ, true, not, List, [], ◌∷◌, Option, refl}
 use Rattle.std.specs.Prelude.{◌&&◌, ◌==◌, ◌++◌, nat_le, option_to_list, IsTrue}
 use Rattle.std.specs.List.{list_all, list_any, AllByRecursion}
+use Rattle.std.proofs.lemmas.Bool.{and_from}
+use Rattle.fsl_order.proofs.Booleans.{first_holds, second_holds}
 use Rattle.fsl_text.specs.Bytes.{is_empty}
 use Rattle.fsl_card.specs.declared.types.Card.{Card}
 use Rattle.fsl_card.specs.Cards.{IsCard, are_field_arguments, in_order, is_argument}
 use Rattle.fsl_grammar.specs.declared.TagCard.{TagCard}
 use Rattle.fsl_grammar.specs.Letters.{Letters, cluster_letters, control_letters, has_letters, letter_count, ticket_letters}
 use Rattle.fsl_grammar.specs.Forms.{HasAtMostOne, HasEach, HasOne, arguments, hash_form, is_filled, is_tag_written, tag_form, text_form, user_form}
-use Rattle.fsl_grammar.proofs.Apart.{first_holds, second_holds}
 use Rattle.fsl_grammar.proofs.LetterOrder.{all_of_it, kept_in_order, of_it}
 use Rattle.fsl_grammar.proofs.ReadValues.{all_true, each_given, filled, fit_arguments, optional_filled, some_given, tag_read, text_filled, user_filled}
-use Rattle.fsl_grammar.proofs.WrittenArguments.{both_hold}
 use Rattle.fsl_forms.specs.declared.attachment.Attachment.{Attachment}
 use Rattle.fsl_forms.specs.declared.cluster.Cluster.{Cluster}
 use Rattle.fsl_forms.specs.declared.control.Control.{Control}
@@ -56,30 +56,30 @@ module _ (cards : List Card) (each : AllByRecursion IsCard cards) where
 
   pub control_written : (c : Control) → IsControl cards c → is_control_well_formed c ≡ true
   control_written c h =
-      both_hold _ _ (both_hold _ _ (both_hold _ _ (some_given cards 84 tag_form c.tags (some_of control_letters 84 cards refl h.letters) h.tags) (tags_written c.tags h.tags)) h.targets) (one_user c.user h.user)
+      and_from _ _ (and_from _ _ (and_from _ _ (some_given cards 84 tag_form c.tags (some_of control_letters 84 cards refl h.letters) h.tags) (tags_written c.tags h.tags)) h.targets) (one_user c.user h.user)
 
   pub wiki_written : (w : Wiki) → IsWiki cards w → is_wiki_well_formed w ≡ true
-  wiki_written w h = both_hold _ _ (both_hold _ _ (both_hold _ _ (both_hold _ _ (comment w.comment h.comment) (one_text w.title h.title)) (mime w.mime h.mime)) h.parents.differ) (one_user w.user h.user)
+  wiki_written w h = and_from _ _ (and_from _ _ (and_from _ _ (and_from _ _ (comment w.comment h.comment) (one_text w.title h.title)) (mime w.mime h.mime)) h.parents.differ) (one_user w.user h.user)
 
   pub technote_written : (n : Technote) → IsTechnote cards n → is_technote_well_formed n ≡ true
   technote_written n h =
-      both_hold _ _ (both_hold _ _ (both_hold _ _ (both_hold _ _ (both_hold _ _ (comment n.comment h.comment) (mime n.mime h.mime)) h.parents.differ) (tags_written n.tags h.tags)) h.own) (optional_user n.user h.user)
+      and_from _ _ (and_from _ _ (and_from _ _ (and_from _ _ (and_from _ _ (comment n.comment h.comment) (mime n.mime h.mime)) h.parents.differ) (tags_written n.tags h.tags)) h.own) (optional_user n.user h.user)
 
   pub forum_written : (f : Forum) → IsForum cards f → is_forum_well_formed f ≡ true
-  forum_written f h = both_hold _ _ (both_hold _ _ (both_hold _ _ (optional_text 72 f.title (fit_arguments cards 72 each) h.title) (mime f.mime h.mime)) (one_user f.user h.user)) h.place
+  forum_written f h = and_from _ _ (and_from _ _ (and_from _ _ (optional_text 72 f.title (fit_arguments cards 72 each) h.title) (mime f.mime h.mime)) (one_user f.user h.user)) h.place
 
   pub ticket_written : (t : Ticket) → IsTicket cards t → is_ticket_well_formed t ≡ true
   ticket_written t h =
       let changes = each_given (λ args. are_field_arguments args ≡ true) change_form (λ c. is_change_written c ≡ true) change_read (arguments cards 74) t.changes (fit_arguments cards 74 each) h.changes in
-      both_hold _ _ (both_hold _ _ (some_given cards 74 change_form t.changes (some_of ticket_letters 74 cards refl h.letters) h.changes) (all_true is_change_written t.changes changes)) (one_user t.user h.user)
+      and_from _ _ (and_from _ _ (some_given cards 74 change_form t.changes (some_of ticket_letters 74 cards refl h.letters) h.changes) (all_true is_change_written t.changes changes)) (one_user t.user h.user)
 
   pub attachment_written : (a : Attachment) → IsAttachment cards a → is_attachment_well_formed a ≡ true
   attachment_written a h =
       let attached : Attached = record { file = a.file; target = a.target; source = a.source } in
       let named = each_given (λ args. list_all is_argument args ≡ true) attached_form (λ r. (not (is_empty r.file) && not (is_empty r.target)) ≡ true) attached_read (arguments cards 65) (attached ∷ []) (fit_arguments cards 65 each) h.attached in
-      both_hold _ _ (both_hold _ _ (both_hold _ _ named.0 (comment a.comment h.comment)) (mime a.mime h.mime)) (optional_user a.user h.user)
+      and_from _ _ (and_from _ _ (and_from _ _ named.0 (comment a.comment h.comment)) (mime a.mime h.mime)) (optional_user a.user h.user)
 
   pub cluster_written : (c : Cluster) → IsTrue (in_order cards) → IsCluster cards c → is_cluster_well_formed c ≡ true
   cluster_written c ordered h =
-      both_hold _ _ (some_given cards 77 hash_form c.members (some_of cluster_letters 77 cards refl h.letters) h.members)
+      and_from _ _ (some_given cards 77 hash_form c.members (some_of cluster_letters 77 cards refl h.letters) h.members)
       (rises_from (of_it 77 cards) c.members (all_of_it 77 cards) (kept_in_order 77 cards ordered) h.members)

@@ -2,6 +2,8 @@
 use Rattle.std.proofs.Common.{◌≡◌, ℕ, ◌^◌, ◌<◌, true, not, List, [], ◌∷◌, ◌++◌, length, refl, append_assoc}
 use Rattle.std.specs.Prelude.{◌&&◌, option_to_list}
 use Rattle.std.specs.List.{AllByRecursion}
+use Rattle.std.proofs.lemmas.Bool.{and_from}
+use Rattle.fsl_order.proofs.Booleans.{first_holds, second_holds}
 use Rattle.fsl_text.specs.Bytes.{is_empty}
 use Rattle.fsl_text.specs.Escapes.{escape}
 use Rattle.fsl_name.specs.Name.{IsName, name_text}
@@ -11,8 +13,7 @@ use Rattle.fsl_card.specs.Cards.{IsTextOf}
 use Rattle.fsl_grammar.specs.Letters.{forum_letters}
 use Rattle.fsl_grammar.specs.Forms.{date_form, hash_form, is_filled, text_form, user_form}
 use Rattle.fsl_grammar.specs.Writing.{body_card, card, card_if}
-use Rattle.fsl_grammar.proofs.Apart.{first_holds, second_holds}
-use Rattle.fsl_grammar.proofs.WrittenArguments.{both_hold, is_argument-date, is_argument-escape}
+use Rattle.fsl_grammar.proofs.WrittenArguments.{is_argument-date, is_argument-escape}
 use Rattle.fsl_grammar.proofs.Blocks.{AreBlocks, at_most_one_if, single_block}
 use Rattle.fsl_grammar.proofs.FormsAgain.{date_again, user_again}
 use Rattle.fsl_grammar.proofs.BlockLemmas.{body_again, body_block, by_form, letters_are, name_block, name_read, no_bodies-if, one_read, text_block, text_is, text_read}
@@ -73,7 +74,7 @@ module _ (f : Forum) (root : AllByRecursion IsName (option_to_list f.root)) (rep
       text_is (blocks f) b IsForum f text (forum_cards f) refl same made (record {
         letters = letters_are (blocks f) b forum_letters (record {
           once = refl;
-          optional = both_hold _ _ (at_most_one_if 71 name_text f.root) (both_hold _ _ (at_most_one_if 72 escape f.title) (both_hold _ _ (at_most_one_if 73 name_text f.reply) (both_hold _ _ (at_most_one_if 78 escape f.mime) (both_hold _ _ (at_most_one_if 80 name_text f.prior) refl))));
+          optional = and_from _ _ (at_most_one_if 71 name_text f.root) (and_from _ _ (at_most_one_if 72 escape f.title) (and_from _ _ (at_most_one_if 73 name_text f.reply) (and_from _ _ (at_most_one_if 78 escape f.mime) (and_from _ _ (at_most_one_if 80 name_text f.prior) refl))));
           some = refl;
           known = refl;
         });

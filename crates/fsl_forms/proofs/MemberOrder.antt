@@ -5,17 +5,16 @@ use Rattle.std.specs.List.{AllByRecursion}
 use Rattle.std.specs.declared.cmp.Ordering.{Ordering}
 use Rattle.std.specs.declared.cmp.Ordering.TheVariants.{Less, Equal, Greater}
 use Rattle.std.specs.Ordering.{is_lt, ordering_reverse}
-use Rattle.std.proofs.lemmas.Bool.{false≢true}
+use Rattle.std.proofs.lemmas.Bool.{false≢true, and_from}
 use Rattle.fsl_order.specs.Names.{bytes_cmp, is_before}
 use Rattle.fsl_order.specs.Rows.{rises}
 use Rattle.fsl_order.proofs.Orders.{bytes_cmp-IsAntisymmetric, bytes_cmp-IsTotalOrder}
+use Rattle.fsl_order.proofs.Booleans.{first_holds, second_holds}
 use Rattle.fsl_name.specs.Name.{IsName, name_text}
 use Rattle.fsl_name.proofs.ReadAgain.{name_from_text}
 use Rattle.fsl_card.specs.declared.types.Card.{Card}
 use Rattle.fsl_card.specs.Cards.{first_argument, first_of, in_order, may_follow, may_repeat}
 use Rattle.fsl_grammar.specs.Forms.{hash_form}
-use Rattle.fsl_grammar.proofs.Apart.{first_holds, second_holds}
-use Rattle.fsl_grammar.proofs.WrittenArguments.{both_hold}
 use Rattle.fsl_forms.proofs.NameOrder.{digits_before}
 
 -- ---- names by their digits
@@ -78,7 +77,7 @@ rises_from (a ∷ b ∷ cards) (x ∷ y ∷ names) letters h e =
     let first = hash_read a.args x (one e) in
     let second = hash_read b.args y (two e) in
     let digits : is_before (name_text x) (name_text y) ≡ true = rw (first.1, second.1) at (arguments_before a b letters.0 letters.1.0 (first_holds _ (in_order (b ∷ cards)) h)) in
-    both_hold _ _ (names_before x y first.0 second.0 digits) (rises_from (b ∷ cards) (y ∷ names) letters.1 (second_holds (may_follow a b) _ h) (rest e))
+    and_from _ _ (names_before x y first.0 second.0 digits) (rises_from (b ∷ cards) (y ∷ names) letters.1 (second_holds (may_follow a b) _ h) (rest e))
   where
     one : hash_form a.args ∷ hash_form b.args ∷ map hash_form (map (λ card. card.args) cards) ≡ Some x ∷ Some y ∷ some_names names → hash_form a.args ≡ Some x
     one k = cc

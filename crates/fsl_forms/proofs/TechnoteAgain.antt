@@ -2,6 +2,8 @@
 use Rattle.std.proofs.Common.{◌≡◌, ℕ, ◌^◌, ◌<◌, true, List, [], ◌∷◌, ◌++◌, length, map, flat_map, Some, refl, ap, ◌∙◌, append_assoc}
 use Rattle.std.specs.Prelude.{◌&&◌, option_to_list}
 use Rattle.std.specs.List.{list_all, AllByRecursion}
+use Rattle.std.proofs.lemmas.Bool.{and_from}
+use Rattle.fsl_order.proofs.Booleans.{first_holds, second_holds}
 use Rattle.fsl_text.specs.Escapes.{escape}
 use Rattle.fsl_name.specs.Name.{IsName, name_in, name_text}
 use Rattle.fsl_name.proofs.ReadAgain.{name_again}
@@ -12,8 +14,7 @@ use Rattle.fsl_card.specs.Cards.{IsTextOf}
 use Rattle.fsl_grammar.specs.Letters.{technote_letters}
 use Rattle.fsl_grammar.specs.Forms.{all_differ, date_form, is_filled, is_tag_written, tag_form, text_form, user_form}
 use Rattle.fsl_grammar.specs.Writing.{body_card, card, card_if, parents_card, tag_card}
-use Rattle.fsl_grammar.proofs.Apart.{first_holds, second_holds}
-use Rattle.fsl_grammar.proofs.WrittenArguments.{both_hold, is_argument-date, is_argument-name}
+use Rattle.fsl_grammar.proofs.WrittenArguments.{is_argument-date, is_argument-name}
 use Rattle.fsl_grammar.proofs.Blocks.{AreBlocks, at_most_one_if, one_block, single_block}
 use Rattle.fsl_grammar.proofs.FormsAgain.{IsTagFit, at_most_one_parents, date_again, parents_again, parents_block, read_each, tag_again, tags_block, tags_fit}
 use Rattle.fsl_grammar.proofs.BlockLemmas.{body_again, body_block, by_form, letters_are, no_bodies-each, no_bodies-if, no_bodies-parents, of_letter, one_read, text_block, text_is, text_read, user_read}
@@ -60,7 +61,7 @@ module _ (n : Technote) (id : IsName n.id) (parents : AllByRecursion IsName n.pa
     (
       single_block 68 (moment_text n.date) refl (is_argument-date n.date),
       (
-        one_block 69 (moment_text n.time ∷ name_text n.id ∷ []) refl (both_hold _ _ (is_argument-date n.time) (both_hold _ _ (is_argument-name n.id id) refl)),
+        one_block 69 (moment_text n.time ∷ name_text n.id ∷ []) refl (and_from _ _ (is_argument-date n.time) (and_from _ _ (is_argument-name n.id id) refl)),
         (
           text_block 78 n.mime refl (second_holds (is_filled n.comment) _ w1),
           (
@@ -87,7 +88,7 @@ module _ (n : Technote) (id : IsName n.id) (parents : AllByRecursion IsName n.pa
       text_is (blocks n) b IsTechnote n text (technote_cards n) refl same made (record {
         letters = letters_are (blocks n) b technote_letters (record {
           once = refl;
-          optional = both_hold _ _ (at_most_one_if 67 escape n.comment) (both_hold _ _ (at_most_one_if 78 escape n.mime) (both_hold _ _ (at_most_one_parents n.parents) (both_hold _ _ (at_most_one_if 85 escape n.user) refl)));
+          optional = and_from _ _ (at_most_one_if 67 escape n.comment) (and_from _ _ (at_most_one_if 78 escape n.mime) (and_from _ _ (at_most_one_parents n.parents) (and_from _ _ (at_most_one_if 85 escape n.user) refl)));
           some = refl;
           known = refl;
         });

@@ -2,6 +2,8 @@
 use Rattle.std.proofs.Common.{◌≡◌, ℕ, Bool, true, false, not, List, [], ◌∷◌, map, Option, Some, None, refl, ap, ◌∙◌}
 use Rattle.std.specs.Prelude.{if◌then◌else◌, ◌&&◌, ◌||◌, ◌==◌, slice_index}
 use Rattle.std.specs.List.{list_all, AllByRecursion}
+use Rattle.std.proofs.lemmas.Bool.{and_from}
+use Rattle.fsl_order.proofs.Booleans.{first_holds, second_holds}
 use Rattle.fsl_text.specs.Bytes.{is_empty}
 use Rattle.fsl_text.specs.Escapes.{escape, unescape}
 use Rattle.fsl_text.proofs.Unescaping.{unescape-escape}
@@ -12,8 +14,7 @@ use Rattle.fsl_card.specs.Cards.{IsCard, IsTextOf, are_field_arguments, in_order
 use Rattle.fsl_grammar.specs.Letters.{ticket_letters}
 use Rattle.fsl_grammar.specs.Forms.{given, date_form, hash_form, user_form}
 use Rattle.fsl_grammar.specs.Writing.{card, written_if}
-use Rattle.fsl_grammar.proofs.Apart.{first_holds, second_holds}
-use Rattle.fsl_grammar.proofs.WrittenArguments.{both_hold, is_argument-date, is_argument-escape, is_argument-name}
+use Rattle.fsl_grammar.proofs.WrittenArguments.{is_argument-date, is_argument-escape, is_argument-name}
 use Rattle.fsl_grammar.proofs.Blocks.{AreBlocks, block_each, single_block}
 use Rattle.fsl_grammar.proofs.FormsAgain.{date_again, hash_again, read_each, user_again}
 use Rattle.fsl_grammar.proofs.BlockLemmas.{all_hold, by_form, letters_are, one_read, some_cards, text_is}
@@ -56,7 +57,7 @@ field_filled false field h = h
 -- a value may be empty
 value_fits : (name value : List ℕ) → is_argument name ≡ true → (not (is_empty value) ≡ true → is_argument value ≡ true) → are_field_arguments (name ∷ value ∷ []) ≡ true
 value_fits name [] h k = h
-value_fits name (b ∷ bytes) h k = both_hold _ _ h (both_hold _ _ (k refl) refl)
+value_fits name (b ∷ bytes) h k = and_from _ _ h (and_from _ _ (k refl) refl)
 
 value_argument : (value : List ℕ) → not (is_empty (escape value)) ≡ true → is_argument (escape value) ≡ true
 value_argument [] h = absurd cc
@@ -69,7 +70,7 @@ whole c h = by c.value
     name = is_argument-escape (written_field c.append c.field) (field_filled c.append c.field (first_holds _ (c.append || not (slice_index c.field 0 == 43)) h))
 
     by : (value : Option (List ℕ)) → IsCard (card 74 (escape (written_field c.append c.field) ∷ written_if escape value))
-    by None = record { letter = refl; arguments = both_hold _ _ name refl; body = refl }
+    by None = record { letter = refl; arguments = and_from _ _ name refl; body = refl }
     by (Some value) = record { letter = refl; arguments = value_fits (escape (written_field c.append c.field)) (escape value) name (value_argument value); body = refl }
 
 changes_ordered : (changes : List TicketChange) → in_order (map change_card changes) ≡ true
@@ -111,7 +112,7 @@ module _ (t : Ticket) (named : IsName t.id) (moment : IsMoment t.date) (w : is_t
         letters = letters_are (blocks t) b ticket_letters (record {
           once = refl;
           optional = refl;
-          some = both_hold _ _ (some_cards change_card t.changes (first_holds _ (list_all is_change_written t.changes) begin)) refl;
+          some = and_from _ _ (some_cards change_card t.changes (first_holds _ (list_all is_change_written t.changes) begin)) refl;
           known = refl;
         });
         date = by_form (blocks t) b 68 date_form _ (one_read date_form (date ∷ []) t.date (date_again t.date moment));

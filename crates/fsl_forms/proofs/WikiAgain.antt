@@ -2,6 +2,8 @@
 use Rattle.std.proofs.Common.{◌≡◌, ℕ, ◌^◌, ◌<◌, true, not, List, [], ◌∷◌, ◌++◌, length, map, flat_map, refl, ap, ◌∙◌, append_assoc}
 use Rattle.std.specs.Prelude.{◌&&◌}
 use Rattle.std.specs.List.{AllByRecursion}
+use Rattle.std.proofs.lemmas.Bool.{and_from}
+use Rattle.fsl_order.proofs.Booleans.{first_holds, second_holds}
 use Rattle.fsl_text.specs.Bytes.{is_empty}
 use Rattle.fsl_text.specs.Escapes.{escape}
 use Rattle.fsl_name.specs.Name.{IsName, name_in}
@@ -11,8 +13,7 @@ use Rattle.fsl_card.specs.Cards.{IsTextOf}
 use Rattle.fsl_grammar.specs.Letters.{wiki_letters}
 use Rattle.fsl_grammar.specs.Forms.{all_differ, date_form, is_filled, text_form, user_form}
 use Rattle.fsl_grammar.specs.Writing.{body_card, card, card_if, parents_card}
-use Rattle.fsl_grammar.proofs.Apart.{first_holds, second_holds}
-use Rattle.fsl_grammar.proofs.WrittenArguments.{both_hold, is_argument-date, is_argument-escape}
+use Rattle.fsl_grammar.proofs.WrittenArguments.{is_argument-date, is_argument-escape}
 use Rattle.fsl_grammar.proofs.Blocks.{AreBlocks, at_most_one_if, single_block}
 use Rattle.fsl_grammar.proofs.FormsAgain.{at_most_one_parents, date_again, parents_again, parents_block, text_again, user_again}
 use Rattle.fsl_grammar.proofs.BlockLemmas.{body_again, body_block, by_form, letters_are, no_bodies-if, no_bodies-parents, of_letter, one_read, text_block, text_is, text_read}
@@ -72,7 +73,7 @@ module _ (w : Wiki) (named : AllByRecursion IsName w.parents) (moment : IsMoment
       text_is (blocks w) b IsWiki w text (wiki_cards w) refl same made (record {
         letters = letters_are (blocks w) b wiki_letters (record {
           once = refl;
-          optional = both_hold _ _ (at_most_one_if 67 escape w.comment) (both_hold _ _ (at_most_one_if 78 escape w.mime) (both_hold _ _ (at_most_one_parents w.parents) refl));
+          optional = and_from _ _ (at_most_one_if 67 escape w.comment) (and_from _ _ (at_most_one_if 78 escape w.mime) (and_from _ _ (at_most_one_parents w.parents) refl));
           some = refl;
           known = refl;
         });

@@ -12,6 +12,7 @@ use Rattle.std.specs.declared.cmp.Ordering.TheVariants.{Less}
 use Rattle.std.proofs.lemmas.List.{take_more, map-append}
 use Rattle.std.proofs.lemmas.List.Folds.{list_any-append}
 use Rattle.std.proofs.lemmas.List.Kept.{IsStrictlySortedBy-filter}
+use Rattle.std.proofs.lemmas.Bool.{and_parts}
 use Rattle.fsl_order.specs.Names.{bytes_cmp, has}
 use Rattle.fsl_order.specs.Rows.{ListsChanged}
 use Rattle.fsl_order.proofs.RowLemmas.{has-filter}
@@ -41,10 +42,6 @@ kind-one Edit Reply h = cc
 kind-one Reply Start h = cc
 kind-one Reply Edit h = cc
 
-both : (a b : Bool) → (a && b) ≡ true → (a ≡ true) × (b ≡ true)
-both true b h = (refl, h)
-both false b h = cc
-
 pub row-itself : (r : Row) → same_row r r ≡ true
 row-itself None = refl
 row-itself (Some r) = ap (λ b. b && same_kind r.1 r.1) (nat_list_eq_equiv.refl r.0) ∙ kind-itself r.1
@@ -53,7 +50,7 @@ pub row-one : (r s : Row) → same_row r s ≡ true → r ≡ s
 row-one None None h = refl
 row-one None (Some s) h = cc
 row-one (Some r) None h = cc
-row-one (Some r) (Some s) h = let b = both (bytes_eq r.0 s.0) (same_kind r.1 s.1) h in λ i. Some ((bytes_decides r.0 s.0).0 b.0 i, kind-one r.1 s.1 b.1 i)
+row-one (Some r) (Some s) h = let b = and_parts (bytes_eq r.0 s.0) (same_kind r.1 s.1) h in λ i. Some ((bytes_decides r.0 s.0).0 b.0 i, kind-one r.1 s.1 b.1 i)
 
 -- ---- the list of names
 

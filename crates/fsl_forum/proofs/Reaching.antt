@@ -12,38 +12,20 @@ use Rattle.std.proofs.lemmas.List.Folds.{list_any-append}
 use Rattle.std.proofs.Math.ListN.{length-map}
 use Rattle.std.proofs.lemmas.Map.Keys.{IsDistinct-from_sorted}
 use Rattle.std.proofs.lemmas.Map.Steps.{length-le_from_keys}
+use Rattle.std.proofs.lemmas.Bool.{or_cases, or_left, or_right}
 use Rattle.fsl_order.specs.Names.{bytes_cmp, has}
 use Rattle.fsl_order.specs.Rows.{steps_on}
 use Rattle.fsl_order.proofs.Orders.{bytes_cmp-IsTotalOrder}
 use Rattle.fsl_order.proofs.Walks.{steps_on-first}
+use Rattle.fsl_order.proofs.Booleans.{or_false}
 use Rattle.fsl_table.specs.declared.key.Pair.{Pair}
 use Rattle.fsl_table.specs.Contents.{value_at}
 use Rattle.fsl_table.specs.Pairs.{put_first, seconds}
 use Rattle.fsl_table.proofs.Noting.{has-contains}
 use Rattle.fsl_forum.specs.Reached.{AreLed, IsReached, IsReaching, IsVisited, extent}
 
-or-false : (b : Bool) → (b || false) ≡ b
-or-false true = refl
-or-false false = refl
-
-or-true : (b : Bool) → (b || true) ≡ true
-or-true true = refl
-or-true false = refl
-
-either : (a b : Bool) → (a || b) ≡ true → (a ≡ true) ⊎ (b ≡ true)
-either true b h = inl refl
-either false b h = inr h
-
-left-of : (a b : Bool) → a ≡ true → (a || b) ≡ true
-left-of true b h = refl
-left-of false b h = cc
-
-right-of : (a b : Bool) → b ≡ true → (a || b) ≡ true
-right-of true b h = refl
-right-of false b h = h
-
 has-last : (names : List (List ℕ)) (name q : List ℕ) → has (names ++ name ∷ []) q ≡ (has names q || bytes_eq q name)
-has-last names name q = list_any-append (bytes_eq q) names (name ∷ []) ∙ ap (λ b. has names q || b) (or-false (bytes_eq q name))
+has-last names name q = list_any-append (bytes_eq q) names (name ∷ []) ∙ ap (λ b. has names q || b) (or_false (bytes_eq q name))
 
 length-last : (xs : List (List ℕ)) (x : List ℕ) → length (xs ++ x ∷ []) ≡ length xs + 1
 length-last [] x = refl
@@ -53,7 +35,7 @@ length-last (y ∷ xs) x = let h = length-last xs x in omega (arith, h)
 
 pub visited-seen : (name : List ℕ) (seen waiting : List (List ℕ)) → has seen name ≡ true → IsVisited (name ∷ []) seen waiting seen waiting
 visited-seen name seen waiting there = record {
-  are = λ q. sym (ap (λ b. b || has seen q) (or-false (bytes_eq q name)) ∙ elim (bytes_eq q name) as (λ b. bytes_eq q name ≡ b → (b || has seen q) ≡ has seen q) [
+  are = λ q. sym (ap (λ b. b || has seen q) (or_false (bytes_eq q name)) ∙ elim (bytes_eq q name) as (λ b. bytes_eq q name ≡ b → (b || has seen q) ≡ has seen q) [
     | true ↦ λ h. sym (ap (has seen) ((bytes_decides q name).0 h) ∙ there)
     | false ↦ λ _. refl
   ] refl);
@@ -69,14 +51,14 @@ visited-new name seen waiting after more put last longer =
     let ends : (q : List ℕ) → has more q ≡ (has waiting q || bytes_eq q name) = λ q. ap (λ l. has l q) last ∙ has-last waiting name q in
     let long : length more ≡ length waiting + 1 = ap length last ∙ length-last waiting name in
     record {
-      are = λ q. put q ∙ ap (λ b. b || has seen q) (sym (or-false (bytes_eq q name)));
+      are = λ q. put q ∙ ap (λ b. b || has seen q) (sym (or_false (bytes_eq q name)));
       new = λ q h. ⊎_elim {C = (has seen q ≡ true) ⊎ (has more q ≡ true)}
-          (λ (e : bytes_eq q name ≡ true). inr (ends q ∙ right-of (has waiting q) (bytes_eq q name) e)) (λ (e : has seen q ≡ true). inl e)
-          (either (bytes_eq q name) (has seen q) (sym (put q) ∙ h));
-      stays = λ q h. ends q ∙ left-of (has waiting q) (bytes_eq q name) h;
+          (λ (e : bytes_eq q name ≡ true). inr (ends q ∙ or_right (has waiting q) (bytes_eq q name) e)) (λ (e : has seen q ≡ true). inl e)
+          (or_cases (bytes_eq q name) (has seen q) (sym (put q) ∙ h));
+      stays = λ q h. ends q ∙ or_left (has waiting q) (bytes_eq q name) h;
       within = λ q h. ⊎_elim {C = (has waiting q ≡ true) ⊎ (has (name ∷ []) q ≡ true)}
-          (λ (e : has waiting q ≡ true). inl e) (λ (e : bytes_eq q name ≡ true). inr (left-of (bytes_eq q name) false e))
-          (either (has waiting q) (bytes_eq q name) (sym (ends q) ∙ h));
+          (λ (e : has waiting q ≡ true). inl e) (λ (e : bytes_eq q name ≡ true). inr (or_left (bytes_eq q name) false e))
+          (or_cases (has waiting q) (bytes_eq q name) (sym (ends q) ∙ h));
       balance = omega (arith, long, longer);
     }
 
@@ -93,7 +75,7 @@ or-assoc false b c = refl
 pub visited-more : (names : List (List ℕ)) (name : List ℕ) (seen waiting mid most after more : List (List ℕ)) → IsVisited names seen waiting mid most → IsVisited (name ∷ []) mid most after more
     → IsVisited (names ++ name ∷ []) seen waiting after more
 visited-more names name seen waiting mid most after more v w = record {
-  are = λ q. w.are q ∙ (λ i. (or-false (bytes_eq q name) i || v.are q i)) ∙ or-assoc (has names q) (bytes_eq q name) (has seen q) ∙ ap (λ b. b || has seen q) (sym (has-last names name q));
+  are = λ q. w.are q ∙ (λ i. (or_false (bytes_eq q name) i || v.are q i)) ∙ or-assoc (has names q) (bytes_eq q name) (has seen q) ∙ ap (λ b. b || has seen q) (sym (has-last names name q));
   new = λ q h. ⊎_elim {C = (has seen q ≡ true) ⊎ (has more q ≡ true)}
       (λ (e : has mid q ≡ true). ⊎_elim {C = (has seen q ≡ true) ⊎ (has more q ≡ true)} (λ (f : has seen q ≡ true). inl f) (λ (f : has most q ≡ true). inr (w.stays q f)) (v.new q e))
       (λ (e : has more q ≡ true). inr e)
@@ -101,8 +83,8 @@ visited-more names name seen waiting mid most after more v w = record {
   stays = λ q h. w.stays q (v.stays q h);
   within = λ q h. ⊎_elim {C = (has waiting q ≡ true) ⊎ (has (names ++ name ∷ []) q ≡ true)}
       (λ (e : has most q ≡ true). ⊎_elim {C = (has waiting q ≡ true) ⊎ (has (names ++ name ∷ []) q ≡ true)}
-      (λ (f : has waiting q ≡ true). inl f) (λ (f : has names q ≡ true). inr (has-last names name q ∙ left-of (has names q) (bytes_eq q name) f)) (v.within q e))
-      (λ (e : has (name ∷ []) q ≡ true). inr (has-last names name q ∙ right-of (has names q) (bytes_eq q name) (sym (or-false (bytes_eq q name)) ∙ e)))
+      (λ (f : has waiting q ≡ true). inl f) (λ (f : has names q ≡ true). inr (has-last names name q ∙ or_left (has names q) (bytes_eq q name) f)) (v.within q e))
+      (λ (e : has (name ∷ []) q ≡ true). inr (has-last names name q ∙ or_right (has names q) (bytes_eq q name) (sym (or_false (bytes_eq q name)) ∙ e)))
       (w.within q h);
   balance = omega (arith, v.balance, w.balance);
 }
@@ -119,13 +101,13 @@ module _ (followers : List (Pair × Unit {0})) (root : List ℕ) where
   pub reaching-begins : (seen waiting after more : List (List ℕ)) → ((q : List ℕ) → has seen q ≡ false) → ((q : List ℕ) → has waiting q ≡ false) → IsVisited (root ∷ []) seen waiting after more → IsReaching followers root after more
   reaching-begins seen waiting after more none idle v =
       let only : (q : List ℕ) → has after q ≡ true → q ≡ root = λ q h.
-      (bytes_decides q root).0 (⊎_elim {C = bytes_eq q root ≡ true} (λ (e : has (root ∷ []) q ≡ true). sym (or-false (bytes_eq q root)) ∙ e) (λ (e : has seen q ≡ true). absurd (true≢false (sym e ∙ none q))) (either (has (root ∷ []) q) (has seen q) (sym (v.are q) ∙ h))) in
-      let own : has after root ≡ true = v.are root ∙ left-of (has (root ∷ []) root) (has seen root) (left-of (bytes_eq root root) false (nat_list_eq_equiv.refl root)) in
+      (bytes_decides q root).0 (⊎_elim {C = bytes_eq q root ≡ true} (λ (e : has (root ∷ []) q ≡ true). sym (or_false (bytes_eq q root)) ∙ e) (λ (e : has seen q ≡ true). absurd (true≢false (sym e ∙ none q))) (or_cases (has (root ∷ []) q) (has seen q) (sym (v.are q) ∙ h))) in
+      let own : has after root ≡ true = v.are root ∙ or_left (has (root ∷ []) root) (has seen root) (or_left (bytes_eq root root) false (nat_list_eq_equiv.refl root)) in
       record {
         own = own;
         led = λ go step x h. (0, ap (λ (y : List ℕ). Some y) (only x h));
         closed = λ x y k h. ⊎_elim {C = (has after x ≡ true) ⊎ (has more y ≡ true)} (λ (e : has seen y ≡ true). absurd (true≢false (sym e ∙ none y))) (λ (e : has more y ≡ true). inr e) (v.new y h);
-        waits = λ x h. ⊎_elim {C = has after x ≡ true} (λ (e : has waiting x ≡ true). absurd (true≢false (sym e ∙ idle x))) (λ (e : has (root ∷ []) x ≡ true). v.are x ∙ left-of (has (root ∷ []) x) (has seen x) e) (v.within x h);
+        waits = λ x h. ⊎_elim {C = has after x ≡ true} (λ (e : has waiting x ≡ true). absurd (true≢false (sym e ∙ idle x))) (λ (e : has (root ∷ []) x ≡ true). v.are x ∙ or_left (has (root ∷ []) x) (has seen x) e) (v.within x h);
       }
 
   module _ (at : List ℕ) (seen waiting old after more : List (List ℕ)) (cut : old ≡ waiting ++ at ∷ []) (r : IsReaching followers root seen old) (v : IsVisited (seconds at followers) seen waiting after more) where
@@ -133,17 +115,17 @@ module _ (followers : List (Pair × Unit {0})) (root : List ℕ) where
     old-is q = ap (λ l. has l q) cut ∙ has-last waiting at q
 
     still : (q : List ℕ) → has seen q ≡ true → has after q ≡ true
-    still q h = v.are q ∙ right-of (has (seconds at followers) q) (has seen q) h
+    still q h = v.are q ∙ or_right (has (seconds at followers) q) (has seen q) h
 
     at-seen : has seen at ≡ true
-    at-seen = r.waits at (old-is at ∙ right-of (has waiting at) (bytes_eq at at) (nat_list_eq_equiv.refl at))
+    at-seen = r.waits at (old-is at ∙ or_right (has waiting at) (bytes_eq at at) (nat_list_eq_equiv.refl at))
 
     led-next : AreLed followers root after
     led-next go step x h =
         elim (has seen x) as (λ b. has seen x ≡ b → (n : ℕ) × (steps_on go x n ≡ Some root)) [
           | true ↦ λ s. r.led go step x s
           | false ↦ λ s.
-              let kid : has (seconds at followers) x ≡ true = sym (or-false (has (seconds at followers) x)) ∙ ap (λ b. has (seconds at followers) x || b) (sym s) ∙ sym (v.are x) ∙ h in
+              let kid : has (seconds at followers) x ≡ true = sym (or_false (has (seconds at followers) x)) ∙ ap (λ b. has (seconds at followers) x || b) (sym s) ∙ sym (v.are x) ∙ h in
               let other : bytes_eq x root ≡ false = elim (bytes_eq x root) as (λ b. bytes_eq x root ≡ b → b ≡ false) [
                 | true ↦ λ e. absurd (true≢false (sym (ap (has seen) ((bytes_decides x root).0 e) ∙ r.own) ∙ s))
                 | false ↦ λ _. refl
@@ -156,8 +138,8 @@ module _ (followers : List (Pair × Unit {0})) (root : List ℕ) where
     closed-old x y k h =
         ⊎_elim {C = (has after x ≡ true) ⊎ (has more y ≡ true)}
         (λ (e : has waiting y ≡ true). inr (v.stays y e))
-        (λ (e : bytes_eq y at ≡ true). inl (v.are x ∙ left-of (has (seconds at followers) x) (has seen x) (ap (λ z. has (seconds z followers) x) (sym ((bytes_decides y at).0 e)) ∙ k)))
-        (either (has waiting y) (bytes_eq y at) (sym (old-is y) ∙ h))
+        (λ (e : bytes_eq y at ≡ true). inl (v.are x ∙ or_left (has (seconds at followers) x) (has seen x) (ap (λ z. has (seconds z followers) x) (sym ((bytes_decides y at).0 e)) ∙ k)))
+        (or_cases (has waiting y) (bytes_eq y at) (sym (old-is y) ∙ h))
 
     pub reaching-next : IsReaching followers root after more
     reaching-next = record {
@@ -168,8 +150,8 @@ module _ (followers : List (Pair × Unit {0})) (root : List ℕ) where
           (λ (e : has more y ≡ true). inr e)
           (v.new y h);
       waits = λ x h. ⊎_elim {C = has after x ≡ true}
-          (λ (e : has waiting x ≡ true). still x (r.waits x (old-is x ∙ left-of (has waiting x) (bytes_eq x at) e)))
-          (λ (e : has (seconds at followers) x ≡ true). v.are x ∙ left-of (has (seconds at followers) x) (has seen x) e)
+          (λ (e : has waiting x ≡ true). still x (r.waits x (old-is x ∙ or_left (has waiting x) (bytes_eq x at) e)))
+          (λ (e : has (seconds at followers) x ≡ true). v.are x ∙ or_left (has (seconds at followers) x) (has seen x) e)
           (v.within x h);
     }
 
@@ -194,7 +176,7 @@ found false v r (inr s) = s
 pick : (q : List ℕ) (b : Bool) (s : Option (List ℕ)) (ks : List (List ℕ)) → has (put_first (if b then s else None) ks) q ≡ true → (bytes_eq q (unwrap_or s []) ≡ true) ⊎ (has ks q ≡ true)
 pick q false s ks h = inr h
 pick q true None ks h = inr h
-pick q true (Some c) ks h = either (bytes_eq q c) (has ks q) h
+pick q true (Some c) ks h = or_cases (bytes_eq q c) (has ks q) h
 
 named-second : (p q : List ℕ) (es : List (Pair × Unit {0})) → has (seconds p es) q ≡ true → is_some (value_at bytes_cmp q (rest es)) ≡ true
 named-second p q [] h = absurd (true≢false (sym h))
@@ -212,14 +194,14 @@ module _ (root : List ℕ) (followers : List (Pair × Unit {0})) where
   pub known-begins : (seen waiting after more : List (List ℕ)) → ((q : List ℕ) → has seen q ≡ false) → IsVisited (root ∷ []) seen waiting after more → AreKnown root followers after
   known-begins seen waiting after more none v q h =
       found (is_eq (bytes_cmp q root)) tt (value_at bytes_cmp q (rest followers))
-      (inl (sym (texts_ties q root) ∙ ⊎_elim {C = bytes_eq q root ≡ true} (λ (e : has (root ∷ []) q ≡ true). sym (or-false (bytes_eq q root)) ∙ e) (λ (e : has seen q ≡ true). absurd (true≢false (sym e ∙ none q))) (either (has (root ∷ []) q) (has seen q) (sym (v.are q) ∙ h))))
+      (inl (sym (texts_ties q root) ∙ ⊎_elim {C = bytes_eq q root ≡ true} (λ (e : has (root ∷ []) q ≡ true). sym (or_false (bytes_eq q root)) ∙ e) (λ (e : has seen q ≡ true). absurd (true≢false (sym e ∙ none q))) (or_cases (has (root ∷ []) q) (has seen q) (sym (v.are q) ∙ h))))
 
   pub known-next : (at : List ℕ) (seen waiting after more : List (List ℕ)) → AreKnown root followers seen → IsVisited (seconds at followers) seen waiting after more → AreKnown root followers after
   known-next at seen waiting after more known v q h =
       ⊎_elim {C = is_some (value_at bytes_cmp q (extent root followers)) ≡ true}
       (λ (e : has (seconds at followers) q ≡ true). found (is_eq (bytes_cmp q root)) tt (value_at bytes_cmp q (rest followers)) (inr (named-second at q followers e)))
       (λ (e : has seen q ≡ true). known q e)
-      (either (has (seconds at followers) q) (has seen q) (sym (v.are q) ∙ h))
+      (or_cases (has (seconds at followers) q) (has seen q) (sym (v.are q) ∙ h))
 
   pub few : (seen : List (List ℕ)) → IsStrictlySortedBy bytes_cmp seen → AreKnown root followers seen → length seen ≤ 1 + length followers
   few seen rising known =

@@ -3,6 +3,8 @@ use Rattle.std.proofs.Common.{◌≡◌, ℕ, suc, ◌^◌, ◌<◌, Bool, true,
 use Rattle.std.specs.Prelude.{nat_le, option_to_list}
 use Rattle.std.specs.List.{list_all, AllByRecursion}
 use Rattle.std.proofs.lemmas.List.Elements.{filter_map-append}
+use Rattle.std.proofs.lemmas.Bool.{and_from}
+use Rattle.fsl_order.proofs.Booleans.{first_holds, second_holds}
 use Rattle.fsl_text.specs.Bytes.{is_empty}
 use Rattle.fsl_card.specs.declared.types.Card.{Card}
 use Rattle.fsl_card.specs.Cards.{IsCard, IsCards, IsTextOf, seal}
@@ -12,8 +14,7 @@ use Rattle.fsl_grammar.specs.Forms.{HasBody, arguments, hash_form, is_filled, te
 use Rattle.fsl_grammar.specs.Writing.{body_card, card_if, parents_card}
 use Rattle.fsl_text.specs.Escapes.{escape}
 use Rattle.fsl_name.specs.Name.{IsName, name_text}
-use Rattle.fsl_grammar.proofs.Apart.{first_holds, second_holds}
-use Rattle.fsl_grammar.proofs.WrittenArguments.{both_hold, is_argument-escape, is_argument-name}
+use Rattle.fsl_grammar.proofs.WrittenArguments.{is_argument-escape, is_argument-name}
 use Rattle.fsl_grammar.proofs.FormsAgain.{hash_again, read_if, text_again, user_again}
 use Rattle.fsl_grammar.proofs.Blocks.{AreBlocks, HaveLetters, IsBlock, arguments-joined, block_if, blocks_rise, given, has_letters-joined, is_plain_letter, joined, joined-push, seal_block, sealed_blocks}
 use Rattle.fsl_grammar.proofs.DecimalLemmas.{decimal_is, is_argument-decimal}
@@ -87,7 +88,7 @@ no_bodies-each made none (x ∷ xs) = rw (none x) (no_bodies-each made none xs)
 
 pub body_block : (text : List ℕ) → length text < 2 ^ 64 → IsBlock (87, body_card text ∷ [])
 body_block text h =
-    let whole : IsCard (body_card text) = record { letter = refl; arguments = both_hold _ _ (is_argument-decimal (length text) h) refl; body = (refl, decimal_is (length text) h) } in
+    let whole : IsCard (body_card text) = record { letter = refl; arguments = and_from _ _ (is_argument-decimal (length text) h) refl; body = (refl, decimal_is (length text) h) } in
     record { letters = (refl, tt); ordered = refl; each = (whole, tt) }
 
 -- ---- parts of what a value owes

@@ -10,11 +10,11 @@ use Rattle.fsl_card.specs.Cards.{IsCard, IsCards, BodyFits, in_order, is_argumen
 use Rattle.fsl_card.specs.Writing.{sealed_text}
 use Rattle.fsl_card.proofs.SealLemmas.{is_read_back, IsCard-seal}
 use Rattle.std.proofs.lemmas.List.Sums.{length-filter}
+use Rattle.std.proofs.lemmas.Bool.{not-true, and_from}
+use Rattle.fsl_order.proofs.Booleans.{first_holds, second_holds}
 use Rattle.fsl_grammar.specs.Letters.{Letters, has_letters, letter_count}
 use Rattle.fsl_grammar.specs.Forms.{arguments}
 use Rattle.fsl_grammar.specs.Writing.{card, card_if}
-use Rattle.fsl_grammar.proofs.Apart.{first_holds, second_holds}
-use Rattle.fsl_grammar.proofs.WrittenArguments.{both_hold}
 
 -- cards of one letter
 abbrev pub AreOfLetter : ℕ → List Card → Type 0
@@ -86,19 +86,19 @@ given_count blocks letter = length (given letter blocks)
 counts : (blocks : List (ℕ × List Card)) → AreBlocks blocks → (p : ℕ → Bool) (letters : List ℕ) → list_all (λ letter. p (given_count blocks letter)) letters ≡ true → list_all (λ letter. p (letter_count (joined blocks) letter)) letters ≡ true
 counts blocks h p [] all = refl
 counts blocks h p (letter ∷ letters) all =
-    both_hold _ _ (ap p (count-is letter (joined blocks) ∙ ap length (arguments-joined letter blocks h)) ∙ first_holds _ (list_all (λ l. p (given_count blocks l)) letters) all)
+    and_from _ _ (ap p (count-is letter (joined blocks) ∙ ap length (arguments-joined letter blocks h)) ∙ first_holds _ (list_all (λ l. p (given_count blocks l)) letters) all)
     (counts blocks h p letters (second_holds (p (given_count blocks letter)) _ all))
 
 -- what holds of the letter of each block holds of the letter of each card
 by_letter : (p : ℕ → Bool) (letter : ℕ) (cards : List Card) → AreOfLetter letter cards → p letter ≡ true → list_all (λ card. p card.letter) cards ≡ true
 by_letter p letter [] h k = refl
-by_letter p letter (c ∷ cards) h k = both_hold _ _ (ap p h.0 ∙ k) (by_letter p letter cards h.1 k)
+by_letter p letter (c ∷ cards) h k = and_from _ _ (ap p h.0 ∙ k) (by_letter p letter cards h.1 k)
 
 by_letters : (p : ℕ → Bool) (blocks : List (ℕ × List Card)) → AreBlocks blocks → list_all (λ block. p block.0) blocks ≡ true → list_all (λ card. p card.letter) (joined blocks) ≡ true
 by_letters p [] h k = refl
 by_letters p (block ∷ blocks) h k =
     list_all-append (λ card. p card.letter) (block.1) (joined blocks)
-    ∙ both_hold _ _ (by_letter p (block.0) (block.1) h.0.letters (first_holds _ (list_all (λ b. p b.0) blocks) k)) (by_letters p blocks h.1 (second_holds (p (block.0)) _ k))
+    ∙ and_from _ _ (by_letter p (block.0) (block.1) h.0.letters (first_holds _ (list_all (λ b. p b.0) blocks) k)) (by_letters p blocks h.1 (second_holds (p (block.0)) _ k))
 
 -- blocks have the letters of a kind
 pub record HaveLetters (kind : Letters) (blocks : List (ℕ × List Card)) : Type 0 where
@@ -109,7 +109,7 @@ pub record HaveLetters (kind : Letters) (blocks : List (ℕ × List Card)) : Typ
 
 pub has_letters-joined : (kind : Letters) (blocks : List (ℕ × List Card)) → AreBlocks blocks → HaveLetters kind blocks → has_letters kind (joined blocks) ≡ true
 has_letters-joined kind blocks h k =
-    both_hold _ _ (both_hold _ _ (both_hold _ _ (counts blocks h (λ n. n == 1) kind.once k.once) (counts blocks h (λ n. nat_le n 1) kind.optional k.optional)) (counts blocks h (λ n. nat_le 1 n) kind.some k.some))
+    and_from _ _ (and_from _ _ (and_from _ _ (counts blocks h (λ n. n == 1) kind.once k.once) (counts blocks h (λ n. nat_le n 1) kind.optional k.optional)) (counts blocks h (λ n. nat_le 1 n) kind.some k.some))
     (by_letters (λ l. list_any (λ letter. l == letter) (kind.once ++ kind.optional ++ kind.repeated ++ kind.some)) blocks h k.known)
 
 -- ---- order
@@ -121,7 +121,7 @@ in_order-after letter (x ∷ []) (y ∷ b) h above k l =
     let lower : nat_lt x.letter y.letter ≡ true = ap (λ (n : ℕ). nat_lt n y.letter) h.0 ∙ first_holds _ (list_all (λ card. nat_lt letter card.letter) b) above in
     rw (lower, l) refl
 in_order-after letter (x ∷ y ∷ a) b h above k l =
-    both_hold _ _ (first_holds _ (in_order (y ∷ a)) k) (in_order-after letter (y ∷ a) b h.1 above (second_holds (may_follow x y) _ k) l)
+    and_from _ _ (first_holds _ (in_order (y ∷ a)) k) (in_order-after letter (y ∷ a) b h.1 above (second_holds (may_follow x y) _ k) l)
 
 in_order-joined : (blocks : List (ℕ × List Card)) → AreBlocks blocks → blocks_rise blocks ≡ true → in_order (joined blocks) ≡ true
 in_order-joined [] h k = refl
@@ -144,7 +144,7 @@ each-joined (block ∷ blocks) h = behind (block.1) h.0.each (each-joined blocks
 none_last : (blocks : List (ℕ × List Card)) → blocks_rise blocks ≡ true → list_all (λ block. not (block.0 == 90)) blocks ≡ true
 none_last [] h = refl
 none_last (block ∷ blocks) h =
-    both_hold _ _ (first_holds _ (list_all (λ other. nat_lt block.0 other.0) blocks) (first_holds _ (blocks_rise blocks) h)) (none_last blocks (second_holds _ (blocks_rise blocks) h))
+    and_from _ _ (first_holds _ (list_all (λ other. nat_lt block.0 other.0) blocks) (first_holds _ (blocks_rise blocks) h)) (none_last blocks (second_holds _ (blocks_rise blocks) h))
 
 -- the text of blocks with the Z card behind them is their cards and the Z card
 pub sealed_blocks : (blocks : List (ℕ × List Card)) → AreBlocks blocks → blocks_rise blocks ≡ true → IsCards (sealed_text (joined blocks)) (joined blocks ++ seal (joined blocks) ∷ [])
@@ -169,14 +169,10 @@ is_card letter args range field body h = record { letter = range; arguments = rw
 abbrev pub is_plain_letter : ℕ → Bool
 is_plain_letter letter = nat_le 65 letter && nat_le letter 90 && not (letter == 74) && not (letter == 87)
 
-not_holds : (b : Bool) → not b ≡ true → b ≡ false
-not_holds true h = cc
-not_holds false h = refl
-
 pub plain_card : (letter : ℕ) (args : List (List ℕ)) → is_plain_letter letter ≡ true → list_all is_argument args ≡ true → IsCard (card letter args)
 plain_card letter args h k =
     let first = first_holds _ (not (letter == 87)) h in
-    is_card letter args (first_holds _ (not (letter == 74)) first) (not_holds _ (second_holds (nat_le 65 letter && nat_le letter 90) _ first)) (not_holds _ (second_holds (nat_le 65 letter && nat_le letter 90 && not (letter == 74)) _ h)) k
+    is_card letter args (first_holds _ (not (letter == 74)) first) (not-true _ (second_holds (nat_le 65 letter && nat_le letter 90) _ first)) (not-true _ (second_holds (nat_le 65 letter && nat_le letter 90 && not (letter == 74)) _ h)) k
 
 pub no_block : (letter : ℕ) → IsBlock (letter, [])
 no_block letter = record { letters = tt; ordered = refl; each = tt }
@@ -186,7 +182,7 @@ one_block letter args h k = record { letters = (refl, tt); ordered = refl; each 
 
 -- a card with one argument
 pub single_block : (letter : ℕ) (arg : List ℕ) → is_plain_letter letter ≡ true → is_argument arg ≡ true → IsBlock (letter, card letter (arg ∷ []) ∷ [])
-single_block letter arg h k = one_block letter (arg ∷ []) h (both_hold _ _ k refl)
+single_block letter arg h k = one_block letter (arg ∷ []) h (and_from _ _ k refl)
 
 -- a card where there is a value
 pub block_if : {X : Type 0} (letter : ℕ) (written : X → List ℕ) (o : Option X) → is_plain_letter letter ≡ true → ((x : X) → o ≡ Some x → is_argument (written x) ≡ true) → IsBlock (letter, card_if letter written o)

@@ -5,11 +5,11 @@ use Rattle.std.specs.List.{list_all}
 use Rattle.std.proofs.lemmas.Fmt.{decimal_by_steps}
 use Rattle.std.proofs.lemmas.List.Folds.{list_all-append}
 use Rattle.std.proofs.lemmas.List.Sums.{fold-append}
+use Rattle.std.proofs.lemmas.Bool.{and_from}
+use Rattle.fsl_order.proofs.Booleans.{first_holds, second_holds}
 use Rattle.fsl_text.specs.Bytes.{is_empty}
 use Rattle.fsl_text.specs.Decimals.{IsDecimal, decimal_value, is_decimal_digit}
 use Rattle.fsl_card.specs.Cards.{is_argument, is_argument_byte}
-use Rattle.fsl_grammar.proofs.Apart.{first_holds, second_holds}
-use Rattle.fsl_grammar.proofs.WrittenArguments.{both_hold}
 
 digit_is : (d : ℕ) → d < 10 → is_decimal_digit (48 + d) ≡ true
 digit_is d h = grind arith
@@ -36,9 +36,9 @@ digit_byte b h = grind arith
 
 digits_fit : (text : List ℕ) → list_all is_decimal_digit text ≡ true → list_all is_argument_byte text ≡ true
 digits_fit [] h = refl
-digits_fit (b ∷ text) h = both_hold _ _ (digit_byte b (first_holds _ (list_all is_decimal_digit text) h)) (digits_fit text (second_holds (is_decimal_digit b) _ h))
+digits_fit (b ∷ text) h = and_from _ _ (digit_byte b (first_holds _ (list_all is_decimal_digit text) h)) (digits_fit text (second_holds (is_decimal_digit b) _ h))
 
 pub is_argument-decimal : (n : ℕ) → n < 2 ^ 64 → is_argument (decimal n) ≡ true
 is_argument-decimal n h =
     let text = (decimal_is n h).0 in
-    both_hold _ _ (first_holds _ (list_all is_decimal_digit (decimal n)) text) (digits_fit (decimal n) (second_holds (not (is_empty (decimal n))) _ text))
+    and_from _ _ (first_holds _ (list_all is_decimal_digit (decimal n)) text) (digits_fit (decimal n) (second_holds (not (is_empty (decimal n))) _ text))

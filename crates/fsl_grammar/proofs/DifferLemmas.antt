@@ -7,26 +7,22 @@ use Rattle.std.specs.List.Sorted.{IsSorted, IsStrictlySortedBy}
 use Rattle.std.specs.Ordering.{eq_by_cmp}
 use Rattle.std.specs.Str.{bytes_eq}
 use Rattle.std.specs.Cmp.Lexicographic.{texts_ties, nat_list_eq_equiv}
-use Rattle.std.proofs.lemmas.Bool.{eqb-true, eq-eqb}
+use Rattle.std.proofs.lemmas.Bool.{eqb-true, eq-eqb, not-true}
 use Rattle.std.proofs.lemmas.List.Filters.{dedup_is}
 use Rattle.std.proofs.lemmas.List.Kept.{IsStrictlySortedBy-dedup}
 use Rattle.std.proofs.lemmas.List.Sorted.{length_permutation, IsPermutation-sym}
 use Rattle.std.proofs.lemmas.Map.Keys.{IsDistinct-from_sorted, IsDistinct-head, IsDistinct-tail, IsDistinct-IsPermutation}
 use Rattle.fsl_order.specs.Names.{bytes_cmp}
 use Rattle.fsl_order.proofs.Orders.{bytes_cmp-IsTotalOrder}
+use Rattle.fsl_order.proofs.Booleans.{first_holds, second_holds}
 use Rattle.fsl_grammar.specs.Forms.{all_differ}
-use Rattle.fsl_grammar.proofs.Apart.{first_holds, second_holds}
 
 -- ---- what is distinct differs
-
-not_true : (b : Bool) → not b ≡ true → b ≡ false
-not_true true h = cc
-not_true false h = refl
 
 apart_from : (x : List ℕ) (ys : List (List ℕ)) → list_all (λ y. not (bytes_eq x y)) ys ≡ true → AllByRecursion (λ y. bytes_eq x y ≡ false) ys
 apart_from x [] h = tt
 apart_from x (y ∷ ys) h =
-    (not_true _ (first_holds _ (list_all (λ y. not (bytes_eq x y)) ys) h), apart_from x ys (second_holds (not (bytes_eq x y)) _ h))
+    (not-true _ (first_holds _ (list_all (λ y. not (bytes_eq x y)) ys) h), apart_from x ys (second_holds (not (bytes_eq x y)) _ h))
 
 differ_from : (x : List ℕ) (ys : List (List ℕ)) → AllByRecursion (λ y. bytes_eq x y ≡ false) ys → list_all (λ y. not (bytes_eq x y)) ys ≡ true
 differ_from x [] h = refl

@@ -10,7 +10,7 @@ use Rattle.hex.specs.Hex.{decode_sized}
 use Rattle.hex.specs.declared.error.FromHexError.{FromHexError}
 use Rattle.hex.proofs.HexLemmas.{decode_sized-encode_lower}
 use Rattle.std.proofs.lemmas.Bool.{eqb-true}
-use Rattle.fsl_grammar.proofs.Apart.{first_holds, second_holds}
+use Rattle.fsl_order.proofs.Booleans.{first_holds, second_holds}
 
 abbrev nothing : Option (List ℕ)
 nothing = None

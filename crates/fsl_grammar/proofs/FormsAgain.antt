@@ -4,8 +4,9 @@ use Rattle.std.specs.Prelude.{nat_le, option_map, option_to_list, codes}
 use Rattle.std.specs.List.{list_all, AllByRecursion}
 use Rattle.std.specs.Str.{bytes_eq}
 use Rattle.std.specs.Cmp.Lexicographic.{bytes_decides}
-use Rattle.std.proofs.lemmas.Bool.{eq-eqb}
+use Rattle.std.proofs.lemmas.Bool.{eq-eqb, and_from}
 use Rattle.hex.specs.Hex.{encode_lower}
+use Rattle.fsl_order.proofs.Booleans.{first_holds, second_holds}
 use Rattle.fsl_text.specs.Bytes.{AreBytes, is_empty}
 use Rattle.fsl_text.specs.Escapes.{escape, unescape}
 use Rattle.fsl_text.proofs.Unescaping.{unescape-escape}
@@ -20,9 +21,8 @@ use Rattle.fsl_grammar.specs.declared.Prefix.TheVariants.{Once, Cancel, Propagat
 use Rattle.fsl_grammar.specs.declared.TagCard.{TagCard}
 use Rattle.fsl_grammar.specs.Forms.{text_form, hash_form, date_form, checksum_form, user_form, tag_form, tag_in, target_in, prefix_in, is_filled, is_tag_written}
 use Rattle.fsl_grammar.specs.Writing.{written_if, card_if, parents_card, sign_of, tag_card, target_text}
-use Rattle.fsl_grammar.proofs.Apart.{first_holds, second_holds}
 use Rattle.fsl_grammar.proofs.Blocks.{IsBlock, block_each, no_block, one_block, plain_card}
-use Rattle.fsl_grammar.proofs.WrittenArguments.{both_hold, is_argument-escape, is_argument-name}
+use Rattle.fsl_grammar.proofs.WrittenArguments.{is_argument-escape, is_argument-name}
 
 -- ---- single arguments
 
@@ -69,7 +69,7 @@ parents_again (name ∷ names) h = names_again (name ∷ names) h
 
 pub names_arguments : (names : List (List ℕ)) → AllByRecursion IsName names → list_all is_argument (map name_text names) ≡ true
 names_arguments [] h = refl
-names_arguments (name ∷ names) h = both_hold _ _ (is_argument-name name h.0) (names_arguments names h.1)
+names_arguments (name ∷ names) h = and_from _ _ (is_argument-name name h.0) (names_arguments names h.1)
 
 -- ---- tags
 
@@ -122,8 +122,8 @@ tag_again t h = by t.value
 
 pub tag_arguments : (t : TagCard) → IsTagFit t → list_all is_argument (tag_card t).args ≡ true
 tag_arguments t h =
-    both_hold _ _ (signed_argument t.prefix t.tag (first_holds _ (is_filled t.value) h.written))
-    (both_hold _ _ (target_argument t.target h.named) (value_argument t.value (second_holds (not (is_empty t.tag)) _ h.written)))
+    and_from _ _ (signed_argument t.prefix t.tag (first_holds _ (is_filled t.value) h.written))
+    (and_from _ _ (target_argument t.target h.named) (value_argument t.value (second_holds (not (is_empty t.tag)) _ h.written)))
   where
     signed_argument : (prefix : Prefix) (tag : List ℕ) → not (is_empty tag) ≡ true → is_argument (sign_of prefix ∷ escape tag) ≡ true
     signed_argument Once tag filled = second_holds (not (is_empty (escape tag))) _ (is_argument-escape tag filled)
@@ -136,7 +136,7 @@ tag_arguments t h =
 
     value_argument : (value : Option (List ℕ)) → is_filled value ≡ true → list_all is_argument (written_if escape value) ≡ true
     value_argument None filled = refl
-    value_argument (Some text) filled = both_hold _ _ (is_argument-escape text filled) refl
+    value_argument (Some text) filled = and_from _ _ (is_argument-escape text filled) refl
 
 -- ---- blocks
 

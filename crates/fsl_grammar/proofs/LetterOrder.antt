@@ -2,11 +2,10 @@
 use Rattle.std.proofs.Common.{◌≡◌, ℕ, ◌<◌, ◌≤◌, Bool, true, false, cond, eqb, List, [], ◌∷◌, filter, refl, sym, ◌∙◌, inl, inr, arith}
 use Rattle.std.specs.Prelude.{◌&&◌, ◌||◌, nat_lt}
 use Rattle.std.specs.List.{AllByRecursion}
-use Rattle.std.proofs.lemmas.Bool.{cases_lt, eq-eqb, eqb-true, false≢true, ltb-true, ne_eqb}
+use Rattle.std.proofs.lemmas.Bool.{cases_lt, eq-eqb, eqb-true, false≢true, ltb-true, ne_eqb, and_from}
+use Rattle.fsl_order.proofs.Booleans.{first_holds, second_holds}
 use Rattle.fsl_card.specs.declared.types.Card.{Card}
 use Rattle.fsl_card.specs.Cards.{in_order, may_follow, may_repeat}
-use Rattle.fsl_grammar.proofs.Apart.{first_holds, second_holds}
-use Rattle.fsl_grammar.proofs.WrittenArguments.{both_hold}
 
 letters_grow : (a b : Card) → may_follow a b ≡ true → a.letter ≤ b.letter
 letters_grow a b h = by (nat_lt a.letter b.letter) (eqb a.letter b.letter) refl refl h
@@ -37,7 +36,7 @@ module _ (letter : ℕ) where
   kept_behind a (b ∷ cards) same h = by (eqb b.letter letter) refl (kept_behind b cards)
     where
       by : (t : Bool) → eqb b.letter letter ≡ t → (b.letter ≡ letter → in_order (b ∷ cards) ≡ true → in_order (b ∷ of_it cards) ≡ true) → in_order (a ∷ cond t (b ∷ of_it cards) (of_it cards)) ≡ true
-      by true e more = both_hold _ _ (first_holds _ (in_order (b ∷ cards)) h) (more (eqb-true b.letter letter e) (second_holds (may_follow a b) _ h))
+      by true e more = and_from _ _ (first_holds _ (in_order (b ∷ cards)) h) (more (eqb-true b.letter letter e) (second_holds (may_follow a b) _ h))
       by false e more =
           let next : a.letter ≤ b.letter = letters_grow a b (first_holds _ (in_order (b ∷ cards)) h) in
           let other : b.letter ≡ letter → ⊥ = λ k. false≢true (sym e ∙ eq-eqb b.letter letter k) in

@@ -2,9 +2,10 @@
 use Rattle.std.proofs.Common.{◌≡◌, ℕ, Bool, true, false, not, cond, eqb, List, [], ◌∷◌, length, map, filter, Option, Some, None, refl, sym, ap, subst, ◌∙◌}
 use Rattle.std.specs.Prelude.{◌==◌, nat_le, option_to_list, codes}
 use Rattle.std.specs.List.{list_all, AllByRecursion}
-use Rattle.std.proofs.lemmas.Bool.{eqb-true}
+use Rattle.std.proofs.lemmas.Bool.{eqb-true, and_from}
 use Rattle.std.proofs.lemmas.List.{length-map}
 use Rattle.std.proofs.lemmas.List.Sums.{length-filter}
+use Rattle.fsl_order.proofs.Booleans.{first_holds, second_holds}
 use Rattle.fsl_text.specs.Bytes.{is_empty}
 use Rattle.fsl_text.specs.Escapes.{unescape, byte_meant}
 use Rattle.fsl_card.specs.declared.types.Card.{Card}
@@ -12,8 +13,6 @@ use Rattle.fsl_card.specs.Cards.{IsCard, are_arguments, is_argument}
 use Rattle.fsl_grammar.specs.declared.TagCard.{TagCard}
 use Rattle.fsl_grammar.specs.Letters.{letter_count}
 use Rattle.fsl_grammar.specs.Forms.{◌>>=◌, arguments, given, is_filled, is_tag_written, prefix_in, tag_form, tag_in, target_in, text_form, user_form}
-use Rattle.fsl_grammar.proofs.Apart.{first_holds, second_holds}
-use Rattle.fsl_grammar.proofs.WrittenArguments.{both_hold}
 
 -- ---- the arguments of a letter
 
@@ -98,7 +97,7 @@ optional_filled (Some text) h = h.0
 
 pub all_true : {X : Type 0} (p : X → Bool) (xs : List X) → AllByRecursion (λ x. p x ≡ true) xs → list_all p xs ≡ true
 all_true p [] h = refl
-all_true p (x ∷ xs) h = both_hold _ _ h.0 (all_true p xs h.1)
+all_true p (x ∷ xs) h = and_from _ _ h.0 (all_true p xs h.1)
 
 -- ---- tags
 
@@ -117,7 +116,7 @@ tag_of (sign ∷ tag) target value t h e =
     let p = step (prefix_in sign) _ t e in
     let to = step (target_in target) _ t p.2 in
     let g = given_is (not (is_empty tag)) (record { prefix = p.0; tag = tag; target = to.0; value = value }) t to.2 in
-    subst (λ (t : TagCard). is_tag_written t ≡ true) g.1 (both_hold _ _ g.0 h)
+    subst (λ (t : TagCard). is_tag_written t ≡ true) g.1 (and_from _ _ g.0 h)
 
 pub tag_read : (args : List (List ℕ)) (t : TagCard) → ArePlain args → tag_form args ≡ Some t → is_tag_written t ≡ true
 tag_read [] t h e = absurd cc

@@ -3,18 +3,15 @@ use Rattle.std.proofs.Common.{◌≡◌, ℕ, suc, ◌+◌, ◌*◌, Bool, true,
 use Rattle.std.specs.Prelude.{◌&&◌, nat_le}
 use Rattle.std.specs.List.{list_all}
 use Rattle.std.proofs.lemmas.List.Folds.{list_all-append}
+use Rattle.std.proofs.lemmas.Bool.{and_from}
 use Rattle.hex.specs.Hex.{encode_lower, encode_with, lower_digits}
+use Rattle.fsl_order.proofs.Booleans.{first_holds, second_holds}
 use Rattle.fsl_text.specs.Bytes.{AreBytes, is_empty}
 use Rattle.fsl_text.specs.Escapes.{escape, escaped_byte}
 use Rattle.fsl_name.specs.Name.{IsName, is_name_digit, name_text}
 use Rattle.fsl_name.proofs.ReadAgain.{digits_all, length_digits}
 use Rattle.fsl_date.specs.Moment.{moment_text}
 use Rattle.fsl_card.specs.Cards.{is_argument, is_argument_byte}
-use Rattle.fsl_grammar.proofs.Apart.{first_holds, second_holds}
-
-pub both_hold : (a b : Bool) → a ≡ true → b ≡ true → (a && b) ≡ true
-both_hold true b h k = k
-both_hold false b h k = absurd cc
 
 -- ---- bytes
 
@@ -74,7 +71,7 @@ filled n (b ∷ text) h = refl
 digits_fit : (text : List ℕ) → list_all is_name_digit text ≡ true → list_all is_argument_byte text ≡ true
 digits_fit [] h = refl
 digits_fit (b ∷ text) h =
-    both_hold _ _ (name_digit_byte b (first_holds _ (list_all is_name_digit text) h)) (digits_fit text (second_holds (is_name_digit b) _ h))
+    and_from _ _ (name_digit_byte b (first_holds _ (list_all is_name_digit text) h)) (digits_fit text (second_holds (is_name_digit b) _ h))
 
 digits_argument : (n : ℕ) (bytes : List ℕ) → length bytes ≡ suc n → AreBytes bytes → is_argument (encode_with lower_digits bytes) ≡ true
 digits_argument n bytes long each =

@@ -12,11 +12,13 @@ use Rattle.fsl_table.specs.Contents.{value_at, with_entry, without_key}
 use Rattle.fsl_table.proofs.Entries.{none_above, sorted-insert_entry, sorted-remove_entry}
 use Rattle.fsl_table.proofs.Finding.{value-with, value-without}
 use Rattle.std.specs.BTreeMap.{is_at}
+use Rattle.std.proofs.lemmas.Bool.{or_right}
+use Rattle.fsl_order.proofs.Booleans.{and_true}
 use Rattle.fsl_leaves.specs.declared.line.Line.{Line}
 use Rattle.fsl_leaves.specs.Keys.{Kin, walked}
 use Rattle.fsl_leaves.specs.Kept.{Lines, ArePairs, lists, is_in, continues_in, continued, ends, leaf, ends_walk, counted}
 use Rattle.fsl_leaves.proofs.Kinship.{kin, finds_walked}
-use Rattle.fsl_table.proofs.Finds.{Finds, same_finds, or-true}
+use Rattle.fsl_table.proofs.Finds.{Finds, same_finds}
 
 abbrev Sorted : Lines → Type 0
 Sorted es = IsStrictlySortedBy bytes_cmp (keys_of es)
@@ -46,7 +48,7 @@ continued_there (e ∷ es) q b c h = by (λ k. continued_there es q b c k) (is_e
   where
     by : (continues_in (value_at bytes_cmp c es) q b ≡ true → continued es q b ≡ true) → (s : Bool) → continues_in (cond s (Some e.1) (value_at bytes_cmp c es)) q b ≡ true → ((has e.1.parents q && bytes_eq e.1.branch b) || continued es q b) ≡ true
     by rest true h = ap (λ x. x || continued es q b) h
-    by rest false h = or-true (has e.1.parents q && bytes_eq e.1.branch b) (continued es q b) (rest h)
+    by rest false h = or_right (has e.1.parents q && bytes_eq e.1.branch b) (continued es q b) (rest h)
 
 pub finds_continued : (es : Lines) → Sorted es → (q b : List ℕ) → Finds (continued es q b) (λ c. continues_in (value_at bytes_cmp c es) q b)
 finds_continued es sorted q b = record { found = continued_found es sorted q b; there = continued_there es q b }
@@ -55,10 +57,6 @@ finds_continued es sorted q b = record { found = continued_found es sorted q b; 
 pub walked_is : (es : Lines) (cs : List (Kin × Unit {0})) → Sorted es → ArePairs es cs → (q b : List ℕ) → walked cs q b ≡ continued es q b
 walked_is es cs sorted pairs q b =
     same_finds (walked cs q b) (continued es q b) _ _ (finds_walked cs q b) (finds_continued es sorted q b) (λ c. pairs (kin q b c))
-
-and-true : (b : Bool) → (b && true) ≡ b
-and-true true = refl
-and-true false = refl
 
 -- ---- with one fact more
 module _ (es : Lines) (name : List ℕ) (l : Line) (sorted : Sorted es) (absent : value_at bytes_cmp name es ≡ None) where
@@ -82,7 +80,7 @@ module _ (es : Lines) (name : List ℕ) (l : Line) (sorted : Sorted es) (absent 
   more_found q b false k h = (name, ap (λ o. continues_in o q b) (at_with name ∙ ap (λ s. cond s (Some l) (value_at bytes_cmp name es)) (nat_list_eq_equiv.refl name)) ∙ h)
 
   more_there : (q b c : List ℕ) (s : Bool) → continues_in (cond s (Some l) (value_at bytes_cmp c es)) q b ≡ true → (continued es q b || continues_in (Some l) q b) ≡ true
-  more_there q b c true h = or-true (continued es q b) (continues_in (Some l) q b) h
+  more_there q b c true h = or_right (continued es q b) (continues_in (Some l) q b) h
   more_there q b c false h = ap (λ x. x || continues_in (Some l) q b) (continued_there es q b c h)
 
   pub continued_with : (q b : List ℕ) → continued with q b ≡ (continued es q b || continues_in (Some l) q b)
@@ -100,7 +98,7 @@ module _ (es : Lines) (name : List ℕ) (l : Line) (sorted : Sorted es) (absent 
       ap (ends with q) (at_with q)
       ∙ elim (bytes_eq q name) as (λ s. bytes_eq q name ≡ s → ends with q (cond s (Some l) (value_at bytes_cmp q es)) ≡ (if s then not (continued es name l.branch || has l.parents name) else (leaf es q && not (has l.parents q && is_in (value_at bytes_cmp q es) l.branch)))) [
         | true ↦ λ s.
-            ap not (continued_with q l.branch ∙ ap (λ x. continued es q l.branch || (has l.parents q && x)) (nat_list_eq_equiv.refl l.branch) ∙ ap (λ x. continued es q l.branch || x) (and-true (has l.parents q)))
+            ap not (continued_with q l.branch ∙ ap (λ x. continued es q l.branch || (has l.parents q && x)) (nat_list_eq_equiv.refl l.branch) ∙ ap (λ x. continued es q l.branch || x) (and_true (has l.parents q)))
             ∙ ap (λ n. not (continued es n l.branch || has l.parents n)) ((bytes_decides q name).0 s)
         | false ↦ λ s. by (value_at bytes_cmp q es)
       ] refl

@@ -6,16 +6,13 @@ use Rattle.std.specs.Cmp.Lexicographic.{bytes_decides}
 use Rattle.std.specs.List.Sorted.{IsStrictlySortedBy}
 use Rattle.std.specs.Map.{keys_of}
 use Rattle.fsl_order.specs.Names.{bytes_cmp}
+use Rattle.fsl_order.proofs.Booleans.{or_false}
 use Rattle.fsl_table.specs.Pairs.{is_name}
 use Rattle.fsl_table.specs.Contents.{value_at, with_entry, without_key}
 use Rattle.fsl_table.proofs.Finding.{value-with, value-without}
 use Rattle.fsl_leaves.specs.declared.line.Line.{Line}
 use Rattle.fsl_leaves.specs.Keys.{Kin, kin_cmp, is_kin}
 use Rattle.fsl_leaves.specs.Kept.{Lines, lists, continues_in, differs, ArePairs}
-
-or-false : (b : Bool) → (b || false) ≡ b
-or-false true = refl
-or-false false = refl
 
 pub pairs_with : (facts : Lines) (children : List (Kin × Unit {0})) (name : List ℕ) (l : Line) → ArePairs facts children → value_at bytes_cmp name facts ≡ None
     → (k : Kin) → (is_some (value_at kin_cmp k children) || is_kin name l.parents l.branch k) ≡ continues_in (option_and_then (λ c. value_at bytes_cmp c (with_entry bytes_cmp name l facts)) k.second) k.first.parent k.first.branch
@@ -27,7 +24,7 @@ pairs_with facts children name l pairs none k =
     by (Some c) =
         elim (bytes_eq c name) as (λ b. bytes_eq c name ≡ b → (continues_in (value_at bytes_cmp c facts) k.first.parent k.first.branch || (b && continues_in (Some l) k.first.parent k.first.branch)) ≡ continues_in (cond b (Some l) (value_at bytes_cmp c facts)) k.first.parent k.first.branch) [
           | true ↦ λ h. ap (λ r. continues_in r k.first.parent k.first.branch || continues_in (Some l) k.first.parent k.first.branch) (ap (λ q. value_at bytes_cmp q facts) ((bytes_decides c name).0 h) ∙ none)
-          | false ↦ λ h. or-false (continues_in (value_at bytes_cmp c facts) k.first.parent k.first.branch)
+          | false ↦ λ h. or_false (continues_in (value_at bytes_cmp c facts) k.first.parent k.first.branch)
         ] refl
         ∙ ap (λ r. continues_in r k.first.parent k.first.branch) (sym (value-with name l facts c))
 

@@ -5,16 +5,13 @@ use Rattle.std.specs.Cmp.Lexicographic.{bytes_decides}
 use Rattle.std.specs.List.Sorted.{IsStrictlySortedBy}
 use Rattle.std.specs.Map.{keys_of}
 use Rattle.fsl_order.specs.Names.{bytes_cmp, has}
+use Rattle.fsl_order.proofs.Booleans.{or_false}
 use Rattle.fsl_table.specs.declared.key.Pair.{Pair}
 use Rattle.fsl_table.specs.Exact.{pair_cmp}
 use Rattle.fsl_table.specs.Pairs.{is_name}
 use Rattle.fsl_table.specs.Contents.{value_at, with_entry, without_key}
 use Rattle.fsl_table.proofs.Finding.{value-with, value-without}
 use Rattle.fsl_links.specs.Kept.{lists, ArePairs}
-
-or-false : (b : Bool) → (b || false) ≡ b
-or-false true = refl
-or-false false = refl
 
 pub pairs_with : (facts : List (List ℕ × List (List ℕ))) (children : List (Pair × Unit {0})) (name : List ℕ) (ps : List (List ℕ)) → ArePairs facts children → value_at bytes_cmp name facts ≡ None
     → (k : Pair) → (is_some (value_at pair_cmp k children) || (is_name k.second name && has ps k.first)) ≡ lists (option_and_then (λ c. value_at bytes_cmp c (with_entry bytes_cmp name ps facts)) k.second) k.first
@@ -26,7 +23,7 @@ pairs_with facts children name ps pairs none k =
     by (Some c) =
         elim (bytes_eq c name) as (λ b. bytes_eq c name ≡ b → (lists (value_at bytes_cmp c facts) k.first || (b && has ps k.first)) ≡ lists (cond b (Some ps) (value_at bytes_cmp c facts)) k.first) [
           | true ↦ λ h. ap (λ r. lists r k.first || has ps k.first) (ap (λ q. value_at bytes_cmp q facts) ((bytes_decides c name).0 h) ∙ none)
-          | false ↦ λ h. or-false (lists (value_at bytes_cmp c facts) k.first)
+          | false ↦ λ h. or_false (lists (value_at bytes_cmp c facts) k.first)
         ] refl
         ∙ ap (λ r. lists r k.first) (sym (value-with name ps facts c))
 

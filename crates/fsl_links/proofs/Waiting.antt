@@ -48,10 +48,6 @@ pub not_led : (l e p : Bool) → l ≡ false → p ≡ ((l && e) || p)
 not_led false e p h = refl
 not_led true e p h = cc
 
-pub or-none : (b : Bool) → (b || false) ≡ b
-or-none true = refl
-or-none false = refl
-
 pub if_ok : {X E : Type 0} (P : X → Type 0) (r : Result X E) (v : X) → IfOk r (λ x. x ≡ v) → P v → IfOk r P
 if_ok P (Ok x) v h p = subst P (sym h) p
 if_ok P (Err e) v h p = tt

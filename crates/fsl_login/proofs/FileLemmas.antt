@@ -9,6 +9,7 @@ use Rattle.std.proofs.lemmas.List.Quantifiers.{position-Some}
 use Rattle.std.proofs.lemmas.List.Splits.{slice_split_none, slice_split_first}
 use Rattle.std.proofs.lemmas.List.Sums.{fails_before_first, sum_by_push}
 use Rattle.fsl_order.specs.Rows.{AreDistinct}
+use Rattle.fsl_order.proofs.Booleans.{and_false}
 use Rattle.fsl_text.specs.Bytes.{is_newline}
 use Rattle.fsl_text.specs.Tokens.{tokens_of}
 use Rattle.fsl_wire.proofs.TokenLemmas.{no_place, place_found}
@@ -91,10 +92,6 @@ kept_or_not : (o : Option User) → cons_option o [] ≡ option_to_list o
 kept_or_not None = refl
 kept_or_not (Some user) = refl
 
-and_right : (b : Bool) → (b && false) ≡ false
-and_right true = refl
-and_right false = refl
-
 long : (n : ℕ) → 2 ^ 20 < n → nat_le n (2 ^ 20) ≡ false
 long n h = grind (arith, h)
 
@@ -144,7 +141,7 @@ module _ (bytes text : List ℕ) (at number end : ℕ) (last : Bool) (users : Li
       (omega (arith, count), omega (arith, count, all), ap not e, λ m lt. r.good m (omega (arith, count, lt)))
 
   pub too_long : 2 ^ 20 < end → IsFirstBadLine bytes number
-  too_long lt = bad_here (good_now ∙ ap (λ (b : Bool). is_good_among text users && b) (long end lt) ∙ and_right (is_good_among text users))
+  too_long lt = bad_here (good_now ∙ ap (λ (b : Bool). is_good_among text users && b) (long end lt) ∙ and_false (is_good_among text users))
 
   pub not_good : (b : Bool) → b ≡ is_good_among text users → b ≡ false → IsFirstBadLine bytes number
   not_good b e f = bad_here (good_now ∙ ap (λ (b : Bool). b && nat_le end (2 ^ 20)) (sym e ∙ f))

@@ -4,6 +4,7 @@ use Rattle.std.specs.Prelude.{◌⊎◌, ◌-◌, ◌&&◌, not, nat_le, fold, s
 use Rattle.std.specs.List.{onto_first}
 use Rattle.std.proofs.lemmas.Bool.{cases_lt}
 use Rattle.std.proofs.lemmas.List.{length-append}
+use Rattle.fsl_order.proofs.Booleans.{and_false}
 use Rattle.fsl_text.specs.Bytes.{is_newline}
 use Rattle.fsl_login.specs.declared.User.{User}
 use Rattle.fsl_login.specs.UserFiles.{lines_of, bytes_of_lines, is_good_line, is_good_at, IsUsersFile, IsFirstBadLine}
@@ -120,10 +121,6 @@ pub take_one : (init : List (List ℕ)) (l : List ℕ) (rest : List (List ℕ)) 
 take_one [] l rest = refl
 take_one (i ∷ init) l rest = ap (λ (ls : List (List ℕ)). i ∷ ls) (take_one init l rest)
 
-no_and : (a : Bool) → (a && false) ≡ false
-no_and true = refl
-no_and false = refl
-
 too_far : (len s : ℕ) → 2 ^ 20 < len → 2 ^ 20 < s → nat_le (min len s) (2 ^ 20) ≡ false
 too_far len s p q = grind (arith, p, q)
 
@@ -135,7 +132,7 @@ bad_behind bytes init l rest e long far =
     let sum : fold (λ a l. a + (length l + 1)) 0 (take (length init + 1) (lines_of bytes)) ≡ total init + (length l + 1) = ap (λ (ls : List (List ℕ)). fold (λ a l. a + (length l + 1)) 0 ls) upto ∙ sum_is 0 (init ++ l ∷ []) ∙ (let t = total-append init (l ∷ []) in omega (arith, t)) in
     let b : nat_le (bytes_of_lines (length init + 1) bytes) (2 ^ 20) ≡ false = too_far (length bytes) (fold (λ a l. a + (length l + 1)) 0 (take (length init + 1) (lines_of bytes))) long (omega (arith, sum, far)) in
     ap (λ (t : Bool). is_good_line (slice_index_or (lines_of bytes) (length init + 1 - 1) []) (take (length init + 1 - 1) (lines_of bytes)) && t) b
-    ∙ no_and (is_good_line (slice_index_or (lines_of bytes) (length init + 1 - 1) []) (take (length init + 1 - 1) (lines_of bytes)))
+    ∙ and_false (is_good_line (slice_index_or (lines_of bytes) (length init + 1 - 1) []) (take (length init + 1 - 1) (lines_of bytes)))
 
 module _ (front more : List ℕ) (long : 2 ^ 20 < length front) where
   whole_long : 2 ^ 20 < length (front ++ more)

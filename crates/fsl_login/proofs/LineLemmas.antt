@@ -1,28 +1,23 @@
 -- Facts on the lines of a users file.
-use Rattle.std.proofs.Common.{◌≡◌, ℕ, ◌≤◌, ◌^◌, Bool, true, false, not, cond, List, [], ◌∷◌, ◌++◌, length, map, Result, Ok, Err, IfOk, refl, sym, ap, subst, ◌∙◌, arith}
-use Rattle.std.specs.Prelude.{◌||◌, IsTrue}
+use Rattle.std.proofs.Common.{◌≡◌, ℕ, ◌≤◌, ◌^◌, Bool, true, false, cond, List, [], ◌∷◌, ◌++◌, length, map, Result, Ok, Err, IfOk, sym, ap, subst, ◌∙◌, arith}
+use Rattle.std.specs.Prelude.{IsTrue}
 use Rattle.std.specs.List.{AllByRecursion, IsDistinct}
 use Rattle.std.specs.Str.{bytes_eq}
 use Rattle.std.specs.Cmp.Lexicographic.{texts_ties}
 use Rattle.std.specs.BTreeMap.{is_at}
-use Rattle.std.proofs.lemmas.Bool.{or_parts}
+use Rattle.std.proofs.lemmas.Bool.{or_parts, not-true}
 use Rattle.std.proofs.lemmas.List.{map-append}
 use Rattle.std.proofs.lemmas.List.Folds.{list_any-append}
 use Rattle.std.proofs.lemmas.Cmp.{nat_list_eq_equiv}
 use Rattle.fsl_order.specs.Names.{has, bytes_cmp}
 use Rattle.fsl_order.specs.Rows.{AreDistinct}
+use Rattle.fsl_order.proofs.Booleans.{cond_or}
 use Rattle.fsl_wire.specs.declared.Caps.{Caps}
 use Rattle.fsl_login.specs.declared.User.{User}
 use Rattle.fsl_login.specs.UserFiles.{AreUsers}
 use Rattle.fsl_login.specs.Reading.{is_new_name}
 
 -- ---- names that were seen
-
-either : (b c : Bool) → cond b true c ≡ (c || (b || false))
-either true true = refl
-either true false = refl
-either false true = refl
-either false false = refl
 
 abbrev names : List User → List (List ℕ)
 names users = map (λ user. user.name) users
@@ -31,7 +26,7 @@ pub seen_next : (users : List User) (user : User) (q : List ℕ) → cond (is_at
 seen_next users user q =
     ap (λ (b : Bool). cond b true (has (names users) q)) (sym (texts_ties user.name q))
     ∙ ap (λ (b : Bool). cond b true (has (names users) q)) (nat_list_eq_equiv.symm user.name q)
-    ∙ either (bytes_eq q user.name) (has (names users) q) ∙ sym (list_any-append (bytes_eq q) (names users) (user.name ∷ []))
+    ∙ cond_or (bytes_eq q user.name) (has (names users) q) ∙ sym (list_any-append (bytes_eq q) (names users) (user.name ∷ []))
     ∙ ap (λ (xs : List (List ℕ)). has xs q) (sym (map-append (λ (u : User). u.name) users (user ∷ [])))
 
 -- ---- users who differ
@@ -47,17 +42,13 @@ distinct_push (y ∷ ys) x d h =
     let parts = or_parts (bytes_eq x y) (has ys x) h in
     (all_push (λ z. bytes_eq y z ≡ false) ys x d.0 (nat_list_eq_equiv.symm y x ∙ parts.0), distinct_push ys x d.1 parts.1)
 
-was_not : (b : Bool) → not b ≡ true → b ≡ false
-was_not true h = cc
-was_not false h = refl
-
 pub users_next : (users : List User) (user : User) → AreUsers users → length user.name ≤ 2 ^ 20 → is_new_name user.name users ≡ true → AreUsers (users ++ user ∷ [])
 users_next users user h short new =
     record {
       short = all_push (λ u. length u.name ≤ 2 ^ 20) users user h.short short;
       differ =
           subst (λ (ns : List (List ℕ)). AreDistinct ns) (sym (map-append (λ (u : User). u.name) users (user ∷ [])))
-          (distinct_push (names users) user.name h.differ (was_not (has (names users) user.name) new));
+          (distinct_push (names users) user.name h.differ (not-true (has (names users) user.name) new));
     }
 
 -- what stays true of users behind a line

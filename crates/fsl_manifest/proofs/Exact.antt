@@ -3,7 +3,9 @@ use Rattle.std.proofs.Common.{◌≡◌, ℕ, Bool, true, false, cond, List, [],
 use Rattle.std.specs.Prelude.{◌&&◌, ◌||◌, ◌==◌, nat_lt, is_some, option_map, option_to_list}
 use Rattle.std.specs.List.{list_all, AllByRecursion}
 use Rattle.std.specs.Str.{bytes_eq}
+use Rattle.std.proofs.lemmas.Bool.{and_from}
 use Rattle.fsl_order.specs.Names.{is_before}
+use Rattle.fsl_order.proofs.Booleans.{first_holds, second_holds}
 use Rattle.fsl_text.specs.Escapes.{unescape}
 use Rattle.fsl_text.specs.Paths.{path_ok}
 use Rattle.fsl_name.specs.Name.{name_in}
@@ -11,10 +13,8 @@ use Rattle.fsl_card.specs.declared.types.Card.{Card}
 use Rattle.fsl_card.specs.Cards.{IsCards, in_order, is_argument, may_follow, may_repeat, first_of, first_argument}
 use Rattle.fsl_card.specs.Writing.{sealed_text}
 use Rattle.fsl_grammar.specs.Forms.{arguments, is_tag_written, optional, tag_form, text_form, user_form}
-use Rattle.fsl_grammar.proofs.Apart.{first_holds, second_holds}
 use Rattle.fsl_grammar.proofs.LetterOrder.{all_of_it, kept_in_order, of_it}
 use Rattle.fsl_grammar.proofs.ReadValues.{all_true, each_given, filled, fit_arguments, given_is, optional_filled, step, tag_read, text_filled, user_filled}
-use Rattle.fsl_grammar.proofs.WrittenArguments.{both_hold}
 use Rattle.fsl_manifest.specs.declared.Perm.{Perm}
 use Rattle.fsl_manifest.specs.declared.Perm.TheVariants.{Plain, Writable, Exec, Symlink}
 use Rattle.fsl_manifest.specs.declared.FileCard.{FileCard}
@@ -51,7 +51,7 @@ former_ok (Some arg) (Some path) e = by (path_in arg) refl e
   where
     by : (found : Option (List ℕ)) → path_in arg ≡ found → option_map Some found ≡ Some (Some path) → list_all path_ok (path ∷ []) ≡ true
     by None k f = absurd cc
-    by (Some x) k f = both_hold _ _ (path_of arg path (k ∙ inside f)).0 refl
+    by (Some x) k f = and_from _ _ (path_of arg path (k ∙ inside f)).0 refl
       where
         inside : ◌≡◌ {A = Option (Option (List ℕ))} (Some (Some x)) (Some (Some path)) → ◌≡◌ {A = Option (List ℕ)} (Some x) (Some path)
         inside g = cc
@@ -101,7 +101,7 @@ file_of path hash perm former f needs none e =
     let hashed = optional_some name_in hash h.0 h.1 in
     let renamed = optional_some path_in former o.0 o.1 in
     subst (IsFileOf path) is (record {
-      written = both_hold _ _ (both_hold _ _ ok.0 (former_ok former o.0 o.1)) (perm_placed perm m.0 (is_some h.0) (is_some o.0) m.1 (λ k. hashed ∙ needs k) (λ k. renamed ∙ none k));
+      written = and_from _ _ (and_from _ _ ok.0 (former_ok former o.0 o.1)) (perm_placed perm m.0 (is_some h.0) (is_some o.0) m.1 (λ k. hashed ∙ needs k) (λ k. renamed ∙ none k));
       path_is = ok.1;
     })
   where
@@ -135,7 +135,7 @@ rise_from (a ∷ []) (f ∷ g ∷ files) letters h e = absurd cc
 rise_from (a ∷ b ∷ cards) (f ∷ g ∷ files) letters h e =
     let first = file_read a.args f (one e) in
     let second = file_read b.args g (two e) in
-    both_hold _ _ (rw (first.path_is, second.path_is) (path_before a b letters.0 letters.1.0 (first_holds _ (in_order (b ∷ cards)) h)))
+    and_from _ _ (rw (first.path_is, second.path_is) (path_before a b letters.0 letters.1.0 (first_holds _ (in_order (b ∷ cards)) h)))
     (rise_from (b ∷ cards) (g ∷ files) letters.1 (second_holds (may_follow a b) _ h) (rest e))
   where
     one : file_form a.args ∷ file_form b.args ∷ map file_form (map (λ card. card.args) cards) ≡ Some f ∷ Some g ∷ some_files files → file_form a.args ≡ Some f
@@ -157,7 +157,7 @@ well_formed_from text cards m is h =
     let files = each_given (λ args. list_all is_argument args ≡ true) file_form (λ f. is_file_written f ≡ true) (λ args f fit e. (file_read args f e).written) (arguments cards 70) m.files (fit_arguments cards 70 is.each) h.files in
     let tags = each_given (λ args. list_all is_argument args ≡ true) tag_form (λ t. is_tag_written t ≡ true) tag_read (arguments cards 84) m.tags (fit_arguments cards 84 is.each) h.tags in
     let rise = rise_from (of_it 70 cards) m.files (all_of_it 70 cards) (kept_in_order 70 cards is.ordered) h.files in
-    both_hold _ _ (both_hold _ _ (both_hold _ _ (both_hold _ _ (both_hold _ _ (both_hold _ _ (both_hold _ _
+    and_from _ _ (and_from _ _ (and_from _ _ (and_from _ _ (and_from _ _ (and_from _ _ (and_from _ _
     comment.0 user.0) (optional_filled m.mime mime)) (all_true is_file_written m.files files)) rise) h.hashes) h.parents.differ) (all_true is_tag_written m.tags tags)
 
 -- a manifest can be written exactly where some text is it

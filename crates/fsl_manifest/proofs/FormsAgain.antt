@@ -2,7 +2,9 @@
 use Rattle.std.proofs.Common.{◌≡◌, ℕ, Bool, true, false, not, List, [], ◌∷◌, ◌++◌, map, Option, Some, None, refl}
 use Rattle.std.specs.Prelude.{◌&&◌, if◌then◌else◌, is_some, option_to_list}
 use Rattle.std.specs.List.{list_all, AllByRecursion}
+use Rattle.std.proofs.lemmas.Bool.{and_from}
 use Rattle.fsl_order.specs.Names.{is_before}
+use Rattle.fsl_order.proofs.Booleans.{first_holds, second_holds}
 use Rattle.fsl_text.specs.Bytes.{is_empty}
 use Rattle.fsl_text.specs.Escapes.{escape}
 use Rattle.fsl_text.specs.Paths.{path_ok}
@@ -11,8 +13,7 @@ use Rattle.fsl_name.specs.Name.{IsName, name_text}
 use Rattle.fsl_name.proofs.ReadAgain.{name_again}
 use Rattle.fsl_card.specs.Cards.{in_order, is_argument}
 use Rattle.fsl_grammar.specs.Writing.{written_if}
-use Rattle.fsl_grammar.proofs.Apart.{first_holds, second_holds}
-use Rattle.fsl_grammar.proofs.WrittenArguments.{both_hold, is_argument-escape, is_argument-name}
+use Rattle.fsl_grammar.proofs.WrittenArguments.{is_argument-escape, is_argument-name}
 use Rattle.fsl_grammar.proofs.Blocks.{IsBlock, block_each, plain_card}
 use Rattle.fsl_manifest.specs.declared.Perm.{Perm}
 use Rattle.fsl_manifest.specs.declared.Perm.TheVariants.{Plain, Writable, Exec, Symlink}
@@ -63,15 +64,15 @@ file_again f h =
 
 all-append : (a b : List (List ℕ)) → list_all is_argument a ≡ true → list_all is_argument b ≡ true → list_all is_argument (a ++ b) ≡ true
 all-append [] b h k = k
-all-append (x ∷ a) b h k = both_hold _ _ (first_holds _ (list_all is_argument a) h) (all-append a b (second_holds (is_argument x) _ h) k)
+all-append (x ∷ a) b h k = and_from _ _ (first_holds _ (list_all is_argument a) h) (all-append a b (second_holds (is_argument x) _ h) k)
 
 hash_arguments : (hash : Option (List ℕ)) → AllByRecursion IsName (option_to_list hash) → list_all is_argument (written_if name_text hash) ≡ true
 hash_arguments None h = refl
-hash_arguments (Some hash) h = both_hold _ _ (is_argument-name hash h.0) refl
+hash_arguments (Some hash) h = and_from _ _ (is_argument-name hash h.0) refl
 
 former_arguments : (former : Option (List ℕ)) → list_all path_ok (option_to_list former) ≡ true → list_all is_argument (written_if escape former) ≡ true
 former_arguments None h = refl
-former_arguments (Some former) h = both_hold _ _ (is_argument-escape former (path_filled former (first_holds _ true h))) refl
+former_arguments (Some former) h = and_from _ _ (is_argument-escape former (path_filled former (first_holds _ true h))) refl
 
 perm_are_arguments : (perm : Perm) (former : Option (List ℕ)) → list_all path_ok (option_to_list former) ≡ true → list_all is_argument (perm_arguments perm former) ≡ true
 perm_are_arguments Plain former h = refl
@@ -83,14 +84,14 @@ pub file_arguments : (f : FileCard) → IsFileFit f → list_all is_argument (fi
 file_arguments f h =
     let both = first_holds _ (is_perm_placed f.perm (is_some f.hash) (is_some f.former)) h.written in
     all-append (escape f.path ∷ written_if name_text f.hash) (perm_arguments f.perm f.former)
-    (both_hold _ _ (is_argument-escape f.path (path_filled f.path (first_holds _ (list_all path_ok (option_to_list f.former)) both))) (hash_arguments f.hash h.named))
+    (and_from _ _ (is_argument-escape f.path (path_filled f.path (first_holds _ (list_all path_ok (option_to_list f.former)) both))) (hash_arguments f.hash h.named))
     (perm_are_arguments f.perm f.former (second_holds (path_ok f.path) _ both))
 
 files_ordered : (files : List FileCard) → files_rise files ≡ true → in_order (map file_card files) ≡ true
 files_ordered [] h = refl
 files_ordered (a ∷ []) h = refl
 files_ordered (a ∷ b ∷ files) h =
-    both_hold _ _ (rw (unescape-escape a.path, unescape-escape b.path) (first_holds _ (files_rise (b ∷ files)) h)) (files_ordered (b ∷ files) (second_holds (is_before a.path b.path) _ h))
+    and_from _ _ (rw (unescape-escape a.path, unescape-escape b.path) (first_holds _ (files_rise (b ∷ files)) h)) (files_ordered (b ∷ files) (second_holds (is_before a.path b.path) _ h))
 
 pub files_block : (files : List FileCard) → AllByRecursion IsFileFit files → files_rise files ≡ true → IsBlock (70, map file_card files)
 files_block files h rise =
@@ -120,7 +121,7 @@ pub pick_again : (p : Pick) → IsPickFit p → pick_form (pick_card p).args ≡
 pick_again p h = pick_args_again p.back p.target p.other h
 
 pub pick_arguments : (p : Pick) → IsPickFit p → list_all is_argument (pick_card p).args ≡ true
-pick_arguments p h = both_hold _ _ (signed p.back) (hash_arguments p.other h.1)
+pick_arguments p h = and_from _ _ (signed p.back) (hash_arguments p.other h.1)
   where
     signed : (back : Bool) → is_argument ((if back then 45 else 43) ∷ name_text p.target) ≡ true
     signed true = second_holds (not (is_empty (name_text p.target))) _ (is_argument-name p.target h.0)

@@ -2,7 +2,9 @@
 use Rattle.std.proofs.Common.{◌≡◌, ℕ, true, not, List, [], ◌∷◌, ◌++◌, map, flat_map, refl, sym, ap, ◌∙◌, append_assoc}
 use Rattle.std.specs.Prelude.{option_to_list}
 use Rattle.std.specs.List.{list_all, AllByRecursion}
+use Rattle.std.proofs.lemmas.Bool.{and_from}
 use Rattle.hex.specs.Hex.{encode_lower}
+use Rattle.fsl_order.proofs.Booleans.{first_holds, second_holds}
 use Rattle.fsl_text.specs.Bytes.{is_empty}
 use Rattle.fsl_text.specs.Escapes.{escape}
 use Rattle.fsl_name.specs.Name.{IsName, name_in, name_text}
@@ -11,8 +13,7 @@ use Rattle.fsl_card.specs.declared.types.Card.{Card}
 use Rattle.fsl_grammar.specs.Letters.{manifest_letters}
 use Rattle.fsl_grammar.specs.Forms.{all_differ, checksum_form, date_form, hash_form, is_filled, is_tag_written, tag_form, text_form, user_form}
 use Rattle.fsl_grammar.specs.Writing.{card, card_if, parents_card, tag_card}
-use Rattle.fsl_grammar.proofs.Apart.{first_holds, second_holds}
-use Rattle.fsl_grammar.proofs.WrittenArguments.{both_hold, is_argument-checksum, is_argument-date, is_argument-escape}
+use Rattle.fsl_grammar.proofs.WrittenArguments.{is_argument-checksum, is_argument-date, is_argument-escape}
 use Rattle.fsl_grammar.proofs.Blocks.{AreBlocks, at_most_one_if, block_if, joined, single_block}
 use Rattle.fsl_grammar.proofs.BlockLemmas.{all_cards, by_form, letters_are, name_block, name_read, of_letter, of_some, one_read, text_block, text_is, text_read}
 use Rattle.fsl_grammar.proofs.NameLists.{each_holds, front_holds, rest_holds}
@@ -125,7 +126,7 @@ manifest_again m moment h =
     record {
       letters = letters_are (blocks m) b manifest_letters (record {
         once = refl;
-        optional = both_hold _ _ (at_most_one_if 66 name_text m.baseline) (both_hold _ _ (at_most_one_if 78 escape m.mime) (both_hold _ _ (at_most_one_parents m.parents) (both_hold _ _ (at_most_one_if 82 encode_lower m.checksum) refl)));
+        optional = and_from _ _ (at_most_one_if 66 name_text m.baseline) (and_from _ _ (at_most_one_if 78 escape m.mime) (and_from _ _ (at_most_one_parents m.parents) (and_from _ _ (at_most_one_if 82 encode_lower m.checksum) refl)));
         some = refl;
         known = refl;
       });

@@ -2,8 +2,9 @@
 use Rattle.std.proofs.Common.{◌≡◌, ℕ, zero, suc, ◌+◌, ◌*◌, ◌/◌, ◌%◌, ◌<◌, ◌≤◌, Bool, true, false, cond, eqb, ltb, List, [], ◌∷◌, length, Option, Some, None, refl, sym, ap, subst, ◌∙◌, arith}
 use Rattle.std.specs.Prelude.{◌&&◌, ◌||◌, nat_le, slice_index}
 use Rattle.std.specs.List.{list_all}
-use Rattle.std.proofs.lemmas.Bool.{eqb-true}
+use Rattle.std.proofs.lemmas.Bool.{eqb-true, and_from}
 use Rattle.hex.specs.Hex.{encode_with, lower_digits}
+use Rattle.fsl_order.proofs.Booleans.{first_holds, second_holds}
 use Rattle.fsl_text.specs.Bytes.{AreBytes}
 use Rattle.fsl_name.specs.Name.{is_name_digit, digit_worth, bytes_of_digits, name_text, name_in, are_digits, IsName, IsNameText}
 
@@ -11,18 +12,6 @@ use Rattle.fsl_name.specs.Name.{is_name_digit, digit_worth, bytes_of_digits, nam
 abbrev below : (ℕ → Bool) → ℕ → Bool
 below p zero = true
 below p (suc n) = p n && below p n
-
-first_holds : (a b : Bool) → (a && b) ≡ true → a ≡ true
-first_holds true b h = refl
-first_holds false b h = h
-
-second_holds : (a b : Bool) → (a && b) ≡ true → b ≡ true
-second_holds true b h = h
-second_holds false b h = absurd cc
-
-both_hold : (a b : Bool) → a ≡ true → b ≡ true → (a && b) ≡ true
-both_hold true b h k = k
-both_hold false b h k = absurd cc
 
 below_by : (p : ℕ → Bool) (n k : ℕ) (t : Bool) → eqb k n ≡ t → k < suc n → (p n && below p n) ≡ true → (k < n → p k ≡ true) → p k ≡ true
 below_by p n k true e lt h more = subst (λ (m : ℕ). p m ≡ true) (sym (eqb-true k n e)) (first_holds (p n) (below p n) h)
@@ -72,9 +61,9 @@ pub digits_all : (name : List ℕ) → AreBytes name → list_all is_name_digit 
 unfolding encode_with
 digits_all [] h = refl
 digits_all (b ∷ name) h =
-    both_hold (is_name_digit (slice_index lower_digits (b / 16))) (is_name_digit (slice_index lower_digits (b % 16)) && list_all is_name_digit (encode_with lower_digits name))
+    and_from (is_name_digit (slice_index lower_digits (b / 16))) (is_name_digit (slice_index lower_digits (b % 16)) && list_all is_name_digit (encode_with lower_digits name))
     (digit_is (b / 16) (omega (arith, h.0)))
-    (both_hold (is_name_digit (slice_index lower_digits (b % 16))) (list_all is_name_digit (encode_with lower_digits name)) (digit_is (b % 16) (omega arith)) (digits_all name h.1))
+    (and_from (is_name_digit (slice_index lower_digits (b % 16))) (list_all is_name_digit (encode_with lower_digits name)) (digit_is (b % 16) (omega arith)) (digits_all name h.1))
 
 pub length_digits : (name : List ℕ) → length (encode_with lower_digits name) ≡ 2 * length name
 unfolding encode_with

@@ -5,6 +5,7 @@ use Rattle.std.specs.List.{list_all, position_or_len}
 use Rattle.std.proofs.lemmas.List.Sums.{fails_before_first, list_all-from_AllPass}
 use Rattle.std.proofs.lemmas.List.Folds.{list_all_at}
 use Rattle.std.proofs.lemmas.List.Quantifiers.{position-Some}
+use Rattle.std.proofs.lemmas.Bool.{not-false, not-true}
 use Rattle.hex.specs.Hex.{decode_sized}
 use Rattle.hex.specs.declared.error.FromHexError.{FromHexError}
 use Rattle.hex.proofs.HexLemmas.{decode_sized-encode_lower}
@@ -39,25 +40,17 @@ none_past i n h = grind (arith)
 some_at : (i n k : ℕ) → cond (nat_lt i n) (Some i) None ≡ Some k → i ≡ k
 some_at i n k h = grind (arith)
 
-not_false : (b : Bool) → not b ≡ false → b ≡ true
-not_false true h = refl
-not_false false h = cc
-
-not_true : (b : Bool) → not b ≡ true → b ≡ false
-not_true true h = cc
-not_true false h = refl
-
 -- where there is no other byte all are digits
 pub no_other : (text : List ℕ) → position other text ≡ None → list_all is_name_digit text ≡ true
 no_other text h =
     let past : length text ≤ position_or_len other text = none_past _ _ h in
-    list_all-from_AllPass is_name_digit text (λ k d lt. not_false _ (fails_before_first other text k d (omega arith)))
+    list_all-from_AllPass is_name_digit text (λ k d lt. not-false _ (fails_before_first other text k d (omega arith)))
 
 -- where there is one they aren't
 pub some_other : (text : List ℕ) (k : ℕ) → position other text ≡ Some k → list_all is_name_digit text ≡ false
 some_other text k h =
     let p = position-Some other text k 0 h in
-    list_all_at is_name_digit text k 0 p.0 (not_true _ p.1)
+    list_all_at is_name_digit text k 0 p.0 (not-true _ p.1)
 
 -- ---- what is read
 

@@ -1,9 +1,10 @@
 -- Texts that are compared one by one, and a Config by its parts.
-use Rattle.std.specs.Prelude.{◌≡◌, ℕ, ◌+◌, ◌<◌, Bool, true, false, not, List, [], ◌∷◌, ◌++◌, length, take}
+use Rattle.std.specs.Prelude.{◌≡◌, ℕ, ◌+◌, ◌<◌, Bool, false, not, List, [], ◌∷◌, ◌++◌, length, take}
 use Rattle.std.specs.Str.{bytes_eq}
 use Rattle.std.specs.Cmp.Lexicographic.{bytes_decides}
-use Rattle.std.proofs.Common.{get_or, refl, sym, ap, ◌∙◌}
+use Rattle.std.proofs.Common.{get_or, sym, ap, ◌∙◌}
 use Rattle.std.proofs.lemmas.List.{take_more, get_or_default}
+use Rattle.std.proofs.lemmas.Bool.{not-false}
 use Rattle.fsl_record.specs.declared.Config.{Config}
 
 pub texts_on : (xs ys : List (List ℕ)) (i : ℕ) (x y : List ℕ) → i < length xs → i < length ys → x ≡ get_or xs i x → y ≡ get_or ys i y → x ≡ y → take i xs ≡ take i ys → take (i + 1) xs ≡ take (i + 1) ys
@@ -15,10 +16,6 @@ texts_differ xs ys i x y lx ix iy not same = not (ix ∙ get_or_default xs i x y
 pub config_by : (a b : Config) → a.project ≡ b.project → a.server ≡ b.server → a.fields ≡ b.fields → a ≡ b
 config_by a b p s f = λ i. record { project = p i; server = s i; fields = f i }
 
-not_false : (b : Bool) → not b ≡ false → b ≡ true
-not_false true e = refl
-not_false false e = absurd (cc)
-
 -- what the comparing of two texts tells
 pub same_told : (a b : List ℕ) (told : Bool) → told ≡ not (bytes_eq a b) → told ≡ false → a ≡ b
-same_told a b told is none = (bytes_decides a b).0 (not_false (bytes_eq a b) (sym is ∙ none))
+same_told a b told is none = (bytes_decides a b).0 (not-false (bytes_eq a b) (sym is ∙ none))

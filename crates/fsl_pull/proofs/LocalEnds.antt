@@ -10,6 +10,7 @@ use Rattle.std.specs.FinSet as set
 use Rattle.std.proofs.lemmas.Cmp.{eq_by_cmp_equiv}
 use Rattle.std.proofs.lemmas.List.Sums.{fold-append}
 use Rattle.std.specs.Cmp.Lexicographic.{bytes_decides, texts_ties}
+use Rattle.std.proofs.lemmas.Bool.{or_right}
 use Rattle.fsl_order.specs.Names.{bytes_cmp, has}
 use Rattle.fsl_order.proofs.Orders.{bytes_cmp-IsTotalOrder}
 use Rattle.fsl_name.specs.Name.{name_of}
@@ -203,10 +204,6 @@ FileTaken s name bytes rest t answer =
 itself_has : (name : List ℕ) (names : List (List ℕ)) → has (name ∷ names) name ≡ true
 itself_has name names = ap (λ (b : Bool). b || has names name) ((bytes_decides name name).1 refl)
 
-later_has : (b c : Bool) → c ≡ true → (b || c) ≡ true
-later_has true c e = refl
-later_has false c e = e
-
 open_before : (b c : Bool) → (b ≡ true → c ≡ true) → c ≡ false → b ≡ false
 open_before true c h e = no (sym e ∙ h refl)
 open_before false c h e = refl
@@ -224,7 +221,7 @@ did_more s name bytes rest more a is d =
     by_first false e m =
         let later = d.moves (sym (ap (λ (b : Bool). b || any_moved more.arrivals) e) ∙ m) in (
           later.0,
-          later_has (bytes_eq later.0 name) (has (files_in rest) later.0) later.1,
+          or_right (bytes_eq later.0 name) (has (files_in rest) later.0) later.1,
           (open_before (closed (now s) later.0) (closed (now (arrived s name bytes false (Ok a))) later.0) (stays s name bytes later.0 (Ok a)) later.2.0, later.2.1),
         )
 
@@ -337,10 +334,6 @@ opens s n = not (closed (now s) n)
 abbrev measure : Contents → State → ℕ
 measure there s = length (filter (opens s) (held_names there))
 
-not_true : (b : Bool) → not b ≡ true → b ≡ false
-not_true true e = no e
-not_true false e = refl
-
 -- ---- rounds
 
 abbrev Names : Type 0
@@ -353,7 +346,7 @@ IsWarm unclustered p = (wanted : Names) × AreWants p.state wanted × (p.memory 
 all_have : (xs ys : Names) → ((n : List ℕ) → has xs n ≡ true → has ys n ≡ true) → list_all (has ys) xs ≡ true
 all_have [] ys h = refl
 all_have (x ∷ xs) ys h =
-    ap (λ (b : Bool). b && list_all (has ys) xs) (h x (itself_has x xs)) ∙ all_have xs ys (λ n k. h n (later_has (bytes_eq n x) (has xs n) k))
+    ap (λ (b : Bool). b && list_all (has ys) xs) (h x (itself_has x xs)) ∙ all_have xs ys (λ n k. h n (or_right (bytes_eq n x) (has xs n) k))
 
 -- it ends here, or goes on to a warm point; behind a warm point with fewer open names
 data Goes (there : Contents) (unclustered : Names) (p : Point Names) (step : Then Names) : Type 0 where

@@ -1,6 +1,7 @@
 -- What a pull that misses a name leaves.
 use Rattle.std.specs.Prelude.{◌≡◌, ⊤, ℕ, Bool, true, false, not, List, [], ◌∷◌, cond, Option, Some, None, IfSome, Result, Ok, Err, MatchBool, MatchOption}
 use Rattle.std.proofs.Common.{refl, sym, ap, subst, ◌∙◌, inl, inr}
+use Rattle.std.proofs.lemmas.Bool.{and_parts, false_from_ne_true}
 use Rattle.fsl_order.specs.Names.{has}
 use Rattle.fsl_wire.specs.declared.WireCard.{WireCard}
 use Rattle.fsl_wire.specs.declared.WireCard.TheVariants as cards
@@ -22,7 +23,7 @@ use Rattle.fsl_pull.specs.Pulls.{next_names, is_end, missing, missing_fault, pul
 use Rattle.fsl_pull.specs.Laws.{Misses, PullsMissWhatIsKept}
 use Rattle.fsl_pull.proofs.TakesLemmas.{FileTaken, files_settle}
 use Rattle.fsl_pull.proofs.NextLemmas.{found_passes, found_is_in, each_passes, next_is_new}
-use Rattle.fsl_pull.proofs.EndsWell.{LastRound, last_round, end_of, end_is, no_end, both, settled_unless, clash}
+use Rattle.fsl_pull.proofs.EndsWell.{LastRound, last_round, end_of, end_is, no_end, clash}
 
 abbrev Names : Type 0
 Names = List (List ℕ)
@@ -103,9 +104,9 @@ at_end p reply t wanted name why takes none is_last found =
     let among : has next name ≡ true = found_is_in (has (announced_in reply)) next name found in
     let new : is_new (now t.state) name ≡ true = next_is_new (now t.state) wanted (announced_in reply) name among in
     record {
-      is_asked = each_passes (has p.memory) next name (both (not (any_moved t.arrivals)) _ is_last).1 among;
+      is_asked = each_passes (has p.memory) next name (and_parts (not (any_moved t.arrivals)) _ is_last).1 among;
       is_announced = found_passes (has (announced_in reply)) next name found;
-      is_unsent = settled_unless (has (files_in reply) name) (λ sent. clash (is_new (now t.state) name) new (files_settle p.state None reply t name takes none sent));
+      is_unsent = false_from_ne_true (has (files_in reply) name) (λ sent. clash (is_new (now t.state) name) new (files_settle p.state None reply t name takes none sent));
       is_absent = new;
     }
 

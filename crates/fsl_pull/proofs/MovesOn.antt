@@ -5,6 +5,7 @@ use Rattle.std.specs.Str.{bytes_eq}
 use Rattle.std.specs.Cmp.Lexicographic.{bytes_decides}
 use Rattle.std.proofs.Common.{refl, sym, ap, subst, ◌∙◌, arith}
 use Rattle.std.proofs.lemmas.List.{append-nil}
+use Rattle.std.proofs.lemmas.Bool.{or_right}
 use Rattle.fsl_order.specs.Names.{has}
 use Rattle.fsl_order.specs.Rows.{ascending}
 use Rattle.fsl_order.proofs.AscendingLemmas.{has-ascending}
@@ -93,10 +94,6 @@ pub record Stands (names : Names) (p : List ℕ → Bool) : Type 0 where
 itself : (x : List ℕ) (xs : Names) → has (x ∷ xs) x ≡ true
 itself x xs = ap (λ (b : Bool). b || has xs x) ((bytes_decides x x).1 refl)
 
-or_second : (a b : Bool) → b ≡ true → (a || b) ≡ true
-or_second true b e = refl
-or_second false b e = e
-
 -- where not all pass, one fails
 pub one_fails : (p : List ℕ → Bool) (xs : Names) → list_all p xs ≡ false → Stands xs p
 one_fails p [] e = absurd (all_none e)
@@ -107,7 +104,7 @@ one_fails p (x ∷ xs) e =
     elim (p x) as (λ b. p x ≡ b → (b && list_all p xs) ≡ false → Stands (x ∷ xs) p) [
       | true ↦ λ is rest.
           let more = one_fails p xs rest in
-          record { name = more.name; among = or_second (bytes_eq more.name x) (has xs more.name) more.among; fails = more.fails }
+          record { name = more.name; among = or_right (bytes_eq more.name x) (has xs more.name) more.among; fails = more.fails }
       | false ↦ λ is rest. record { name = x; among = itself x xs; fails = is }
     ] refl e
 
@@ -124,7 +121,7 @@ once seen (x ∷ xs) n h new =
           let unseen : has (x ∷ seen) n ≡ false = ap (λ (b : Bool). b || has seen n) is ∙ new in
           elim (has seen x) as (λ b. has (cond b (each_once seen xs) (x ∷ each_once (x ∷ seen) xs)) n ≡ true) [
             | true ↦ once seen xs n later new
-            | false ↦ or_second (bytes_eq n x) (has (each_once (x ∷ seen) xs) n) (once (x ∷ seen) xs n later unseen)
+            | false ↦ or_right (bytes_eq n x) (has (each_once (x ∷ seen) xs) n) (once (x ∷ seen) xs n later unseen)
           ]
     ] refl
 

@@ -8,6 +8,7 @@ use Rattle.std.specs.Cmp.Lexicographic.{texts_ties}
 use Rattle.std.proofs.Common.{refl, sym, ap, ◌∙◌}
 use Rattle.std.proofs.lemmas.List.{take-map}
 use Rattle.std.proofs.lemmas.List.Folds.{list_any-append}
+use Rattle.std.proofs.lemmas.Bool.{or_right}
 use Rattle.fsl_order.specs.Names.{has}
 use Rattle.fsl_answer.specs.Contents.{each_once}
 use Rattle.fsl_answer.specs.Replies.{taken}
@@ -55,17 +56,13 @@ with_more keys more order name now q =
     stands_both more order q ∙ ap (λ (b : Bool). b || stands order q) (now q) ∙ or_front (is_same name q) (stands keys q) (stands order q)
     ∙ ap (λ (b : Bool). cond (is_same name q) true b) (sym (stands_both keys order q))
 
-or_true : (a b : Bool) → b ≡ true → (a || b) ≡ true
-or_true true b e = refl
-or_true false b e = e
-
 or_false : (a b : Bool) → b ≡ false → (a || b) ≡ a
 or_false true b e = refl
 or_false false b e = e
 
 -- a name that was sent isn't a first one, and another is where it wasn't seen
 pub not_first : (keys order : Names) (name : List ℕ) → has order name ≡ true → false ≡ not (stands (keys ++ order) name)
-not_first keys order name h = ap not (sym (stands_both keys order name ∙ or_true (stands keys name) (stands order name) (sym (has_stands order name) ∙ h)))
+not_first keys order name h = ap not (sym (stands_both keys order name ∙ or_right (stands keys name) (stands order name) (sym (has_stands order name) ∙ h)))
 
 pub first_by : (keys order : Names) (name : List ℕ) (added : Bool) → has order name ≡ false → added ≡ not (stands keys name) → added ≡ not (stands (keys ++ order) name)
 first_by keys order name added h is = is ∙ ap not (sym (stands_both keys order name ∙ or_false (stands keys name) (stands order name) (sym (has_stands order name) ∙ h)))

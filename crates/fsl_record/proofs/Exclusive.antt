@@ -3,9 +3,10 @@ use Rattle.std.proofs.Common.{◌≡◌, ◌⊎◌, ℕ, ◌<◌, ◌≤◌, ◌
 use Rattle.std.specs.Prelude.{◌&&◌, not, if◌then◌else◌}
 use Rattle.std.specs.Int.{to_be_bytes, w16, w64}
 use Rattle.std.specs.List.{flat_map, list_all, AllByRecursion}
-use Rattle.std.proofs.lemmas.Bool.{both_ways, and_parts}
+use Rattle.std.proofs.lemmas.Bool.{both_ways, and_parts, not-true}
 use Rattle.std.proofs.lemmas.List.{append-nil}
 use Rattle.fsl_order.specs.Names.{has}
+use Rattle.fsl_order.proofs.Booleans.{and_false, and_true}
 use Rattle.fsl_text.specs.Bytes.{is_empty}
 use Rattle.fsl_name.specs.Name.{name_of}
 use Rattle.fsl_record.specs.declared.Config.{Config}
@@ -219,20 +220,8 @@ record_well false (record_of.Shun n) r fault fit kind fails = named_well 83 n r 
 
 -- ---- a group has no fault
 
-not_back : (b : Bool) → not b ≡ true → b ≡ false
-not_back true is = absurd cc
-not_back false is = refl
-
-and_false : (b : Bool) → (b && false) ≡ false
-and_false true = refl
-and_false false = refl
-
-and_true : (b : Bool) → (b && true) ≡ b
-and_true true = refl
-and_true false = refl
-
 none_config : (front more : List Record) (a : Record) → list_all (λ r. not (is_config r)) (front ++ a ∷ more) ≡ true → is_config a ≡ false
-none_config [] more a all = not_back (is_config a) (and_parts (not (is_config a)) (list_all (λ r. not (is_config r)) more) all).0
+none_config [] more a all = not-true (is_config a) (and_parts (not (is_config a)) (list_all (λ r. not (is_config r)) more) all).0
 none_config (x ∷ front) more a all = none_config front more a (and_parts (not (is_config x)) (list_all (λ r. not (is_config r)) (front ++ a ∷ more)) all).1
 
 -- behind records that stand in a group the next is of the kind that is due

@@ -1,9 +1,9 @@
 -- Lists of fields, one field more and each field in its place.
 use Rattle.std.proofs.Common.{◌≡◌, ℕ, suc, ◌+◌, ◌<◌, ◌≤◌, Bool, true, false, List, [], ◌∷◌, ◌++◌, length, get_or, take, drop, refl, sym, ◌∙◌, ap, subst, arith}
-use Rattle.std.specs.Prelude.{◌&&◌, ◌||◌, not, nat_le}
+use Rattle.std.specs.Prelude.{◌&&◌, not, nat_le}
 use Rattle.std.specs.List.{list_all, list_any, AllByRecursion, IsDistinct}
 use Rattle.std.specs.Str.{bytes_eq}
-use Rattle.std.proofs.lemmas.Bool.{both_ways, and_parts, and_from}
+use Rattle.std.proofs.lemmas.Bool.{both_ways, and_parts, and_from, or_parts, or_from}
 use Rattle.std.proofs.lemmas.Bool.Decides.{nat_tests}
 use Rattle.std.proofs.Math.Seq.{split_at}
 use Rattle.std.proofs.lemmas.List.{length_push, length-take, take_more}
@@ -21,14 +21,6 @@ differs_back xs ys differ = by (bytes_eq ys xs) refl
     by false is = is
     by true is = absurd (both_ways (bytes_eq xs ys) differ ((bytes_eq-Decides xs ys).1 (sym ((bytes_eq-Decides ys xs).0 is))))
 
-or_false : (a b : Bool) → (a || b) ≡ false → (a ≡ false) × (b ≡ false)
-or_false true b none = absurd cc
-or_false false b none = (refl, none)
-
-or_none : (a b : Bool) → a ≡ false → b ≡ false → (a || b) ≡ false
-or_none true b a_none b_none = absurd cc
-or_none false b a_none b_none = b_none
-
 all_push : (P : List ℕ → Type 0) (xs : List (List ℕ)) (x : List ℕ) → AllByRecursion P xs → P x → AllByRecursion P (xs ++ x ∷ [])
 all_push P [] x all here = (here, tt)
 all_push P (y ∷ xs) x all here = (all.0, all_push P xs x all.1 here)
@@ -41,14 +33,14 @@ distinct_push : (xs : List (List ℕ)) (x : List ℕ) → IsDistinct bytes_eq xs
 unfolding IsDistinct
 distinct_push [] x distinct none = (tt, tt)
 distinct_push (y ∷ xs) x distinct none =
-    let apart = or_false (bytes_eq x y) (list_any (bytes_eq x) xs) none in
+    let apart = or_parts (bytes_eq x y) (list_any (bytes_eq x) xs) none in
     (all_push (λ z. bytes_eq y z ≡ false) xs x distinct.0 (differs_back x y apart.0), distinct_push xs x distinct.1 apart.1)
 
 distinct_at : (xs ys : List (List ℕ)) (x : List ℕ) → IsDistinct bytes_eq (xs ++ x ∷ ys) → list_any (bytes_eq x) xs ≡ false
 unfolding IsDistinct
 distinct_at [] ys x distinct = refl
 distinct_at (y ∷ xs) ys x distinct =
-    or_none (bytes_eq x y) (list_any (bytes_eq x) xs) (differs_back y x (all_at (λ z. bytes_eq y z ≡ false) xs ys x distinct.0)) (distinct_at xs ys x distinct.1)
+    or_from (bytes_eq x y) (list_any (bytes_eq x) xs) (differs_back y x (all_at (λ z. bytes_eq y z ≡ false) xs ys x distinct.0)) (distinct_at xs ys x distinct.1)
 
 distinct_none : IsDistinct bytes_eq []
 unfolding IsDistinct

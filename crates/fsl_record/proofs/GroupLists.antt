@@ -6,6 +6,7 @@ use Rattle.std.proofs.lemmas.Bool.{and_from}
 use Rattle.std.proofs.lemmas.List.Concat.{flat_map-append}
 use Rattle.std.proofs.lemmas.List.Folds.{list_all-append}
 use Rattle.std.proofs.lemmas.List.{append-nil}
+use Rattle.fsl_order.proofs.Booleans.{and_true, and_false}
 use Rattle.fsl_text.specs.Bytes.{is_empty}
 use Rattle.fsl_record.specs.declared.Record.{Record}
 use Rattle.fsl_record.specs.declared.RecordFault.{RecordFault}
@@ -74,14 +75,6 @@ cause due bytes record_fault.Short fails = inr fails
 cause due bytes (record_fault.Kind found) fails = inr fails
 cause due bytes (record_fault.Length found) fails = inr fails
 cause due bytes (record_fault.NameWrong kept found) fails = inr fails
-
-and_true : (b : Bool) → (b && true) ≡ b
-and_true true = refl
-and_true false = refl
-
-and_false : (b : Bool) → (b && false) ≡ false
-and_false true = refl
-and_false false = refl
 
 pub first_fails : (first : Bool) (bytes : List ℕ) (fault : RecordFault) → Fails first bytes fault → FailsSo first bytes fault
 first_fails first bytes fault fails =

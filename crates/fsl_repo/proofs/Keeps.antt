@@ -10,8 +10,10 @@ use Rattle.std.specs.FinMap.{find}
 use Rattle.std.specs.FinSet as set
 use Rattle.std.specs.FinSet.{FinSet}
 use Rattle.std.specs.Cmp.Lexicographic.{bytes_decides, texts_ties}
+use Rattle.std.proofs.lemmas.Bool.{false_from_ne_true, or_cases, not-true}
 use Rattle.fsl_order.specs.Names.{bytes_cmp, has}
 use Rattle.fsl_order.proofs.AscendingLemmas.{has-ascending}
+use Rattle.fsl_order.proofs.Booleans.{first_holds}
 use Rattle.fsl_record.specs.declared.Record.{Record}
 use Rattle.fsl_blobs.specs.Fold.{Held, contents, held_from}
 use Rattle.fsl_cluster.specs.declared.Fact.{Fact}
@@ -19,7 +21,7 @@ use Rattle.fsl_cluster.specs.Clusters as clusters
 use Rattle.fsl_cross.specs.declared.Item.{Item}
 use Rattle.fsl_cross.specs.Facts.{cluster_fact}
 use Rattle.fsl_answer.specs.Contents as reply
-use Rattle.fsl_answer.specs.Contents.{names_by, sends_private, first_clone, asks_from, igots, gimmes, candidates, public_igots, private_igots}
+use Rattle.fsl_answer.specs.Contents.{names_by, sends_private, first_clone, asks_from, igots, gimmes, public_igots, private_igots}
 use Rattle.fsl_answer.specs.Keeps.{held_names}
 use Rattle.fsl_answer.proofs.Keeping.{no_private_igots, candidates_public, candidates_held, sent_names_in, told_in, public_among, private_among, asked_among}
 use Rattle.fsl_repo.specs.declared.Ask.{Ask}
@@ -31,24 +33,8 @@ use Rattle.fsl_repo.proofs.PublicNames.{found_public}
 
 -- ---- tests
 
-never : (b : Bool) → (b ≡ true → ⊥) → b ≡ false
-never true f = absurd (f refl)
-never false f = refl
-
 clash : (b : Bool) → b ≡ true → b ≡ false → ⊥
 clash b t f = let s = sym t ∙ f in cc
-
-either : (a b : Bool) → (a || b) ≡ true → (a ≡ true) ⊎ (b ≡ true)
-either true b e = inl refl
-either false b e = inr e
-
-first : (a b : Bool) → (a && b) ≡ true → a ≡ true
-first true b e = refl
-first false b e = cc
-
-not_true : (a : Bool) → not a ≡ true → a ≡ false
-not_true true e = cc
-not_true false e = refl
 
 neither : (a b : Bool) → not (a || b) ≡ true → (a ≡ false) × (b ≡ false)
 neither true b e = cc
@@ -59,7 +45,7 @@ neither false false e = (refl, refl)
 
 named_in : {X : Type 0} (name : X → List ℕ) (P : X → Type 0) (xs : List X) (q : List ℕ) → AllByRecursion P xs → has (map name xs) q ≡ true → (x : X) × P x × (q ≡ name x)
 named_in name P [] q all e = cc
-named_in {X = X} name P (x ∷ xs) q all e = by_first (either (bytes_eq q (name x)) (has (map name xs) q) e) (named_in name P xs q all.1)
+named_in {X = X} name P (x ∷ xs) q all e = by_first (or_cases (bytes_eq q (name x)) (has (map name xs) q) e) (named_in name P xs q all.1)
   where
     by_first : (bytes_eq q (name x) ≡ true) ⊎ (has (map name xs) q ≡ true) → (has (map name xs) q ≡ true → (x : X) × P x × (q ≡ name x)) → (x : X) × P x × (q ≡ name x)
     by_first (inl e) again = (x, all.0, (bytes_decides q (name x)).0 e)
@@ -87,7 +73,7 @@ passed f (x ∷ xs) q e = by_test (f x) refl e (passed f xs q)
     at (inr e) t again = ((again e).0, more (bytes_eq q x) (again e).1)
 
     by_test : (b : Bool) → f x ≡ b → has (cond b (x ∷ filter f xs) (filter f xs)) q ≡ true → (has (filter f xs) q ≡ true → (f q ≡ true) × (has xs q ≡ true)) → (f q ≡ true) × ((bytes_eq q x || has xs q) ≡ true)
-    by_test true t e again = at (either (bytes_eq q x) (has (filter f xs) q) e) t again
+    by_test true t e again = at (or_cases (bytes_eq q x) (has (filter f xs) q) e) t again
     by_test false t e again = ((again e).0, more (bytes_eq q x) (again e).1)
 
 in_set : (s : FinSet bytes_cmp) (q : List ℕ) → set.contains s q ≡ has (set.items s) q
@@ -157,7 +143,7 @@ module _ (s : State) (items : List Item) (ask : Ask) (new : AnnouncedAreNew s) (
       let g : get q ≡ Some f.1.0.artifact = ap (map_of.get (now s).held) f.2 ∙ f.1.0.found in
       record {
         held = ap is_some g;
-        public = ap (λ (o : Option Held). option_map_or (λ a. a.private) o false) g ∙ sym f.1.0.private ∙ not_true f.0.private f.1.1;
+        public = ap (λ (o : Option Held). option_map_or (λ a. a.private) o false) g ∙ sym f.1.0.private ∙ not-true f.0.private f.1.1;
       }
 
   private_name : (q : List ℕ) → has (names_by true seen) q ≡ true → is_some (get q) ≡ true
@@ -173,7 +159,7 @@ module _ (s : State) (items : List Item) (ask : Ask) (new : AnnouncedAreNew s) (
   unclustered_name : (q : List ℕ) → has (unclustered_names items) q ≡ true → IsPublic q
   unclustered_name q e =
       let p : Fact → Bool = λ f. not f.private && not (has (flat_map (λ g. g.members) facts) f.name) in
-      let f = found_public p (λ f t. not_true f.private (first (not f.private) _ t)) (map_of.entries (now s).held) items q (map_of.entries_sorted (now s).held) are (sym (has-ascending (clusters.names (filter p facts)) q) ∙ e) in
+      let f = found_public p (λ f t. not-true f.private (first_holds (not f.private) _ t)) (map_of.entries (now s).held) items q (map_of.entries_sorted (now s).held) are (sym (has-ascending (clusters.names (filter p facts)) q) ∙ e) in
       let g : get q ≡ Some f.held = map_of.get-entries (now s).held q ∙ f.found in
       record { held = ap is_some g; public = ap (λ (o : Option Held). option_map_or (λ a. a.private) o false) g ∙ f.public }
 
@@ -189,9 +175,9 @@ module _ (s : State) (items : List Item) (ask : Ask) (new : AnnouncedAreNew s) (
       let b = passed (λ n. not (has (clusters.names facts) n)) refs q (sym (has-ascending (filter (λ n. not (has (clusters.names facts) n)) refs) q) ∙ a.1) in
       record {
         absent =
-            never (is_some (get q)) (λ h. clash (has (clusters.names facts) q) (listed (map_of.entries (now s).held) items are q (ap is_some (sym (map_of.get-entries (now s).held q)) ∙ h))
-            (not_true (has (clusters.names facts) q) b.0));
-        free = in_set (now s).shunned q ∙ not_true (has (set.items (now s).shunned) q) a.0;
+            false_from_ne_true (is_some (get q)) (λ h. clash (has (clusters.names facts) q) (listed (map_of.entries (now s).held) items are q (ap is_some (sym (map_of.get-entries (now s).held q)) ∙ h))
+            (not-true (has (clusters.names facts) q) b.0));
+        free = in_set (now s).shunned q ∙ not-true (has (set.items (now s).shunned) q) a.0;
       }
 
   announced_name : (q : List ℕ) → has (set.items s.announced) q ≡ true → IsUnknown q
@@ -231,15 +217,15 @@ module _ (s : State) (items : List Item) (ask : Ask) (new : AnnouncedAreNew s) (
   keeps =
       let from = asks_from (first_clone ask.message) in
       record {
-        igots = λ q hidden own. never (has (told_names (reply_lists s items ask)) q) (λ e. clash (is_held_private (now s) q) own (told_public hidden q e));
-        gimmes = λ q own. never (has (gimmes seen ask.message) q) (λ e. clash (is_some (get q)) (private_some (get q) own) (IsUnknown.absent (asked_name q e)));
+        igots = λ q hidden own. false_from_ne_true (has (told_names (reply_lists s items ask)) q) (λ e. clash (is_held_private (now s) q) own (told_public hidden q e));
+        gimmes = λ q own. false_from_ne_true (has (gimmes seen ask.message) q) (λ e. clash (is_some (get q)) (private_some (get q) own) (IsUnknown.absent (asked_name q e)));
         files = λ q hidden own.
-            never (has (sent_names (reply_lists s items ask)) q)
+            false_from_ne_true (has (sent_names (reply_lists s items ask)) q)
             (λ e. clash (is_held_private (now s) q) own (IsPublic.public (public_name q (candidates_public seen ask.message ask.caps hidden from q (sent_names_in seen ask.message ask.caps from q e)))));
-        shunned_told = λ q sh. never (has (told_names (reply_lists s items ask)) q) (λ e. clash (is_some (get q)) (told_held q e) (shunned_apart s.records q sh));
-        shunned_asked = λ q sh. never (has (gimmes seen ask.message) q) (λ e. clash (set.contains (now s).shunned q) sh (IsUnknown.free (asked_name q e)));
+        shunned_told = λ q sh. false_from_ne_true (has (told_names (reply_lists s items ask)) q) (λ e. clash (is_some (get q)) (told_held q e) (shunned_apart s.records q sh));
+        shunned_asked = λ q sh. false_from_ne_true (has (gimmes seen ask.message) q) (λ e. clash (set.contains (now s).shunned q) sh (IsUnknown.free (asked_name q e)));
         shunned_sent = λ q sh.
-            never (has (sent_names (reply_lists s items ask)) q)
+            false_from_ne_true (has (sent_names (reply_lists s items ask)) q)
             (λ e. clash (is_some (get q)) (held_name q (candidates_held seen ask.message ask.caps from q (sent_names_in seen ask.message ask.caps from q e))) (shunned_apart s.records q sh));
       }
 

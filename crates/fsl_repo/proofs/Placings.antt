@@ -11,7 +11,7 @@ use Rattle.std.specs.declared.cmp.Ordering.TheVariants.{Less}
 use Rattle.std.specs.Ordering.{is_eq, is_lt, nat_cmp, eq_by_cmp}
 use Rattle.std.specs.FinMap as map_of
 use Rattle.std.specs.FinMap.{find}
-use Rattle.std.proofs.lemmas.Bool.{and_parts, eqb-true, le-leb}
+use Rattle.std.proofs.lemmas.Bool.{and_parts, eqb-true, le-leb, and_right}
 use Rattle.std.proofs.lemmas.List.{append-nil}
 use Rattle.std.proofs.lemmas.List.Sorted.{list_any-IsPermutation}
 use Rattle.fsl_order.specs.Names.{bytes_cmp}
@@ -246,10 +246,6 @@ module _ {X Y : Type 0} (p : X → Bool) (f : X → Option Y) (g : Y → Bool) (
         | false ↦ λ e. tested_twice xs ∙ sym (skip x e (f x) refl (filter_map f xs))
       ] refl
 
-and_false : (a b : Bool) → b ≡ false → (a && b) ≡ false
-and_false true b h = h
-and_false false b h = refl
-
 module _ (records : List Record) (from : ℕ) where
   abbrev at : ℕ × List ℕ → Option reply.Held
   at p = option_map (held_at p) (map_of.get (contents records).held p.1)
@@ -261,6 +257,6 @@ module _ (records : List Record) (from : ℕ) where
   pub public_later : public_on from (placed_from records from) ≡ public_on from (placed_in records)
   public_later =
       let early : (p : ℕ × List ℕ) (h : reply.Held) → at p ≡ Some h → nat_le from p.0 ≡ false → (not h.private && nat_le from h.place) ≡ false =
-      λ p h is before. and_false (not h.private) (nat_le from h.place) (ap (nat_le from) (place_of p (map_of.get (contents records).held p.1) h is) ∙ before) in
+      λ p h is before. and_right (not h.private) (nat_le from h.place) (ap (nat_le from) (place_of p (map_of.get (contents records).held p.1) h is) ∙ before) in
       ap (λ (ps : List (ℕ × List ℕ)). public_on from (filter_map at ps)) (held_later records from)
       ∙ tested_twice (λ p. nat_le from p.0) at (λ h. not h.private && nat_le from h.place) early (held_from records 0)

@@ -1,8 +1,9 @@
 -- The points of sessions, one after another.
-use Rattle.std.proofs.Common.{◌≡◌, ℕ, ◌+◌, length, arith, Bool, true, false, ◌||◌, not, List, [], ◌∷◌, ◌++◌, map, Some, None, refl, ap, sym, ◌∙◌, subst, append_assoc}
+use Rattle.std.proofs.Common.{◌≡◌, ℕ, ◌+◌, length, arith, Bool, true, false, ◌||◌, not, List, [], ◌∷◌, ◌++◌, map, Some, None, refl, ap, sym, ◌∙◌, append_assoc}
 use Rattle.std.specs.Prelude.{Option, option_map, option_to_list, filter_map, if◌then◌else◌}
 use Rattle.std.specs.List.{list_any}
 use Rattle.std.proofs.lemmas.List.{append-nil, map-append}
+use Rattle.std.proofs.lemmas.Bool.{or_from, or_parts, or_right}
 use Rattle.fsl_outside.specs.declared.gate.Point.{Point}
 use Rattle.fsl_outside.specs.declared.gate.Point.TheVariants as point
 use Rattle.fsl_wire.specs.declared.Caps.{Caps}
@@ -63,32 +64,19 @@ no_session (Some ps) = ap Some (sym (append-nil ps))
 abbrev any_late : List Event → Bool
 any_late es = list_any is_late es
 
-or_no : (a b : Bool) → a ≡ false → b ≡ false → (a || b) ≡ false
-or_no a b p q = rw (p, q) refl
-
-or_left : (a b : Bool) → (a || b) ≡ false → a ≡ false
-or_left false b h = refl
-or_left true b h = cc
-
-or_right : (a b : Bool) → (a || b) ≡ false → b ≡ false
-or_right false b h = h
-or_right true b h = cc
-
-or_yes : (a b : Bool) → b ≡ true → (a || b) ≡ true
-or_yes false b h = h
-or_yes true b h = refl
-
 none_late : (xs ys : List Event) → any_late xs ≡ false → any_late ys ≡ false → any_late (xs ++ ys) ≡ false
 none_late [] ys p q = q
-none_late (x ∷ xs) ys p q = or_no (is_late x) (any_late (xs ++ ys)) (or_left (is_late x) (any_late xs) p) (none_late xs ys (or_right (is_late x) (any_late xs) p) q)
+none_late (x ∷ xs) ys p q =
+    let parts = or_parts (is_late x) (any_late xs) p in or_from (is_late x) (any_late (xs ++ ys)) parts.0 (none_late xs ys parts.1 q)
 
 front_not_late : (xs ys : List Event) → any_late (xs ++ ys) ≡ false → any_late xs ≡ false
 front_not_late [] ys p = refl
-front_not_late (x ∷ xs) ys p = or_no (is_late x) (any_late xs) (or_left (is_late x) (any_late (xs ++ ys)) p) (front_not_late xs ys (or_right (is_late x) (any_late (xs ++ ys)) p))
+front_not_late (x ∷ xs) ys p =
+    let parts = or_parts (is_late x) (any_late (xs ++ ys)) p in or_from (is_late x) (any_late xs) parts.0 (front_not_late xs ys parts.1)
 
 late_behind : (xs ys : List Event) → any_late ys ≡ true → any_late (xs ++ ys) ≡ true
 late_behind [] ys p = p
-late_behind (x ∷ xs) ys p = or_yes (is_late x) (any_late (xs ++ ys)) (late_behind xs ys p)
+late_behind (x ∷ xs) ys p = or_right (is_late x) (any_late (xs ++ ys)) (late_behind xs ys p)
 
 one_arrival : (b : Bool) (card : WireCard) → any_late (option_to_list (arrival_of b card)) ≡ false
 one_arrival b (cards.Login user nonce signature tail line) = refl

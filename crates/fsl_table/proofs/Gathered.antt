@@ -16,6 +16,7 @@ use Rattle.fsl_order.specs.Names.{bytes_cmp}
 use Rattle.fsl_order.specs.Rows.{keyed, in_order}
 use Rattle.fsl_order.proofs.Orders.{bytes_cmp-IsTotalOrder}
 use Rattle.fsl_order.proofs.RowLemmas.{pairs, is_sorted-keyed, find-keyed}
+use Rattle.fsl_order.proofs.Booleans.{and_false}
 use Rattle.fsl_table.specs.Contents.{value_at}
 use Rattle.fsl_table.specs.Placed.{ArePlaced, is_key, put_item, item_at, items_at, key_of}
 use Rattle.fsl_table.specs.Within.{within, within_cmp}
@@ -28,10 +29,6 @@ equal : (r : Ordering) → is_eq r ≡ true → r ≡ Equal
 equal Less h = absurd (true≢false (sym h))
 equal Equal h = refl
 equal Greater h = absurd (true≢false (sym h))
-
-and-false : (b : Bool) → (b && false) ≡ false
-and-false true = refl
-and-false false = refl
 
 -- an item, where it is there
 abbrev item_if : {Y : Type 0} → Bool → Option Y → Option Y
@@ -162,7 +159,7 @@ module _ {A B E Y : Type 0} (RA : A → A → Ordering) (RB : B → B → Orderi
             | true ↦ λ t. sym ((bytes_decides (name_in q) e.0).1 (ap name_in (exact_b q (place y) (equal (RB q (place y)) t)) ∙ own e y is)) ∙ h
             | false ↦ λ t. refl
           ] refl in
-          ap (λ b. cond b (Some y) (lookup (eq_by_cmp RB q) (pairs place (of_group a es)))) (ap (λ b. is_eq (RA a (group y)) && b) apart ∙ and-false (is_eq (RA a (group y))))
+          ap (λ b. cond b (Some y) (lookup (eq_by_cmp RB q) (pairs place (of_group a es)))) (ap (λ b. is_eq (RA a (group y)) && b) apart ∙ and_false (is_eq (RA a (group y))))
 
   here : (a : A) (q : B) (o : Option E) → item_if (is_key RA RB name_in (key_of item_of group place) (option_and_then (λ e. key_of item_of group place (name_in q, e)) o) a q) (option_and_then (λ e. item_of (name_in q, e)) o) ≡ here_at a q o
   here a q None = refl

@@ -11,6 +11,7 @@ use Rattle.std.specs.Cmp.Lexicographic.{bytes_decides}
 use Rattle.std.specs.declared.cmp.Ordering.{Ordering}
 use Rattle.std.specs.declared.cmp.Ordering.TheVariants.{Less, Equal, Greater}
 use Rattle.fsl_order.specs.Names.{bytes_cmp}
+use Rattle.fsl_order.proofs.Booleans.{or_false, and_false}
 use Rattle.fsl_table.specs.Contents.{value_at, with_entry, without_key}
 use Rattle.fsl_table.specs.ExactWithin.{exact_within}
 use Rattle.fsl_table.specs.Placed.{is_key, key_at, is_placed, ArePlaced, with_place, without_place}
@@ -19,14 +20,6 @@ use Rattle.fsl_table.specs.declared.within.Within.{Within}
 use Rattle.fsl_table.proofs.Belonging.{key_eq, within-IsTotalOrder}
 use Rattle.fsl_table.proofs.Entries.{lookup-insert_entry, sorted-insert_entry}
 use Rattle.fsl_table.proofs.Finding.{lookup-without, same_found, same_units, value-with, value-without}
-
-or-false : (b : Bool) → (b || false) ≡ b
-or-false true = refl
-or-false false = refl
-
-and-false : (b : Bool) → (b && false) ≡ false
-and-false true = refl
-and-false false = refl
 
 not-and : (b : Bool) → (not b && b) ≡ false
 not-and true = refl
@@ -69,7 +62,7 @@ module _ {A B E : Type 0} (RA : A → A → Ordering) (RB : B → B → Ordering
 
   with_key : (es : Lines) (name : List ℕ) (e : E) (k : A × B) → key (name, e) ≡ Some k → value_at bytes_cmp name es ≡ None → (a : A) (s : Option B)
       → ((is_eq (RA a k.0) && is_second RB s k.1) || is_placed RA RB name_in key es a s) ≡ is_placed RA RB name_in key (with_entry bytes_cmp name e es) a s
-  with_key es name e k has none a None = ap (λ b. b || false) (and-false (is_eq (RA a k.0)))
+  with_key es name e k has none a None = ap (λ b. b || false) (and_false (is_eq (RA a k.0)))
   with_key es name e k has none a (Some c) =
       elim (bytes_eq (name_in c) name) as (λ b. bytes_eq (name_in c) name ≡ b
       → ((is_eq (RA a k.0) && is_eq (RB c k.1)) || is_key RA RB name_in key (key_at RA RB name_in key es (name_in c)) a c) ≡ is_key RA RB name_in key (option_and_then (λ e. key (name_in c, e)) (cond b (Some e) (value_at bytes_cmp (name_in c) es))) a c) [
@@ -77,11 +70,11 @@ module _ {A B E : Type 0} (RA : A → A → Ordering) (RB : B → B → Ordering
             let same : name_in c ≡ name = (bytes_decides (name_in c) name).0 h in
             ap (λ n. (is_eq (RA a k.0) && is_eq (RB c k.1)) || is_key RA RB name_in key (key_at RA RB name_in key es n) a c) same
             ∙ ap (λ o. (is_eq (RA a k.0) && is_eq (RB c k.1)) || is_key RA RB name_in key (option_and_then (λ e. key (name, e)) o) a c) none
-            ∙ or-false (is_eq (RA a k.0) && is_eq (RB c k.1))
+            ∙ or_false (is_eq (RA a k.0) && is_eq (RB c k.1))
             ∙ ap (λ o. is_key RA RB name_in key o a c) (sym has ∙ ap (λ n. key (n, e)) (sym same))
         | false ↦ λ h.
             ap (λ b. (is_eq (RA a k.0) && b) || is_key RA RB name_in key (key_at RA RB name_in key es (name_in c)) a c) (other_place k name e c has h)
-            ∙ ap (λ b. b || is_key RA RB name_in key (key_at RA RB name_in key es (name_in c)) a c) (and-false (is_eq (RA a k.0)))
+            ∙ ap (λ b. b || is_key RA RB name_in key (key_at RA RB name_in key es (name_in c)) a c) (and_false (is_eq (RA a k.0)))
       ] refl
       ∙ ap (λ o. is_key RA RB name_in key (option_and_then (λ e. key (name_in c, e)) o) a c) (sym (value-with name e es (name_in c)))
 
@@ -124,7 +117,7 @@ module _ {A B E : Type 0} (RA : A → A → Ordering) (RB : B → B → Ordering
 
   without_key_of : (es : Lines) (name : List ℕ) (e : E) (k : A × B) → key (name, e) ≡ Some k → value_at bytes_cmp name es ≡ Some e → IsStrictlySortedBy bytes_cmp (keys_of es) → (a : A) (s : Option B)
       → (not (is_eq (RA a k.0) && is_second RB s k.1) && is_placed RA RB name_in key es a s) ≡ is_placed RA RB name_in key (without_key bytes_cmp name es) a s
-  without_key_of es name e k has here sorted a None = and-false (not (is_eq (RA a k.0) && false))
+  without_key_of es name e k has here sorted a None = and_false (not (is_eq (RA a k.0) && false))
   without_key_of es name e k has here sorted a (Some c) =
       elim (bytes_eq (name_in c) name) as (λ b. bytes_eq (name_in c) name ≡ b
       → (not (is_eq (RA a k.0) && is_eq (RB c k.1)) && is_key RA RB name_in key (key_at RA RB name_in key es (name_in c)) a c) ≡ is_key RA RB name_in key (option_and_then (λ e. key (name_in c, e)) (cond b None (value_at bytes_cmp (name_in c) es))) a c) [
@@ -136,7 +129,7 @@ module _ {A B E : Type 0} (RA : A → A → Ordering) (RB : B → B → Ordering
             ∙ not-and (is_eq (RA a k.0) && is_eq (RB c k.1))
         | false ↦ λ h.
             ap (λ b. not (is_eq (RA a k.0) && b) && is_key RA RB name_in key (key_at RA RB name_in key es (name_in c)) a c) (other_place k name e c has h)
-            ∙ ap (λ b. not b && is_key RA RB name_in key (key_at RA RB name_in key es (name_in c)) a c) (and-false (is_eq (RA a k.0)))
+            ∙ ap (λ b. not b && is_key RA RB name_in key (key_at RA RB name_in key es (name_in c)) a c) (and_false (is_eq (RA a k.0)))
       ] refl
       ∙ ap (λ o. is_key RA RB name_in key (option_and_then (λ e. key (name_in c, e)) o) a c) (sym (value-without name es sorted (name_in c)))
 

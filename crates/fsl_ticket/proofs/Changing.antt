@@ -10,6 +10,7 @@ use Rattle.std.specs.Cmp.Lexicographic.{pointwise, bytes_decides, nat_list_eq_eq
 use Rattle.std.specs.declared.cmp.Ordering.TheVariants.{Less, Equal, Greater}
 use Rattle.fsl_order.specs.Names.{bytes_cmp, dated_cmp, has}
 use Rattle.fsl_order.specs.Rows.{ListsChanged, in_order}
+use Rattle.fsl_order.proofs.Booleans.{first_holds, second_holds}
 use Rattle.fsl_table.specs.Contents.{value_at, with_entry}
 use Rattle.fsl_ticket.specs.declared.entry.Entry.{Entry}
 use Rattle.fsl_ticket.specs.Tickets.{fields, tickets_row}
@@ -19,20 +20,12 @@ use Rattle.fsl_ticket.proofs.Walking.{fields_any}
 
 -- ---- when two rows are the same
 
-and_left : (a b : Bool) → (a && b) ≡ true → a ≡ true
-and_left true b h = refl
-and_left false b h = h
-
-and_right : (a b : Bool) → (a && b) ≡ true → b ≡ true
-and_right true b h = h
-and_right false b h = absurd (true≢false (sym h))
-
 texts_true : (xs ys : List (List ℕ)) → pointwise bytes_eq xs ys ≡ true → xs ≡ ys
 texts_true [] [] h = refl
 texts_true [] (y ∷ ys) h = absurd (true≢false (sym h))
 texts_true (x ∷ xs) [] h = absurd (true≢false (sym h))
 texts_true (x ∷ xs) (y ∷ ys) h =
-    λ i. (bytes_decides x y).0 (and_left (bytes_eq x y) (pointwise bytes_eq xs ys) h) i ∷ texts_true xs ys (and_right (bytes_eq x y) (pointwise bytes_eq xs ys) h) i
+    λ i. (bytes_decides x y).0 (first_holds (bytes_eq x y) (pointwise bytes_eq xs ys) h) i ∷ texts_true xs ys (second_holds (bytes_eq x y) (pointwise bytes_eq xs ys) h) i
 
 texts_itself : (xs : List (List ℕ)) → pointwise bytes_eq xs xs ≡ true
 texts_itself [] = refl

@@ -11,6 +11,7 @@ use Rattle.std.specs.Map.{keys_of}
 use Rattle.std.specs.Cmp.Lexicographic.{bytes_decides, nat_list_eq_equiv}
 use Rattle.fsl_order.specs.Names.{bytes_cmp, has}
 use Rattle.fsl_order.specs.Rows.{ListsChanged}
+use Rattle.fsl_order.proofs.Booleans.{first_holds, second_holds}
 use Rattle.fsl_table.specs.Contents.{value_at, with_entry, without_key}
 use Rattle.fsl_table.proofs.Facts.{named-facts}
 use Rattle.fsl_table.proofs.Finding.{value-with, value-without}
@@ -46,14 +47,6 @@ kind_back Tag = refl
 same_kind : (a b : RowKind) → (kind_number a == kind_number b) ≡ true → a ≡ b
 same_kind a b h = sym (kind_back a) ∙ ap kind_of (eqb-true (kind_number a) (kind_number b) h) ∙ kind_back b
 
-and_left : (a b : Bool) → (a && b) ≡ true → a ≡ true
-and_left true b h = refl
-and_left false b h = h
-
-and_right : (a b : Bool) → (a && b) ≡ true → b ≡ true
-and_right true b h = h
-and_right false b h = absurd (true≢false (sym h))
-
 eqb-itself : (n : ℕ) → (n == n) ≡ true
 eqb-itself n = nat_eq_equiv.refl n
 
@@ -62,12 +55,12 @@ entry row = record { time = row.time; kind = row.kind; user = row.user; text = r
 
 same_row : (e : Entry) (row : Row) → is_same e row ≡ true → row_of (row.name, e) ≡ row
 same_row e row h =
-    let head = and_left ((e.time == row.time) && (kind_number e.kind == kind_number row.kind)) (bytes_eq e.user row.user && bytes_eq e.text row.text) h in
-    let tail = and_right ((e.time == row.time) && (kind_number e.kind == kind_number row.kind)) (bytes_eq e.user row.user && bytes_eq e.text row.text) h in
-    let time : e.time ≡ row.time = eqb-true e.time row.time (and_left (e.time == row.time) (kind_number e.kind == kind_number row.kind) head) in
-    let kind : e.kind ≡ row.kind = same_kind e.kind row.kind (and_right (e.time == row.time) (kind_number e.kind == kind_number row.kind) head) in
-    let user : e.user ≡ row.user = (bytes_decides e.user row.user).0 (and_left (bytes_eq e.user row.user) (bytes_eq e.text row.text) tail) in
-    let text : e.text ≡ row.text = (bytes_decides e.text row.text).0 (and_right (bytes_eq e.user row.user) (bytes_eq e.text row.text) tail) in
+    let head = first_holds ((e.time == row.time) && (kind_number e.kind == kind_number row.kind)) (bytes_eq e.user row.user && bytes_eq e.text row.text) h in
+    let tail = second_holds ((e.time == row.time) && (kind_number e.kind == kind_number row.kind)) (bytes_eq e.user row.user && bytes_eq e.text row.text) h in
+    let time : e.time ≡ row.time = eqb-true e.time row.time (first_holds (e.time == row.time) (kind_number e.kind == kind_number row.kind) head) in
+    let kind : e.kind ≡ row.kind = same_kind e.kind row.kind (second_holds (e.time == row.time) (kind_number e.kind == kind_number row.kind) head) in
+    let user : e.user ≡ row.user = (bytes_decides e.user row.user).0 (first_holds (bytes_eq e.user row.user) (bytes_eq e.text row.text) tail) in
+    let text : e.text ≡ row.text = (bytes_decides e.text row.text).0 (second_holds (bytes_eq e.user row.user) (bytes_eq e.text row.text) tail) in
     λ i. record { time = time i; name = row.name; kind = kind i; user = user i; text = text i }
 
 same_itself : (row : Row) → is_same (entry row) row ≡ true

@@ -9,6 +9,7 @@ use Rattle.std.specs.declared.cmp.Ordering.{Ordering}
 use Rattle.std.specs.declared.cmp.Ordering.TheVariants.{Less, Equal, Greater}
 use Rattle.fsl_order.specs.Names.{bytes_cmp, latest_first}
 use Rattle.fsl_order.proofs.Orders.{latest_first-IsTotalOrder, latest_first-IsAntisymmetric}
+use Rattle.fsl_order.proofs.Booleans.{or_false}
 use Rattle.fsl_table.specs.Contents.{value_at, with_entry, without_key}
 use Rattle.fsl_table.proofs.Entries.{lookup-insert_entry}
 use Rattle.fsl_table.proofs.Finding.{lookup-without, value-with, value-without}
@@ -30,10 +31,6 @@ place_eq k t name = parts (nat_cmp t k.0) (bytes_cmp k.1 name) ∙ ap (λ b. b &
     parts Greater Equal = refl
     parts Greater Greater = refl
 
-or-false : (b : Bool) → (b || false) ≡ b
-or-false true = refl
-or-false false = refl
-
 pub places_with : (es : Lines) (ps : Places) (name : List ℕ) (e : Entry) → ((k : ℕ × List ℕ) → is_some (value_at latest_first k ps) ≡ is_time (value_at bytes_cmp k.1 es) k.0) → value_at bytes_cmp name es ≡ None
     → (k : ℕ × List ℕ) → is_some (value_at latest_first k (with_entry latest_first (e.time, name) tt ps)) ≡ is_time (value_at bytes_cmp k.1 (with_entry bytes_cmp name e es)) k.0
 places_with es ps name e places none k =
@@ -41,7 +38,7 @@ places_with es ps name e places none k =
     ap is_some (lookup-insert_entry latest_first-IsTotalOrder k key tt ps) ∙ some_or (is_eq (latest_first k key)) (value_at latest_first k ps)
     ∙ (λ i. place_eq k e.time name i || places k i)
     ∙ elim (bytes_eq k.1 name) as (λ b. bytes_eq k.1 name ≡ b → ((b && is_eq (nat_cmp e.time k.0)) || is_time (value_at bytes_cmp k.1 es) k.0) ≡ is_time (cond b (Some e) (value_at bytes_cmp k.1 es)) k.0) [
-      | true ↦ λ h. ap (λ o. is_eq (nat_cmp e.time k.0) || is_time o k.0) (ap (λ n. value_at bytes_cmp n es) ((bytes_decides k.1 name).0 h) ∙ none) ∙ or-false (is_eq (nat_cmp e.time k.0))
+      | true ↦ λ h. ap (λ o. is_eq (nat_cmp e.time k.0) || is_time o k.0) (ap (λ n. value_at bytes_cmp n es) ((bytes_decides k.1 name).0 h) ∙ none) ∙ or_false (is_eq (nat_cmp e.time k.0))
       | false ↦ λ h. refl
     ] refl
     ∙ ap (λ o. is_time o k.0) (sym (value-with name e es k.1))

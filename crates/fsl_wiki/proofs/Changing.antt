@@ -15,6 +15,7 @@ use Rattle.std.specs.declared.cmp.Ordering.TheVariants.{Less, Equal, Greater}
 use Rattle.fsl_order.specs.Names.{bytes_cmp, dated_cmp, has}
 use Rattle.fsl_order.specs.Rows.{ListsChanged, greater, greatest}
 use Rattle.fsl_order.proofs.Orders.{bytes_cmp-IsTotalOrder}
+use Rattle.fsl_order.proofs.Booleans.{and_true}
 use Rattle.fsl_table.specs.Contents.{value_at, with_entry}
 use Rattle.fsl_table.proofs.Entries.{sorted-insert_entry}
 use Rattle.fsl_table.proofs.Finding.{value-with}
@@ -169,13 +170,9 @@ flips false true false true h = refl
 flips false true false false h = refl
 flips false false l m h = sym (ap (λ l. not (beq l m)) (h refl refl) ∙ ap not (beq-itself m))
 
-and-true : (b : Bool) → (b && true) ≡ b
-and-true true = refl
-and-true false = refl
-
 row_told : (x : Entry) (l m : Bool) → is_page x ≡ false → not (beq l m) ≡ not (same_row (row_in x l) (row_in x m))
 row_told (entry.Page x) l m raced = absurd (true≢false raced)
-row_told (entry.Note x) l m raced = ap not (sym (and-true (beq l m)))
+row_told (entry.Note x) l m raced = ap not (sym (and_true (beq l m)))
 row_told (entry.Attached x) l m raced = refl
 
 race_told : (x : Entry) → is_page x ≡ false → race_in x ≡ Some (before_all (group_in x))

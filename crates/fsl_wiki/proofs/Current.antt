@@ -7,8 +7,10 @@ use Rattle.std.specs.Option.{option_map_or}
 use Rattle.std.specs.Ordering.{is_lt}
 use Rattle.std.specs.Str.{bytes_eq}
 use Rattle.std.proofs.lemmas.List.Sorted.{list_any-IsPermutation}
+use Rattle.std.proofs.lemmas.Bool.{and_from}
 use Rattle.fsl_order.specs.Rows.{by_name, greater, greatest, AreDistinct}
 use Rattle.fsl_order.proofs.Gathered.{moved-given}
+use Rattle.fsl_order.proofs.Booleans.{first_holds, second_holds}
 use Rattle.fsl_wiki.specs.declared.Note.{Note}
 use Rattle.fsl_wiki.specs.declared.Fact.{Fact}
 use Rattle.fsl_wiki.specs.declared.Fact.TheVariants as fact
@@ -16,18 +18,6 @@ use Rattle.fsl_wiki.specs.Pages.{fact_name, as_note, current_note, pages_row}
 use Rattle.fsl_wiki.specs.Kept.{note_cmp}
 use Rattle.fsl_wiki.specs.Laws.{NoOtherCurrent}
 use Rattle.fsl_wiki.proofs.Moved.{note_name, note-by_name}
-
-and_left : (a b : Bool) → (a && b) ≡ true → a ≡ true
-and_left true b h = refl
-and_left false b h = h
-
-and_right : (a b : Bool) → (a && b) ≡ true → b ≡ true
-and_right true b h = h
-and_right false b h = absurd (true≢false (sym h))
-
-both : (a b : Bool) → a ≡ true → b ≡ true → (a && b) ≡ true
-both true b h k = k
-both false b h k = h
 
 any_less : {X : Type 0} (p q : X → Bool) (xs : List X) → ((x : X) → p x ≡ true → q x ≡ true) → list_any p xs ≡ true → list_any q xs ≡ true
 any_less p q [] less h = h
@@ -72,9 +62,9 @@ module _ (facts : List Fact) (m : Note) (name : List ℕ) (other : bytes_eq m.na
 
   own_less : (n : Note) → is_own (fact.Note m ∷ facts) name n ≡ true → is_own facts name n ≡ true
   own_less n h =
-      let left = and_left (bytes_eq n.name name) (is_named name (current_note (fact.Note m ∷ facts) n.id)) h in
-      let right = and_right (bytes_eq n.name name) (is_named name (current_note (fact.Note m ∷ facts) n.id)) h in
-      both (bytes_eq n.name name) (is_named name (current_note facts n.id)) left (current_less n.id right)
+      let left = first_holds (bytes_eq n.name name) (is_named name (current_note (fact.Note m ∷ facts) n.id)) h in
+      let right = second_holds (bytes_eq n.name name) (is_named name (current_note (fact.Note m ∷ facts) n.id)) h in
+      and_from (bytes_eq n.name name) (is_named name (current_note facts n.id)) left (current_less n.id right)
 
   row_less : (pages_row (fact.Note m ∷ facts) name).1 ≡ true → (pages_row facts name).1 ≡ true
   row_less h =

@@ -1,5 +1,5 @@
 -- The first key of what a fact is a version of is that of the latest version.
-use Rattle.std.proofs.Common.{◌≡◌, ℕ, List, [], ◌∷◌, Bool, true, false, cond, ◌&&◌, Option, Some, None, is_some, map, filter, refl, sym, ap, ◌∙◌}
+use Rattle.std.proofs.Common.{◌≡◌, ℕ, List, [], ◌∷◌, true, false, cond, Option, Some, None, is_some, map, filter, refl, sym, ap, ◌∙◌}
 use mathlib.Core.Bool.{true≢false}
 use Rattle.std.specs.List.{filter_map, IsDistinct, AllByRecursion}
 use Rattle.std.specs.Option.{option_map, option_and_then}
@@ -13,6 +13,7 @@ use Rattle.fsl_order.specs.Names.{bytes_cmp, dated_cmp}
 use Rattle.fsl_order.specs.Rows.{in_order, keyed, greatest, AreDistinct}
 use Rattle.fsl_order.proofs.Gathered.{distinct-filter}
 use Rattle.fsl_order.proofs.Orders.{dated_cmp-IsTotalOrder, dated_cmp-IsAntisymmetric}
+use Rattle.fsl_order.proofs.Booleans.{second_holds}
 use Rattle.fsl_table.specs.Contents.{value_at, first_of}
 use Rattle.fsl_table.specs.Placed.{is_key, key_of, items_at, put_item}
 use Rattle.fsl_table.specs.Within.{within}
@@ -60,14 +61,6 @@ module _ {Y : Type 0} (place : Y → ℕ × List ℕ) (name : Y → List ℕ) (o
 
 -- ---- the first key
 
-both_left : (a b : Bool) → (a && b) ≡ true → a ≡ true
-both_left true b h = refl
-both_left false b h = h
-
-both_right : (a b : Bool) → (a && b) ≡ true → b ≡ true
-both_right true b h = h
-both_right false b h = absurd (true≢false (sym h))
-
 equal : (r : Ordering) → is_eq r ≡ true → r ≡ Equal
 equal Less h = absurd (true≢false (sym h))
 equal Equal h = refl
@@ -97,7 +90,7 @@ module _ (r : Rows) (k : IsKept r) (g : Group) where
   held p rest None h = absurd (true≢false (sym h))
   held p rest (Some e) h =
       let f = fact_at p.1 e in
-      ap Some (sym (late_cmp-exact p (place_of f) (equal (late_cmp p (place_of f)) (both_right (is_eq (group_cmp g (group_of f))) (is_eq (late_cmp p (place_of f))) h))))
+      ap Some (sym (late_cmp-exact p (place_of f) (equal (late_cmp p (place_of f)) (second_holds (is_eq (group_cmp g (group_of f))) (is_eq (late_cmp p (place_of f))) h))))
 
   first_place : (ws : List ((ℕ × List ℕ) × Unit {0})) → within group_cmp g r.spots.entries ≡ ws → option_map place_of (first_of (items_at name_in item es ws)) ≡ option_map (λ e. e.0) (first_of ws)
   first_place [] is = refl

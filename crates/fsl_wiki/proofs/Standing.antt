@@ -123,10 +123,6 @@ not_last Less s h = refl
 not_last Equal s h = h
 not_last Greater s h = refl
 
-and-false : (b : Bool) → (b && false) ≡ false
-and-false true = refl
-and-false false = refl
-
 pub of_page : (title : List ℕ) (facts : List Fact) → filter (λ f. is_eq (group_cmp (page_group title) (group_of f))) facts ≡ map fact.Page (filter (λ p. bytes_eq p.title title) (filter_map as_page facts))
 of_page title [] = refl
 of_page title (fact.Note n ∷ facts) = of_page title facts

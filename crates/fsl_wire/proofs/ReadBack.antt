@@ -5,6 +5,8 @@ use Rattle.std.specs.List.{list_all, join_with_byte, slice_split, filter, onto_f
 use Rattle.std.proofs.lemmas.Fmt.{decimal_by_steps}
 use Rattle.std.proofs.lemmas.List.Folds.{list_all-append, list_any-append}
 use Rattle.std.proofs.lemmas.List.Sums.{fold-append}
+use Rattle.std.proofs.lemmas.Bool.{and_from, not-true}
+use Rattle.fsl_order.proofs.Booleans.{first_holds, second_holds}
 use Rattle.fsl_text.specs.Bytes.{is_empty, is_newline}
 use Rattle.fsl_text.specs.Lines.{has_newline}
 use Rattle.fsl_text.specs.Escapes.{escape, escaped_byte, unescape}
@@ -21,22 +23,6 @@ use Rattle.fsl_wire.specs.Writing.{card_tokens, card_content, card_bytes, messag
 
 -- ---- tests
 
-first : (a b : Bool) → (a && b) ≡ true → a ≡ true
-first true b e = refl
-first false b e = cc
-
-second : (a b : Bool) → (a && b) ≡ true → b ≡ true
-second true b e = e
-second false b e = cc
-
-both : (a b : Bool) → a ≡ true → b ≡ true → (a && b) ≡ true
-both true b e f = f
-both false b e f = cc
-
-denied : (b : Bool) → not b ≡ true → b ≡ false
-denied true e = cc
-denied false e = refl
-
 -- ---- tokens that are joined are the tokens of the line
 
 abbrev solid : ℕ → Bool
@@ -51,14 +37,14 @@ Tokens ts = AllByRecursion (λ t. is_token t ≡ true) ts
 split_before : (t rest : List ℕ) → Solid t → slice_split is_blank (t ++ 32 ∷ rest) ≡ t ∷ slice_split is_blank rest
 split_before [] rest h = refl
 split_before (b ∷ t) rest h =
-    let no_blank : is_blank b ≡ false = denied (is_blank b) (first (not (is_blank b)) (not (is_newline b)) (first (solid b) (list_all solid t) h)) in
-    rw no_blank (ap (onto_first b) (split_before t rest (second (solid b) (list_all solid t) h)))
+    let no_blank : is_blank b ≡ false = not-true (is_blank b) (first_holds (not (is_blank b)) (not (is_newline b)) (first_holds (solid b) (list_all solid t) h)) in
+    rw no_blank (ap (onto_first b) (split_before t rest (second_holds (solid b) (list_all solid t) h)))
 
 split_alone : (t : List ℕ) → Solid t → slice_split is_blank t ≡ t ∷ []
 split_alone [] h = refl
 split_alone (b ∷ t) h =
-    let no_blank : is_blank b ≡ false = denied (is_blank b) (first (not (is_blank b)) (not (is_newline b)) (first (solid b) (list_all solid t) h)) in
-    rw no_blank (ap (onto_first b) (split_alone t (second (solid b) (list_all solid t) h)))
+    let no_blank : is_blank b ≡ false = not-true (is_blank b) (first_holds (not (is_blank b)) (not (is_newline b)) (first_holds (solid b) (list_all solid t) h)) in
+    rw no_blank (ap (onto_first b) (split_alone t (second_holds (solid b) (list_all solid t) h)))
 
 abbrev filled : List (List ℕ) → List (List ℕ)
 filled parts = filter (λ part. not (is_empty part)) parts
@@ -69,24 +55,24 @@ kept t parts e = rw e refl
 joined : (ts : List (List ℕ)) → Tokens ts → tokens_of (join_with_byte 32 ts) ≡ ts
 joined [] h = refl
 joined (t ∷ []) h =
-    ap filled (split_alone t (second (not (is_empty t)) (list_all solid t) h.0)) ∙ kept t [] (first (not (is_empty t)) (list_all solid t) h.0)
+    ap filled (split_alone t (second_holds (not (is_empty t)) (list_all solid t) h.0)) ∙ kept t [] (first_holds (not (is_empty t)) (list_all solid t) h.0)
 joined (t ∷ u ∷ ts) h =
-    ap filled (split_before t (join_with_byte 32 (u ∷ ts)) (second (not (is_empty t)) (list_all solid t) h.0))
-    ∙ kept t (slice_split is_blank (join_with_byte 32 (u ∷ ts))) (first (not (is_empty t)) (list_all solid t) h.0)
+    ap filled (split_before t (join_with_byte 32 (u ∷ ts)) (second_holds (not (is_empty t)) (list_all solid t) h.0))
+    ∙ kept t (slice_split is_blank (join_with_byte 32 (u ∷ ts))) (first_holds (not (is_empty t)) (list_all solid t) h.0)
     ∙ ap (λ (l : List (List ℕ)). t ∷ l) (joined (u ∷ ts) h.1)
 
 no_newline_in : (t : List ℕ) → Solid t → has_newline t ≡ false
 no_newline_in [] h = refl
 no_newline_in (b ∷ t) h =
-    let e : is_newline b ≡ false = denied (is_newline b) (second (not (is_blank b)) (not (is_newline b)) (first (solid b) (list_all solid t) h)) in
-    λ i. e i || no_newline_in t (second (solid b) (list_all solid t) h) i
+    let e : is_newline b ≡ false = not-true (is_newline b) (second_holds (not (is_blank b)) (not (is_newline b)) (first_holds (solid b) (list_all solid t) h)) in
+    λ i. e i || no_newline_in t (second_holds (solid b) (list_all solid t) h) i
 
 no_newline : (ts : List (List ℕ)) → Tokens ts → has_newline (join_with_byte 32 ts) ≡ false
 no_newline [] h = refl
-no_newline (t ∷ []) h = no_newline_in t (second (not (is_empty t)) (list_all solid t) h.0)
+no_newline (t ∷ []) h = no_newline_in t (second_holds (not (is_empty t)) (list_all solid t) h.0)
 no_newline (t ∷ u ∷ ts) h =
     list_any-append is_newline t (32 ∷ join_with_byte 32 (u ∷ ts))
-    ∙ (λ i. no_newline_in t (second (not (is_empty t)) (list_all solid t) h.0) i || no_newline (u ∷ ts) h.1 i)
+    ∙ (λ i. no_newline_in t (second_holds (not (is_empty t)) (list_all solid t) h.0) i || no_newline (u ∷ ts) h.1 i)
 
 -- ---- numbers
 
@@ -102,7 +88,7 @@ filled_behind (x ∷ ds) d = refl
 
 more_digits : (n : ℕ) (ds : List ℕ) → 10 ≤ n → IsDecimal ds (n / 10) → IsDecimal (ds ++ ((48 + n % 10) ∷ [])) n
 more_digits n ds h k =
-    let digits = second (not (is_empty ds)) _ k.0 in
+    let digits = second_holds (not (is_empty ds)) _ k.0 in
     let value : decimal_value (ds ++ ((48 + n % 10) ∷ [])) ≡ 10 * decimal_value ds + (48 + n % 10 - 48) = fold-append (λ (m : ℕ) (c : ℕ). 10 * m + (c - 48)) 0 ds ((48 + n % 10) ∷ []) in
     (rw (filled_behind ds (48 + n % 10), list_all-append is_decimal_digit ds ((48 + n % 10) ∷ []), digits, digit_is (n % 10) (omega arith)) refl, omega (arith, value, k.1))
 
@@ -114,8 +100,8 @@ fits n h = grind (arith, h)
 
 number_of : (text : List ℕ) (n : ℕ) → IsDecimal text n → n < 2 ^ 64 → number_in text ≡ Some n
 number_of text n h lt =
-    let some : is_empty text ≡ false = denied (is_empty text) (first (not (is_empty text)) (list_all is_decimal_digit text) h.0) in
-    let digits : list_all is_decimal_digit text ≡ true = second (not (is_empty text)) (list_all is_decimal_digit text) h.0 in
+    let some : is_empty text ≡ false = not-true (is_empty text) (first_holds (not (is_empty text)) (list_all is_decimal_digit text) h.0) in
+    let digits : list_all is_decimal_digit text ≡ true = second_holds (not (is_empty text)) (list_all is_decimal_digit text) h.0 in
     rw (some, digits, h.1, fits n lt) refl
 
 number_again : (n : ℕ) → n < 2 ^ 64 → number_in (decimal n) ≡ Some n
@@ -125,7 +111,7 @@ number_again n h = number_of (decimal n) n (decimal_is n h) h
 
 weaker : (p r : ℕ → Bool) → ((b : ℕ) → p b ≡ true → r b ≡ true) → (text : List ℕ) → list_all p text ≡ true → list_all r text ≡ true
 weaker p r f [] h = refl
-weaker p r f (b ∷ text) h = both (r b) (list_all r text) (f b (first (p b) (list_all p text) h)) (weaker p r f text (second (p b) (list_all p text) h))
+weaker p r f (b ∷ text) h = and_from (r b) (list_all r text) (f b (first_holds (p b) (list_all p text) h)) (weaker p r f text (second_holds (p b) (list_all p text) h))
 
 digit_solid : (b : ℕ) → is_decimal_digit b ≡ true → solid b ≡ true
 digit_solid b h = grind (arith, h)
@@ -136,8 +122,8 @@ name_digit_solid b h = grind (arith, h)
 token-decimal : (n : ℕ) → n < 2 ^ 64 → is_token (decimal n) ≡ true
 token-decimal n h =
     let text = (decimal_is n h).0 in
-    both (not (is_empty (decimal n))) (list_all solid (decimal n)) (first (not (is_empty (decimal n))) (list_all is_decimal_digit (decimal n)) text)
-    (weaker is_decimal_digit solid digit_solid (decimal n) (second (not (is_empty (decimal n))) (list_all is_decimal_digit (decimal n)) text))
+    and_from (not (is_empty (decimal n))) (list_all solid (decimal n)) (first_holds (not (is_empty (decimal n))) (list_all is_decimal_digit (decimal n)) text)
+    (weaker is_decimal_digit solid digit_solid (decimal n) (second_holds (not (is_empty (decimal n))) (list_all is_decimal_digit (decimal n)) text))
 
 digits_of_name : (text name : List ℕ) (b : Bool) → are_digits 40 text ≡ b → name_in text ≡ Some name → are_digits 40 text ≡ true
 digits_of_name text name true e h = e
@@ -151,8 +137,8 @@ token-name : (name : List ℕ) → IsName name → is_token (name_text name) ≡
 token-name name h =
     let text = name_text name in
     let digits = digits_of_name text name (are_digits 40 text) refl (name_again name h) in
-    both (not (is_empty text)) (list_all solid text) (some_of_length text (first (length text == 40) (list_all is_name_digit text) digits))
-    (weaker is_name_digit solid name_digit_solid text (second (length text == 40) (list_all is_name_digit text) digits))
+    and_from (not (is_empty text)) (list_all solid text) (some_of_length text (first_holds (length text == 40) (list_all is_name_digit text) digits))
+    (weaker is_name_digit solid name_digit_solid text (second_holds (length text == 40) (list_all is_name_digit text) digits))
 
 plain_solid : (b : ℕ) → (b == 32) ≡ false → (b == 10) ≡ false → (b == 9) ≡ false → (b == 13) ≡ false → list_all solid (b ∷ []) ≡ true
 plain_solid b s n t r = rw (s, n, t, r) refl
@@ -186,12 +172,12 @@ some_escaped text [] e h =
 some_escaped text (b ∷ written) e h = refl
 
 token-escape : (text : List ℕ) → not (is_empty text) ≡ true → is_token (escape text) ≡ true
-token-escape text h = both (not (is_empty (escape text))) (list_all solid (escape text)) (some_escaped text (escape text) refl h) (escape_solid text)
+token-escape text h = and_from (not (is_empty (escape text))) (list_all solid (escape text)) (some_escaped text (escape text) refl h) (escape_solid text)
 
 are_tokens : (c : WireCard) → IsOfType c → is_writable c ≡ true → Tokens (card_tokens c)
 are_tokens (Login user nonce signature tail line) h w = cc
-are_tokens (Push server project) h w = (refl, (first (is_token server) (is_token project) w, (second (is_token server) (is_token project) w, tt)))
-are_tokens (Pull server project) h w = (refl, (first (is_token server) (is_token project) w, (second (is_token server) (is_token project) w, tt)))
+are_tokens (Push server project) h w = (refl, (first_holds (is_token server) (is_token project) w, (second_holds (is_token server) (is_token project) w, tt)))
+are_tokens (Pull server project) h w = (refl, (first_holds (is_token server) (is_token project) w, (second_holds (is_token server) (is_token project) w, tt)))
 are_tokens (Clone None) h w = (refl, tt)
 are_tokens (Clone (Some numbers)) h w = (refl, (token-decimal numbers.0 h.0, (token-decimal numbers.1 h.1, tt)))
 are_tokens (CloneSeqno next) h w = (refl, (token-decimal next h, tt))
@@ -332,8 +318,8 @@ all_append (p ∷ ps) qs h k = (h.0, all_append ps qs h.1 k)
 all_read : (cards : List WireCard) → AllByRecursion IsOfType cards → list_all is_writable cards ≡ true → AllByRecursion IsPart (all_parts cards)
 all_read [] h w = tt
 all_read (c ∷ cards) h w =
-    all_append (parts_of c) (all_parts cards) (part_reads c h.0 (first (is_writable c) (list_all is_writable cards) w), behind_reads c)
-    (all_read cards h.1 (second (is_writable c) (list_all is_writable cards) w))
+    all_append (parts_of c) (all_parts cards) (part_reads c h.0 (first_holds (is_writable c) (list_all is_writable cards) w), behind_reads c)
+    (all_read cards h.1 (second_holds (is_writable c) (list_all is_writable cards) w))
 
 abbrev cards_in : ℕ → List Part → List WireCard
 cards_in n parts = map (λ (l : ℕ × WireCard). l.1) (cards_from n parts [])
@@ -361,8 +347,8 @@ first_card c h w n parts =
 cards_back : (cards : List WireCard) → AllByRecursion IsOfType cards → list_all is_writable cards ≡ true → (n : ℕ) → cards_in n (all_parts cards) ≡ cards
 cards_back [] h w n = refl
 cards_back (c ∷ cards) h w n =
-    first_card c h.0 (first (is_writable c) (list_all is_writable cards) w) n (behind c ++ all_parts cards)
-    ∙ ap (λ (cs : List WireCard). c ∷ cs) (none_behind c (n + 1) (all_parts cards) cards (cards_back cards h.1 (second (is_writable c) (list_all is_writable cards) w)))
+    first_card c h.0 (first_holds (is_writable c) (list_all is_writable cards) w) n (behind c ++ all_parts cards)
+    ∙ ap (λ (cs : List WireCard). c ∷ cs) (none_behind c (n + 1) (all_parts cards) cards (cards_back cards h.1 (second_holds (is_writable c) (list_all is_writable cards) w)))
 
 none_after : (text : List ℕ) → text ++ [] ≡ text
 none_after [] = refl

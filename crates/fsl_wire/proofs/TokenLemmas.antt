@@ -2,7 +2,7 @@
 use Rattle.std.proofs.Common.{◌≡◌, ℕ, suc, zero, ◌+◌, ◌-◌, ◌<◌, ◌≤◌, Bool, true, false, not, cond, List, [], ◌∷◌, length, take, drop, get_or, position, filter, Some, None, refl, sym, ap, ◌∙◌, ⊎_elim, arith, add-one, drop-cons}
 use Rattle.std.specs.Prelude.{nat_lt}
 use Rattle.std.specs.List.{All, position_or_len, slice_split}
-use Rattle.std.proofs.lemmas.Bool.{false≢true, cases_lt}
+use Rattle.std.proofs.lemmas.Bool.{false≢true, cases_lt, not-false, not-true}
 use Rattle.std.proofs.lemmas.List.{length-take-le, length-drop, take_all, take_rest}
 use Rattle.std.proofs.lemmas.List.Quantifiers.{position-Some}
 use Rattle.std.proofs.lemmas.List.Elements.{All-from_get_or}
@@ -34,14 +34,6 @@ at_most p xs = prefix_len-le-length (λ x. not (p x)) xs
 pub no_place : (p : ℕ → Bool) (xs : List ℕ) → position p xs ≡ None → length xs ≤ position_or_len p xs
 no_place p xs h = none_past _ _ h
 
-not_solid : (b : Bool) → not b ≡ false → b ≡ true
-not_solid true h = refl
-not_solid false h = sym h
-
-solid : (b : Bool) → not b ≡ true → b ≡ false
-solid true h = sym h
-solid false h = refl
-
 -- a blank in front doesn't count
 skip_blank : (b : ℕ) (bs : List ℕ) → is_blank b ≡ true → tokens_of (b ∷ bs) ≡ tokens_of bs
 skip_blank b bs h = ap (λ (parts : List (List ℕ)). filter has_bytes parts) (slice_split-cons_yes is_blank b bs h)
@@ -60,7 +52,7 @@ get_or-drop-first (x ∷ xs) (suc n) = get_or-drop-first xs n
 pub no_token : (line : List ℕ) → position is_solid line ≡ None → tokens_of line ≡ []
 no_token line h =
     let past = no_place is_solid line h in
-    skip_blanks line (length line) (λ k lt. not_solid _ (fails_before_first is_solid line k 0 (omega arith)))
+    skip_blanks line (length line) (λ k lt. not-false _ (fails_before_first is_solid line k 0 (omega arith)))
     ∙ ap tokens_of (drop_of_length-le line (omega arith))
 
 filled : (xs : List ℕ) → 0 < length xs → has_bytes xs ≡ true
@@ -73,7 +65,7 @@ kept part parts h = ap (λ (b : Bool). cond b (part ∷ filter has_bytes parts) 
 blank_first : (rest : List ℕ) → position_or_len is_blank rest ≡ 0 → 0 < length rest → is_solid (get_or rest 0 0) ≡ true → ⊥
 blank_first rest none some first =
     let here : is_blank (get_or rest 0 0) ≡ true = ap (λ (k : ℕ). is_blank (get_or rest k 0)) (sym none) ∙ passes_at_first is_blank rest 0 (omega arith) in
-    false≢true (sym (solid _ first) ∙ here)
+    false≢true (sym (not-true _ first) ∙ here)
 
 starts_later : (n : ℕ) → (n ≡ 0 → ⊥) → 0 < n
 starts_later n h = grind (arith, h)
@@ -117,6 +109,6 @@ first_split line rest start end at is ends =
     let same = ap length here in
     let within = found.0 in
     let some : 0 < length rest = omega arith in
-    skip_blanks line start (λ k lt. not_solid _ (found.2 k lt)) ∙ ap tokens_of (sym here)
+    skip_blanks line start (λ k lt. not-false _ (found.2 k lt)) ∙ ap tokens_of (sym here)
     ∙ token_front rest end some (ap is_solid first ∙ found.1) ends
     ∙ ap (λ (t : List ℕ). take end rest ∷ tokens_of t) (sym (take_rest rest end))

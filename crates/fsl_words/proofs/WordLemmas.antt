@@ -10,6 +10,7 @@ use Rattle.std.proofs.lemmas.List.{append_assoc, take_more}
 use Rattle.std.proofs.lemmas.List.Folds.{list_any-append}
 use Rattle.std.proofs.lemmas.Cmp.{nat_list_eq_equiv}
 use Rattle.fsl_order.specs.Names.{has, bytes_cmp}
+use Rattle.fsl_order.proofs.Booleans.{and_false, cond_or}
 use Rattle.fsl_name.specs.Name.{name_in, name_read}
 use Rattle.fsl_name.specs.declared.NameFault.{NameFault}
 use Rattle.fsl_record.specs.Records.{is_field, AreFields}
@@ -67,10 +68,6 @@ differ_push (y ∷ xs) x =
     ∙ regroup (has xs y) (bytes_eq y x) (all_differ xs) (has xs x)
     ∙ ap (λ (b : Bool). (not (has xs y) && all_differ xs) && not (b || has xs x)) (nat_list_eq_equiv.symm y x)
 
-and_false : (b : Bool) → (b && false) ≡ false
-and_false true = refl
-and_false false = refl
-
 -- what doesn't differ at the front doesn't differ
 differ_front : (xs ys : List (List ℕ)) → all_differ xs ≡ false → all_differ (xs ++ ys) ≡ false
 differ_front [] ys h = absurd cc
@@ -94,17 +91,11 @@ differ_not words i word lt is there =
 
 -- ---- the set of the words that were passed
 
-either : (b c : Bool) → cond b true c ≡ (c || (b || false))
-either true true = refl
-either true false = refl
-either false true = refl
-either false false = refl
-
 pub has_more : (words : List (List ℕ)) (i : ℕ) (word q : List ℕ) → i < length words → word ≡ get_or words i word → cond (is_at (bytes_cmp word) q) true (has (take i words) q) ≡ has (take (i + 1) words) q
 has_more words i word q lt is =
     ap (λ (b : Bool). cond b true (has (take i words) q)) (sym (texts_ties word q))
     ∙ ap (λ (b : Bool). cond b true (has (take i words) q)) (nat_list_eq_equiv.symm word q)
-    ∙ either (bytes_eq q word) (has (take i words) q) ∙ sym (list_any-append (bytes_eq q) (take i words) (word ∷ []))
+    ∙ cond_or (bytes_eq q word) (has (take i words) q) ∙ sym (list_any-append (bytes_eq q) (take i words) (word ∷ []))
     ∙ ap (λ (xs : List (List ℕ)). has xs q) (ap (λ (x : List ℕ). take i words ++ x ∷ []) is ∙ sym (take_more words i word lt))
 
 -- what an insertion says of the set before it

@@ -1,5 +1,6 @@
-use Rattle.std.proofs.Common.{◌≡◌, ◌||◌, ◌∙◌, Bool, true, false, List, refl, ap, sym}
+use Rattle.std.proofs.Common.{◌||◌, ◌∙◌, List, ap, sym}
 use Rattle.fsl_order.specs.Names.{has}
+use Rattle.fsl_order.proofs.Booleans.{or_false}
 use Rattle.fsl_cluster.specs.declared.Fact.{Fact}
 use Rattle.fsl_cluster.specs.Clusters.{unclustered, missing}
 use Rattle.fsl_cluster.specs.Kept.{is_in}
@@ -13,10 +14,6 @@ enter_all-requires g c = sorted_none c.in_ok-tables.tables.unclustered.entries c
 
 pub enter_all-requires-2 : goal.enter_all-requires-2
 enter_all-requires-2 g c = sorted_none c.in_ok-tables.tables.missing.entries c.in_ok-tables.ensures.missing
-
-or-none : (b : Bool) → (b || false) ≡ b
-or-none true = refl
-or-none false = refl
 
 pub returns-clause-kept : goal.returns-clause-kept
 returns-clause-kept g c =
@@ -36,13 +33,13 @@ returns-clause-kept g c =
       unclustered = λ q.
           c.in_ok-enter_all.ensures.names q
           ∙ (λ i. has (c.items-3.ensures i) q || is_in (c.in_ok-tables.ensures.unclustered i) q)
-          ∙ or-none (has c.in_ok-unclustered.unclustered q)
+          ∙ or_false (has c.in_ok-unclustered.unclustered q)
           ∙ ap (λ l. has l q) (c.in_ok-unclustered.ensures ∙ ap unclustered c.items.ensures ∙ unclustered-by_name facts c.requires ∙ ap unclustered (sym c.in_ok-tables.ensures.facts))
           ∙ free_is es c.in_ok-tables.ensures.laid.ordered q;
       missing = λ q.
           c.in_ok-enter_all-2.ensures.names q
           ∙ (λ i. has (c.items-4.ensures i) q || is_in (c.in_ok-tables.ensures.missing i) q)
-          ∙ or-none (has c.in_ok-missing.missing q)
+          ∙ or_false (has c.in_ok-missing.missing q)
           ∙ ap (λ l. has l q) (c.in_ok-missing.ensures ∙ ap missing c.items-2.ensures ∙ missing-by_name facts c.requires ∙ ap missing (sym c.in_ok-tables.ensures.facts))
           ∙ absent_is es q;
     }

@@ -1,14 +1,11 @@
-use Rattle.std.proofs.Common.{◌≡◌, ◌||◌, ◌∙◌, Bool, true, false, List, ℕ, refl, ap}
+use Rattle.std.proofs.Common.{◌≡◌, ◌||◌, ◌∙◌, List, ℕ, ap}
 use Rattle.std.specs.List.{list_any}
 use Rattle.fsl_order.specs.Names.{has}
+use Rattle.fsl_order.proofs.Booleans.{or_false}
 use Rattle.fsl_table.specs.Pairs.{seconds}
 use Rattle.fsl_table.proofs.Outcomes.{if_ok_map}
 use Rattle.fsl_files.specs.Kept.{is_touched}
 use Rattle.fsl_files.proofs.touched.touched.Goals as goal
-
-or-none : (b : Bool) → (b || false) ≡ b
-or-none true = refl
-or-none false = refl
 
 pub returns-clause-names : goal.returns-clause-names
 returns-clause-names g c =
@@ -19,5 +16,5 @@ returns-clause-names g c =
     c.in_ok-note_each.ensures.noted q
     ∙ (λ i. list_any (λ up. has (seconds up children) q) ((c.items-2.ensures ∙ c.in_ok-over.ensures.seconds) i)
     || (c.in_ok-note_children.ensures.noted q ∙ ap (λ b. has (seconds name children) q || b)
-    (c.in_ok-note_all.ensures.noted q ∙ (λ j. has ((c.items.ensures ∙ c.in_ok-over.ensures.seconds) j) q || has (c.new-names.ensures.empty j) q) ∙ or-none (has (seconds name deltas) q))) i) in
+    (c.in_ok-note_all.ensures.noted q ∙ (λ j. has ((c.items.ensures ∙ c.in_ok-over.ensures.seconds) j) q || has (c.new-names.ensures.empty j) q) ∙ or_false (has (seconds name deltas) q))) i) in
     if_ok_map c.listed.result (λ list e. λ q. ap (λ ns. has ns q) e ∙ noted q) c.listed.ensures.names

@@ -1,9 +1,10 @@
 use Rattle.std.proofs.Common.{◌≡◌, ◌||◌, ◌&&◌, ◌∙◌, List, ℕ, sym, ap}
 use Rattle.std.specs.Str.{bytes_eq}
 use Rattle.fsl_order.specs.Names.{has}
+use Rattle.fsl_order.proofs.Booleans.{or_false}
 use Rattle.fsl_links.specs.Kept.{changes, waits, leads}
 use Rattle.fsl_links.proofs.Changed.{lists_changed}
-use Rattle.fsl_links.proofs.Waiting.{if_ok, led, not_led, or-none}
+use Rattle.fsl_links.proofs.Waiting.{if_ok, led, not_led}
 use Rattle.fsl_links.proofs.rows.changed_by.Goals.{then-is_led+in_ok-note, else-is_led}
 use Rattle.fsl_links.proofs.rows.changed_by.Goals as goal
 
@@ -13,7 +14,7 @@ returns-clause-changed g c =
     let name = c.args.fact.now.name in
     let parents = c.args.fact.now.parents in
     let all : (q : List ℕ) → has c.note_all.new.names.keys q ≡ has parents q = λ q.
-    c.in_ok-note_all.ensures.noted q ∙ ap (λ ks. has c.items-parents.result.now q || has ks q) c.new-names.ensures.empty ∙ or-none (has c.items-parents.result.now q) ∙ ap (λ ps. has ps q) c.items-parents.ensures in
+    c.in_ok-note_all.ensures.noted q ∙ ap (λ ks. has c.items-parents.result.now q || has ks q) c.new-names.ensures.empty ∙ or_false (has c.items-parents.result.now q) ∙ ap (λ ps. has ps q) c.items-parents.ensures in
     let is : leads es name parents ≡ c.is_led.result = ap (leads es name) (sym c.items-parents.ensures) ∙ sym c.is_led.ensures.leads in
     let own : (q : List ℕ) → has c.if-is_led.names.keys q ≡ ((leads es name parents && bytes_eq q name) || has parents q) = λ q.
     elim c.if-is_led.branch [

@@ -1,10 +1,10 @@
 use Rattle.std.proofs.Common.{refl, sym, ◌∙◌, subst}
 use Rattle.std.proofs.lemmas.List.{take_all}
+use Rattle.std.proofs.lemmas.Bool.{or_parts}
 use Rattle.fsl_forum.proofs.Noting.{has-next}
 use Rattle.fsl_cross.specs.Gone.{RowsGone, is_gone}
 use Rattle.fsl_cross.specs.Mixed.{rows_mixed}
 use Rattle.fsl_cross.proofs.Going.{goes-next}
-use Rattle.fsl_cross.proofs.Pushing.{or-false}
 use Rattle.fsl_cross.proofs.Retiring.{rising-fresh, has-at}
 use Rattle.fsl_cross.proofs.change.gone.retire_each.Goals as goal
 
@@ -25,7 +25,7 @@ loop-name-preserved g c = record {
       goes-next (rows_mixed c.args.items.now c.args.item.now.name) (is_gone c.args.items.now c.args.item.now.name) c.args.names.now c.loop-name.name-index c.name-item.result c.args.timeline.now.facts c.loop-name.timeline.facts c.retire.new.timeline.facts
       c.loop-name-test.true c.name-item.is c.loop-name.invariant.facts c.in_ok-retire.ensures.facts;
   others = λ q out.
-      let parts = or-false _ _ (sym (has-next c.args.names.now c.loop-name.name-index c.name-item.result c.loop-name-test.true c.name-item.is q) ∙ out) in
+      let parts = or_parts _ _ (sym (has-next c.args.names.now c.loop-name.name-index c.name-item.result c.loop-name-test.true c.name-item.is q) ∙ out) in
       c.in_ok-retire.ensures.others q parts.0 ∙ c.loop-name.invariant.others q parts.1;
   led = λ first h. c.retire.ensures.led first (c.loop-name.invariant.led first h);
 }

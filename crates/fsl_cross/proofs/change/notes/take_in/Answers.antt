@@ -1,6 +1,7 @@
 use Rattle.std.proofs.Common.{◌∷◌, [], false, sym, ap, ◌∙◌, subst}
 use Rattle.std.specs.List.Sorted.{IsStrictlySortedBy}
 use Rattle.std.specs.Str.{bytes_eq}
+use Rattle.std.proofs.lemmas.Bool.{or_parts}
 use Rattle.fsl_order.specs.Names.{bytes_cmp}
 use Rattle.fsl_wiki.specs.Pages.{pages_row}
 use Rattle.fsl_table.proofs.Outcomes.{on_ok_map}
@@ -12,7 +13,7 @@ use Rattle.fsl_cross.specs.Tables.{timeline_row_of}
 use Rattle.fsl_cross.proofs.Among.{is-item}
 use Rattle.fsl_cross.proofs.Currency.{notes-shown, note-kept, tagged-skips}
 use Rattle.fsl_cross.proofs.Ids.{own-named}
-use Rattle.fsl_cross.proofs.Pushing.{or-false, pushed-before}
+use Rattle.fsl_cross.proofs.Pushing.{pushed-before}
 use Rattle.fsl_cross.proofs.Retagged.{rows-end-more}
 use Rattle.fsl_cross.proofs.Retiring.{told-rises}
 use Rattle.fsl_cross.proofs.change.notes.take_in.Goals as goal
@@ -61,7 +62,7 @@ returns-clause-facts g c =
     (λ q out. pushed-before (is_gone items item.name) (all_changed c.args.changes.now) done q (pushed-before (is_attachment items) (own_names c.args.attached.now item.artifact) (pushed (is_gone items item.name) (all_changed c.args.changes.now) done) q out))
     (note-kept items c.requires.new.rising item c.requires.new.there c.args.note.now c.requires.kind t.first c.args.contents.now.pages c.args.changes.now t.leads t.told t.single t.before c.requires.pages
     c.no_other_current.ensures c.args.attached.now c.requires.attached (own-named bytes.0 item.artifact c.args.note.now.id bytes.1 (ap own_id c.requires.kind)) done
-    (λ q out. (or-false (bytes_eq q item.name) false (pushed-before (is_other_checkin items item.name) (all_changed c.args.tag_changes.now) (item.name ∷ []) q out)).0))) c.change_kinds.ensures.facts
+    (λ q out. (or_parts (bytes_eq q item.name) false (pushed-before (is_other_checkin items item.name) (all_changed c.args.tag_changes.now) (item.name ∷ []) q out)).0))) c.change_kinds.ensures.facts
 
 pub returns-clause-led : goal.returns-clause-led
 returns-clause-led g c = λ first h. c.change_kinds.ensures.led first (c.retire_each.ensures.led first (c.start.ensures.led first h))
