@@ -1,22 +1,12 @@
 //! The artifacts that an artifact names.
 ghost use Rattle.std.specs.Prelude.{◌≡◌, IfOk};
-ghost use Rattle.fsl_order.specs.Rows.{ascending};
 ghost use Rattle.fsl_artifact.specs.References.{members, names_in, references};
 
 use super::Artifact;
 use super::names::append_names;
-use fsl_name::Name;
+use fsl_name::{Name, ordered};
 use fsl_text::{List, Memory};
 use std::alloc::Global;
-
-/// Puts names in ascending order, each once.
-fn sorted(mut names: Vec<Name>) -> Vec<Name>
-    ensures { result.items ≡ ascending names.items }
-{
-    names.sort_unstable();
-    names.dedup();
-    names
-}
 
 /// The names that stand in the cards of an artifact.
 fn names_in(alloc: Global, artifact: &Artifact) -> Result<Vec<Name>, Memory>
@@ -34,7 +24,7 @@ pub fn refs(alloc: Global, artifact: &Artifact) -> Result<List<Name>, Memory>
     ensures { IfOk result (λ names. names ≡ references artifact.now) }
 {
     let names = names_in(alloc, artifact)?;
-    Ok(List::from_vec(sorted(names)))
+    Ok(List::from_vec(ordered(names)))
 }
 
 /// The names in the M cards of a cluster, in their order; of every other artifact none. Takes no memory.

@@ -1,5 +1,4 @@
 mod Circle
-pub mod NameLemmas
 pub mod FactLemmas
 pub mod Turning
 pub mod Listing

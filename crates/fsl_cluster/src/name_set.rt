@@ -1,10 +1,9 @@
 //! Names, ascending, each once.
 ghost use Rattle.std.specs.Prelude.{◌≡◌};
-ghost use Rattle.std.specs.List.Sorted.{IsStrictlySortedBy};
-ghost use Rattle.fsl_order.specs.Names.{bytes_cmp, has};
+ghost use Rattle.fsl_order.specs.Names.{has};
 ghost use Rattle.fsl_order.specs.Rows.{ascending};
 
-use fsl_name::Name;
+use fsl_name::{Name, ordered, stands};
 use fsl_text::List;
 use std::marker::Model;
 
@@ -26,23 +25,13 @@ impl Model for NameSet {
     ghost invariant = { λ s. IsStrictlySortedBy bytes_cmp s.names.items };
 }
 
-/// Puts names in order, each once.
-fn sorted(mut names: Vec<Name>) -> Vec<Name>
-    ensures names { result.items ≡ ascending names.items }
-    ensures rising { IsStrictlySortedBy bytes_cmp result.items }
-{
-    names.sort_unstable();
-    names.dedup();
-    names
-}
-
 impl NameSet {
     /// The names of a vector. Takes no memory.
     pub fn of(names: Vec<Name>) -> NameSet
         ensures { result ≡ ascending names.items }
     {
         NameSet {
-            names: sorted(names),
+            names: ordered(names),
         }
     }
 
@@ -50,7 +39,7 @@ impl NameSet {
     pub fn contains(&self, name: &Name) -> bool
         ensures { result ≡ has self.now name.now }
     {
-        self.names.binary_search(name).is_ok()
+        stands(&self.names, name)
     }
 
     /// The names, ascending.

@@ -2,3 +2,5 @@ pub mod ReadAgain
 pub mod ByteLists
 pub mod Reading
 pub mod OrderLemmas
+pub mod OrderedNames
+pub mod NameTexts

@@ -20,7 +20,10 @@ ghost use Rattle.fsl_name.specs.Name.{
   IsNameFault,
 };
 
+mod sorting;
+
 use sha1::Sha1;
+pub use sorting::{ordered, stands};
 use std::cmp::Ordering;
 use std::marker::Model;
 

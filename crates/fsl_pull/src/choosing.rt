@@ -10,12 +10,11 @@ ghost use Rattle.fsl_pull.specs.Pushes.{is_public, public_file};
 ghost use Rattle.fsl_pull.specs.Sent.{IsWith, public_size};
 ghost use Rattle.fsl_pull.specs.PushTurns.{due_names};
 
-use crate::next::ordered;
 use crate::sent::Sent;
 use fsl_answer::taken;
 use fsl_blobs::BlobState;
 use fsl_disk::Disk;
-use fsl_name::Name;
+use fsl_name::{Name, ordered};
 use fsl_repo::Repo;
 use fsl_text::Memory;
 use fsl_wire::WireCard;

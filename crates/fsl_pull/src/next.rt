@@ -3,7 +3,6 @@ ghost use Rattle.std.specs.Prelude.{◌≡◌, IfOk, filter, find, not};
 ghost use Rattle.std.specs.List.{list_all};
 ghost use Rattle.std.specs.List.Sorted.{IsStrictlySortedBy};
 ghost use Rattle.fsl_order.specs.Names.{bytes_cmp, has};
-ghost use Rattle.fsl_order.specs.Rows.{ascending};
 ghost use Rattle.fsl_blobs.specs.Fold.{is_new};
 ghost use Rattle.fsl_repo.specs.Machine.{now, wants};
 ghost use Rattle.fsl_pull.specs.Replies.{announced_name, announced_in};
@@ -12,7 +11,7 @@ ghost use Rattle.fsl_pull.specs.Steps.{step_of, Rises};
 
 use fsl_blobs::BlobState;
 use fsl_disk::Disk;
-use fsl_name::Name;
+use fsl_name::{Name, ordered, stands};
 use fsl_repo::Repo;
 use fsl_text::{List, Memory};
 use fsl_wire::WireCard;
@@ -25,24 +24,6 @@ pub(crate) enum Step {
     On(List<Name>),
     /// The end. The name is missing: the peer announced it and doesn't send it.
     End(Option<Name>),
-}
-
-/// Names in order, each once.
-pub(crate) fn ordered(mut names: Vec<Name>) -> Vec<Name>
-    ensures names { result.items ≡ ascending names.items }
-    ensures rising { IsStrictlySortedBy bytes_cmp result.items }
-{
-    names.sort_unstable();
-    names.dedup();
-    names
-}
-
-/// Whether a name stands among rising ones.
-pub(crate) fn stands(names: &[Name], name: &Name) -> bool
-    requires { IsStrictlySortedBy bytes_cmp names.now }
-    ensures { result ≡ has names.now name.now }
-{
-    names.binary_search(name).is_ok()
 }
 
 /// The name that a card announces without the flag of private ones.

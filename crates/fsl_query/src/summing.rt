@@ -8,7 +8,7 @@ ghost use Rattle.fsl_query.specs.Summary.{entry_of, tags_on, threads_of, differe
 use crate::Note;
 use crate::noting::{checkins, ids, posts};
 use fsl_cross::Tables;
-use fsl_name::Name;
+use fsl_name::{Name, ordered};
 use fsl_text::{Memory, Text};
 use std::alloc::Global;
 use std::collections::BTreeMap;
@@ -58,12 +58,10 @@ fn threads_of(alloc: Global, tables: &Tables, posts: &[Name]) -> Result<Vec<Name
 }
 
 /// How many different names there are.
-fn different(mut names: Vec<Name>) -> usize
+fn different(names: Vec<Name>) -> usize
     ensures { result ≡ different names.items }
 {
-    names.sort_unstable();
-    names.dedup();
-    names.len()
+    ordered(names).len()
 }
 
 /// How many rows the timeline has.

@@ -14,7 +14,7 @@ use crate::placed::names_by;
 use crate::wanting::wanted;
 use fsl_blobs::Blobs;
 use fsl_cluster::Clusters;
-use fsl_name::Name;
+use fsl_name::{Name, ordered, stands};
 use fsl_record::Config;
 use fsl_text::{List, Memory, Text};
 use std::alloc::Global;
@@ -53,24 +53,6 @@ pub(crate) fn codes_of(config: &Config, clone: Option<(u64, u64)>) -> Option<(Na
         Some(_) => Some((config.server, config.project)),
         None => None,
     }
-}
-
-/// Names in order, each once.
-fn ordered(mut names: Vec<Name>) -> Vec<Name>
-    ensures names { result.items ≡ ascending names.items }
-    ensures rising { IsStrictlySortedBy bytes_cmp result.items }
-{
-    names.sort_unstable();
-    names.dedup();
-    names
-}
-
-/// Whether a name stands among rising ones.
-fn stands(names: &[Name], name: &Name) -> bool
-    requires { IsStrictlySortedBy bytes_cmp names.now }
-    ensures { result ≡ has names.now name.now }
-{
-    names.binary_search(name).is_ok()
 }
 
 /// The public names that a reply tells: all of them, or those that stand in no cluster, or none.

@@ -1,7 +1,6 @@
 pub mod OneWay
 pub mod ReadBack
 pub mod TokenLemmas
-mod NameLemmas
 mod FrontLemmas
 mod ReadLemmas
 mod CountLemmas

@@ -1,6 +1,6 @@
 -- What single words are, and words that differ.
-use Rattle.std.proofs.Common.{◌≡◌, ℕ, ◌+◌, ◌<◌, Bool, true, false, not, ◌&&◌, cond, List, [], ◌∷◌, ◌++◌, length, take, drop, suc, get_or, Some, None, Ok, Err, refl, sym, ap, ◌∙◌, arith}
-use Rattle.std.specs.Prelude.{◌==◌, ◌↔◌, ◌||◌, IsTrue}
+use Rattle.std.proofs.Common.{◌≡◌, ℕ, ◌+◌, ◌<◌, Bool, true, false, not, ◌&&◌, cond, List, [], ◌∷◌, ◌++◌, length, take, drop, suc, get_or, refl, sym, ap, ◌∙◌, arith}
+use Rattle.std.specs.Prelude.{◌↔◌, ◌||◌, IsTrue}
 use Rattle.std.specs.List.{IsDistinct}
 use Rattle.std.specs.Str.{bytes_eq}
 use Rattle.std.specs.Cmp.Lexicographic.{texts_ties}
@@ -11,28 +11,8 @@ use Rattle.std.proofs.lemmas.List.Folds.{list_any-append}
 use Rattle.std.proofs.lemmas.Cmp.{nat_list_eq_equiv}
 use Rattle.fsl_order.specs.Names.{has, bytes_cmp}
 use Rattle.fsl_order.proofs.Booleans.{and_false, cond_or}
-use Rattle.fsl_name.specs.Name.{name_in, name_read}
-use Rattle.fsl_name.specs.declared.NameFault.{NameFault}
 use Rattle.fsl_record.specs.Records.{is_field, AreFields}
 use Rattle.fsl_words.specs.Grammar.{all_differ}
-
--- ---- names
-
-name_by : (long digits : Bool) (e f : NameFault) (n m : List ℕ) → Ok m ≡ cond (not long) (Err e) (cond (not digits) (Err f) (Ok n)) → cond (long && digits) (Some n) None ≡ Some m
-name_by true true e f n m h = cc
-name_by true false e f n m h = cc
-name_by false digits e f n m h = cc
-
-no_name_by : (long digits : Bool) (e f g : NameFault) (n : List ℕ) → Err g ≡ cond (not long) (Err e) (cond (not digits) (Err f) (Ok n)) → cond (long && digits) (Some n) None ≡ None
-no_name_by true true e f g n h = cc
-no_name_by true false e f g n h = refl
-no_name_by false digits e f g n h = refl
-
-pub name_of_text : (text name : List ℕ) → Ok name ≡ name_read text → name_in text ≡ Some name
-name_of_text text name h = name_by (length text == 40) _ _ _ _ name h
-
-pub no_name_of_text : (text : List ℕ) (e : NameFault) → Err e ≡ name_read text → name_in text ≡ None
-no_name_of_text text e h = no_name_by (length text == 40) _ _ _ e _ h
 
 -- ---- fields
 

@@ -1,5 +1,5 @@
 use Rattle.std.proofs.Common.{sym}
-use Rattle.fsl_wire.proofs.NameLemmas.{name_of_text, no_name_of_text}
+use Rattle.fsl_name.proofs.NameTexts.{name_of_text, no_name_of_text}
 use Rattle.fsl_wire.proofs.operators.name_in.Goals as goal
 
 pub returns-in-Ok : goal.returns-in-Ok

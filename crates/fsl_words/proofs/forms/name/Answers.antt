@@ -1,4 +1,4 @@
-use Rattle.fsl_words.proofs.WordLemmas.{name_of_text, no_name_of_text}
+use Rattle.fsl_name.proofs.NameTexts.{name_of_text, no_name_of_text}
 use Rattle.fsl_words.proofs.forms.name.Goals as goal
 
 pub returns-in-Ok : goal.returns-in-Ok

@@ -1,6 +1,6 @@
 use Rattle.std.proofs.lemmas.List.Filters.{dedup_is}
-use Rattle.fsl_cluster.proofs.NameLemmas.{sorted_once, rising_once}
-use Rattle.fsl_cluster.proofs.name_set.sorted.Goals as goal
+use Rattle.fsl_name.proofs.OrderedNames.{sorted_once, rising_once}
+use Rattle.fsl_name.proofs.sorting.ordered.Goals as goal
 
 pub returns-clause-names : goal.returns-clause-names
 returns-clause-names c =

@@ -1,6 +1,6 @@
 use Rattle.std.proofs.Common.{◌∙◌}
-use Rattle.fsl_cluster.proofs.NameLemmas.{searched}
-use Rattle.fsl_repo.proofs.replying.stands.Goals as goal
+use Rattle.fsl_name.proofs.OrderedNames.{searched}
+use Rattle.fsl_name.proofs.sorting.stands.Goals as goal
 
 pub returns : goal.returns
 returns c =
