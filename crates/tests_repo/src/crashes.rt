@@ -1,77 +1,83 @@
 //! What crashes leave of a commit, as repositories that are loaded again.
-use crate::events::{arrives, is_shunned};
+use crate::events::arrives;
 use crate::histories::artifact;
-use crate::printing::{Shown, show_all, shown_by};
-use crate::repo::{ONE_BLOB, disk_of, loaded};
+use crate::printing::{Shown, nothing, show_all, shown_by};
+use crate::repo::{ONE_BLOB, fused};
 use fsl_disk::{FuseDisk, MemoryDisk};
+use fsl_name::Name;
 use fsl_repo::Repo;
-use fsl_text::Memory;
 use std::alloc::Global;
 use std::test::Fail;
 
-/// What a repository showed before three steps and behind them, and the disk that it left behind a commit.
+/// What a repository showed before three steps and behind them, whether these were taken and committed, and the disk that it
+/// left behind.
 #[derive(Drop)]
 struct Left {
     before: Shown,
     behind: Shown,
+    are_taken: bool,
     is_committed: bool,
     disk: MemoryDisk,
 }
 
 /// Whether a check-in and a file of it arrive, and `abc`, which was held, is shunned.
-fn takes_three(alloc: Global, repo: &mut Repo<FuseDisk<MemoryDisk>>) -> bool {
-    let checkin = arrives(alloc, repo, artifact(4));
-    let file = arrives(alloc, repo, artifact(0));
-    let shunned = is_shunned(repo, b"abc");
-    checkin && file && shunned
+fn takes_three(repo: &mut Repo<FuseDisk<MemoryDisk>>) -> bool {
+    let checkin = arrives(repo, artifact(4));
+    let file = arrives(repo, artifact(0));
+    let shunned = repo.shun(Name::of(b"abc")).is_ok();
+    checkin & file & shunned
 }
 
 /// Takes the three steps and commits them, as far as the disk doesn't fail.
-fn take_and_commit(alloc: Global, mut repo: Repo<FuseDisk<MemoryDisk>>) -> Option<Left> {
+fn take_and_commit(alloc: Global, mut repo: Repo<FuseDisk<MemoryDisk>>) -> Left {
     let before = show_all(alloc, &repo);
-    let are_taken = takes_three(alloc, &mut repo);
+    let are_taken = takes_three(&mut repo);
     let behind = show_all(alloc, &repo);
     let is_committed = repo.commit().is_ok();
-    let left = Left {
+    Left {
         before,
         behind,
+        are_taken,
         is_committed,
         disk: repo.close().inner(),
-    };
-    if are_taken { Some(left) } else { None }
+    }
+}
+
+/// What the file of one crash shows.
+fn shown_after(alloc: Global, disk: &MemoryDisk, pick: u64) -> Shown {
+    match disk.crash(alloc, pick) {
+        Ok(image) => shown_by(alloc, image),
+        Err(_) => nothing(alloc),
+    }
 }
 
 /// Whether the file of one crash shows the repository as it is behind all three steps, or, where the commit failed, as it was.
-fn is_none_or_all(alloc: Global, left: &Left, pick: u64) -> Result<bool, Memory> {
-    let Some(shown) = shown_by(alloc, left.disk.crash(alloc, pick)?) else {
-        return Ok(false);
-    };
-    Ok(shown.is_like(&left.behind) || (!left.is_committed && shown.is_like(&left.before)))
+fn is_none_or_all(alloc: Global, left: &Left, pick: u64) -> bool {
+    let shown = shown_after(alloc, &left.disk, pick);
+    let is_all = shown.is_like(&left.behind);
+    let is_none = shown.is_like(&left.before);
+    drop(shown);
+    is_all | (!left.is_committed & is_none)
 }
 
 /// Whether each of 16 files that crashes leave shows none or all of the three steps.
-fn are_none_or_all(alloc: Global, left: &Left) -> Result<bool, Memory> {
-    let mut good = true;
+fn are_none_or_all(alloc: Global, left: &Left) -> bool {
+    let mut good = left.are_taken;
     for pick in 0..16 {
-        good = is_none_or_all(alloc, left, pick)? && good;
+        good = is_none_or_all(alloc, left, pick) & good;
     }
-    Ok(good)
+    good
 }
 
 /// Whether the three steps were committed, and each crash leaves none or all of them, over a disk that fails after so many
 /// calls; nothing where it fails before the repository is loaded.
-fn is_committed_after(alloc: Global, calls: u64) -> Result<Option<(bool, bool)>, Memory> {
-    let disk = FuseDisk::new(disk_of(alloc, ONE_BLOB)?, calls);
-    let Some(repo) = loaded(alloc, disk) else {
-        return Ok(None);
-    };
-    let Some(left) = take_and_commit(alloc, repo) else {
-        return Ok(Some((false, false)));
-    };
+fn is_committed_after(alloc: Global, calls: u64) -> Option<(bool, bool)> {
+    let repo = fused(alloc, ONE_BLOB, calls)?;
+    let left = take_and_commit(alloc, repo);
     let good = are_none_or_all(alloc, &left);
     let is_committed = left.is_committed;
     drop(left);
-    Ok(Some((is_committed, good?)))
+    Some((is_committed, good))
 }
 
 /// Whatever device call fails, a crash leaves none or all of a commit; and all where the commit was done. Three calls load the
@@ -85,7 +91,7 @@ fn crashes_leave_none_or_all(rt: HostRuntime) -> Result<(), Fail> {
             Some((9 <= calls, true))
         };
         assert_eq!(rt;
-            is_committed_after(rt.alloc(), calls)?,
+            is_committed_after(rt.alloc(), calls),
             wanted,
             "after {calls} calls"
         );

@@ -1,11 +1,10 @@
 //! Histories of a repository: what it holds when it is closed, and when it is loaded again.
-use crate::events::{arrival, is_done};
+use crate::events::{arrive, cluster};
 use crate::printing::{Shown, show_all, shown_by};
-use crate::repo::{ONE_BLOB, disk_of, loaded};
+use crate::repo::{ONE_BLOB, fused};
 use fsl_disk::{FuseDisk, MemoryDisk};
 use fsl_name::Name;
-use fsl_repo::{Event, Repo};
-use fsl_text::Memory;
+use fsl_repo::Repo;
 use std::alloc::Global;
 use std::test::Fail;
 
@@ -66,47 +65,48 @@ impl Dice {
     }
 }
 
-/// An event that is no arrival.
-fn other_event(kind: u8, name: Name) -> Event {
+/// Takes a step that is no commit: mostly an arrival, one in five of them private, and now and then one under a wrong name.
+fn take(repo: &mut Repo<FuseDisk<MemoryDisk>>, kind: u8, bytes: &[u8]) {
+    let name = Name::of(bytes);
     match kind {
-        3 | 4 => Event::Announce { name },
-        5 => Event::Shun { name },
-        6 => Event::Cluster,
-        _ => Event::Commit,
+        2 => {
+            let _ = arrive(repo, Name::of(b"wrong"), bytes, false);
+        }
+        3 | 4 => {
+            let _ = repo.announce(name);
+        }
+        5 => {
+            let _ = repo.shun(name);
+        }
+        6 => {
+            let _ = cluster(repo);
+        }
+        _ => {
+            let _ = arrive(repo, name, bytes, kind < 2);
+        }
     }
 }
 
-/// An event: mostly an arrival, one in five of them private, and now and then one under a wrong name.
-fn event_of(alloc: Global, dice: &mut Dice) -> Result<Event, Memory> {
+/// Takes a step by the dice. Whether it is a commit that succeeds.
+fn commits(repo: &mut Repo<FuseDisk<MemoryDisk>>, dice: &mut Dice) -> bool {
     let bytes = artifact(usize::from(dice.roll() % 14));
     let kind = dice.roll() % 16;
-    if 3 <= kind && kind < 9 {
-        return Ok(other_event(kind, Name::of(bytes)));
+    if kind == 7 || kind == 8 {
+        return repo.commit().is_ok();
     }
-    let name = Name::of(if kind == 2 { b"wrong" } else { bytes });
-    arrival(alloc, name, bytes, kind < 2)
-}
-
-/// Whether an event is a commit that succeeds.
-fn commits(repo: &mut Repo<FuseDisk<MemoryDisk>>, event: Event) -> bool {
-    let is_commit = matches!(&event, Event::Commit);
-    is_done(repo, event) && is_commit
+    take(repo, kind, bytes);
+    false
 }
 
 /// Takes so many steps. What a repository shows at its last commit.
-fn play(
-    alloc: Global,
-    repo: &mut Repo<FuseDisk<MemoryDisk>>,
-    dice: &mut Dice,
-) -> Result<Shown, Memory> {
+fn play(alloc: Global, repo: &mut Repo<FuseDisk<MemoryDisk>>, dice: &mut Dice) -> Shown {
     let mut committed = show_all(alloc, repo);
     for _ in 0..STEPS {
-        let event = event_of(alloc, dice)?;
-        if commits(repo, event) {
+        if commits(repo, dice) {
             committed = show_all(alloc, repo);
         }
     }
-    Ok(committed)
+    committed
 }
 
 /// Whether a repository that is closed shows what it showed at its end when it is loaded again, or, where a commit fails, what
@@ -119,25 +119,23 @@ fn returns(
 ) -> bool {
     let end = show_all(alloc, &repo);
     let ends = repo.commit().is_ok();
-    let Some(again) = shown_by(alloc, repo.close().inner()) else {
-        return false;
-    };
-    ends != fails && (again.is_like(&end) || (fails && again.is_like(committed)))
+    let again = shown_by(alloc, repo.close().inner());
+    let is_end = again.is_like(&end);
+    let is_committed = again.is_like(committed);
+    drop(end);
+    drop(again);
+    (ends != fails) & (is_end | (fails & is_committed))
 }
 
 /// Plays a history over a disk that fails after so many calls. Whether it comes back, and a commit fails just where one is to.
-fn comes_back_after(alloc: Global, number: u64, calls: u64, fails: bool) -> Result<bool, Memory> {
-    let disk = FuseDisk::new(disk_of(alloc, ONE_BLOB)?, calls);
-    let Some(mut repo) = loaded(alloc, disk) else {
-        return Ok(false);
+fn comes_back_after(alloc: Global, number: u64, calls: u64, fails: bool) -> bool {
+    let Some(mut repo) = fused(alloc, ONE_BLOB, calls) else {
+        return false;
     };
-    match play(alloc, &mut repo, &mut Dice::of(number)) {
-        Ok(committed) => Ok(returns(alloc, repo, &committed, fails)),
-        Err(memory) => {
-            drop(repo.close());
-            Err(memory)
-        }
-    }
+    let committed = play(alloc, &mut repo, &mut Dice::of(number));
+    let back = returns(alloc, repo, &committed, fails);
+    drop(committed);
+    back
 }
 
 /// Each of 24 histories comes back whole, and six more, whose disk fails in the second commit or later, as at the end or at a
@@ -147,7 +145,7 @@ fn comes_back(rt: HostRuntime) -> Result<(), Fail> {
     for number in 0..30 {
         let fails = 24 <= number;
         let calls = if fails { number - 12 } else { 1_000_000 };
-        let back = comes_back_after(rt.alloc(), number, calls, fails)?;
+        let back = comes_back_after(rt.alloc(), number, calls, fails);
         assert!(rt; back, "history {number}");
     }
     Ok(())

@@ -6,52 +6,51 @@ use crate::repo::{CONFIGURED, opened};
 use fsl_disk::MemoryDisk;
 use fsl_gen::artifacts;
 use fsl_repo::Repo;
-use fsl_text::Memory;
 use std::alloc::Global;
 use std::test::Fail;
 
 /// As many artifacts as are generated at most.
 const MANY: u64 = 100_000;
 
-/// Lets the generated artifacts arrive in their order.
-fn arrive(alloc: Global, repo: &mut Repo<MemoryDisk>, count: u64) -> Result<(), Memory>
+/// Lets the generated artifacts arrive in their order. Whether there was memory for them.
+fn arrive(alloc: Global, repo: &mut Repo<MemoryDisk>, count: u64) -> bool
     requires some { 1 ≤ count }
     requires few { count ≤ 100_000 }
 {
-    for text in artifacts(alloc, count, false)?.items() {
-        arrives(alloc, repo, text.bytes());
+    let Ok(texts) = artifacts(alloc, count, false) else {
+        return false;
+    };
+    for text in texts.items() {
+        arrives(repo, text.bytes());
     }
-    Ok(())
+    true
 }
 
 /// Whether each of the generated artifacts is stored, none is clustered, and none refers to a name that isn't there.
-fn are_stored(alloc: Global, repo: &mut Repo<MemoryDisk>, count: u64) -> Result<bool, Memory>
-    requires some { 1 ≤ count }
-    requires few { count ≤ 100_000 }
-{
-    arrive(alloc, repo, count)?;
+fn are_stored(repo: &Repo<MemoryDisk>, count: u64) -> bool {
     let stored = repo.stored();
     let clusters = repo.tables().cluster();
     let (unclustered, missing) = (clusters.unclustered_count(), clusters.missing_count());
-    Ok(stored == count && unclustered == count && missing == 0)
+    (stored == count) & (unclustered == count) & (missing == 0)
 }
 
 /// The same over a repository that is loaded from its first bytes.
-fn are_stored_in_new(alloc: Global, count: u64) -> Result<bool, Memory>
+fn are_stored_in_new(alloc: Global, count: u64) -> bool
     requires some { 1 ≤ count }
     requires few { count ≤ 100_000 }
 {
     let Some(mut repo) = opened(alloc, CONFIGURED) else {
-        return Ok(false);
+        return false;
     };
-    let found = are_stored(alloc, &mut repo, count);
+    let arrived = arrive(alloc, &mut repo, count);
+    let found = are_stored(&repo, count);
     drop(repo.close());
-    found
+    arrived & found
 }
 
 /// So many arrive, one after another.
 #[test]
 fn many_arrive(rt: HostRuntime) -> Result<(), Fail> {
-    assert!(rt; are_stored_in_new(rt.alloc(), MANY)?);
+    assert!(rt; are_stored_in_new(rt.alloc(), MANY));
     Ok(())
 }

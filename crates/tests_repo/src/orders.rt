@@ -1,12 +1,12 @@
 //! Worked sets of artifacts that arrive in every order: whatever the order, a repository shows the same, and so it does when
 //! its disk is loaded anew. Its tables are changed, and not made anew.
-use crate::events::{arrives, is_done, is_shunned};
+use crate::events::arrives;
 use crate::histories::artifacts;
-use crate::printing::{Shown, show_all, show_of, shown_by};
+use crate::printing::{Shown, nothing, show_all, show_of, shown_by};
 use crate::repo::{CONFIGURED, opened};
 use fsl_disk::MemoryDisk;
 use fsl_name::Name;
-use fsl_repo::{Event, Repo};
+use fsl_repo::Repo;
 use fsl_text::Memory;
 use std::alloc::Global;
 use std::test::Fail;
@@ -136,79 +136,70 @@ fn places(alloc: Global, count: usize, number: u64) -> Result<Vec<usize>, Memory
 }
 
 /// Whether a step of it is done and committed.
-fn is_taken(alloc: Global, repo: &mut Repo<MemoryDisk>, play: &Play, place: usize) -> bool {
+fn is_taken(repo: &mut Repo<MemoryDisk>, play: &Play, place: usize) -> bool {
     let done = match play.set.get(place) {
-        Some(bytes) => arrives(alloc, repo, bytes),
-        None => is_shunned(repo, play.shunned.unwrap_or(b"")),
+        Some(bytes) => arrives(repo, bytes),
+        None => repo.shun(Name::of(play.shunned.unwrap_or(b""))).is_ok(),
     };
-    done && is_done(repo, Event::Commit)
+    done & repo.commit().is_ok()
 }
 
-/// Whether all steps are taken in an order, and each artifact is stored where none is shunned.
-fn are_taken(alloc: Global, repo: &mut Repo<MemoryDisk>, play: &Play, places: &[usize]) -> bool {
+/// Whether all steps are taken in the order of this number, and each artifact is stored where none is shunned.
+fn are_taken(alloc: Global, repo: &mut Repo<MemoryDisk>, play: &Play, number: u64) -> bool {
+    let Ok(places) = places(alloc, play.steps(), number) else {
+        return false;
+    };
     let mut good = true;
-    for place in places {
-        good = is_taken(alloc, repo, play, *place) && good;
+    for place in places.as_slice() {
+        good = is_taken(repo, play, *place) & good;
     }
-    good && (play.shunned.is_some() || repo.stored() == places.len() as u64)
+    good & (play.shunned.is_some() | (repo.stored() == play.set.len() as u64))
 }
 
-/// The names of a set.
-fn names_of(alloc: Global, set: &'static [&'static [u8]]) -> Result<Vec<Name>, Memory> {
-    let mut names = Vec::new(alloc);
-    for bytes in set {
-        names.push(Name::of(bytes))?;
+/// What a repository shows behind a play in the order of this number; what is like nothing where a step wasn't taken, or where
+/// it shows something else when it is loaded anew.
+fn played(alloc: Global, play: &Play, number: u64) -> Shown {
+    match opened(alloc, CONFIGURED) {
+        Some(repo) => shown_played(alloc, repo, play, number),
+        None => nothing(alloc),
     }
-    Ok(names)
 }
 
-/// What a repository shows behind a play in the order of this number; nothing where a step wasn't taken, or where it shows
-/// something else when it is loaded anew.
-fn played(alloc: Global, play: &Play, number: u64) -> Result<Option<Shown>, Memory> {
-    let places = places(alloc, play.steps(), number)?;
-    let names = names_of(alloc, play.set)?;
-    let Some(mut repo) = opened(alloc, CONFIGURED) else {
-        return Ok(None);
-    };
-    let taken = are_taken(alloc, &mut repo, play, places.as_slice());
-    let shown = show_of(alloc, &repo, names.as_slice());
+fn shown_played(alloc: Global, mut repo: Repo<MemoryDisk>, play: &Play, number: u64) -> Shown {
+    let taken = are_taken(alloc, &mut repo, play, number);
+    let mut shown = show_of(alloc, &repo, play.set);
     let same = shows_again(alloc, repo);
-    Ok(if taken && same { Some(shown) } else { None })
+    shown.wants(taken & same);
+    shown
 }
 
 /// Whether a repository shows the same when its disk is loaded anew.
 fn shows_again(alloc: Global, repo: Repo<MemoryDisk>) -> bool {
     let shown = show_all(alloc, &repo);
-    match shown_by(alloc, repo.close()) {
-        Some(again) => again.is_like(&shown),
-        None => false,
-    }
+    let again = shown_by(alloc, repo.close());
+    again.is_like(&shown)
 }
 
 /// Whether the order of this number shows what another one showed.
-fn shows(alloc: Global, play: &Play, number: u64, first: &Shown) -> Result<bool, Memory> {
-    Ok(match played(alloc, play, number)? {
-        Some(shown) => shown.is_like(first),
-        None => false,
-    })
+fn shows(alloc: Global, play: &Play, number: u64, first: &Shown) -> bool {
+    played(alloc, play, number).is_like(first)
 }
 
 /// How many orders of a play show what the first shows.
-fn count_alike(alloc: Global, play: &Play) -> Result<u64, Memory> {
+fn count_alike(alloc: Global, play: &Play) -> u64 {
+    let first = played(alloc, play, 0);
     let mut alike: u64 = 0;
-    if let Some(first) = played(alloc, play, 0)? {
-        for order in 0..play.orders() {
-            // No two orders of many steps are near each other.
-            let number = if play.orders() == 30 {
-                order.wrapping_mul(2_862_933_553)
-            } else {
-                order
-            };
-            let same = shows(alloc, play, number, &first)?;
-            alike = alike.saturating_add(u64::from(same));
-        }
+    for order in 0..play.orders() {
+        // No two orders of many steps are near each other.
+        let number = if play.orders() == 30 {
+            order.wrapping_mul(2_862_933_553)
+        } else {
+            order
+        };
+        let same = shows(alloc, play, number, &first);
+        alike = alike.saturating_add(u64::from(same));
     }
-    Ok(alike)
+    alike
 }
 
 /// Each of the plays shows one thing in all its orders.
@@ -217,7 +208,7 @@ fn orders_show_one(rt: HostRuntime) -> Result<(), Fail> {
     for number in 0..10 {
         let play = play_of(number);
         assert_eq!(rt;
-            count_alike(rt.alloc(), &play)?,
+            count_alike(rt.alloc(), &play),
             play.orders(),
             "play {number}"
         );

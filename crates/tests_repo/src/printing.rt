@@ -13,7 +13,7 @@ use fsl_timeline::Row;
 use fsl_wiki::{Attached, Page};
 use std::alloc::Global;
 
-/// What is shown, and whether there was memory for all of it.
+/// What is shown, and whether there was memory for all of it and nothing went wrong on the way to it.
 #[derive(Drop)]
 pub(crate) struct Shown {
     text: Vec<u8>,
@@ -21,11 +21,16 @@ pub(crate) struct Shown {
 }
 
 impl Shown {
-    fn new(alloc: Global) -> Shown {
+    pub(crate) fn new(alloc: Global) -> Shown {
         Shown {
             text: Vec::new(alloc),
             is_whole: true,
         }
+    }
+
+    /// Where something went wrong, it is like nothing.
+    pub(crate) fn wants(&mut self, good: bool) {
+        self.is_whole = self.is_whole && good;
     }
 
     /// Whether both show the same.
@@ -34,7 +39,7 @@ impl Shown {
     }
 
     /// Shows bytes as they are.
-    fn put(&mut self, bytes: &[u8]) {
+    pub(crate) fn put(&mut self, bytes: &[u8]) {
         if self.text.extend_from_slice(bytes).is_err() {
             self.is_whole = false;
         }
@@ -257,6 +262,13 @@ fn show_lists<D: Disk>(alloc: Global, into: &mut Shown, repo: &Repo<D>) {
     show_rows(alloc, into, repo.tables());
 }
 
+/// What is like nothing.
+pub(crate) fn nothing(alloc: Global) -> Shown {
+    let mut nothing = Shown::new(alloc);
+    nothing.wants(false);
+    nothing
+}
+
 /// The held names by place.
 pub(crate) fn held<D: Disk>(alloc: Global, repo: &Repo<D>) -> List<Placed> {
     match repo.held(0) {
@@ -276,22 +288,43 @@ pub(crate) fn show_all<D: Disk>(alloc: Global, repo: &Repo<D>) -> Shown {
     into
 }
 
-/// What a repository shows whatever the order in which its artifacts came: how many it holds, what is said of each of these
-/// names, and all lists.
-pub(crate) fn show_of<D: Disk>(alloc: Global, repo: &Repo<D>, names: &[Name]) -> Shown {
+/// What has a name.
+pub(crate) trait Named {
+    fn name(&self) -> Name;
+}
+
+impl Named for Placed {
+    fn name(&self) -> Name {
+        self.name
+    }
+}
+
+impl Named for &[u8] {
+    fn name(&self) -> Name {
+        Name::of(*self)
+    }
+}
+
+/// What a repository shows whatever the order in which its artifacts came: how many it holds, what is said of the name of
+/// each of these, and all lists.
+pub(crate) fn show_of<D: Disk, T: Named>(alloc: Global, repo: &Repo<D>, named: &[T]) -> Shown {
     let mut into = Shown::new(alloc);
     into.number(held(alloc, repo).items().len() as u64);
-    for name in names {
-        show_name(alloc, &mut into, repo, *name);
+    for it in named {
+        show_name(alloc, &mut into, repo, it.name());
     }
     show_lists(alloc, &mut into, repo);
     into
 }
 
-/// What a disk shows that is loaded; nothing where it doesn't load.
-pub(crate) fn shown_by(alloc: Global, disk: MemoryDisk) -> Option<Shown> {
-    let repo = loaded(alloc, disk)?;
-    let shown = show_all(alloc, &repo);
-    drop(repo.close());
-    Some(shown)
+/// What a disk shows that is loaded; where it doesn't load, what is like nothing.
+pub(crate) fn shown_by(alloc: Global, disk: MemoryDisk) -> Shown {
+    match loaded(alloc, disk) {
+        Some(repo) => {
+            let shown = show_all(alloc, &repo);
+            drop(repo.close());
+            shown
+        }
+        None => nothing(alloc),
+    }
 }

@@ -1,18 +1,17 @@
 //! Two repositories that sync: what both show then, also where a pull was cut off and taken up again.
 ghost use Rattle.std.specs.Prelude.{◌≡◌, ◌<◌};
 
-use crate::events::{arrives, is_done};
+use crate::events::arrives;
 use crate::histories::Dice;
 use crate::peer::PeerDial;
 use crate::printing::{held, show_of};
-use crate::repo::{CONFIGURED, disk_of, loaded, opened};
-use fsl_disk::{Disk, FuseDisk, MemoryDisk};
+use crate::repo::{CONFIGURED, fused, loaded, opened};
+use fsl_disk::{Disk, MemoryDisk};
 use fsl_gen::artifacts;
-use fsl_name::Name;
 use fsl_outside::Dial;
 use fsl_pull::{pull, push};
-use fsl_repo::{Event, Repo};
-use fsl_text::{Memory, Steps};
+use fsl_repo::Repo;
+use fsl_text::Steps;
 use std::alloc::Global;
 use std::marker::Brand;
 use std::sync::Wait;
@@ -39,10 +38,10 @@ fn fill(alloc: Global, repo: &mut Repo<MemoryDisk>, number: u64, left_out: u8) -
     let mut good = true;
     for text in texts.items() {
         if dice.roll() % 3 != left_out {
-            good = arrives(alloc, repo, text.bytes()) && good;
+            good = arrives(repo, text.bytes()) & good;
         }
     }
-    good && is_done(repo, Event::Commit)
+    good & repo.commit().is_ok()
 }
 
 /// A repository that begins with these artifacts; nothing where it couldn't be filled.
@@ -84,21 +83,17 @@ fn is_synced<D: Disk, N: Dial>(
     synced_counted::<D, N, Brand>(alloc, repo, dial, pushes, Blank::new(1))
 }
 
-/// The names that a repository holds, by their places.
-fn names(alloc: Global, repo: &Repo<MemoryDisk>) -> Vec<Name> {
-    let mut names = Vec::new(alloc);
-    for placed in held(alloc, repo).items() {
-        let _ = names.push(placed.name);
-    }
-    names
-}
-
 /// Whether two repositories hold and show the same, and hold all of the artifacts.
 fn are_alike(alloc: Global, repo: &Repo<MemoryDisk>, peer: &Repo<MemoryDisk>) -> bool {
-    let names = names(alloc, repo);
-    let mine = show_of(alloc, repo, names.as_slice());
-    let theirs = show_of(alloc, peer, names.as_slice());
-    COUNT <= names.len() as u64 && mine.is_like(&theirs)
+    let names = held(alloc, repo);
+    let mine = show_of(alloc, repo, names.items());
+    let theirs = show_of(alloc, peer, names.items());
+    let are_all = COUNT <= names.items().len() as u64;
+    let alike = mine.is_like(&theirs);
+    drop(names);
+    drop(mine);
+    drop(theirs);
+    are_all & alike
 }
 
 /// Whether a repository is like the one that a dial leads to.
@@ -167,37 +162,46 @@ fn cut_after<R: Wait>(
     alloc: Global,
     dial: &mut PeerDial<'_, R>,
     calls: u64,
-) -> Result<(bool, MemoryDisk), Memory> {
-    let disk = FuseDisk::new(disk_of(alloc, CONFIGURED)?, calls);
-    let Some(mut repo) = loaded(alloc, disk) else {
-        return Err(Memory);
-    };
+) -> Option<(bool, MemoryDisk)> {
+    let mut repo = fused(alloc, CONFIGURED, calls)?;
     let ended = is_synced(alloc, &mut repo, dial, false);
     let disk = repo.close().inner();
     let image = disk.crash(alloc, calls % 3);
     drop(disk);
-    Ok((ended, image?))
+    match image {
+        Ok(image) => Some((ended, image)),
+        Err(_) => None,
+    }
+}
+
+/// Takes a pull up that was cut off behind so many calls. Whether it came to its end before that; nothing where what is taken
+/// up doesn't come to its end.
+fn is_taken_up<R: Wait>(alloc: Global, dial: &mut PeerDial<'_, R>, calls: u64) -> Option<bool> {
+    let (ended, disk) = cut_after(alloc, dial, calls)?;
+    if comes_to_end(alloc, dial, disk) {
+        Some(ended)
+    } else {
+        None
+    }
 }
 
 /// Cuts a pull off at each call of its disk behind the three that load its repository, up to the first that comes to its end.
 /// The number of that call, where each pull that was taken up came to its end.
-fn cut_everywhere<R: Wait>(alloc: Global, dial: &mut PeerDial<'_, R>) -> Result<u64, Memory> {
+fn cut_everywhere<R: Wait>(alloc: Global, dial: &mut PeerDial<'_, R>) -> u64 {
     for calls in 3..1_000 {
-        let (ended, disk) = cut_after(alloc, dial, calls)?;
-        if !comes_to_end(alloc, dial, disk) {
-            return Ok(0);
-        }
-        if ended {
-            return Ok(calls);
+        match is_taken_up(alloc, dial, calls) {
+            Some(false) => {}
+            Some(true) => return calls,
+            None => return 0,
         }
     }
-    Ok(0)
+    0
 }
 
 /// The same where the other repository holds all.
-fn cut_from_all<R: Wait>(rt: &R, alloc: Global) -> Result<u64, Memory> {
+fn cut_from_all<R: Wait>(rt: &R, alloc: Global) -> u64 {
     let Some(peer) = filled(alloc, THEIRS, 0, NONE) else {
-        return Ok(0);
+        return 0;
     };
     let mut dial = PeerDial::new(rt, alloc, peer);
     let cuts = cut_everywhere(alloc, &mut dial);
@@ -208,7 +212,7 @@ fn cut_from_all<R: Wait>(rt: &R, alloc: Global) -> Result<u64, Memory> {
 /// A pull that is cut off at whatever call of its disk, by a crash too, is taken up again and brings the rest.
 #[test]
 fn pulls_are_taken_up(rt: HostRuntime) -> Result<(), Fail> {
-    let cuts = cut_from_all(&rt, rt.alloc())?;
+    let cuts = cut_from_all(&rt, rt.alloc());
     assert!(rt; cuts > 8);
     Ok(())
 }
