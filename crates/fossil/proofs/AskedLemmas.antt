@@ -22,13 +22,6 @@ requests_by (Some s) r e = let same : s.requests ≡ r = cc in (s.workers, ap (�
 pub asked_of : (words : List (List ℕ)) (w : Words) (r : ℕ) → words_in words ≡ Some w → option_map (λ s. s.requests) (serving_of w.command) ≡ Some r → IsAsked words r
 asked_of words w r e is = let b = requests_by (serving_of w.command) r is in (b.0, serving_is words w e ∙ b.1)
 
-no_serving : (o : Option Serving) → option_map (λ s. s.requests) o ≡ None → o ≡ None
-no_serving None e = refl
-no_serving (Some s) e = absurd (cc)
-
-pub none_asked : (words : List (List ℕ)) (w : Words) → words_in words ≡ Some w → option_map (λ s. s.requests) (serving_of w.command) ≡ None → serving_in words ≡ None
-none_asked words w e is = serving_is words w e ∙ no_serving (serving_of w.command) is
-
 few_by : (command : Command) (r : ℕ) → IsObeyable command → option_map (λ s. s.requests) (serving_of command) ≡ Some r → r ≤ 65536
 few_by (command_of.Init project server fields) r fit e = absurd (cc)
 few_by command_of.Ingest r fit e = absurd (cc)

@@ -20,7 +20,7 @@ use Rattle.fossil.specs.Acts.{IsWritten}
 use Rattle.fossil.specs.Served.{IsWrittenAs, with_text, link_fault, no_memory}
 use Rattle.fossil.specs.Serving.{printed}
 use Rattle.fossil.specs.Cloned.{result_printed, IsResultTold, ClonesBy, Clones, ClonesIf}
-use Rattle.fossil.specs.Syncing.{IsSyncDue, HasCloned}
+use Rattle.fossil.specs.Syncing.{IsSyncDue}
 use Rattle.fossil.proofs.FileLemmas.{some_same, quiet_none}
 use Rattle.fossil.proofs.SyncedLemmas.{told_printed, said_one, IsNoClone}
 use Rattle.fossil.proofs.UnopenedLemmas.{told_memory}
@@ -63,7 +63,7 @@ module _ {D : Type 0} (disk : D → DiskState) (server : List ℕ) (fields : Lis
   told_so P Q turn (Err fault.Memory) h = either P Q turn (result_printed (Err fault.Memory)) h
 
   -- what is due was printed
-  pub cloned_printed : (d : Due) (out : Output) (status : ℕ) → HasCloned disk server fields before after dial d → IsWrittenAs (printed d) out status → ClonesBy disk server fields before after dial (λ o. IsTold (without_commit o) status out)
+  pub cloned_printed : (d : Due) (out : Output) (status : ℕ) → ClonesBy disk server fields before after dial (λ o. printed d ≡ o) → IsWrittenAs (printed d) out status → ClonesBy disk server fields before after dial (λ o. IsTold (without_commit o) status out)
   cloned_printed d out status h written =
       let turn : (o : Printed) → printed d ≡ o → IsTold (without_commit o) status out = λ o e. subst (λ (p : Printed). IsTold (without_commit p) status out) e (told_printed (printed d) out status written) in
       record {

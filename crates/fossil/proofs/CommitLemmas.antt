@@ -1,18 +1,12 @@
--- What the file stands for after a commit.
+-- What the file stands for behind what was appended, and where nothing is to be committed.
 use Rattle.std.proofs.Common.{◌≡◌, ℕ, List, [], ◌∷◌, ◌++◌, length, take, None, refl, sym, subst, ◌∙◌, arith, append_assoc}
 use Rattle.std.proofs.lemmas.List.{append-nil, take_all}
 use Rattle.fsl_record.specs.declared.Record.{Record}
 use Rattle.fsl_disk.specs.Disk.{DiskState, IsModelled, Told}
 use Rattle.fsl_journal.specs.File.{IsFileOf}
 use Rattle.fsl_journal.specs.Log.{Log, committed}
-use Rattle.fsl_journal.specs.Journal.{Belongs, Committed}
+use Rattle.fsl_journal.specs.Journal.{Belongs}
 use Rattle.fsl_journal.proofs.Belonging.{belongs_append, stands_committed}
-
--- what the contents are after it
-pub committed_contents : (count : ℕ) (old new : Log) (before after : DiskState) → Belongs new after → Committed count old new before after → Told after (λ held. IsFileOf held old.records)
-committed_contents count old new before after belongs done held told =
-    let all : committed new ≡ old.records = (λ i. take (done.stable i) (done.records i)) ∙ take_all (length old.records) old.records (omega arith) in
-    subst (λ (rs : List Record). IsFileOf held rs) all (belongs.reads done.goes_on held told).0.file
 
 -- with nothing to commit the committed records are all
 committed_all : (log : Log) → log.stable ≡ length log.records → committed log ≡ log.records

@@ -12,7 +12,6 @@ use Rattle.fsl_journal.specs.Journal.{Belongs, OfBytes}
 use Rattle.fsl_journal.specs.declared.LoadFault.{LoadFault}
 use Rattle.fsl_journal.specs.declared.LoadFault.TheVariants as load_fault
 use Rattle.fsl_repo.specs.Whole.{Whole, log_of}
-use Rattle.fsl_words.specs.declared.Question.{Question}
 use Rattle.fsl_words.specs.declared.Command.{Command}
 use Rattle.fsl_words.specs.declared.Command.TheVariants.{Init, Ingest, Put, Shun, Ask, Serve, Gen, Pull, Push, Clone, PullLocal}
 use Rattle.fossil.specs.declared.answers.fault.Fault.{Fault}
@@ -22,7 +21,7 @@ use Rattle.fossil.specs.Printed.{Printed}
 use Rattle.fossil.specs.Ingest.{IsIngested}
 use Rattle.fsl_query.specs.declared.Refused.{Refused}
 use Rattle.fossil.specs.Outcome.{Outcome, without_commit, report_outcome, printed_of, not_repository, IsSaidOutcome}
-use Rattle.fossil.specs.Run.{Input, Output, File, Agrees, reads, IsSaid, IsTold, IsDiskFault, IsInputFault, IsFileLeft, IsRefusedKept, IsWholeAtAnyMoment, lasts, IsDurable, IsSpared, HasRun, disk_fault, input_fault, out_of_memory}
+use Rattle.fossil.specs.Run.{Input, Output, File, Agrees, reads, IsSaid, IsTold, IsDiskFault, IsInputFault, IsFileLeft, IsRefusedKept, IsWholeAtAnyMoment, lasts, IsDurable, IsSpared, disk_fault, input_fault, out_of_memory}
 
 -- ---- objects before and after
 
@@ -166,14 +165,6 @@ IsWritten (Err fault) status out = (status ≡ fault_status fault) × IsSaid out
 -- the content of an artifact or the refusal is written, or there was no memory for it
 abbrev pub IsContentWritten : Result (List ℕ) Refused → ℕ → Output → Type 0
 IsContentWritten due status out = IsTold (report_outcome due) status out ⊎ ((status ≡ 9) × IsSaid out out_of_memory)
-
--- what a command came to, by each object before and after
-abbrev pub RunsCommand : Command → SourceState × SourceState → SinkState × SinkState → DiskState × DiskState → ℕ → Type 0
-RunsCommand command input out file status = HasRun (Some command) (input_of input) (output_of out) (file_of file) status
-
--- the same of a question
-abbrev pub RunsQuestion : Question → SourceState × SourceState → SinkState × SinkState → DiskState × DiskState → ℕ → Type 0
-RunsQuestion question input out file status = RunsCommand (Ask question) input out file status
 
 -- the fields of a new repository are in their form, workers and their connections within their bounds, and so is the number of artifacts
 abbrev pub IsObeyable : Command → Type 0

@@ -11,7 +11,7 @@ use Rattle.fsl_pull.specs.CloneCalls.{UnlessDisk, IsClonedOver}
 use Rattle.fsl_words.specs.declared.Command.{Command}
 use Rattle.fsl_words.specs.declared.Command.TheVariants.{Clone}
 use Rattle.fossil.specs.Printed.{Printed, refused, full, too_large}
-use Rattle.fossil.specs.Outcome.{without_commit, printed_of, not_repository, said}
+use Rattle.fossil.specs.Outcome.{without_commit, printed_of, not_repository}
 use Rattle.fossil.specs.Run.{IsTold, disk_fault}
 use Rattle.fossil.specs.Acts.{output_of}
 use Rattle.fossil.specs.Served.{with_text, link_fault, no_memory}
@@ -69,7 +69,3 @@ Clones disk server fields before after dial out status =
 abbrev pub ClonesIf : {D : Type 0} → Option Command → (D → DiskState) → D → D → LinkState × LinkState → SinkState × SinkState → ℕ → Type 0
 ClonesIf command disk before after dial out status =
     (address server : List ℕ) (fields : List (List ℕ)) → command ≡ Some (Clone address server fields) → Clones disk server fields before after dial out status
-
--- what words came to that say a clone
-abbrev pub ClonesAs : {D : Type 0} → List (List ℕ) → (D → DiskState) → D → D → LinkState × LinkState → SinkState × SinkState → ℕ → Type 0
-ClonesAs words disk before after dial out status = ClonesIf (said words) disk before after dial out status

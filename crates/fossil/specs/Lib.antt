@@ -15,6 +15,7 @@ pub mod Taking
 pub mod Syncs
 pub mod Synced
 pub mod Cloned
+pub mod RunCall
 pub mod Syncing
 pub mod SyncLaws
 pub mod CloneLaws

@@ -1,5 +1,5 @@
 -- The outcome of a run: the status, the text, and the commits that the command appends to the file.
-use Rattle.std.specs.Prelude.{◌≡◌, ℕ, Bool, true, false, ◌==◌, ◌||◌, ◌⊎◌, List, [], ◌∷◌, ◌++◌, length, Option, Some, None, option_map, Result, Ok, Err, if◌then◌else◌, codes, decimal}
+use Rattle.std.specs.Prelude.{◌≡◌, ℕ, Bool, true, false, ◌==◌, ◌||◌, ◌⊎◌, List, [], ◌∷◌, ◌++◌, length, Option, Some, None, option_map, Result, Ok, Err, IfOk, if◌then◌else◌, codes, decimal}
 use Rattle.std.specs.Option.{option_map_or}
 use Rattle.fsl_record.specs.declared.Record.{Record}
 use Rattle.fsl_record.specs.declared.Record.TheVariants as record_of
@@ -12,6 +12,8 @@ use Rattle.fsl_words.specs.Grammar.{words_in}
 use Rattle.fsl_query.specs.declared.Refused.{Refused}
 use Rattle.fsl_query.specs.Refusals.{refusal_text}
 use Rattle.fsl_query.specs.Reports.{IsReport}
+use Rattle.fsl_query.specs.declared.QueryFault.{QueryFault}
+use Rattle.fsl_query.specs.Answers.{IsReported}
 use Rattle.fossil.specs.Printed.{Printed}
 use Rattle.fossil.specs.Printed as printing
 use Rattle.fossil.specs.Ingest as ingest
@@ -81,6 +83,11 @@ report_outcome (Err refused) = without_commit (printing.refused (refusal_text re
 -- the report on a question or its refusal is printed, by what the records leave
 abbrev pub IsAnswered : Question → List Record → Outcome → Type 0
 IsAnswered question records o = (result : Result (List ℕ) Refused) × IsReport (contents records) question result × (o ≡ report_outcome result)
+
+-- each question that found this is answered so, where there was memory
+abbrev pub IsAnswerOf : {E : Type 0} → Result (List ℕ) QueryFault → Result Printed E → Type 0
+IsAnswerOf found result =
+    (question : Question) (records : List Record) → IsReported (contents records) question found → IfOk result (λ a. IsAnswered question records (without_commit a))
 
 -- `gen` prints what the generated artifacts make
 abbrev pub IsGen : ℕ → Bool → Outcome → Type 0

@@ -9,7 +9,7 @@ use Rattle.fsl_disk.specs.Disk.{DiskState, IsModelled, Keeps, Quiet, LeavesOnly}
 use Rattle.fsl_journal.specs.File.{IsFileOf, FailsAt}
 use Rattle.fsl_words.specs.declared.Command.{Command}
 use Rattle.fsl_words.specs.declared.Command.TheVariants.{Init, Ingest, Put, Shun, Ask, Serve, Gen, Pull, Push, Clone, PullLocal}
-use Rattle.fossil.specs.Outcome.{Outcome, said, meets, IsSaidOutcome}
+use Rattle.fossil.specs.Outcome.{Outcome, said, IsSaidOutcome}
 
 -- ---- what a run is handed and leaves
 
@@ -260,13 +260,3 @@ pub record RunsBy (command : Option Command) (input : Input) (out : Output) (fil
 -- what a command, or words outside the grammar, came to
 abbrev pub HasRun : Option Command → Input → Output → File → ℕ → Type 0
 HasRun command input out file status = (read bytes : List ℕ) × (o : Outcome) × RunsBy command input out file status read bytes o
-
--- the same by the words, and by each object before and after
-abbrev pub Runs : List (List ℕ) → SourceState × SourceState → SinkState × SinkState → DiskState × DiskState → ℕ → Type 0
-Runs words input out file status =
-    HasRun (said words) (record { before = input.0; after = input.1 }) (record { before = out.0; after = out.1 })
-    (record { before = file.0; after = file.1 }) status
-
--- the same where they say no command that meets a peer
-abbrev pub RunsAlone : List (List ℕ) → SourceState × SourceState → SinkState × SinkState → DiskState × DiskState → ℕ → Type 0
-RunsAlone words input out file status = meets (said words) ≡ false → Runs words input out file status

@@ -1,4 +1,4 @@
--- The clause of a serve, and those of its stages, by what their objects tell.
+-- The clause of a serve, and those of its stages, by what their objects tell, as those of a run.
 use Rattle.std.specs.Prelude.{ℕ, List, Option}
 use Rattle.fsl_outside.specs.Connections.{LinkState}
 use Rattle.fsl_outside.specs.Streams.{SourceState, SinkState}
@@ -12,6 +12,7 @@ use Rattle.fossil.specs.declared.commands.serving.State.{State}
 use Rattle.fossil.specs.declared.commands.serving.State.TheVariants as state
 use Rattle.fossil.specs.declared.commands.serving.Served.{Served}
 use Rattle.fossil.specs.Acts.{input_of, output_of}
+use Rattle.fossil.specs.RunCall.{states}
 use Rattle.fossil.specs.Served.{Left, Loaded, Unloaded, Workers, ServesLoaded, ServesDisk, Serves, Ends, Says}
 
 abbrev pub left_of : {D : Type 0} → State D → Left D
@@ -24,30 +25,33 @@ CrewsWorked door passed before after users project requests works =
     AllWorked (λ c. (door c.door).present) (λ c. (door c.door).standing) users project requests works before after
     × AllGated (λ c. (door c.door).present) (λ c. (door c.door).standing) (λ c. passed c.gate) users project requests works before after
 
+-- The words, or how many connections each worker is to take; the users, or what tells their file, before and after; the output before and after; the disk;
+-- what the doors and the gates tell, and the crews; and the answer.
+
 -- a loaded repository was served to these users
-abbrev pub IsLoadedServed : {D A G : Type 0} → (D → DiskState) → (A → LinkState) → (G → Option Points) → List User → ℕ → Whole D → List (Crew A G) →
-    SinkState × SinkState → Served D A G → Type 0
-IsLoadedServed tells door passed users requests first crews out answer =
-    Says (λ o. ServesLoaded tells (CrewsWorked door passed crews answer.crews.items) first (left_of answer.state) crews answer.crews.items users requests o)
-    (output_of out) answer.status
+abbrev pub IsLoadedServed : {K D A G : Type 0} → ℕ → List User → (K → SinkState) × K × K → (D → DiskState) × Whole D →
+    (A → LinkState) × (G → Option Points) × List (Crew A G) → Served D A G → Type 0
+IsLoadedServed requests users out repo crews answer =
+    Says (λ o. ServesLoaded repo.0 (CrewsWorked crews.0 crews.1 crews.2 answer.crews.items) repo.1 (left_of answer.state) crews.2
+    answer.crews.items users requests o) (output_of (states out)) answer.status
 
 -- a disk was served to these users
-abbrev pub IsDiskServed : {D A G : Type 0} → (D → DiskState) → (A → LinkState) → (G → Option Points) → List User → ℕ → D → List (Crew A G) →
-    SinkState × SinkState → Served D A G → Type 0
-IsDiskServed tells door passed users requests disk crews out answer =
-    Says (λ o. ServesDisk tells (CrewsWorked door passed crews answer.crews.items) disk (left_of answer.state) crews answer.crews.items users requests o)
-    (output_of out) answer.status
+abbrev pub IsDiskServed : {K D A G : Type 0} → ℕ → List User → (K → SinkState) × K × K → (D → DiskState) × D →
+    (A → LinkState) × (G → Option Points) × List (Crew A G) → Served D A G → Type 0
+IsDiskServed requests users out disk crews answer =
+    Says (λ o. ServesDisk disk.0 (CrewsWorked crews.0 crews.1 crews.2 answer.crews.items) disk.1 (left_of answer.state) crews.2
+    answer.crews.items users requests o) (output_of (states out)) answer.status
 
 -- a disk was served to the users of a file
-abbrev pub IsFileServed : {D A G : Type 0} → (D → DiskState) → (A → LinkState) → (G → Option Points) → SourceState × SourceState → ℕ → D →
-    List (Crew A G) → SinkState × SinkState → Served D A G → Type 0
-IsFileServed tells door passed users requests disk crews out answer =
-    Says (λ o. Serves tells (CrewsWorked door passed crews answer.crews.items) (input_of users) disk (left_of answer.state) crews answer.crews.items requests o)
-    (output_of out) answer.status
+abbrev pub IsFileServed : {S K D A G : Type 0} → ℕ → (S → SourceState) × S × S → (K → SinkState) × K × K → (D → DiskState) × D →
+    (A → LinkState) × (G → Option Points) × List (Crew A G) → Served D A G → Type 0
+IsFileServed requests users out disk crews answer =
+    Says (λ o. Serves disk.0 (CrewsWorked crews.0 crews.1 crews.2 answer.crews.items) (input_of (states users)) disk.1 (left_of answer.state) crews.2
+    answer.crews.items requests o) (output_of (states out)) answer.status
 
--- what a disk, the doors and the gates tell; the words; the users file and the output before and after; the disk and the crews; and the answer
-abbrev pub IsServe : {D A G : Type 0} → (D → DiskState) → (A → LinkState) → (G → Option Points) → List (List ℕ) → SourceState × SourceState →
-    SinkState × SinkState → D → List (Crew A G) → Served D A G → Type 0
-IsServe tells door passed words users out disk crews answer =
-    Says (λ o. Ends tells (CrewsWorked door passed crews answer.crews.items) words (input_of users) disk (left_of answer.state) crews answer.crews.items o)
-    (output_of out) answer.status
+-- the same by the words
+abbrev pub IsServe : {S K D A G : Type 0} → List (List ℕ) → (S → SourceState) × S × S → (K → SinkState) × K × K → (D → DiskState) × D →
+    (A → LinkState) × (G → Option Points) × List (Crew A G) → Served D A G → Type 0
+IsServe words users out disk crews answer =
+    Says (λ o. Ends disk.0 (CrewsWorked crews.0 crews.1 crews.2 answer.crews.items) words (input_of (states users)) disk.1 (left_of answer.state) crews.2
+    answer.crews.items o) (output_of (states out)) answer.status

@@ -16,7 +16,7 @@ use Rattle.fsl_pull.specs.Calls.{Dialled, dialled}
 use Rattle.fsl_words.specs.declared.Command.{Command}
 use Rattle.fsl_words.specs.declared.Command.TheVariants.{Pull, Push, Clone, PullLocal}
 use Rattle.fossil.specs.Printed.{Printed}
-use Rattle.fossil.specs.Outcome.{Outcome, without_commit, said, printed_of, not_repository, command_syncs}
+use Rattle.fossil.specs.Outcome.{Outcome, without_commit, said, printed_of, not_repository}
 use Rattle.fossil.specs.Run.{File, Agrees, IsNoRepository, IsTold, disk_fault}
 use Rattle.fossil.specs.Acts.{file_of, output_of, KeepsContents, KeepsImages, KeepsUnreadable}
 use Rattle.fossil.specs.Served.{with_text, link_fault, no_memory}
@@ -244,8 +244,3 @@ objects_of file peer dial = record { file = file_of file; peer = file_of peer; d
 -- what is told was written
 abbrev pub Syncs : Command → DiskState × DiskState → DiskState × DiskState → LinkState × LinkState → SinkState × SinkState → ℕ → Type 0
 Syncs command file peer dial out status = HasSynced command (objects_of file peer dial) (λ o. IsTold (without_commit o) status (output_of out)) status
-
--- what words came to that say a command that syncs
-abbrev pub SyncsAs : List (List ℕ) → DiskState × DiskState → DiskState × DiskState → LinkState × LinkState → SinkState × SinkState → ℕ → Type 0
-SyncsAs words file peer dial out status =
-    (command : Command) → said words ≡ Some command → IsTrue (command_syncs command) → Syncs command file peer dial out status

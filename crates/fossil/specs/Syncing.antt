@@ -26,6 +26,7 @@ use Rattle.fossil.specs.Serving.{printed, IsDue}
 use Rattle.fossil.specs.Syncs.{synced, fault_printed, no_peer}
 use Rattle.fossil.specs.Synced.{HasSynced, objects_of}
 use Rattle.fossil.specs.Cloned.{ClonesBy}
+use Rattle.fossil.specs.RunCall.{states}
 
 -- ---- what is due
 
@@ -92,17 +93,18 @@ command_by way.Pull address login = command_of.Pull address login
 command_by way.Push address login = command_of.Push address login
 
 -- what `pull` or `push` came to, at whatever address. It uses no peer's file: the repository's own stands in the place of one
-abbrev pub SyncsOver : Way → Option (List ℕ × List ℕ) → DiskState × DiskState → LinkState × LinkState → Due → Type 0
-SyncsOver w login file dial due = (address : List ℕ) → ComesTo (command_by w address login) file (file.0, file.0) dial due
+abbrev pub SyncsOver : {D N : Type 0} → Way → Option (List ℕ × List ℕ) → (D → DiskState) × D × D → (N → LinkState) × N × N → Due → Type 0
+SyncsOver w login file dial due =
+    (address : List ℕ) → ComesTo (command_by w address login) (states file) (file.0 file.1, file.0 file.1) (states dial) due
 
 -- what `pull-local` came to, whatever the peer's path and the dial
-abbrev pub PullsLocal : DiskState × DiskState → DiskState × DiskState → Due → Type 0
-PullsLocal file peer due = (path : List ℕ) (dial : LinkState) → ComesTo (command_of.PullLocal path) file peer (dial, dial) due
+abbrev pub PullsLocal : {D P : Type 0} → (D → DiskState) × D × D → (P → DiskState) × P × P → Due → Type 0
+PullsLocal file peer due = (path : List ℕ) (dial : LinkState) → ComesTo (command_of.PullLocal path) (states file) (states peer) (dial, dial) due
 
 -- the same of a repository that was loaded from whatever disk
-abbrev pub PullsInto : {D : Type 0} → (D → DiskState) → Whole D → Whole D → DiskState × DiskState → Due → Type 0
-PullsInto state old new peer due = (disk : _) → IsReady (state disk) (state old.disk) old → PullsLocal (state disk, state new.disk) peer due
+abbrev pub PullsInto : {D P : Type 0} → (D → DiskState) × Whole D × Whole D → (P → DiskState) × P × P → Due → Type 0
+PullsInto repo peer due = (disk : _) → IsReady (repo.0 disk) (repo.0 repo.1.disk) repo.1 → PullsLocal (repo.0, disk, repo.2.disk) peer due
 
 -- a clone onto a disk, and this is due
-abbrev pub HasCloned : {D : Type 0} → (D → DiskState) → List ℕ → List (List ℕ) → D → D → LinkState × LinkState → Due → Type 0
-HasCloned disk server fields before after dial due = ClonesBy disk server fields before after dial (λ o. printed due ≡ o)
+abbrev pub HasCloned : {D N : Type 0} → List ℕ → List (List ℕ) → (D → DiskState) × D × D → (N → LinkState) × N × N → Due → Type 0
+HasCloned server fields file dial due = ClonesBy file.0 server fields file.1 file.2 (states dial) (λ o. printed due ≡ o)

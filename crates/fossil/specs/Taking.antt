@@ -1,7 +1,8 @@
 -- What the parts of `put` and `ingest` say of the files of a message.
-use Rattle.std.specs.Prelude.{◌≡◌, ℕ, List, [], ◌∷◌, ◌++◌, length, drop, map, flat_map, codes, Option, Some, None, Result, Ok, Err, ⊤}
+use Rattle.std.specs.Prelude.{◌≡◌, ◌&&◌, ◌||◌, not, ℕ, Bool, List, [], ◌∷◌, ◌++◌, length, drop, map, flat_map, codes, Option, Some, None, Result, Ok, Err, ⊤}
 use Rattle.std.specs.FinSet as set
-use Rattle.std.specs.BTreeSet.{contains}
+use Rattle.std.specs.FinMap as map_of
+use Rattle.std.specs.BTreeSet.{BTreeSet, contains}
 use Rattle.fsl_order.specs.Names.{bytes_cmp, has}
 use Rattle.fsl_outside.specs.Streams.{SourceState}
 use Rattle.fsl_disk.specs.Disk.{DiskState}
@@ -34,6 +35,7 @@ use Rattle.fossil.specs.Printed.{Printed, name_line}
 use Rattle.fossil.specs.Arrivals.{Taken, none_taken, Arrive}
 use Rattle.fossil.specs.Ingest.{fresh}
 use Rattle.fossil.specs.Acts.{input_of, loaded_of, IsInput, IsOpened, Acts}
+use Rattle.fossil.specs.RunCall.{states}
 
 -- what is told of a message before its files arrive
 abbrev pub IsChecked : List ℕ → Checked → Type 0
@@ -57,14 +59,19 @@ HaveArrived files old new (came.Taken lines) = AreAllTaken files old new lines
 HaveArrived files old new (came.Refused refusal) = Arrive (none_taken (opened old.records 0)) files (Err refusal)
 
 -- what `put` did with a message over a repository that was opened, of whatever input and file these are
-abbrev pub PutsMessage : {D : Type 0} → (D → DiskState) → Whole D → Whole D → List ℕ → Result Printed Fault → Type 0
-PutsMessage state old new message result =
-    (disk : _) (input : SourceState × SourceState) → IsInput (input_of input) (Some message) → IsOpened (state disk) (state old.disk) (loaded_of old)
-    → Acts command_of.Put input (state disk, state new.disk) result
+abbrev pub PutsMessage : {D : Type 0} → List ℕ → (D → DiskState) × Whole D × Whole D → Result Printed Fault → Type 0
+PutsMessage message repo result =
+    (disk : _) (input : SourceState × SourceState) → IsInput (input_of input) (Some message)
+    → IsOpened (repo.0 disk) (repo.0 repo.1.disk) (loaded_of repo.1) → Acts command_of.Put input (repo.0 disk, repo.0 repo.2.disk) result
 
 -- the same of its files
-abbrev pub PutsFiles : {D : Type 0} → (D → DiskState) → Whole D → Whole D → List Sent → Result Printed Fault → Type 0
-PutsFiles state old new files result = (message : List ℕ) → IsFileList message files → PutsMessage state old new message result
+abbrev pub PutsFiles : {D : Type 0} → List Sent → (D → DiskState) × Whole D × Whole D → Result Printed Fault → Type 0
+PutsFiles files repo result = (message : List ℕ) → IsFileList message files → PutsMessage message repo result
+
+-- the same of an input, which is read here
+abbrev pub PutsInput : {S D : Type 0} → (S → SourceState) × S × S → (D → DiskState) × Whole D × Whole D → Result Printed Fault → Type 0
+PutsInput input repo result =
+    (disk : _) → IsOpened (repo.0 disk) (repo.0 repo.1.disk) (loaded_of repo.1) → Acts command_of.Put (states input) (repo.0 disk, repo.0 repo.2.disk) result
 
 -- ---- ingest
 
@@ -92,6 +99,11 @@ IsGatheredBy f old new (Err fault) = (s : State) → IsGathered s old → IsArri
 abbrev pub HaveGathered : List Sent → Gathered → Option Printed → Type 0
 HaveGathered files new None = (taken : Taken) × Arrive (none_taken fresh) files (Ok taken) × IsGathered taken.state new
 HaveGathered files new (Some refusal) = Arrive (none_taken fresh) files (Err refusal)
+
+-- to the wanted names come those of these that aren't held
+abbrev pub WantsUnheld : (List ℕ → Bool) → List Record → BTreeSet (List ℕ) → BTreeSet (List ℕ) → Type 0
+WantsUnheld these records old new =
+    (q : List ℕ) → contains bytes_cmp new q ≡ (contains bytes_cmp old q || (these q && not (map_of.contains_key (contents records).held q)))
 
 -- what bytes refer to, by what they are
 abbrev pub AreReferences : List ℕ → List (List ℕ) → Type 0

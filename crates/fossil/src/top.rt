@@ -1,13 +1,13 @@
 //! The program over whatever source, sink and disk it is handed.
-ghost use Rattle.std.specs.Prelude.{◌≡◌, false, map, string_bytes, IsTrue, Some};
+ghost use Rattle.std.specs.Prelude.{◌≡◌, false};
 ghost use Rattle.fsl_artifact.specs.Kind.{IsKind, IsOneAtMost};
-ghost use Rattle.fossil.specs.Outcome.{HasOneOutcome, HasSomeOutcome, command_meets, command_syncs};
-ghost use Rattle.fossil.specs.Run.{RunsAlone, reads_input, opens_file, command_reads, command_opens};
-ghost use Rattle.fossil.specs.Acts.{IsObeyable, RunsCommand};
+ghost use Rattle.fossil.specs.Outcome.{HasOneOutcome, HasSomeOutcome, command_meets};
+ghost use Rattle.fossil.specs.Run.{reads_input, opens_file, command_reads, command_opens};
+ghost use Rattle.fossil.specs.Acts.{IsObeyable};
 ghost use Rattle.fossil.specs.SyncLaws.{HasOneSyncOutcome, HasSomeSyncOutcome};
-ghost use Rattle.fossil.specs.Cloned.{ClonesAs, ClonesIf};
 ghost use Rattle.fossil.specs.CloneLaws.{HasOneCloneOutcome, HasSomeCloneOutcome};
-ghost use Rattle.fossil.specs.Synced.{Syncs, SyncsAs, command_asks_peer, command_dials, asks_peer, dials};
+ghost use Rattle.fossil.specs.Synced.{command_asks_peer, command_dials, asks_peer, dials};
+ghost use Rattle.fossil.specs.RunCall.{texts, RunsCommand, RunsFor, SyncsFor, ClonesFor, RunsAlone, SyncsAs, ClonesAs};
 
 use crate::answers::due::print_due;
 use crate::answers::fault::Fault;
@@ -38,8 +38,7 @@ fn obey<S: Source, K: Sink, D: Disk>(
 ) -> Done<D>
     requires obeyable { IsObeyable command }
     requires alone { command_meets command ≡ false }
-    ensures runs { RunsCommand command (S.state input.old, S.state input.new) (K.state out.old, K.state out.new)
-        (D.state repo, D.state result.repo) result.status }
+    ensures runs { RunsCommand command (S.state, input.old, input.new) (K.state, out.old, out.new) (D.state, repo, result.repo) result.status }
     ensures unread { command_reads command ≡ false → input.new ≡ input.old }
     ensures untouched { command_opens command ≡ false → result.repo ≡ repo }
 {
@@ -99,12 +98,9 @@ fn start<S: Source, K: Sink, D: Disk, P: Disk, N: Dial>(
     dial: &mut N,
 ) -> Ran<D, P>
     requires { IsObeyable command }
-    ensures runs { command_meets command ≡ false → RunsCommand command (S.state input.old, S.state input.new)
-        (K.state out.old, K.state out.new) (D.state repo, D.state result.repo) result.status }
-    ensures syncs { IsTrue (command_syncs command) → Syncs command (D.state repo, D.state result.repo)
-        (P.state peer, P.state result.peer) (N.state dial.old, N.state dial.new) (K.state out.old, K.state out.new) result.status }
-    ensures cloned { ClonesIf (Some command) D.state repo result.repo (N.state dial.old, N.state dial.new)
-        (K.state out.old, K.state out.new) result.status }
+    ensures runs { RunsFor command (S.state, input.old, input.new) (K.state, out.old, out.new) (D.state, repo) result }
+    ensures syncs { SyncsFor command (D.state, repo) (P.state, peer) (N.state, dial.old, dial.new) (K.state, out.old, out.new) result }
+    ensures cloned { ClonesFor command (D.state, repo) (N.state, dial.old, dial.new) (K.state, out.old, out.new) result }
     ensures unread { command_reads command ≡ false → input.new ≡ input.old }
     ensures untouched { command_opens command ≡ false → result.repo ≡ repo }
     ensures unasked { command_asks_peer command ≡ false → result.peer ≡ peer }
@@ -152,16 +148,13 @@ fn run_words<S: Source, K: Sink, D: Disk, P: Disk, N: Dial>(
     peer: P,
     dial: &mut N,
 ) -> Ran<D, P>
-    ensures runs { RunsAlone (map string_bytes words.now) (S.state input.old, S.state input.new) (K.state out.old, K.state out.new)
-        (D.state repo, D.state result.repo) result.status }
-    ensures synced { SyncsAs (map string_bytes words.now) (D.state repo, D.state result.repo) (P.state peer, P.state result.peer)
-        (N.state dial.old, N.state dial.new) (K.state out.old, K.state out.new) result.status }
-    ensures cloned { ClonesAs (map string_bytes words.now) D.state repo result.repo (N.state dial.old, N.state dial.new)
-        (K.state out.old, K.state out.new) result.status }
-    ensures unread { reads_input (map string_bytes words.now) ≡ false → input.new ≡ input.old }
-    ensures untouched { opens_file (map string_bytes words.now) ≡ false → result.repo ≡ repo }
-    ensures unasked { asks_peer (map string_bytes words.now) ≡ false → result.peer ≡ peer }
-    ensures undialled { dials (map string_bytes words.now) ≡ false → dial.new ≡ dial.old }
+    ensures runs { RunsAlone (texts words.now) (S.state, input.old, input.new) (K.state, out.old, out.new) (D.state, repo) result }
+    ensures synced { SyncsAs (texts words.now) (D.state, repo) (P.state, peer) (N.state, dial.old, dial.new) (K.state, out.old, out.new) result }
+    ensures cloned { ClonesAs (texts words.now) (D.state, repo) (N.state, dial.old, dial.new) (K.state, out.old, out.new) result }
+    ensures unread { reads_input (texts words.now) ≡ false → input.new ≡ input.old }
+    ensures untouched { opens_file (texts words.now) ≡ false → result.repo ≡ repo }
+    ensures unasked { asks_peer (texts words.now) ≡ false → result.peer ≡ peer }
+    ensures undialled { dials (texts words.now) ≡ false → dial.new ≡ dial.old }
 {
     match read(alloc, words) {
         Ok(words) => start(alloc, words.command, input, out, repo, peer, dial),
@@ -205,16 +198,13 @@ pub fn run<S: Source, K: Sink, D: Disk, P: Disk, N: Dial>(
     peer: P,
     dial: &mut N,
 ) -> Ran<D, P>
-    ensures runs { RunsAlone (map string_bytes words.now) (S.state input.old, S.state input.new) (K.state out.old, K.state out.new)
-        (D.state repo, D.state result.repo) result.status }
-    ensures synced { SyncsAs (map string_bytes words.now) (D.state repo, D.state result.repo) (P.state peer, P.state result.peer)
-        (N.state dial.old, N.state dial.new) (K.state out.old, K.state out.new) result.status }
-    ensures cloned { ClonesAs (map string_bytes words.now) D.state repo result.repo (N.state dial.old, N.state dial.new)
-        (K.state out.old, K.state out.new) result.status }
-    ensures unread { reads_input (map string_bytes words.now) ≡ false → input.new ≡ input.old }
-    ensures untouched { opens_file (map string_bytes words.now) ≡ false → result.repo ≡ repo }
-    ensures unasked { asks_peer (map string_bytes words.now) ≡ false → result.peer ≡ peer }
-    ensures undialled { dials (map string_bytes words.now) ≡ false → dial.new ≡ dial.old }
+    ensures runs { RunsAlone (texts words.now) (S.state, input.old, input.new) (K.state, out.old, out.new) (D.state, repo) result }
+    ensures synced { SyncsAs (texts words.now) (D.state, repo) (P.state, peer) (N.state, dial.old, dial.new) (K.state, out.old, out.new) result }
+    ensures cloned { ClonesAs (texts words.now) (D.state, repo) (N.state, dial.old, dial.new) (K.state, out.old, out.new) result }
+    ensures unread { reads_input (texts words.now) ≡ false → input.new ≡ input.old }
+    ensures untouched { opens_file (texts words.now) ≡ false → result.repo ≡ repo }
+    ensures unasked { asks_peer (texts words.now) ≡ false → result.peer ≡ peer }
+    ensures undialled { dials (texts words.now) ≡ false → dial.new ≡ dial.old }
 {
     run_words(alloc, words, input, out, repo, peer, dial)
 }

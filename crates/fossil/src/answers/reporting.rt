@@ -1,15 +1,10 @@
 //! Reports on what a repository holds.
-ghost use Rattle.std.specs.Prelude.{◌≡◌, List, IfOk};
-ghost use Rattle.fsl_blobs.specs.Fold.{contents};
-ghost use Rattle.fsl_record.specs.declared.Record.{Record};
-ghost use Rattle.fsl_words.specs.declared.Question.{Question};
-ghost use Rattle.fsl_query.specs.Answers.{IsReported};
+ghost use Rattle.std.specs.Prelude.{◌≡◌, IfOk};
 ghost use Rattle.fsl_query.specs.Refusals.{refusal_text};
 ghost use Rattle.fsl_words.specs.declared.Command.TheVariants as command_of;
 ghost use Rattle.fossil.specs.Printed as printing;
-ghost use Rattle.fossil.specs.Outcome.{IsAnswered, without_commit};
-ghost use Rattle.fsl_outside.specs.Streams.{SourceState};
-ghost use Rattle.fossil.specs.Acts.{Acts};
+ghost use Rattle.fossil.specs.Outcome.{IsAnswered, IsAnswerOf, without_commit};
+ghost use Rattle.fossil.specs.RunCall.{ActsUnread};
 
 use crate::answers::answer::{Answer, refusal};
 use crate::answers::fault::Fault;
@@ -33,7 +28,7 @@ pub fn question_refusal(alloc: Global, refused: &Refused) -> Result<Answer, Memo
 
 /// What is answered where a question found this: the report, or the reason why there is none.
 fn answer_of(alloc: Global, found: Result<Text, QueryFault>) -> Result<Answer, Memory>
-    ensures { (question : Question) (records : List Record) → IsReported (contents records) question found → IfOk result (λ a. IsAnswered question records (without_commit a)) }
+    ensures { IsAnswerOf found result }
 {
     match found {
         Ok(text) => Ok(Answer { status: DONE, text }),
@@ -52,7 +47,7 @@ fn report_on(alloc: Global, blobs: &Blobs, question: &Question) -> Result<Answer
 
 /// Loads the repository, and answers with the report on a question. All tables together are never made.
 pub fn report<D: Disk>(alloc: Global, question: &Question, disk: &mut D) -> Result<Answer, Fault>
-    ensures { (input : SourceState) → Acts (command_of.Ask question.now) (input, input) (D.state disk.old, D.state disk.new) result }
+    ensures { ActsUnread (command_of.Ask question.now) (D.state, disk.old, disk.new) result }
 {
     match load(alloc, disk) {
         Ok(loaded) => made(report_on(alloc, &loaded.blobs, question)),

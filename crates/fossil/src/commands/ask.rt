@@ -1,6 +1,5 @@
 //! The commands that ask the repository.
-ghost use Rattle.fsl_outside.specs.Streams.{SourceState};
-ghost use Rattle.fossil.specs.Acts.{RunsQuestion};
+ghost use Rattle.fossil.specs.RunCall.{RunsQuestion};
 
 use crate::answers::reporting::report;
 use crate::answers::say::print;
@@ -18,7 +17,7 @@ pub(crate) fn ask<K: Sink, D: Disk>(
     out: &mut K,
     repo: D,
 ) -> Done<D>
-    ensures { (input : SourceState) → RunsQuestion question.now (input, input) (K.state out.old, K.state out.new) (D.state repo, D.state result.repo) result.status }
+    ensures { RunsQuestion question.now (K.state, out.old, out.new) (D.state, repo, result.repo) result.status }
 {
     let mut repo = repo;
     match question {

@@ -2,8 +2,8 @@
 ghost use Rattle.fsl_blobs.specs.Fold.{contents};
 ghost use Rattle.fsl_query.specs.Reports.{content};
 ghost use Rattle.fsl_words.specs.declared.Question.TheVariants as question_of;
-ghost use Rattle.fsl_outside.specs.Streams.{SourceState};
-ghost use Rattle.fossil.specs.Acts.{output_of, IsContentWritten, RunsQuestion};
+ghost use Rattle.fossil.specs.Acts.{output_of, IsContentWritten};
+ghost use Rattle.fossil.specs.RunCall.{RunsQuestion};
 
 use crate::answers::fault::Fault;
 use crate::answers::reporting::question_refusal;
@@ -29,7 +29,7 @@ fn write_content<K: Sink>(alloc: Global, blobs: &Blobs, prefix: &[u8], out: &mut
 
 /// Loads the repository, and writes the content of the one artifact whose name begins with the prefix.
 pub fn cat<K: Sink, D: Disk>(alloc: Global, prefix: &[u8], out: &mut K, disk: &mut D) -> u8
-    ensures { (input : SourceState) → RunsQuestion (question_of.Cat prefix.now) (input, input) (K.state out.old, K.state out.new) (D.state disk.old, D.state disk.new) result }
+    ensures { RunsQuestion (question_of.Cat prefix.now) (K.state, out.old, out.new) (D.state, disk.old, disk.new) result }
 {
     match load(alloc, disk) {
         Ok(loaded) => write_content(alloc, &loaded.blobs, prefix, out),

@@ -27,7 +27,7 @@ fn clone_counted<D: Disk, N: Dial, L: Ledger>(
     requires parts { blank.parts ≡ L.parts }
     requires counts { 0 < L.parts }
     requires fields { AreFields fields.now }
-    ensures { HasCloned D.state server fields.now disk result.1 (N.state dial.old, N.state dial.new) result.0 }
+    ensures { HasCloned server fields.now (D.state, disk, result.1) (N.state, dial.old, dial.new) result.0 }
 {
     let mut steps: Steps<L> = Steps::new(blank);
     let (disk, made) = clone_from(alloc, disk, server, fields, dial, &None, &mut steps);
@@ -44,7 +44,7 @@ pub(crate) fn clone_onto<D: Disk, N: Dial>(
     dial: &mut N,
 ) -> (Due, D)
     requires { AreFields fields.now }
-    ensures { HasCloned D.state server fields.now disk result.1 (N.state dial.old, N.state dial.new) result.0 }
+    ensures { HasCloned server fields.now (D.state, disk, result.1) (N.state, dial.old, dial.new) result.0 }
 {
     clone_counted::<D, N, Brand>(alloc, server, fields, disk, dial, Blank::new(1))
 }

@@ -1,8 +1,7 @@
 //! `init`: makes a new repository.
 ghost use Rattle.fsl_record.specs.Records.{AreFields};
-ghost use Rattle.fsl_outside.specs.Streams.{SourceState};
 ghost use Rattle.fsl_words.specs.declared.Command.TheVariants as command_of;
-ghost use Rattle.fossil.specs.Acts.{Acts};
+ghost use Rattle.fossil.specs.RunCall.{ActsUnread};
 
 use crate::answers::answer::{Answer, numbered_refusal};
 use crate::answers::fault::Fault;
@@ -16,7 +15,7 @@ use std::alloc::Global;
 /// Writes a new repository with this Config into an empty file. A file that isn't empty is refused.
 pub fn init<D: Disk>(alloc: Global, config: &Config, disk: &mut D) -> Result<Answer, Fault>
     requires { AreFields config.now.fields }
-    ensures { (input : SourceState) → Acts (command_of.Init config.now.project config.now.server config.now.fields) (input, input) (D.state disk.old, D.state disk.new) result }
+    ensures { ActsUnread (command_of.Init config.now.project config.now.server config.now.fields) (D.state, disk.old, disk.new) result }
 {
     match create(alloc, disk, config) {
         Ok(()) => Ok(Answer {

@@ -46,7 +46,7 @@ fn pull_between<D: Disk, P: Disk>(alloc: Global, repo: &mut Repo<D>, peer: &mut 
 
 /// Opens the peer, and pulls from it into a repository that was opened. The peer's disk comes back.
 fn pull_from<D: Disk, P: Disk>(alloc: Global, repo: &mut Repo<D>, peer: P) -> (Due, P)
-    ensures { PullsInto (λ d. D.state d) repo.old repo.new (P.state peer, P.state result.1) result.0 }
+    ensures { PullsInto (D.state, repo.old, repo.new) (P.state, peer, result.1) result.0 }
 {
     match Repo::load(alloc, peer) {
         Ok(mut there) => {
@@ -61,7 +61,7 @@ fn pull_from<D: Disk, P: Disk>(alloc: Global, repo: &mut Repo<D>, peer: P) -> (D
 /// Opens the repository and then its peer, and pulls from this into that. What is due of that is answered, and the disks
 /// come back.
 pub(crate) fn pull_local<D: Disk, P: Disk>(alloc: Global, disk: D, peer: P) -> (Due, D, P)
-    ensures { PullsLocal (D.state disk, D.state result.1) (P.state peer, P.state result.2) result.0 }
+    ensures { PullsLocal (D.state, disk, result.1) (P.state, peer, result.2) result.0 }
 {
     match Repo::load(alloc, disk) {
         Ok(mut repo) => {

@@ -1,8 +1,8 @@
 //! `put`: takes a message of files into the repository.
 ghost use Rattle.std.specs.Prelude.{◌≡◌, None};
 ghost use Rattle.fsl_words.specs.declared.Command.TheVariants as command_of;
-ghost use Rattle.fossil.specs.Acts.{loaded_of, IsOpened, Acts};
-ghost use Rattle.fossil.specs.Taking.{PutsMessage, PutsFiles};
+ghost use Rattle.fossil.specs.RunCall.{ActsReading};
+ghost use Rattle.fossil.specs.Taking.{PutsMessage, PutsFiles, PutsInput};
 
 use crate::answers::answer::{Answer, too_long};
 use crate::answers::fault::Fault;
@@ -26,7 +26,7 @@ fn take_files<D: Disk>(
     repo: &mut Repo<D>,
 ) -> Result<Answer, Fault>
     requires runs { repo.old.seen.state.stopped ≡ None }
-    ensures { PutsFiles (λ d. D.state d) repo.old repo.new files result }
+    ensures { PutsFiles files (D.state, repo.old, repo.new) result }
 {
     let text = match arrive(alloc, files, repo)? {
         Arrivals::Taken(text) => text,
@@ -45,7 +45,7 @@ fn take_files<D: Disk>(
 /// Takes a message into a repository that was opened: it is refused, or else its files are taken.
 fn take_message<D: Disk>(alloc: Global, message: Text, repo: &mut Repo<D>) -> Result<Answer, Fault>
     requires runs { repo.old.seen.state.stopped ≡ None }
-    ensures { PutsMessage (λ d. D.state d) repo.old repo.new message result }
+    ensures { PutsMessage message (D.state, repo.old, repo.new) result }
 {
     match check_message(alloc, message)? {
         Checked::Files(files) => take_files(alloc, files, repo),
@@ -60,7 +60,7 @@ fn take_input<S: Source, D: Disk>(
     repo: &mut Repo<D>,
 ) -> Result<Answer, Fault>
     requires runs { repo.old.seen.state.stopped ≡ None }
-    ensures { (disk : D) → IsOpened (D.state disk) (D.state repo.old.disk) (loaded_of repo.old) → Acts command_of.Put (S.state input.old, S.state input.new) (D.state disk, D.state repo.new.disk) result }
+    ensures { PutsInput (S.state, input.old, input.new) (D.state, repo.old, repo.new) result }
 {
     match read_input(alloc, input)? {
         Some(message) => take_message(alloc, message, repo),
@@ -70,7 +70,7 @@ fn take_input<S: Source, D: Disk>(
 
 /// Takes a message of files into the repository: all of them in one commit, or none. The disk comes back.
 pub fn put<S: Source, D: Disk>(alloc: Global, input: &mut S, disk: D) -> (Result<Answer, Fault>, D)
-    ensures { Acts command_of.Put (S.state input.old, S.state input.new) (D.state disk, D.state result.1) result.0 }
+    ensures { ActsReading command_of.Put (S.state, input.old, input.new) (D.state, disk, result.1) result.0 }
 {
     match Repo::load(alloc, disk) {
         Ok(mut repo) => {

@@ -1,9 +1,10 @@
 //! Serves a repository to several connections.
-ghost use Rattle.std.specs.Prelude.{◌≡◌, ◌<◌, ◌≤◌, None, Some, map, string_bytes, vec_len, IfOk, IfErr};
+ghost use Rattle.std.specs.Prelude.{◌≡◌, ◌<◌, ◌≤◌, None, Some, vec_len, IfOk, IfErr};
 ghost use Rattle.std.specs.Option.{option_map};
 ghost use Rattle.fossil.specs.Acts.{output_of};
 ghost use Rattle.fossil.specs.Served.{AreStaffed, IsWrittenAs, serving_of, serving_in, not_loaded};
 ghost use Rattle.fossil.specs.Serving.{printed, IsDue, IsAsked, IsUnasked};
+ghost use Rattle.fossil.specs.RunCall.{texts};
 ghost use Rattle.fossil.specs.ServeCall.{IsServe, IsFileServed, IsDiskServed, IsLoadedServed};
 
 use crate::answers::answer::not_repository;
@@ -48,9 +49,9 @@ fn requests_of(command: &Command) -> Option<u64>
 
 /// How many connections each worker is to take, by the words.
 fn asked(alloc: Global, words: &[String]) -> Result<u64, Due>
-    ensures asked { IfOk result (IsAsked (map string_bytes words.now)) }
+    ensures asked { IfOk result (IsAsked (texts words.now)) }
     ensures few { IfOk result (λ requests. requests ≤ 65536) }
-    ensures none { IfErr result (IsUnasked (map string_bytes words.now)) }
+    ensures none { IfErr result (IsUnasked (texts words.now)) }
 {
     match read(alloc, words) {
         Ok(words) => match requests_of(&words.command) {
@@ -103,7 +104,7 @@ fn serve_loaded<D: Disk + Send, A: Door + Send, G: Gate + Send, K: Sink, R: Thre
 ) -> Served<D, A, G>
     requires crews { (0 < vec_len crews) × (vec_len crews ≤ 16) }
     requires requests { requests ≤ 65536 }
-    ensures { IsLoadedServed D.state A.state G.passed users.now requests repo crews.items (K.state out.old, K.state out.new) result }
+    ensures { IsLoadedServed requests users.now (K.state, out.old, out.new) (D.state, repo) (A.state, G.passed, crews.items) result }
 {
     let project = repo.config().project;
     match serve_crews(rt, alloc, users, project, repo, crews, requests) {
@@ -124,7 +125,7 @@ fn serve_disk<D: Disk + Send, A: Door + Send, G: Gate + Send, K: Sink, R: Thread
 ) -> Served<D, A, G>
     requires crews { (0 < vec_len crews) × (vec_len crews ≤ 16) }
     requires requests { requests ≤ 65536 }
-    ensures { IsDiskServed D.state A.state G.passed users.now requests disk crews.items (K.state out.old, K.state out.new) result }
+    ensures { IsDiskServed requests users.now (K.state, out.old, out.new) (D.state, disk) (A.state, G.passed, crews.items) result }
 {
     match Repo::load(alloc, disk) {
         Ok(repo) => serve_loaded(rt, alloc, users, repo, crews, requests, out),
@@ -151,7 +152,7 @@ fn serve_file<
 ) -> Served<D, A, G>
     requires crews { (0 < vec_len crews) × (vec_len crews ≤ 16) }
     requires requests { requests ≤ 65536 }
-    ensures { IsFileServed D.state A.state G.passed (S.state users.old, S.state users.new) requests disk crews.items (K.state out.old, K.state out.new) result }
+    ensures { IsFileServed requests (S.state, users.old, users.new) (K.state, out.old, out.new) (D.state, disk) (A.state, G.passed, crews.items) result }
 {
     match read_users(alloc, users) {
         Ok(users) => serve_disk(rt, alloc, &users, disk, crews, requests, out),
@@ -183,9 +184,9 @@ pub fn serve<
     crews: Vec<Crew<A, G>>,
     out: &mut K,
 ) -> Served<D, A, G>
-    requires staffed { AreStaffed (map string_bytes words.now) (vec_len crews) }
-    ensures said { IsServe D.state A.state G.passed (map string_bytes words.now) (S.state users.old, S.state users.new) (K.state out.old, K.state out.new) repo crews.items result }
-    ensures unread { serving_in (map string_bytes words.now) ≡ None → users.new ≡ users.old }
+    requires staffed { AreStaffed (texts words.now) (vec_len crews) }
+    ensures said { IsServe (texts words.now) (S.state, users.old, users.new) (K.state, out.old, out.new) (D.state, repo) (A.state, G.passed, crews.items) result }
+    ensures unread { serving_in (texts words.now) ≡ None → users.new ≡ users.old }
 {
     match asked(alloc, words) {
         Ok(requests) => serve_file(rt, alloc, users, repo, crews, requests, out),

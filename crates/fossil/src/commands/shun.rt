@@ -1,10 +1,9 @@
 //! `shun`: takes a name out of the repository for good.
 ghost use Rattle.std.specs.Prelude.{◌≡◌, None, IfOk};
-ghost use Rattle.fsl_outside.specs.Streams.{SourceState};
 ghost use Rattle.fsl_words.specs.declared.Command.TheVariants as command_of;
 ghost use Rattle.fossil.specs.Printed.{name_line};
 ghost use Rattle.fossil.specs.Shun.{word_of};
-ghost use Rattle.fossil.specs.Acts.{loaded_of, IsOpened, Acts};
+ghost use Rattle.fossil.specs.RunCall.{ActsUnread, ShunsName};
 
 use crate::answers::answer::Answer;
 use crate::answers::fault::Fault;
@@ -41,7 +40,7 @@ fn told(alloc: Global, name: Name, done: Shunning) -> Result<Answer, Memory>
 /// committed.
 fn take_out<D: Disk>(alloc: Global, name: Name, repo: &mut Repo<D>) -> Result<Answer, Fault>
     requires runs { repo.old.seen.state.stopped ≡ None }
-    ensures { (disk : D) (input : SourceState) → IsOpened (D.state disk) (D.state repo.old.disk) (loaded_of repo.old) → Acts (command_of.Shun name) (input, input) (D.state disk, D.state repo.new.disk) result }
+    ensures { ShunsName name (D.state, repo.old, repo.new) result }
 {
     let done = match repo.shun(name) {
         Ok(done) => done,
@@ -61,7 +60,7 @@ fn take_out<D: Disk>(alloc: Global, name: Name, repo: &mut Repo<D>) -> Result<An
 /// Takes a name out of the repository for good, in one commit: its artifact isn't held any more, and no artifact of this
 /// name is taken again. Nothing is committed where it is shunned already. The disk comes back.
 pub fn shun<D: Disk>(alloc: Global, name: Name, disk: D) -> (Result<Answer, Fault>, D)
-    ensures { (input : SourceState) → Acts (command_of.Shun name) (input, input) (D.state disk, D.state result.1) result.0 }
+    ensures { ActsUnread (command_of.Shun name) (D.state, disk, result.1) result.0 }
 {
     match Repo::load(alloc, disk) {
         Ok(mut repo) => {

@@ -102,7 +102,7 @@ pub(crate) fn sync<D: Disk, N: Dial>(
     disk: D,
     dial: &mut N,
 ) -> (Due, D)
-    ensures { SyncsOver way login (D.state disk, D.state result.1) (N.state dial.old, N.state dial.new) result.0 }
+    ensures { SyncsOver way login (D.state, disk, result.1) (N.state, dial.old, dial.new) result.0 }
 {
     let login = login_of(login);
     match Repo::load(alloc, disk) {

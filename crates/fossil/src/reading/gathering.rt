@@ -1,10 +1,8 @@
 //! A set of artifacts in memory alone, in which files arrive as in a repository that holds nothing.
-ghost use Rattle.std.specs.Prelude.{◌≡◌, ◌∷◌, ◌++◌, [], ◌≤◌, ◌^◌, ◌&&◌, ◌||◌, not, true, ℕ, List as Items, length, map, Ok, Err, IfOk, OnOk};
+ghost use Rattle.std.specs.Prelude.{◌≡◌, ◌∷◌, ◌++◌, [], ◌≤◌, ◌^◌, true, length, map, Ok, Err, IfOk, OnOk};
 ghost use Rattle.std.specs.List.{AllZip};
-ghost use Rattle.std.specs.FinMap as map_of;
-ghost use Rattle.std.specs.BTreeSet.{contains};
 ghost use Rattle.std.specs.Str.{bytes_eq};
-ghost use Rattle.fsl_order.specs.Names.{bytes_cmp, has};
+ghost use Rattle.fsl_order.specs.Names.{has};
 ghost use Rattle.fsl_name.specs.Name.{name_of};
 ghost use Rattle.fsl_record.specs.Records.{AreRecords};
 ghost use Rattle.fsl_record.specs.declared.Record.TheVariants as record_of;
@@ -15,7 +13,7 @@ ghost use Rattle.fsl_blobs.specs.declared.BlobState.TheVariants.{Absent as Absen
 ghost use Rattle.fsl_cross.specs.Facts.{cluster_fact};
 ghost use Rattle.fsl_repo.specs.Machine.{State, room_of};
 ghost use Rattle.fossil.specs.Ingest.{fresh, IsSetPrinted};
-ghost use Rattle.fossil.specs.Taking.{IsConfigAlone, IsGathered, IsGatheredBy, HaveGathered, AreReferences, IsFactOf};
+ghost use Rattle.fossil.specs.Taking.{IsConfigAlone, IsGathered, IsGatheredBy, HaveGathered, WantsUnheld, AreReferences, IsFactOf};
 
 use crate::answers::answer::{Answer, file_refusal};
 use crate::answers::ingest_report::report_of;
@@ -70,7 +68,7 @@ fn references(alloc: Global, bytes: &[u8]) -> Result<List<Name>, Memory>
 
 /// Adds a name, unless it is held.
 fn want(wanted: &mut BTreeSet<Name>, blobs: &Blobs, name: Name) -> Result<(), Memory>
-    ensures { OnOk result ((q : Items ℕ) → contains bytes_cmp wanted.new q ≡ (contains bytes_cmp wanted.old q || (bytes_eq q name && not (map_of.contains_key (contents blobs.now.records).held q)))) }
+    ensures { OnOk result (WantsUnheld (λ q. bytes_eq q name) blobs.now.records wanted.old wanted.new) }
 {
     if blobs.bytes_of(name).is_some() {
         return Ok(());
@@ -81,7 +79,7 @@ fn want(wanted: &mut BTreeSet<Name>, blobs: &Blobs, name: Name) -> Result<(), Me
 
 /// Adds those of some names that aren't held.
 fn want_all(wanted: &mut BTreeSet<Name>, blobs: &Blobs, names: &[Name]) -> Result<(), Memory>
-    ensures { OnOk result ((q : Items ℕ) → contains bytes_cmp wanted.new q ≡ (contains bytes_cmp wanted.old q || (has names.now q && not (map_of.contains_key (contents blobs.now.records).held q)))) }
+    ensures { OnOk result (WantsUnheld (has names.now) blobs.now.records wanted.old wanted.new) }
 {
     for name in names {
         want(wanted, blobs, *name)?;
