@@ -1,7 +1,7 @@
 //! What crashes leave of a commit, as repositories that are loaded again.
 use crate::events::arrives;
 use crate::histories::artifact;
-use crate::printing::{Shown, nothing, show_all, shown_by};
+use crate::printing::{Shown, show_all, shown_by, unlike_all};
 use crate::repo::{ONE_BLOB, fused};
 use fsl_disk::{FuseDisk, MemoryDisk};
 use fsl_name::Name;
@@ -47,7 +47,7 @@ fn take_and_commit(alloc: Global, mut repo: Repo<FuseDisk<MemoryDisk>>) -> Left 
 fn shown_after(alloc: Global, disk: &MemoryDisk, pick: u64) -> Shown {
     match disk.crash(alloc, pick) {
         Ok(image) => shown_by(alloc, image),
-        Err(_) => nothing(alloc),
+        Err(_) => unlike_all(alloc),
     }
 }
 

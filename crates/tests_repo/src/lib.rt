@@ -1,4 +1,5 @@
 //! Tests of a repository as one machine, by its public calls alone. They stand apart, so that the crate isn't proved once more for its tests.
+//! Where a large value is held, a function has one exit: so conditions are joined by `&`, and a value is let go by a call, before the answer.
 #![tactic(auto)]
 
 #[cfg(test)]

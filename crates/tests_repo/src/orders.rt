@@ -2,7 +2,7 @@
 //! its disk is loaded anew. Its tables are changed, and not made anew.
 use crate::events::arrives;
 use crate::histories::artifacts;
-use crate::printing::{Shown, nothing, show_all, show_of, shown_by};
+use crate::printing::{Shown, show_all, show_of, shown_by, unlike_all};
 use crate::repo::{CONFIGURED, opened};
 use fsl_disk::MemoryDisk;
 use fsl_name::Name;
@@ -161,15 +161,16 @@ fn are_taken(alloc: Global, repo: &mut Repo<MemoryDisk>, play: &Play, number: u6
 fn played(alloc: Global, play: &Play, number: u64) -> Shown {
     match opened(alloc, CONFIGURED) {
         Some(repo) => shown_played(alloc, repo, play, number),
-        None => nothing(alloc),
+        None => unlike_all(alloc),
     }
 }
 
+/// What a repository shows behind a play. It is let go.
 fn shown_played(alloc: Global, mut repo: Repo<MemoryDisk>, play: &Play, number: u64) -> Shown {
     let taken = are_taken(alloc, &mut repo, play, number);
     let mut shown = show_of(alloc, &repo, play.set);
     let same = shows_again(alloc, repo);
-    shown.wants(taken & same);
+    shown.fails_unless(taken & same);
     shown
 }
 

@@ -28,8 +28,8 @@ impl Shown {
         }
     }
 
-    /// Where something went wrong, it is like nothing.
-    pub(crate) fn wants(&mut self, good: bool) {
+    /// Unless this is good, it is like no other, nor like itself.
+    pub(crate) fn fails_unless(&mut self, good: bool) {
         self.is_whole = self.is_whole && good;
     }
 
@@ -262,14 +262,14 @@ fn show_lists<D: Disk>(alloc: Global, into: &mut Shown, repo: &Repo<D>) {
     show_rows(alloc, into, repo.tables());
 }
 
-/// What is like nothing.
-pub(crate) fn nothing(alloc: Global) -> Shown {
-    let mut nothing = Shown::new(alloc);
-    nothing.wants(false);
-    nothing
+/// What is like no other, nor like itself.
+pub(crate) fn unlike_all(alloc: Global) -> Shown {
+    let mut shown = Shown::new(alloc);
+    shown.fails_unless(false);
+    shown
 }
 
-/// The held names by place.
+/// The held names by place; none for want of memory.
 pub(crate) fn held<D: Disk>(alloc: Global, repo: &Repo<D>) -> List<Placed> {
     match repo.held(0) {
         Ok(held) => held,
@@ -277,10 +277,21 @@ pub(crate) fn held<D: Disk>(alloc: Global, repo: &Repo<D>) -> List<Placed> {
     }
 }
 
+/// The held names by place. For want of memory none, and what is shown is like no other.
+fn held_for<D: Disk>(alloc: Global, into: &mut Shown, repo: &Repo<D>) -> List<Placed> {
+    match repo.held(0) {
+        Ok(held) => held,
+        Err(_) => {
+            into.fails_unless(false);
+            List::new(alloc)
+        }
+    }
+}
+
 /// The held names by place with what the tables say of each, and all lists.
 pub(crate) fn show_all<D: Disk>(alloc: Global, repo: &Repo<D>) -> Shown {
     let mut into = Shown::new(alloc);
-    for placed in held(alloc, repo).items() {
+    for placed in held_for(alloc, &mut into, repo).items() {
         into.number(placed.place);
         show_name(alloc, &mut into, repo, placed.name);
     }
@@ -309,15 +320,16 @@ impl Named for &[u8] {
 /// each of these, and all lists.
 pub(crate) fn show_of<D: Disk, T: Named>(alloc: Global, repo: &Repo<D>, named: &[T]) -> Shown {
     let mut into = Shown::new(alloc);
-    into.number(held(alloc, repo).items().len() as u64);
-    for it in named {
-        show_name(alloc, &mut into, repo, it.name());
+    let count = held_for(alloc, &mut into, repo).items().len();
+    into.number(count as u64);
+    for one in named {
+        show_name(alloc, &mut into, repo, one.name());
     }
     show_lists(alloc, &mut into, repo);
     into
 }
 
-/// What a disk shows that is loaded; where it doesn't load, what is like nothing.
+/// What a disk shows that is loaded; where it doesn't load, what is like no other.
 pub(crate) fn shown_by(alloc: Global, disk: MemoryDisk) -> Shown {
     match loaded(alloc, disk) {
         Some(repo) => {
@@ -325,6 +337,6 @@ pub(crate) fn shown_by(alloc: Global, disk: MemoryDisk) -> Shown {
             drop(repo.close());
             shown
         }
-        None => nothing(alloc),
+        None => unlike_all(alloc),
     }
 }

@@ -85,12 +85,12 @@ fn is_synced<D: Disk, N: Dial>(
 
 /// Whether two repositories hold and show the same, and hold all of the artifacts.
 fn are_alike(alloc: Global, repo: &Repo<MemoryDisk>, peer: &Repo<MemoryDisk>) -> bool {
-    let names = held(alloc, repo);
-    let mine = show_of(alloc, repo, names.items());
-    let theirs = show_of(alloc, peer, names.items());
-    let are_all = COUNT <= names.items().len() as u64;
+    let placed = held(alloc, repo);
+    let mine = show_of(alloc, repo, placed.items());
+    let theirs = show_of(alloc, peer, placed.items());
+    let are_all = COUNT <= placed.items().len() as u64;
     let alike = mine.is_like(&theirs);
-    drop(names);
+    drop(placed);
     drop(mine);
     drop(theirs);
     are_all & alike

@@ -31,11 +31,29 @@ const DIGITS: &[u8] = b"385aee5fd248cee3fe13ac2e20a25527b5ed828a";
 const PAGE: &[u8] =
     b"D 2024-01-02T03:04:05\nL Page\nU ann\nW 2\nhi\nZ 8c88981bbe13b39a81d20683b19ea38d\n";
 
+/// What is asked.
+#[derive(Clone, Copy)]
+enum What {
+    Content,
+    Latest,
+    Leaves,
+    Tags,
+    Tip,
+    Files,
+    Page,
+    Ticket,
+    /// The thread of the first post.
+    FirstThread,
+    Thread,
+    /// The names that are referred to and missing.
+    Missing,
+}
+
 /// What is asked, and whether a report is due. A question that takes a text has it here, one that takes a name that of these
 /// bytes.
 #[derive(Clone, Copy)]
 struct Case {
-    kind: u8,
+    what: What,
     text: &'static [u8],
     due: bool,
 }
@@ -43,87 +61,87 @@ struct Case {
 /// Each question that has an answer, and behind these each that can have none. The first post's name is found later.
 const CASES: [Case; 17] = [
     Case {
-        kind: b'c',
+        what: What::Content,
         text: DIGITS,
         due: true,
     },
     Case {
-        kind: b'n',
+        what: What::Latest,
         text: b"",
         due: true,
     },
     Case {
-        kind: b'l',
+        what: What::Leaves,
         text: b"",
         due: true,
     },
     Case {
-        kind: b'g',
+        what: What::Tags,
         text: DIGITS,
         due: true,
     },
     Case {
-        kind: b't',
+        what: What::Tip,
         text: b"stable",
         due: true,
     },
     Case {
-        kind: b'f',
+        what: What::Files,
         text: DIGITS,
         due: true,
     },
     Case {
-        kind: b'w',
+        what: What::Page,
         text: b"Page",
         due: true,
     },
     Case {
-        kind: b'k',
+        what: What::Ticket,
         text: b"0",
         due: true,
     },
     Case {
-        kind: b's',
+        what: What::FirstThread,
         text: b"",
         due: true,
     },
     Case {
-        kind: b'p',
+        what: What::Missing,
         text: b"",
         due: true,
     },
     Case {
-        kind: b'c',
+        what: What::Content,
         text: b"x",
         due: false,
     },
     Case {
-        kind: b'g',
+        what: What::Tags,
         text: b"",
         due: false,
     },
     Case {
-        kind: b't',
+        what: What::Tip,
         text: b"none",
         due: false,
     },
     Case {
-        kind: b'f',
+        what: What::Files,
         text: b"x",
         due: false,
     },
     Case {
-        kind: b'w',
+        what: What::Page,
         text: b"None",
         due: false,
     },
     Case {
-        kind: b'k',
+        what: What::Ticket,
         text: PAGE,
         due: false,
     },
     Case {
-        kind: b'h',
+        what: What::Thread,
         text: PAGE,
         due: false,
     },
@@ -134,34 +152,42 @@ fn cases() -> &'static [Case] {
     &CASES
 }
 
-/// The questions that take a text.
-fn of_text(kind: u8, text: Text) -> Question {
-    match kind {
-        b'c' => Question::Cat { prefix: text },
-        b'g' => Question::Tags { prefix: text },
-        b'f' => Question::Files { prefix: text },
-        b't' => Question::Tip { symbol: text },
-        _ => Question::Wiki { title: text },
+/// The question that takes a text; none where this one takes another word.
+fn of_text(what: What, text: Text) -> Option<Question> {
+    match what {
+        What::Content => Some(Question::Cat { prefix: text }),
+        What::Tags => Some(Question::Tags { prefix: text }),
+        What::Files => Some(Question::Files { prefix: text }),
+        What::Tip => Some(Question::Tip { symbol: text }),
+        What::Page => Some(Question::Wiki { title: text }),
+        What::Latest
+        | What::Leaves
+        | What::Ticket
+        | What::FirstThread
+        | What::Thread
+        | What::Missing => None,
     }
 }
 
-/// The question of a case, where the first post has this name.
+/// The question of a case, where the first post has this name; none for want of memory.
 fn question_of(alloc: Global, case: &Case, post: Name) -> Option<Question> {
-    match case.kind {
-        b'n' => Some(Question::Timeline { count: 20 }),
-        b'l' => Some(Question::Leaves),
-        b'p' => Some(Question::Phantoms),
-        b's' => Some(Question::Thread { name: post }),
-        b'h' => Some(Question::Thread {
+    match case.what {
+        What::Latest => Some(Question::Timeline { count: 20 }),
+        What::Leaves => Some(Question::Leaves),
+        What::Missing => Some(Question::Phantoms),
+        What::FirstThread => Some(Question::Thread { name: post }),
+        What::Thread => Some(Question::Thread {
             name: Name::of(case.text),
         }),
-        b'k' => Some(Question::Ticket {
+        What::Ticket => Some(Question::Ticket {
             id: Name::of(case.text),
         }),
-        kind => match Text::of(alloc, case.text) {
-            Ok(text) => Some(of_text(kind, text)),
-            Err(_) => None,
-        },
+        What::Content | What::Tags | What::Tip | What::Files | What::Page => {
+            match Text::of(alloc, case.text) {
+                Ok(text) => of_text(case.what, text),
+                Err(_) => None,
+            }
+        }
     }
 }
 
@@ -170,9 +196,9 @@ fn show_text(into: &mut Shown, text: Result<Text, Memory>) {
     match &text {
         Ok(text) => {
             into.put(text.bytes());
-            into.wants(!text.bytes().is_empty());
+            into.fails_unless(!text.bytes().is_empty());
         }
-        Err(_) => into.wants(false),
+        Err(_) => into.fails_unless(false),
     }
     drop(text);
 }
@@ -190,7 +216,7 @@ fn show_answer(alloc: Global, into: &mut Shown, answer: Result<Text, QueryFault>
             false
         }
         Err(QueryFault::Memory) => {
-            into.wants(false);
+            into.fails_unless(false);
             false
         }
     }
@@ -215,7 +241,7 @@ fn is_answered(
     alike & (is_open == due) & (is_file == due)
 }
 
-/// Whether the question of a case is.
+/// Whether the question of a case is answered alike, and by a report where one is due.
 fn is_case_answered(
     alloc: Global,
     repo: &mut Repo<MemoryDisk>,
@@ -233,7 +259,7 @@ fn is_case_answered(
     }
 }
 
-/// Whether all questions are.
+/// Whether the questions of all cases are.
 fn are_cases_answered(
     alloc: Global,
     repo: &mut Repo<MemoryDisk>,
@@ -301,8 +327,8 @@ fn are_answered(alloc: Global, mut disk: MemoryDisk, post: Name) -> bool {
     }
 }
 
-/// Whether they are where all of them arrived.
-fn are_filled_answered(alloc: Global, mut repo: Repo<MemoryDisk>) -> bool {
+/// Whether all questions are answered alike over a repository in which all artifacts arrived, and over its file.
+fn are_answered_filled(alloc: Global, mut repo: Repo<MemoryDisk>) -> bool {
     let post = fill(alloc, &mut repo);
     let is_kept = repo.commit().is_ok();
     let disk = repo.close();
@@ -316,7 +342,7 @@ fn are_filled_answered(alloc: Global, mut repo: Repo<MemoryDisk>) -> bool {
 #[test]
 fn questions_are_answered(rt: HostRuntime) -> Result<(), Fail> {
     let answered = match opened(rt.alloc(), CONFIGURED) {
-        Some(repo) => are_filled_answered(rt.alloc(), repo),
+        Some(repo) => are_answered_filled(rt.alloc(), repo),
         None => false,
     };
     assert!(rt; answered);

@@ -38,7 +38,7 @@ pub(crate) fn opened(alloc: Global, bytes: &[u8]) -> Option<Repo<MemoryDisk>> {
     }
 }
 
-/// The repository of a disk with these bytes that fails after so many calls.
+/// The repository of a disk with these bytes that fails after so many calls; none where it fails before the file is loaded.
 pub(crate) fn fused(alloc: Global, bytes: &[u8], calls: u64) -> Option<Repo<FuseDisk<MemoryDisk>>> {
     match disk_of(alloc, bytes) {
         Ok(disk) => loaded(alloc, FuseDisk::new(disk, calls)),
