@@ -138,37 +138,6 @@ fn start<S: Source, K: Sink, D: Disk, P: Disk, N: Dial>(
     }
 }
 
-/// Does what the words say.
-fn run_words<S: Source, K: Sink, D: Disk, P: Disk, N: Dial>(
-    alloc: Global,
-    words: &[String],
-    input: &mut S,
-    out: &mut K,
-    repo: D,
-    peer: P,
-    dial: &mut N,
-) -> Ran<D, P>
-    ensures runs { RunsAlone (texts words.now) (S.state, input.old, input.new) (K.state, out.old, out.new) (D.state, repo) result }
-    ensures synced { SyncsAs (texts words.now) (D.state, repo) (P.state, peer) (N.state, dial.old, dial.new) (K.state, out.old, out.new) result }
-    ensures cloned { ClonesAs (texts words.now) (D.state, repo) (N.state, dial.old, dial.new) (K.state, out.old, out.new) result }
-    ensures unread { reads_input (texts words.now) ≡ false → input.new ≡ input.old }
-    ensures untouched { opens_file (texts words.now) ≡ false → result.repo ≡ repo }
-    ensures unasked { asks_peer (texts words.now) ≡ false → result.peer ≡ peer }
-    ensures undialled { dials (texts words.now) ≡ false → dial.new ≡ dial.old }
-{
-    match read(alloc, words) {
-        Ok(words) => start(alloc, words.command, input, out, repo, peer, dial),
-        Err(WordsFault::Usage) => {
-            let status = say_usage(out);
-            Ran { status, repo, peer }
-        }
-        Err(WordsFault::Memory) => {
-            let status = print(out, Err(Fault::Memory));
-            Ran { status, repo, peer }
-        }
-    }
-}
-
 /// Runs the command that the words say over the input and the repository's disk, prints to the output, and gives the
 /// status and the disks: 0 after a report, 1 for words outside the grammar and for `serve`, 2 where a file isn't a
 /// repository, 3 where the command or its input is refused, 4, 5, 6 and 7 where a disk, the input, the output or the
@@ -206,7 +175,17 @@ pub fn run<S: Source, K: Sink, D: Disk, P: Disk, N: Dial>(
     ensures unasked { asks_peer (texts words.now) ≡ false → result.peer ≡ peer }
     ensures undialled { dials (texts words.now) ≡ false → dial.new ≡ dial.old }
 {
-    run_words(alloc, words, input, out, repo, peer, dial)
+    match read(alloc, words) {
+        Ok(words) => start(alloc, words.command, input, out, repo, peer, dial),
+        Err(WordsFault::Usage) => {
+            let status = say_usage(out);
+            Ran { status, repo, peer }
+        }
+        Err(WordsFault::Memory) => {
+            let status = print(out, Err(Fault::Memory));
+            Ran { status, repo, peer }
+        }
+    }
 }
 
 /// A law and no code: words, an input and a file have one outcome at most, and so have a sync and a clone by what they read.

@@ -17,7 +17,7 @@ use Rattle.fossil.proofs.CloneLemmas.{idle_cloned}
 use Rattle.fossil.proofs.SyncedLemmas.{said_one, none_or_some}
 use Rattle.fossil.proofs.UnopenedLemmas.{idle_synced}
 use Rattle.fossil.proofs.WordsLemmas.{obeyable, said_is, none_said}
-use Rattle.fossil.proofs.top.run_words.Goals as goal
+use Rattle.fossil.proofs.top.run.Goals as goal
 
 pub start-requires : goal.start-requires
 start-requires g c = obeyable (map string_bytes c.args.words.now) c.in-Ok.words c.in-Ok.ensures.ok
