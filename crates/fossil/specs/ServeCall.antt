@@ -19,6 +19,11 @@ abbrev pub left_of : {D : Type 0} → State D → Left D
 left_of (state.Loaded repo) = Loaded repo
 left_of (state.Unloaded disk) = Unloaded disk
 
+-- the disk of a repository that is left, or the one that wasn't loaded
+abbrev pub disk_left : {D : Type 0} → State D → D
+disk_left (state.Loaded repo) = repo.disk
+disk_left (state.Unloaded disk) = disk
+
 -- one worker for each crew, and each crew as its worker left it, its gate too
 abbrev pub CrewsWorked : {A G : Type 0} → (A → LinkState) → (G → Option Points) → List (Crew A G) → List (Crew A G) → Workers
 CrewsWorked door passed before after users project requests works =

@@ -37,7 +37,7 @@ pub fn serve_at<
     requires { AreStaffed (map string_bytes words.now) workers }
 {
     match crews(rt, alloc, listener, workers) {
-        Ok(crews) => serve(rt, alloc, words, users, disk, crews, out).status,
+        Ok(crews) => serve(rt, alloc, words, users, disk, crews, out).close(),
         Err(_) => NO_MEMORY,
     }
 }

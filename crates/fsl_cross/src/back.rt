@@ -38,6 +38,11 @@ impl Model for Back {
     ghost invariant = { λ b. IsBack b.what b.name b.undos b.before.value b.after.value };
 }
 
+impl Back {
+    /// Lets go what would take the change back: the change stays.
+    pub fn settle(self) {}
+}
+
 /// Takes changes of the tables of parentage, tags and leaves back. Takes no memory.
 fn take_history_back(history: &mut History, undos: HistoryUndos)
     requires { CanHistoryGoBack undos history.old }

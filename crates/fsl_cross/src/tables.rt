@@ -303,6 +303,9 @@ impl Tables {
     {
         checkin::branch(&self.derived.history.tags, name)
     }
+
+    /// Lets the tables go. They have so many parts that a crate which lets them go by itself proves some sixty functions for it.
+    pub fn close(self) {}
 }
 
 /// Copies of some texts. `Memory` is the only error.

@@ -155,8 +155,7 @@ impl<D: Disk> Repo<D> {
             self.tables.undo(back);
             return Err(ArriveFault::Memory);
         }
-        // By a call: what takes a change back has many parts.
-        drop(back);
+        back.settle();
         self.blobs.announced_are_new();
         Ok(Arrival::Published)
     }
@@ -209,8 +208,7 @@ impl<D: Disk> Repo<D> {
             self.tables.undo(back);
             return Err(ArriveFault::Memory);
         }
-        // By a call: what takes a change back has many parts.
-        drop(back);
+        back.settle();
         self.blobs.announced_are_new();
         let _ = self.journal.count();
         self.stored += 1;

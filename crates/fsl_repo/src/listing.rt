@@ -71,8 +71,6 @@ impl<D: Disk> Repo<D> {
 }
 
 /// Adds a record to the journal and to what its records leave, and exchanges the tables for others; or does none of it.
-///
-/// Tables are let go by a call: there is so much of them that it would fill each place that does so itself.
 fn exchange(
     journal: &mut Journal,
     blobs: &mut Blobs,
@@ -94,11 +92,11 @@ fn exchange(
 {
     match keep(journal, blobs, entry) {
         Ok(()) => {
-            drop(replace(tables, next));
+            replace(tables, next).close();
             Ok(())
         }
         Err(Memory) => {
-            drop(next);
+            next.close();
             Err(Memory)
         }
     }

@@ -65,7 +65,7 @@ impl<D: Disk> Repo<D> {
         } = self;
         drop(journal);
         drop(blobs);
-        drop(tables);
+        tables.close();
         disk
     }
 }

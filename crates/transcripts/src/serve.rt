@@ -8,8 +8,7 @@ use crate::line::Part;
 use crate::staffing::is_for_one;
 use crate::stop::Trouble;
 use crate::takings::Takings;
-use fossil::{Served, State, serve};
-use fsl_disk::{FuseDisk, MemoryDisk};
+use fossil::{Served, serve};
 use fsl_outside::{MemoryDoor, MemorySink, MemorySource, NoGate};
 use fsl_serve::Crew;
 use fsl_text::Text;
@@ -122,7 +121,7 @@ impl Serve {
             state,
             crews,
         } = serve(rt, alloc, words, &mut users, disk, crews, out);
-        let disk = disk_of(state);
+        let disk = state.into_disk().inner();
         if is_there {
             files.put(name, disk)?;
         }
@@ -166,13 +165,5 @@ impl Serve {
         let link = self.faults.link.to_vec(alloc)?;
         let accept = self.faults.accept.to_vec(alloc)?;
         Ok(MemoryDoor::new(alloc, connections, link, accept))
-    }
-}
-
-/// The disk that a server leaves.
-fn disk_of(state: State<FuseDisk<MemoryDisk>>) -> MemoryDisk {
-    match state {
-        State::Loaded(repo) => repo.close().inner(),
-        State::Unloaded(disk) => disk.inner(),
     }
 }

@@ -45,8 +45,7 @@ fn add_new<L: Ledger>(
         artifact,
     };
     let back = tables.add(alloc, item, steps)?;
-    // By a call: what takes a change back has many parts.
-    drop(back);
+    back.settle();
     notes.insert(name, note)?;
     Ok(())
 }
@@ -117,8 +116,7 @@ pub fn generate(alloc: Global, count: u64, reversed: bool) -> Result<Answer, Mem
     let fields = List::new(alloc);
     let mut tables = Tables::new(alloc, &fields)?;
     let summed = summed(alloc, texts, &mut tables);
-    // By a call: tables have many parts.
-    drop(tables);
+    tables.close();
     match summed {
         Ok(text) => Ok(Answer { status: DONE, text }),
         Err(Memory) => Err(Memory),

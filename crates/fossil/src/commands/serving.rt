@@ -5,7 +5,7 @@ ghost use Rattle.fossil.specs.Acts.{output_of};
 ghost use Rattle.fossil.specs.Served.{AreStaffed, IsWrittenAs, serving_of, serving_in, not_loaded};
 ghost use Rattle.fossil.specs.Serving.{printed, IsDue, IsAsked, IsUnasked};
 ghost use Rattle.fossil.specs.RunCall.{texts};
-ghost use Rattle.fossil.specs.ServeCall.{IsServe, IsFileServed, IsDiskServed, IsLoadedServed};
+ghost use Rattle.fossil.specs.ServeCall.{disk_left, IsServe, IsFileServed, IsDiskServed, IsLoadedServed};
 
 use crate::answers::answer::not_repository;
 use crate::answers::due::{Due, answered, print_due};
@@ -35,6 +35,35 @@ pub struct Served<D: Disk, A, G> {
     pub status: u8,
     pub state: State<D>,
     pub crews: Vec<Crew<A, G>>,
+}
+
+impl<D: Disk + Drop, A: Drop, G: Drop> Served<D, A, G> {
+    /// Lets the repository and the crews go, and gives the status. A repository has so many parts that a crate which lets one go by
+    /// itself proves some fifty functions for it.
+    pub fn close(self) -> u8
+        ensures { result ≡ self.status }
+    {
+        let Served {
+            status,
+            state,
+            crews,
+        } = self;
+        drop(crews);
+        drop(state.into_disk());
+        status
+    }
+}
+
+impl<D: Disk> State<D> {
+    /// The disk of the repository, which is closed, or the one that wasn't loaded.
+    pub fn into_disk(self) -> D
+        ensures { result ≡ disk_left self }
+    {
+        match self {
+            State::Loaded(repo) => repo.close(),
+            State::Unloaded(disk) => disk,
+        }
+    }
 }
 
 /// How many connections each worker is to take, where the command is a serve.
