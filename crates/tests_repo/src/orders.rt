@@ -156,7 +156,7 @@ fn are_taken(alloc: Global, repo: &mut Repo<MemoryDisk>, play: &Play, number: u6
     good & (play.shunned.is_some() | (repo.stored() == play.set.len() as u64))
 }
 
-/// What a repository shows behind a play in the order of this number; what is like nothing where a step wasn't taken, or where
+/// What a repository shows behind a play in the order of this number; what is like no other where a step wasn't taken, or where
 /// it shows something else when it is loaded anew.
 fn played(alloc: Global, play: &Play, number: u64) -> Shown {
     match opened(alloc, CONFIGURED) {
