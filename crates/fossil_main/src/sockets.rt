@@ -37,7 +37,7 @@ pub fn serve_at<
     requires { AreStaffed (map string_bytes words.now) workers }
 {
     match crews(rt, alloc, listener, workers) {
-        Ok(crews) => serve(rt, alloc, words, users, disk, crews, out).close(),
+        Ok(crews) => serve(rt, alloc, words, users, disk, crews, out).close().0,
         Err(_) => NO_MEMORY,
     }
 }

@@ -37,11 +37,12 @@ pub struct Served<D: Disk, A, G> {
     pub crews: Vec<Crew<A, G>>,
 }
 
-impl<D: Disk + Drop, A: Drop, G: Drop> Served<D, A, G> {
-    /// Lets the repository and the crews go, and gives the status. A repository has so many parts that a crate which lets one go by
-    /// itself proves some fifty functions for it.
-    pub fn close(self) -> u8
-        ensures { result ≡ self.status }
+impl<D: Disk, A: Drop, G: Drop> Served<D, A, G> {
+    /// Closes the repository and lets the crews go, and gives the status and the disk. A repository has so many parts that a crate
+    /// which lets one go by itself proves some fifty functions for it.
+    pub fn close(self) -> (u8, D)
+        ensures status { result.0 ≡ self.status }
+        ensures disk { result.1 ≡ disk_left self.state }
     {
         let Served {
             status,
@@ -49,8 +50,7 @@ impl<D: Disk + Drop, A: Drop, G: Drop> Served<D, A, G> {
             crews,
         } = self;
         drop(crews);
-        drop(state.into_disk());
-        status
+        (status, state.into_disk())
     }
 }
 
