@@ -37,6 +37,7 @@ use Rattle.fsl_blobs.proofs.Totals.{bytes_more}
 use Rattle.fsl_cluster.specs.declared.Fact.{Fact}
 use Rattle.fsl_cluster.specs.Clusters.{names, missing, unclustered, wants}
 use Rattle.fsl_cross.specs.declared.Item.{Item}
+use Rattle.fsl_cross.specs.Facts.{cluster_fact}
 use Rattle.fsl_cross.specs.Tables.{with_item}
 use Rattle.fsl_repo.specs.declared.Arrival.{Arrival}
 use Rattle.fsl_repo.specs.declared.Arrival.TheVariants as arrival
@@ -353,6 +354,12 @@ printed_set g entries facts printed (Ok text) held each same told =
 pub are_references : (bytes : List ℕ) (a : Artifact) (r : Result (List (List ℕ)) Memory) → IsKind bytes a → IfOk r (λ names. names ≡ references a) → IfOk r (AreReferences bytes)
 are_references bytes a (Ok names) is told = (a, is, told)
 are_references bytes a (Err fault) is told = tt
+
+-- the fact of a held artifact is that of what its bytes are
+pub is_fact_of : (held : Holding) (a : Artifact) (r : Result Fact Memory) → IsKind held.bytes.now a
+    → IfOk r (λ fact. fact ≡ cluster_fact (record { name = held.name; private = held.private; artifact = a })) → IfOk r (IsFactOf (held_as held))
+is_fact_of held a (Ok fact) is told = (record { name = held.name; private = held.private; artifact = a }, record { name = refl; private = refl; kind = is }, told)
+is_fact_of held a (Err fault) is told = tt
 
 -- a name is held where it has bytes
 pub is_held : {B : Type 0} (f : B → List ℕ) (o : Option B) (held : HeldSet) (name : List ℕ) → option_map f o ≡ option_map (λ a. a.bytes) (map_of.get held name) → map_of.contains_key held name ≡ is_some o

@@ -63,7 +63,10 @@ fn references(alloc: Global, bytes: &[u8]) -> Result<List<Name>, Memory>
     ensures { IfOk result (AreReferences bytes.now) }
 {
     let artifact = read_artifact(alloc, bytes)?;
-    refs(alloc, &artifact)
+    let names = refs(alloc, &artifact);
+    // An artifact has so many parts that it is let go here, and not at each end of a function.
+    drop(artifact);
+    names
 }
 
 /// Adds a name, unless it is held.
@@ -221,8 +224,10 @@ fn fact_of(alloc: Global, held: &Holding) -> Result<Fact, Memory>
     ensures { IfOk result (IsFactOf (held_as held.now)) }
 {
     let artifact = read_artifact(alloc, held.bytes)?;
-    let fact = named_in(alloc, held.name, held.private, &artifact)?;
-    Ok(fact)
+    let fact = named_in(alloc, held.name, held.private, &artifact);
+    // As above: no function ends while it holds an artifact.
+    drop(artifact);
+    fact
 }
 
 /// The same of each.

@@ -1,9 +1,5 @@
-use Rattle.std.proofs.Common.{refl}
+use Rattle.fossil.proofs.GatherLemmas.{is_fact_of}
 use Rattle.fossil.proofs.reading.gathering.fact_of.Goals as goal
 
 pub returns : goal.returns
-returns c = (
-  record { name = c.args.held.now.name; private = c.args.held.now.private; artifact = c.in_ok-artifact.artifact },
-  record { name = refl; private = refl; kind = c.in_ok-artifact.ensures },
-  c.in_ok-fact.ensures,
-)
+returns c = is_fact_of c.args.held.now c.in_ok-artifact.artifact c.named_in-fact.result c.in_ok-artifact.ensures c.named_in-fact.ensures
