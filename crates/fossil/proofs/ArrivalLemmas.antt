@@ -18,7 +18,7 @@ use Rattle.fsl_repo.specs.Whole.{opened}
 use Rattle.fossil.specs.declared.reading.message.Sent.{Sent}
 use Rattle.fossil.specs.Printed.{Printed, name_line, too_large, wrong, full}
 use Rattle.fossil.specs.Arrivals.{Taken, none_taken, arrival_word, refusal_of, and_taken, Arrive}
-use Rattle.fossil.specs.Taking.{AreAllTaken}
+use Rattle.fossil.specs.Taking.{AreAllTaken, HasCome}
 use Rattle.fsl_repo.proofs.OneArrival.{one_arrival}
 use Rattle.fsl_repo.proofs.SomeArrival.{some_arrival}
 
@@ -69,6 +69,12 @@ never_stopped s name bytes private n runs is =
     let c = contents s.records in
     by_parts n (length bytes) (name_of bytes) (after c (record_of.Blob private name bytes)) private (nat_lt (2 ^ 24) (length bytes)) (bytes_eq (name_of bytes) name) (set.contains c.shunned name) (map_of.get c.held name)
     (Err (arrive_fault.Stopped n)) refl (subst (λ (o : Option ℕ). ArrivalBy o s.records name bytes private (Err (arrive_fault.Stopped n))) runs is)
+
+-- of a repository that runs, no fault is that of one that is stopped
+pub not_stopped : (s new : State) (f : Sent) (fault : ArriveFault) → s.stopped ≡ None → ArriveStep s f.name f.bytes f.private (Err fault) new → (n : ℕ) → fault ≡ arrive_fault.Stopped n → ⊥
+not_stopped s new f fault runs step n same =
+    let stopped : ArriveStep s f.name f.bytes f.private (Err (arrive_fault.Stopped n)) new = subst (λ (x : ArriveFault). ArriveStep s f.name f.bytes f.private (Err x) new) same step in
+    never_stopped s f.name f.bytes f.private n runs (is_arrival s new f.name f.bytes f.private (Err (arrive_fault.Stopped n)) stopped (λ e. cc)).0
 
 -- ---- two states that answer alike
 
@@ -150,7 +156,7 @@ before_all old all lines runs none = record {
 }
 
 module _ (old s new : State) (all left rest : List Sent) (lines : List ℕ) (f : Sent) (are : AreTaken old all left s lines) (split : left ≡ f ∷ rest) where
-  pub taken_more : (a : Arrival) (next : List ℕ) → ArriveStep s f.name f.bytes f.private (Ok a) new → next ≡ lines ++ name_line (arrival_word a) f.name → AreTaken old all rest new next
+  taken_more : (a : Arrival) (next : List ℕ) → ArriveStep s f.name f.bytes f.private (Ok a) new → next ≡ lines ++ name_line (arrival_word a) f.name → AreTaken old all rest new next
   taken_more a next step grown =
       let is = is_arrival s new f.name f.bytes f.private (Ok a) step (λ e. cc) in
       let both = arrived_alike s are.taken.state f.name f.bytes f.private (Ok a) are.alike in
@@ -166,18 +172,19 @@ module _ (old s new : State) (all left rest : List Sent) (lines : List ℕ) (f :
         records = records ∙ more.1 ∙ ap (λ (rs : List Record). rs ++ more.0) are.records ∙ append_assoc old.records are.more more.0;
       }
 
-  module _ (fault : ArriveFault) (step : ArriveStep s f.name f.bytes f.private (Err fault) new) where
-    -- no fault is that of a repository that is stopped
-    pub not_stopped : (n : ℕ) → fault ≡ arrive_fault.Stopped n → ⊥
-    not_stopped n same =
-        let stopped : ArriveStep s f.name f.bytes f.private (Err (arrive_fault.Stopped n)) new = subst (λ (x : ArriveFault). ArriveStep s f.name f.bytes f.private (Err x) new) same step in
-        never_stopped s f.name f.bytes f.private n are.alike.runs (is_arrival s new f.name f.bytes f.private (Err (arrive_fault.Stopped n)) stopped (λ e. cc)).0
+  taken_refused : (fault : ArriveFault) (refusal : Printed) → ArriveStep s f.name f.bytes f.private (Err fault) new → refusal_of f.name (Err fault) ≡ Some refusal → Arrive (none_taken (opened old.records 0)) all (Err refusal)
+  taken_refused fault refusal step refuses =
+      let other : failed fault ≡ Err arrive_fault.Memory → ⊥ = (λ e. let same : refusal_of f.name (Err arrive_fault.Memory) ≡ Some refusal = subst (λ (r : Told). refusal_of f.name r ≡ Some refusal) e refuses in cc) in
+      refused_here (none_taken (opened old.records 0)) are.taken all left rest f fault refusal are.goes_on split
+      (arrives_alike s are.taken.state f.name f.bytes f.private (Err fault) are.alike (is_arrival s new f.name f.bytes f.private (Err fault) step other).0) refuses
 
-    pub taken_refused : (refusal : Printed) → refusal_of f.name (Err fault) ≡ Some refusal → Arrive (none_taken (opened old.records 0)) all (Err refusal)
-    taken_refused refusal refuses =
-        let other : failed fault ≡ Err arrive_fault.Memory → ⊥ = (λ e. let same : refusal_of f.name (Err arrive_fault.Memory) ≡ Some refusal = subst (λ (r : Told). refusal_of f.name r ≡ Some refusal) e refuses in cc) in
-        refused_here (none_taken (opened old.records 0)) are.taken all left rest f fault refusal are.goes_on split
-        (arrives_alike s are.taken.state f.name f.bytes f.private (Err fault) are.alike (is_arrival s new f.name f.bytes f.private (Err fault) step other).0) refuses
+  -- the file came to this: it is taken too, or it refuses all
+  module _ (next : List ℕ) (r : Option Printed) (come : HasCome f (s, new) (lines, next) r) where
+    pub one_taken : r ≡ None → AreTaken old all rest new next
+    one_taken none = let h : HasCome f (s, new) (lines, next) None = subst (HasCome f (s, new) (lines, next)) none come in taken_more h.0 next h.1 h.2
+
+    pub one_refused : (refusal : Printed) → r ≡ Some refusal → Arrive (none_taken (opened old.records 0)) all (Err refusal)
+    one_refused refusal some = let h : HasCome f (s, new) (lines, next) (Some refusal) = subst (HasCome f (s, new) (lines, next)) some come in taken_refused h.0 refusal h.1 h.2
 
 pub all_taken : (old s : State) (all left : List Sent) (lines : List ℕ) → AreTaken old all left s lines → left ≡ [] → AreAllTaken all old s lines
 all_taken old s all left lines are none = record {

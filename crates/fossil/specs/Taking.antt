@@ -20,7 +20,7 @@ use Rattle.fsl_cross.specs.Facts.{cluster_fact}
 use Rattle.fsl_repo.specs.declared.Arrival.{Arrival}
 use Rattle.fsl_repo.specs.declared.ArriveFault.{ArriveFault}
 use Rattle.fsl_repo.specs.declared.ArriveFault.TheVariants as arrive_fault
-use Rattle.fsl_repo.specs.Machine.{State, now, AreItems, IsItemOf, IsArrival, arrived}
+use Rattle.fsl_repo.specs.Machine.{State, now, AreItems, IsItemOf, IsArrival, ArriveStep, arrived}
 use Rattle.fsl_repo.specs.Whole.{Whole, opened}
 use Rattle.fsl_words.specs.declared.Command.TheVariants as command_of
 use Rattle.fossil.specs.declared.answers.fault.Fault.{Fault}
@@ -32,7 +32,7 @@ use Rattle.fossil.specs.declared.reading.arrivals.Arrivals.TheVariants as came
 use Rattle.fossil.specs.declared.reading.gathering.Gathered.{Gathered}
 use Rattle.fossil.specs.Messages.{IsMessageRefused, IsFileList}
 use Rattle.fossil.specs.Printed.{Printed, name_line}
-use Rattle.fossil.specs.Arrivals.{Taken, none_taken, Arrive}
+use Rattle.fossil.specs.Arrivals.{Taken, none_taken, arrival_word, refusal_of, Arrive}
 use Rattle.fossil.specs.Ingest.{fresh}
 use Rattle.fossil.specs.Acts.{input_of, loaded_of, IsInput, IsOpened, Acts}
 use Rattle.fossil.specs.RunCall.{states}
@@ -52,6 +52,11 @@ pub record AreAllTaken (files : List Sent) (old new : State) (lines : List ℕ) 
   pub records : new.records ≡ old.records ++ drop (length old.records) taken.state.records
   pub committed : new.committed ≡ old.committed
   pub runs : new.stopped ≡ None
+
+-- what a file came to that arrived in a repository: its line comes behind those of the files before it, or else it is refused
+abbrev pub HasCome : Sent → State × State → List ℕ × List ℕ → Option Printed → Type 0
+HasCome f repo lines None = (a : Arrival) × ArriveStep repo.0 f.name f.bytes f.private (Ok a) repo.1 × (lines.1 ≡ lines.0 ++ name_line (arrival_word a) f.name)
+HasCome f repo lines (Some refusal) = (fault : ArriveFault) × ArriveStep repo.0 f.name f.bytes f.private (Err fault) repo.1 × (refusal_of f.name (Err fault) ≡ Some refusal)
 
 -- what files came to that arrived in a repository
 abbrev pub HaveArrived : List Sent → State → State → Arrivals → Type 0

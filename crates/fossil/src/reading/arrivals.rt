@@ -1,7 +1,7 @@
 //! Files that arrive in a repository one after another, in memory alone.
 ghost use Rattle.std.specs.Prelude.{◌≡◌, ◌<◌, None, IfOk};
 ghost use Rattle.fossil.specs.Arrivals.{arrival_word};
-ghost use Rattle.fossil.specs.Taking.{HaveArrived};
+ghost use Rattle.fossil.specs.Taking.{HasCome, HaveArrived};
 
 use crate::answers::answer::{Answer, file_refusal};
 use crate::answers::ingest_report::add_line;
@@ -34,6 +34,35 @@ fn word(arrival: Arrival) -> &'static [u8]
     }
 }
 
+/// One file arrives, and its line is put at the end, or else it is refused.
+fn arrive_one<D: Disk, L: Ledger>(
+    alloc: Global,
+    file: Sent,
+    repo: &mut Repo<D>,
+    text: &mut Text,
+    steps: &mut Steps<L>,
+) -> Result<Option<Answer>, Memory>
+    requires runs { repo.old.seen.state.stopped ≡ None }
+    ensures come { IfOk result (HasCome file (repo.old.seen.state, repo.new.seen.state) (text.old, text.new)) }
+    ensures disk { repo.new.disk ≡ repo.old.disk }
+{
+    let Sent {
+        name,
+        bytes,
+        private,
+    } = file;
+    let came = repo.arrive(name, bytes.bytes(), private, steps);
+    // The bytes are let go before there are several ends.
+    drop(bytes);
+    match came {
+        Ok(arrival) => {
+            add_line(text, word(arrival), &name)?;
+            Ok(None)
+        }
+        Err(fault) => Ok(Some(file_refusal(alloc, name, fault)?)),
+    }
+}
+
 /// The arrivals, with a counter of their own.
 fn arrive_counted<D: Disk, L: Ledger>(
     alloc: Global,
@@ -51,9 +80,8 @@ fn arrive_counted<D: Disk, L: Ledger>(
     let mut steps: Steps<L> = Steps::new(blank);
     let mut text = Text::empty(alloc);
     for file in files.into_vec() {
-        match repo.arrive(file.name, file.bytes.bytes(), file.private, &mut steps) {
-            Ok(arrival) => add_line(&mut text, word(arrival), &file.name)?,
-            Err(fault) => return Ok(Arrivals::Refused(file_refusal(alloc, file.name, fault)?)),
+        if let Some(refused) = arrive_one(alloc, file, repo, &mut text, &mut steps)? {
+            return Ok(Arrivals::Refused(refused));
         }
     }
     Ok(Arrivals::Taken(text))
