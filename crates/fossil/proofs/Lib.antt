@@ -23,6 +23,7 @@ pub mod WordsLemmas
 pub mod QuestionLemmas
 pub mod AskedLemmas
 pub mod ServeLemmas
+pub mod FrontLemmas
 pub mod UsersLemmas
 pub mod TakenLemmas
 pub mod SoundLemmas
