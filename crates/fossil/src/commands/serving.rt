@@ -83,10 +83,15 @@ fn asked(alloc: Global, words: &[String]) -> Result<u64, Due>
     ensures none { IfErr result (IsUnasked (texts words.now)) }
 {
     match read(alloc, words) {
-        Ok(words) => match requests_of(&words.command) {
-            Some(requests) => Ok(requests),
-            None => Err(Due::Usage),
-        },
+        Ok(words) => {
+            let requests = requests_of(&words.command);
+            // A command has so many parts that it is let go before there are several ends.
+            drop(words);
+            match requests {
+                Some(requests) => Ok(requests),
+                None => Err(Due::Usage),
+            }
+        }
         Err(WordsFault::Usage) => Err(Due::Usage),
         Err(WordsFault::Memory) => Err(Due::Memory),
     }
