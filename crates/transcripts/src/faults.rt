@@ -3,7 +3,7 @@ use crate::stop::Trouble;
 use std::alloc::{AllocError, Global};
 
 /// What fails.
-#[derive(Clone, Copy, Debug, Drop)]
+#[derive(Clone, Copy, Drop)]
 pub enum Device {
     /// The connections: their reads and writes, over all of them, and of a dial the beginnings too.
     Link,
