@@ -1,19 +1,23 @@
 //! The maps of many facts at once.
-ghost use Rattle.std.specs.Prelude.{ℕ, List, ◌≡◌, ◌||◌, [], map, IfOk, OnOk, None, IsPermutation};
+ghost use Rattle.std.specs.Prelude.{ℕ, List, ◌≡◌, ◌||◌, ◌&&◌, [], map, is_some, IfOk, OnOk, None, IsPermutation};
 ghost use Rattle.std.specs.List.Sorted.{IsStrictlySortedBy};
 ghost use Rattle.std.specs.Map.{keys_of};
 ghost use Rattle.fsl_order.specs.Names.{bytes_cmp, has};
 ghost use Rattle.fsl_order.specs.Rows.{by_name, AreDistinct};
 ghost use Rattle.fsl_table.specs.Contents.{value_at, with_entry};
+ghost use Rattle.fsl_table.specs.Exact.{pair_cmp};
+ghost use Rattle.fsl_table.specs.Pairs.{is_name};
+ghost use Rattle.fsl_table.specs.declared.key.Pair as pair;
+ghost use Rattle.fsl_cluster.specs.Clusters as table;
 ghost use Rattle.fsl_cluster.specs.Kept.{AreLaid, IsKept, entry_of, facts_of, is_in};
 
 use crate::Fact;
-use crate::entry::Entry;
+use crate::entry::{Entry, entry_from};
 use crate::gather::{missing, unclustered};
 use crate::tables::Tables;
 use fsl_name::Name;
 use fsl_table::pairs::link_each;
-use fsl_table::{Log, Table};
+use fsl_table::{Log, Pair, Table};
 use fsl_text::{List, Memory, Steps};
 use std::alloc::Global;
 use std::sync::ledger::Ledger;
@@ -57,6 +61,38 @@ fn in_order(facts: List<Fact>) -> Vec<Fact>
     ordered
 }
 
+/// Puts the pairs of a name and of each of some others in. What would take them out again isn't wanted.
+fn lay_pairs<L: Ledger>(
+    alloc: Global,
+    pairs: &mut Table<Pair, ()>,
+    name: Name,
+    others: &[Name],
+    steps: &mut Steps<L>,
+) -> Result<(), Memory>
+    ensures pairs { OnOk result ((k : pair.Pair) → is_some (value_at pair_cmp k pairs.new.entries) ≡ (is_some (value_at pair_cmp k pairs.old.entries) || (is_name k.second name && has others.now k.first))) }
+    ensures ordered { OnOk result (IsStrictlySortedBy pair_cmp (keys_of pairs.old.entries) → IsStrictlySortedBy pair_cmp (keys_of pairs.new.entries)) }
+{
+    let mut log = Log::new(alloc);
+    let laid = link_each(pairs, &mut log, name, others, steps);
+    drop(log);
+    laid
+}
+
+/// Puts a fact in, without its pairs.
+fn lay_entry<L: Ledger>(
+    facts: &mut Table<Name, Entry>,
+    fact: Fact,
+    steps: &mut Steps<L>,
+) -> Result<(), Memory>
+    ensures entries { OnOk result (facts.new.entries ≡ with_entry bytes_cmp fact.name (entry_of fact) facts.old.entries) }
+{
+    let name = fact.name;
+    if facts.put(name, entry_from(fact), steps).is_err() {
+        return Err(Memory);
+    }
+    Ok(())
+}
+
 /// Puts a new fact and its pairs in.
 fn lay<L: Ledger>(
     alloc: Global,
@@ -71,71 +107,56 @@ fn lay<L: Ledger>(
     ensures unclustered { tables.new.unclustered ≡ tables.old.unclustered }
     ensures missing { tables.new.missing ≡ tables.old.missing }
 {
-    let Fact {
-        name,
-        private,
-        members,
-        refs,
-    } = fact;
-    link_each(
+    let name = fact.name;
+    lay_pairs(
+        alloc,
         &mut tables.members,
-        &mut Log::new(alloc),
         name,
-        members.items(),
+        fact.members.items(),
         steps,
     )?;
-    link_each(
-        &mut tables.refs,
-        &mut Log::new(alloc),
-        name,
-        refs.items(),
-        steps,
-    )?;
-    let entry = Entry {
-        private,
-        members,
-        refs,
-    };
-    match tables.facts.put(name, entry, steps) {
-        Ok(_) => Ok(()),
-        Err(_) => Err(Memory),
-    }
+    lay_pairs(alloc, &mut tables.refs, name, fact.refs.items(), steps)?;
+    lay_entry(&mut tables.facts, fact, steps)
 }
 
-/// The maps of the facts and of the pairs, beside empty sets.
+/// Puts some facts and their pairs in, beside the sets.
 fn lay_all<L: Ledger>(
     alloc: Global,
+    tables: &mut Tables,
     facts: Vec<Fact>,
     steps: &mut Steps<L>,
-) -> Result<Tables, Memory>
-    requires { AreDistinct (map (λ f. f.name) facts.items) }
-    ensures facts { IfOk result (λ t. facts_of t.facts.entries ≡ by_name (λ f. f.name) facts.items) }
-    ensures laid { IfOk result AreLaid }
-    ensures unclustered { IfOk result (λ t. t.unclustered.entries ≡ []) }
-    ensures missing { IfOk result (λ t. t.missing.entries ≡ []) }
+) -> Result<(), Memory>
+    requires distinct { AreDistinct (map (λ f. f.name) facts.items) }
+    requires none { tables.old.facts.entries ≡ [] }
+    requires laid { AreLaid tables.old }
+    ensures facts { OnOk result (facts_of tables.new.facts.entries ≡ by_name (λ f. f.name) facts.items) }
+    ensures laid { OnOk result (AreLaid tables.new) }
+    ensures unclustered { tables.new.unclustered ≡ tables.old.unclustered }
+    ensures missing { tables.new.missing ≡ tables.old.missing }
 {
-    let mut tables = Tables::new(alloc);
     let mut left = facts;
     while let Some(fact) = left.pop() {
-        lay(alloc, &mut tables, fact, steps)?;
+        lay(alloc, tables, fact, steps)?;
     }
-    Ok(tables)
+    Ok(())
 }
 
 /// The same, put in in the order of their names.
 fn lay_in_order<L: Ledger>(
     alloc: Global,
+    tables: &mut Tables,
     facts: List<Fact>,
     steps: &mut Steps<L>,
-) -> Result<Tables, Memory>
-    requires { AreDistinct (map (λ f. f.name) facts) }
-    ensures facts { IfOk result (λ t. facts_of t.facts.entries ≡ by_name (λ f. f.name) facts) }
-    ensures laid { IfOk result AreLaid }
-    ensures unclustered { IfOk result (λ t. t.unclustered.entries ≡ []) }
-    ensures missing { IfOk result (λ t. t.missing.entries ≡ []) }
+) -> Result<(), Memory>
+    requires distinct { AreDistinct (map (λ f. f.name) facts) }
+    requires none { tables.old.facts.entries ≡ [] }
+    requires laid { AreLaid tables.old }
+    ensures facts { OnOk result (facts_of tables.new.facts.entries ≡ by_name (λ f. f.name) facts) }
+    ensures laid { OnOk result (AreLaid tables.new) }
+    ensures unclustered { tables.new.unclustered ≡ tables.old.unclustered }
+    ensures missing { tables.new.missing ≡ tables.old.missing }
 {
-    let ordered = in_order(facts);
-    lay_all(alloc, ordered, steps)
+    lay_all(alloc, tables, in_order(facts), steps)
 }
 
 /// Puts a name in.
@@ -169,6 +190,57 @@ fn enter_all<L: Ledger>(
     Ok(())
 }
 
+/// Puts the names that some facts leave unclustered in.
+fn enter_unclustered<L: Ledger>(
+    alloc: Global,
+    set: &mut Table<Name, ()>,
+    facts: &[Fact],
+    steps: &mut Steps<L>,
+) -> Result<(), Memory>
+    requires { set.old.entries ≡ [] }
+    ensures names { OnOk result ((q : List ℕ) → is_in set.new.entries q ≡ has (table.unclustered facts.now) q) }
+    ensures ordered { OnOk result (IsStrictlySortedBy bytes_cmp (keys_of set.new.entries)) }
+{
+    let names = unclustered(alloc, facts)?;
+    enter_all(set, names.items(), steps)
+}
+
+/// Puts the names that some facts leave missing in.
+fn enter_missing<L: Ledger>(
+    alloc: Global,
+    set: &mut Table<Name, ()>,
+    facts: &[Fact],
+    steps: &mut Steps<L>,
+) -> Result<(), Memory>
+    requires { set.old.entries ≡ [] }
+    ensures names { OnOk result ((q : List ℕ) → is_in set.new.entries q ≡ has (table.missing facts.now) q) }
+    ensures ordered { OnOk result (IsStrictlySortedBy bytes_cmp (keys_of set.new.entries)) }
+{
+    let names = missing(alloc, facts)?;
+    enter_all(set, names.items(), steps)
+}
+
+/// Fills empty maps with some facts. The maps stay with the caller, whether or not there is memory for all.
+fn fill<L: Ledger>(
+    alloc: Global,
+    tables: &mut Tables,
+    facts: List<Fact>,
+    steps: &mut Steps<L>,
+) -> Result<(), Memory>
+    requires distinct { AreDistinct (map (λ f. f.name) facts) }
+    requires facts { tables.old.facts.entries ≡ [] }
+    requires members { tables.old.members.entries ≡ [] }
+    requires refs { tables.old.refs.entries ≡ [] }
+    requires unclustered { tables.old.unclustered.entries ≡ [] }
+    requires missing { tables.old.missing.entries ≡ [] }
+    ensures facts { OnOk result (facts_of tables.new.facts.entries ≡ by_name (λ f. f.name) facts) }
+    ensures kept { OnOk result (IsKept tables.new) }
+{
+    enter_unclustered(alloc, &mut tables.unclustered, facts.items(), steps)?;
+    enter_missing(alloc, &mut tables.missing, facts.items(), steps)?;
+    lay_in_order(alloc, tables, facts, steps)
+}
+
 /// The maps of some facts, of which no two have one name. They are moved.
 pub(crate) fn tables_of<L: Ledger>(
     alloc: Global,
@@ -179,10 +251,9 @@ pub(crate) fn tables_of<L: Ledger>(
     ensures facts { IfOk result (λ t. facts_of t.facts.entries ≡ by_name (λ f. f.name) facts) }
     ensures kept { IfOk result IsKept }
 {
-    let unclustered = unclustered(alloc, facts.items())?;
-    let missing = missing(alloc, facts.items())?;
-    let mut tables = lay_in_order(alloc, facts, steps)?;
-    enter_all(&mut tables.unclustered, unclustered.items(), steps)?;
-    enter_all(&mut tables.missing, missing.items(), steps)?;
-    Ok(tables)
+    let mut tables = Tables::new(alloc);
+    match fill(alloc, &mut tables, facts, steps) {
+        Ok(()) => Ok(tables),
+        Err(_) => Err(Memory),
+    }
 }

@@ -1,4 +1,8 @@
 //! What is kept of a held artifact beside its name.
+ghost use Rattle.std.specs.Prelude.{◌≡◌};
+ghost use Rattle.fsl_cluster.specs.Kept.{entry_of};
+
+use crate::Fact;
 use fsl_name::Name;
 use fsl_text::List;
 
@@ -8,4 +12,21 @@ pub struct Entry {
     pub private: bool,
     pub members: List<Name>,
     pub refs: List<Name>,
+}
+
+/// What is kept of a fact.
+pub(crate) fn entry_from(fact: Fact) -> Entry
+    ensures { result ≡ entry_of fact }
+{
+    let Fact {
+        name: _,
+        private,
+        members,
+        refs,
+    } = fact;
+    Entry {
+        private,
+        members,
+        refs,
+    }
 }

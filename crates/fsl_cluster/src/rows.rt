@@ -16,10 +16,9 @@ ghost use Rattle.fsl_cluster.specs.Kept.{AreFlipped, AreTurned, AreUndone, IsKep
 ghost use Rattle.fsl_cluster.specs.Clusters.{clusters_row};
 
 use crate::Fact;
-use crate::entry::Entry;
+use crate::entry::{Entry, entry_from};
 use crate::sets::{
-    enter_wanted, flip_wanted, is_first, put_freed, put_unheld, put_wanted, take_name, take_names,
-    take_unnamed,
+    enter_wanted, flip_wanted, is_first, put_missing, put_unclustered, take_missing, take_names,
 };
 use crate::tables::{Flips, Logs, Tables};
 use fsl_name::Name;
@@ -90,55 +89,116 @@ fn is_unclustered<L: Ledger>(
     !is_first(members, name, steps)
 }
 
+/// Puts the pairs of a new fact in. After `Memory` a part may be done; the logs have it.
+fn link_both<L: Ledger>(
+    members: &mut Table<Pair, ()>,
+    members_log: &mut Log<Pair, ()>,
+    refs: &mut Table<Pair, ()>,
+    refs_log: &mut Log<Pair, ()>,
+    fact: &Fact,
+    steps: &mut Steps<L>,
+) -> Result<(), Memory>
+    requires members_ordered { IsStrictlySortedBy pair_cmp (keys_of members.old.entries) }
+    requires refs_ordered { IsStrictlySortedBy pair_cmp (keys_of refs.old.entries) }
+    ensures members { OnOk result ((k : pair.Pair) → is_some (value_at pair_cmp k members.new.entries) ≡ (is_some (value_at pair_cmp k members.old.entries) || (is_name k.second fact.now.name && has fact.now.members k.first))) }
+    ensures refs { OnOk result ((k : pair.Pair) → is_some (value_at pair_cmp k refs.new.entries) ≡ (is_some (value_at pair_cmp k refs.old.entries) || (is_name k.second fact.now.name && has fact.now.refs k.first))) }
+    ensures members_ordered { OnOk result (IsStrictlySortedBy pair_cmp (keys_of members.new.entries)) }
+    ensures refs_ordered { OnOk result (IsStrictlySortedBy pair_cmp (keys_of refs.new.entries)) }
+    ensures undoes_members { (before : Contents pair.Pair Unit) → Undoes pair_cmp members_log.old members.old before → Undoes pair_cmp members_log.new members.new before }
+    ensures undoes_refs { (before : Contents pair.Pair Unit) → Undoes pair_cmp refs_log.old refs.old before → Undoes pair_cmp refs_log.new refs.new before }
+    ensures cost { steps.new ≤ steps.old + (length fact.now.members + length fact.now.refs) }
+    ensures logged { length members_log.new + length refs_log.new ≤ length members_log.old + length refs_log.old + (length fact.now.members + length fact.now.refs) }
+{
+    link_each(members, members_log, fact.name, fact.members.items(), steps)?;
+    link_each(refs, refs_log, fact.name, fact.refs.items(), steps)
+}
+
 /// Puts the names of a new fact into the pairs and into the sets. After `Memory` a part may be done; the logs have it.
 fn spread<L: Ledger>(
     tables: &mut Tables,
     logs: &mut Logs,
     flips: &mut Flips,
-    name: Name,
-    members: &[Name],
-    refs: &[Name],
+    fact: &Fact,
     steps: &mut Steps<L>,
 ) -> Result<(), Memory>
     requires kept { IsKept tables.old }
     ensures facts { tables.new.facts ≡ tables.old.facts }
     ensures facts_log { logs.new.facts ≡ logs.old.facts }
-    ensures members { OnOk result ((k : pair.Pair) → is_some (value_at pair_cmp k tables.new.members.entries) ≡ (is_some (value_at pair_cmp k tables.old.members.entries) || (is_name k.second name && has members.now k.first))) }
-    ensures refs { OnOk result ((k : pair.Pair) → is_some (value_at pair_cmp k tables.new.refs.entries) ≡ (is_some (value_at pair_cmp k tables.old.refs.entries) || (is_name k.second name && has refs.now k.first))) }
-    ensures unclustered { OnOk result ((q : List ℕ) → is_in tables.new.unclustered.entries q ≡ (is_in tables.old.unclustered.entries q && not (has members.now q))) }
-    ensures missing { OnOk result ((q : List ℕ) → is_in tables.new.missing.entries q ≡ ((is_in tables.old.missing.entries q || (has refs.now q && is_unheld tables.old.facts.entries name q)) && not (bytes_eq q name))) }
+    ensures members { OnOk result ((k : pair.Pair) → is_some (value_at pair_cmp k tables.new.members.entries) ≡ (is_some (value_at pair_cmp k tables.old.members.entries) || (is_name k.second fact.now.name && has fact.now.members k.first))) }
+    ensures refs { OnOk result ((k : pair.Pair) → is_some (value_at pair_cmp k tables.new.refs.entries) ≡ (is_some (value_at pair_cmp k tables.old.refs.entries) || (is_name k.second fact.now.name && has fact.now.refs k.first))) }
+    ensures unclustered { OnOk result ((q : List ℕ) → is_in tables.new.unclustered.entries q ≡ (is_in tables.old.unclustered.entries q && not (has fact.now.members q))) }
+    ensures missing { OnOk result ((q : List ℕ) → is_in tables.new.missing.entries q ≡ ((is_in tables.old.missing.entries q || (has fact.now.refs q && is_unheld tables.old.facts.entries fact.now.name q)) && not (bytes_eq q fact.now.name))) }
     ensures flips { OnOk result ((before : maps.Tables) → AreFlipped before flips.old tables.old → AreFlipped before flips.new tables.new) }
     ensures members_ordered { OnOk result (IsStrictlySortedBy pair_cmp (keys_of tables.new.members.entries)) }
     ensures refs_ordered { OnOk result (IsStrictlySortedBy pair_cmp (keys_of tables.new.refs.entries)) }
     ensures unclustered_ordered { OnOk result (IsStrictlySortedBy bytes_cmp (keys_of tables.new.unclustered.entries)) }
     ensures missing_ordered { OnOk result (IsStrictlySortedBy bytes_cmp (keys_of tables.new.missing.entries)) }
     ensures undoes { (before : maps.Tables) → AreUndone logs.old tables.old before → AreUndone logs.new tables.new before }
-    ensures cost { steps.new ≤ steps.old + (1 + 2 * length members.now + 3 * length refs.now) }
-    ensures logged { logged logs.new ≤ logged logs.old + (1 + 2 * length members.now + 2 * length refs.now) }
+    ensures cost { steps.new ≤ steps.old + (1 + 2 * length fact.now.members + 3 * length fact.now.refs) }
+    ensures logged { logged logs.new ≤ logged logs.old + (1 + 2 * length fact.now.members + 2 * length fact.now.refs) }
 {
-    link_each(&mut tables.members, &mut logs.members, name, members, steps)?;
-    link_each(&mut tables.refs, &mut logs.refs, name, refs, steps)?;
+    link_both(
+        &mut tables.members,
+        &mut logs.members,
+        &mut tables.refs,
+        &mut logs.refs,
+        fact,
+        steps,
+    )?;
     take_names(
         &mut tables.unclustered,
         &mut logs.unclustered,
         &mut flips.unclustered,
-        members,
+        fact.members.items(),
         steps,
     )?;
-    put_unheld(
+    put_missing(
         &tables.facts,
         &mut tables.missing,
         &mut logs.missing,
         &mut flips.missing,
-        name,
-        refs,
+        fact.name,
+        fact.refs.items(),
         steps,
-    )?;
-    take_name(
-        &mut tables.missing,
-        &mut logs.missing,
-        &mut flips.missing,
+    )
+}
+
+/// Puts what is kept of a fact in, and makes its name unclustered, where it is wanted there and isn't, and tells all names that were
+/// turned over. After `Memory` a part may be done; the logs have it.
+fn enter_fact<L: Ledger>(
+    alloc: Global,
+    tables: &mut Tables,
+    logs: &mut Logs,
+    flips: &mut Flips,
+    fact: Fact,
+    wanted: bool,
+    steps: &mut Steps<L>,
+) -> Result<List<Name>, Memory>
+    requires ordered { IsStrictlySortedBy bytes_cmp (keys_of tables.old.unclustered.entries) }
+    requires absent { is_in tables.old.unclustered.entries fact.name ≡ false }
+    ensures entries { OnOk result (tables.new.facts.entries ≡ with_entry bytes_cmp fact.name (entry_of fact) tables.old.facts.entries) }
+    ensures names { OnOk result ((q : List ℕ) → is_in tables.new.unclustered.entries q ≡ (is_in tables.old.unclustered.entries q || (bytes_eq q fact.name && wanted))) }
+    ensures unclustered_ordered { OnOk result (IsStrictlySortedBy bytes_cmp (keys_of tables.new.unclustered.entries)) }
+    ensures members { tables.new.members ≡ tables.old.members }
+    ensures refs { tables.new.refs ≡ tables.old.refs }
+    ensures missing { tables.new.missing ≡ tables.old.missing }
+    ensures flips { OnOk result ((before : maps.Tables) → AreFlipped before flips.old tables.old → AreFlipped before flips.new tables.new) }
+    ensures list { IfOk result (λ list. (q : List ℕ) → has list q ≡ (has flips.new.missing.keys q || has flips.new.unclustered.keys q)) }
+    ensures rising { IfOk result (λ list. IsStrictlySortedBy bytes_cmp list) }
+    ensures undoes { (before : maps.Tables) → AreUndone logs.old tables.old before → AreUndone logs.new tables.new before }
+    ensures cost { steps.new ≤ steps.old + 2 }
+    ensures logged { OnErr result (logged logs.new ≤ logged logs.old + 1) }
+{
+    let name = fact.name;
+    let entry = entry_from(fact);
+    log::put(&mut tables.facts, &mut logs.facts, name, name, entry, steps)?;
+    enter_last(
+        alloc,
+        &mut tables.unclustered,
+        &mut logs.unclustered,
+        flips,
         name,
+        wanted,
         steps,
     )
 }
@@ -164,37 +224,32 @@ fn put_fact<L: Ledger>(
     ensures cost { steps.new ≤ steps.old + (4 + 2 * length fact.members + 3 * length fact.refs) }
     ensures logged { OnErr result (logged logs.new ≤ logged logs.old + (2 + 2 * length fact.members + 2 * length fact.refs)) }
 {
-    let Fact {
-        name,
-        private,
-        members,
-        refs,
-    } = fact;
-    spread(
-        tables,
-        logs,
-        flips,
-        name,
-        members.items(),
-        refs.items(),
-        steps,
-    )?;
-    let free = is_unclustered(private, &tables.members, name, steps);
-    let entry = Entry {
-        private,
-        members,
-        refs,
-    };
-    log::put(&mut tables.facts, &mut logs.facts, name, name, entry, steps)?;
-    enter_last(
-        alloc,
-        &mut tables.unclustered,
-        &mut logs.unclustered,
-        flips,
-        name,
-        free,
-        steps,
-    )
+    spread(tables, logs, flips, &fact, steps)?;
+    let free = is_unclustered(fact.private, &tables.members, fact.name, steps);
+    enter_fact(alloc, tables, logs, flips, fact, free, steps)
+}
+
+/// Takes the pairs of a fact out. After `Memory` a part may be done; the logs have it.
+fn unlink_both<L: Ledger>(
+    members: &mut Table<Pair, ()>,
+    members_log: &mut Log<Pair, ()>,
+    refs: &mut Table<Pair, ()>,
+    refs_log: &mut Log<Pair, ()>,
+    name: Name,
+    entry: &Entry,
+    steps: &mut Steps<L>,
+) -> Result<(), Memory>
+    requires members_ordered { IsStrictlySortedBy pair_cmp (keys_of members.old.entries) }
+    requires refs_ordered { IsStrictlySortedBy pair_cmp (keys_of refs.old.entries) }
+    ensures members { OnOk result ((k : pair.Pair) → is_some (value_at pair_cmp k members.new.entries) ≡ (not (is_name k.second name && has entry.now.members k.first) && is_some (value_at pair_cmp k members.old.entries))) }
+    ensures refs { OnOk result ((k : pair.Pair) → is_some (value_at pair_cmp k refs.new.entries) ≡ (not (is_name k.second name && has entry.now.refs k.first) && is_some (value_at pair_cmp k refs.old.entries))) }
+    ensures members_ordered { OnOk result (IsStrictlySortedBy pair_cmp (keys_of members.new.entries)) }
+    ensures refs_ordered { OnOk result (IsStrictlySortedBy pair_cmp (keys_of refs.new.entries)) }
+    ensures undoes_members { (before : Contents pair.Pair Unit) → Undoes pair_cmp members_log.old members.old before → Undoes pair_cmp members_log.new members.new before }
+    ensures undoes_refs { (before : Contents pair.Pair Unit) → Undoes pair_cmp refs_log.old refs.old before → Undoes pair_cmp refs_log.new refs.new before }
+{
+    unlink_each(members, members_log, name, entry.members.items(), steps)?;
+    unlink_each(refs, refs_log, name, entry.refs.items(), steps)
 }
 
 /// Takes the names of a fact that is there out of the pairs and of the sets. After `Memory` a part may be done; the logs have it.
@@ -230,42 +285,32 @@ fn gather<L: Ledger>(
     ensures undoes_unclustered { (before : Contents (List ℕ) Unit) → Undoes bytes_cmp logs.old.unclustered unclustered.old before → Undoes bytes_cmp logs.new.unclustered unclustered.new before }
     ensures undoes_missing { (before : Contents (List ℕ) Unit) → Undoes bytes_cmp logs.old.missing missing.old before → Undoes bytes_cmp logs.new.missing missing.new before }
 {
-    let old_members = entry.members.items();
-    let old_refs = entry.refs.items();
-    unlink_each(members, &mut logs.members, name, old_members, steps)?;
-    unlink_each(refs, &mut logs.refs, name, old_refs, steps)?;
-    put_freed(
+    unlink_both(
+        members,
+        &mut logs.members,
+        refs,
+        &mut logs.refs,
+        name,
+        entry,
+        steps,
+    )?;
+    put_unclustered(
         facts,
         members,
         unclustered,
         &mut logs.unclustered,
         &mut flips.unclustered,
         name,
-        old_members,
+        entry.members.items(),
         steps,
     )?;
-    take_name(
-        unclustered,
-        &mut logs.unclustered,
-        &mut flips.unclustered,
-        name,
-        steps,
-    )?;
-    take_unnamed(
+    take_missing(
         refs,
         missing,
         &mut logs.missing,
         &mut flips.missing,
-        old_refs,
-        steps,
-    )?;
-    let named = is_first(refs, name, steps);
-    put_wanted(
-        missing,
-        &mut logs.missing,
-        &mut flips.missing,
         name,
-        named,
+        entry.refs.items(),
         steps,
     )
 }
@@ -344,28 +389,8 @@ fn publish<L: Ledger>(
     ensures cost { steps.new ≤ steps.old + 3 }
     ensures logged { OnErr result (logged logs.new ≤ logged logs.old + 1) }
 {
-    let Fact {
-        name,
-        private,
-        members,
-        refs,
-    } = fact;
-    let named = is_first(&tables.members, name, steps);
-    let entry = Entry {
-        private,
-        members,
-        refs,
-    };
-    log::put(&mut tables.facts, &mut logs.facts, name, name, entry, steps)?;
-    enter_last(
-        alloc,
-        &mut tables.unclustered,
-        &mut logs.unclustered,
-        flips,
-        name,
-        !named,
-        steps,
-    )
+    let named = is_first(&tables.members, fact.name, steps);
+    enter_fact(alloc, tables, logs, flips, fact, !named, steps)
 }
 
 /// Puts a fact in the place of that of its name by taking the old one out, and tells all names that were turned over. After `Memory`

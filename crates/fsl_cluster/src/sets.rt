@@ -19,11 +19,7 @@ use std::collections::BTreeSet;
 use std::sync::ledger::Ledger;
 
 /// Whether a fact is there.
-pub(crate) fn is_there<L: Ledger>(
-    facts: &Table<Name, Entry>,
-    name: &Name,
-    steps: &mut Steps<L>,
-) -> bool
+fn is_there<L: Ledger>(facts: &Table<Name, Entry>, name: &Name, steps: &mut Steps<L>) -> bool
     ensures there { result ≡ is_some (value_at bytes_cmp name.now facts.now.entries) }
     ensures cost { steps.new ≡ steps.old + 1 }
 {
@@ -67,7 +63,7 @@ pub(crate) fn is_first<L: Ledger>(pairs: &Table<Pair, ()>, name: Name, steps: &m
 }
 
 /// Puts a name in, and turns it over where it wasn't there. After `Memory` the log has what was done.
-pub(crate) fn put_name<L: Ledger>(
+fn put_name<L: Ledger>(
     names: &mut Table<Name, ()>,
     log: &mut Log<Name, ()>,
     turned: &mut BTreeSet<Name>,
@@ -90,7 +86,7 @@ pub(crate) fn put_name<L: Ledger>(
 }
 
 /// Takes a name out, and turns it over where it was there. After `Memory` the log has what was done.
-pub(crate) fn take_name<L: Ledger>(
+fn take_name<L: Ledger>(
     names: &mut Table<Name, ()>,
     log: &mut Log<Name, ()>,
     turned: &mut BTreeSet<Name>,
@@ -113,7 +109,7 @@ pub(crate) fn take_name<L: Ledger>(
 }
 
 /// Puts a name in where it is wanted, and turns it over where it wasn't there.
-pub(crate) fn put_wanted<L: Ledger>(
+fn put_wanted<L: Ledger>(
     names: &mut Table<Name, ()>,
     log: &mut Log<Name, ()>,
     turned: &mut BTreeSet<Name>,
@@ -195,7 +191,7 @@ fn is_wanting<L: Ledger>(
 }
 
 /// Puts those of some names in that are neither a given one nor held. After `Memory` some may be in; the log has them.
-pub(crate) fn put_unheld<L: Ledger>(
+fn put_unheld<L: Ledger>(
     facts: &Table<Name, Entry>,
     names: &mut Table<Name, ()>,
     log: &mut Log<Name, ()>,
@@ -219,6 +215,28 @@ pub(crate) fn put_unheld<L: Ledger>(
     Ok(())
 }
 
+/// Puts those of some names in that are neither this one nor held, and then takes this one out.
+pub(crate) fn put_missing<L: Ledger>(
+    facts: &Table<Name, Entry>,
+    names: &mut Table<Name, ()>,
+    log: &mut Log<Name, ()>,
+    turned: &mut BTreeSet<Name>,
+    name: Name,
+    some: &[Name],
+    steps: &mut Steps<L>,
+) -> Result<(), Memory>
+    requires { IsStrictlySortedBy bytes_cmp (keys_of names.old.entries) }
+    ensures names { OnOk result ((q : List ℕ) → is_in names.new.entries q ≡ ((is_in names.old.entries q || (has some.now q && is_unheld facts.now.entries name q)) && not (bytes_eq q name))) }
+    ensures turned { OnOk result ((before : List ℕ → Bool) → AreTurned before turned.old.keys names.old.entries → AreTurned before turned.new.keys names.new.entries) }
+    ensures ordered { OnOk result (IsStrictlySortedBy bytes_cmp (keys_of names.new.entries)) }
+    ensures undoes { (before : Contents (List ℕ) Unit) → Undoes bytes_cmp log.old names.old before → Undoes bytes_cmp log.new names.new before }
+    ensures most { steps.new ≤ steps.old + (1 + 2 * length some.now) }
+    ensures logged { length log.new ≤ length log.old + (1 + length some.now) }
+{
+    put_unheld(facts, names, log, turned, name, some, steps)?;
+    take_name(names, log, turned, name, steps)
+}
+
 /// Whether another name than a given one is that of a public fact, and first in no pair.
 fn is_left<L: Ledger>(
     facts: &Table<Name, Entry>,
@@ -240,7 +258,7 @@ fn is_left<L: Ledger>(
 }
 
 /// Puts those of some names in that are left of public facts and first in no pair. After `Memory` some may be in; the log has them.
-pub(crate) fn put_freed<L: Ledger>(
+fn put_freed<L: Ledger>(
     facts: &Table<Name, Entry>,
     pairs: &Table<Pair, ()>,
     names: &mut Table<Name, ()>,
@@ -265,7 +283,7 @@ pub(crate) fn put_freed<L: Ledger>(
 }
 
 /// Takes those of some names out that are first in no pair. After `Memory` some may be out; the log has them.
-pub(crate) fn take_unnamed<L: Ledger>(
+fn take_unnamed<L: Ledger>(
     pairs: &Table<Pair, ()>,
     names: &mut Table<Name, ()>,
     log: &mut Log<Name, ()>,
@@ -285,6 +303,50 @@ pub(crate) fn take_unnamed<L: Ledger>(
         take_unless(names, log, turned, *one, kept, steps)?;
     }
     Ok(())
+}
+
+/// Puts those of some names in that are another's than this, public and in no pair, and then takes this one out.
+pub(crate) fn put_unclustered<L: Ledger>(
+    facts: &Table<Name, Entry>,
+    pairs: &Table<Pair, ()>,
+    names: &mut Table<Name, ()>,
+    log: &mut Log<Name, ()>,
+    turned: &mut BTreeSet<Name>,
+    name: Name,
+    some: &[Name],
+    steps: &mut Steps<L>,
+) -> Result<(), Memory>
+    requires pairs { IsStrictlySortedBy pair_cmp (keys_of pairs.now.entries) }
+    requires names { IsStrictlySortedBy bytes_cmp (keys_of names.old.entries) }
+    ensures names { OnOk result ((q : List ℕ) → is_in names.new.entries q ≡ ((is_in names.old.entries q || (has some.now q && is_freed facts.now.entries pairs.now.entries name q)) && not (bytes_eq q name))) }
+    ensures turned { OnOk result ((before : List ℕ → Bool) → AreTurned before turned.old.keys names.old.entries → AreTurned before turned.new.keys names.new.entries) }
+    ensures ordered { OnOk result (IsStrictlySortedBy bytes_cmp (keys_of names.new.entries)) }
+    ensures undoes { (before : Contents (List ℕ) Unit) → Undoes bytes_cmp log.old names.old before → Undoes bytes_cmp log.new names.new before }
+{
+    put_freed(facts, pairs, names, log, turned, name, some, steps)?;
+    take_name(names, log, turned, name, steps)
+}
+
+/// Takes those of some names out that are in no pair, and then puts this one in where it is in a pair.
+pub(crate) fn take_missing<L: Ledger>(
+    pairs: &Table<Pair, ()>,
+    names: &mut Table<Name, ()>,
+    log: &mut Log<Name, ()>,
+    turned: &mut BTreeSet<Name>,
+    name: Name,
+    some: &[Name],
+    steps: &mut Steps<L>,
+) -> Result<(), Memory>
+    requires pairs { IsStrictlySortedBy pair_cmp (keys_of pairs.now.entries) }
+    requires names { IsStrictlySortedBy bytes_cmp (keys_of names.old.entries) }
+    ensures names { OnOk result ((q : List ℕ) → is_in names.new.entries q ≡ ((is_in names.old.entries q && not (has some.now q && not (is_named pairs.now.entries q))) || (bytes_eq q name && is_named pairs.now.entries name))) }
+    ensures turned { OnOk result ((before : List ℕ → Bool) → AreTurned before turned.old.keys names.old.entries → AreTurned before turned.new.keys names.new.entries) }
+    ensures ordered { OnOk result (IsStrictlySortedBy bytes_cmp (keys_of names.new.entries)) }
+    ensures undoes { (before : Contents (List ℕ) Unit) → Undoes bytes_cmp log.old names.old before → Undoes bytes_cmp log.new names.new before }
+{
+    take_unnamed(pairs, names, log, turned, some, steps)?;
+    let named = is_first(pairs, name, steps);
+    put_wanted(names, log, turned, name, named, steps)
 }
 
 /// Turns a name over where it is wanted.

@@ -9,17 +9,16 @@ use Rattle.fsl_table.specs.Contents.{value_at, with_entry}
 use Rattle.fsl_table.proofs.Facts.{absent-entry, absent_before, facts_with, distinct_rear}
 use Rattle.fsl_cluster.specs.declared.Fact.{Fact}
 use Rattle.fsl_cluster.specs.Kept.{Entries, fact_of, facts_of, entry_of}
-use Rattle.fsl_cluster.proofs.Canonical.{laid_none}
 use Rattle.fsl_cluster.proofs.build.lay_all.Goals as goal
 
 pub loop-fact-init : goal.loop-fact-init
 loop-fact-init g c = (
   [],
   append-nil c.args.facts.items,
-  ap facts_of c.new-tables.ensures.facts,
-  laid_none c.new-tables.result c.new-tables.ensures.facts c.new-tables.ensures.members c.new-tables.ensures.refs,
-  c.new-tables.ensures.unclustered,
-  c.new-tables.ensures.missing,
+  ap facts_of c.requires.none,
+  c.requires.laid,
+  refl,
+  refl,
 )
 
 whole : (left rest done all : List Fact) (x : Fact) → left ≡ rest ++ x ∷ [] → left ++ done ≡ all → rest ++ x ∷ done ≡ all
@@ -40,7 +39,7 @@ lay-requires-clause-absent g c =
     let before = c.loop-fact.invariant in
     let f = c.in-Some.fact in
     absent c.loop-fact.tables.facts.entries before.0 f before.2
-    (behind c.loop-fact.left.items c.pop.new.self.items before.0 c.args.facts.items f c.in-Some.ensures.items before.1 c.requires)
+    (behind c.loop-fact.left.items c.pop.new.self.items before.0 c.args.facts.items f c.in-Some.ensures.items before.1 c.requires.distinct)
 
 put_in : (es after : Entries) (done : List Fact) (f : Fact) → facts_of es ≡ by_name (λ f. f.name) done → AreDistinct (map (λ f. f.name) (f ∷ done))
     → IsStrictlySortedBy bytes_cmp (keys_of es) → after ≡ with_entry bytes_cmp f.name (entry_of f) es → facts_of after ≡ by_name (λ f. f.name) (f ∷ done)
@@ -52,11 +51,11 @@ pub loop-fact-preserved : goal.loop-fact-preserved
 loop-fact-preserved g c =
     let before = c.loop-fact.invariant in
     let f = c.in-Some.fact in
-    let d = behind c.loop-fact.left.items c.pop.new.self.items before.0 c.args.facts.items f c.in-Some.ensures.items before.1 c.requires in (
+    let d = behind c.loop-fact.left.items c.pop.new.self.items before.0 c.args.facts.items f c.in-Some.ensures.items before.1 c.requires.distinct in (
       f ∷ before.0,
       whole c.loop-fact.left.items c.pop.new.self.items before.0 c.args.facts.items f c.in-Some.ensures.items before.1,
       put_in c.loop-fact.tables.facts.entries c.lay.new.tables.facts.entries before.0 f before.2 d before.3.ordered c.in_ok-lay.ensures.entries,
       c.in_ok-lay.ensures.laid,
-      ap (λ t. t.entries) c.lay.ensures.unclustered ∙ before.4,
-      ap (λ t. t.entries) c.lay.ensures.missing ∙ before.5,
+      c.lay.ensures.unclustered ∙ before.4,
+      c.lay.ensures.missing ∙ before.5,
     )

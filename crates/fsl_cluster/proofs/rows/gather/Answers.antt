@@ -1,20 +1,42 @@
+use Rattle.std.proofs.Common.{◌≡◌, ◌||◌, ◌&&◌, not, ◌∙◌, ap}
+use Rattle.std.specs.Str.{bytes_eq}
+use Rattle.fsl_order.specs.Names.{has}
 use Rattle.fsl_table.proofs.Outcomes.{on_ok_map, always_ok}
+use Rattle.fsl_cluster.specs.Kept.{is_in, is_freed, is_named}
 use Rattle.fsl_cluster.proofs.rows.gather.Goals as goal
 
-pub returns-in_err-take_name-clause-undoes_unclustered : goal.returns-in_err-take_name-clause-undoes_unclustered
-returns-in_err-take_name-clause-undoes_unclustered g c = λ before u. c.take_name.ensures.undoes before (c.put_freed.ensures.undoes before u)
+pub returns-clause-members : goal.returns-clause-members
+returns-clause-members g c = always_ok c.take_missing.result c.in_ok-unlink_both.ensures.members
 
-pub returns-in_err-take_unnamed-clause-undoes_unclustered : goal.returns-in_err-take_unnamed-clause-undoes_unclustered
-returns-in_err-take_unnamed-clause-undoes_unclustered g c = λ before u. c.take_name.ensures.undoes before (c.put_freed.ensures.undoes before u)
+pub returns-clause-refs : goal.returns-clause-refs
+returns-clause-refs g c = always_ok c.take_missing.result c.in_ok-unlink_both.ensures.refs
+
+pub returns-clause-unclustered : goal.returns-clause-unclustered
+returns-clause-unclustered g c =
+    let name = c.args.name in
+    always_ok c.take_missing.result
+    (λ q. c.in_ok-put_unclustered.ensures.names q
+    ∙ ap (λ l. (is_in c.args.unclustered.now.entries q || (has l q && is_freed c.args.facts.now.entries c.unlink_both.new.members.entries name q)) && not (bytes_eq q name)) c.items.ensures)
+
+pub returns-clause-missing : goal.returns-clause-missing
+returns-clause-missing g c =
+    let name = c.args.name in
+    let pairs = c.unlink_both.new.refs.entries in
+    on_ok_map c.take_missing.result
+    (λ names q. names q ∙ ap (λ l. (is_in c.args.missing.now.entries q && not (has l q && not (is_named pairs q))) || (bytes_eq q name && is_named pairs name)) c.items-2.ensures)
+    c.take_missing.ensures.names
 
 pub returns-clause-turned_unclustered : goal.returns-clause-turned_unclustered
-returns-clause-turned_unclustered g c = always_ok c.put_wanted.result (λ before f. c.in_ok-take_name.ensures.turned before (c.in_ok-put_freed.ensures.turned before f))
+returns-clause-turned_unclustered g c = always_ok c.take_missing.result c.in_ok-put_unclustered.ensures.turned
 
 pub returns-clause-turned_missing : goal.returns-clause-turned_missing
-returns-clause-turned_missing g c = on_ok_map c.put_wanted.result (λ turned before f. turned before (c.in_ok-take_unnamed.ensures.turned before f)) c.put_wanted.ensures.turned
+returns-clause-turned_missing g c = c.take_missing.ensures.turned
 
-pub returns-clause-undoes_unclustered : goal.returns-clause-undoes_unclustered
-returns-clause-undoes_unclustered g c = λ before u. c.take_name.ensures.undoes before (c.put_freed.ensures.undoes before u)
+pub returns-clause-members_ordered : goal.returns-clause-members_ordered
+returns-clause-members_ordered g c = always_ok c.take_missing.result c.in_ok-unlink_both.ensures.members_ordered
 
-pub returns-clause-undoes_missing : goal.returns-clause-undoes_missing
-returns-clause-undoes_missing g c = λ before u. c.put_wanted.ensures.undoes before (c.take_unnamed.ensures.undoes before u)
+pub returns-clause-refs_ordered : goal.returns-clause-refs_ordered
+returns-clause-refs_ordered g c = always_ok c.take_missing.result c.in_ok-unlink_both.ensures.refs_ordered
+
+pub returns-clause-unclustered_ordered : goal.returns-clause-unclustered_ordered
+returns-clause-unclustered_ordered g c = always_ok c.take_missing.result c.in_ok-put_unclustered.ensures.ordered

@@ -1,72 +1,47 @@
-use Rattle.std.proofs.Common.{◌≡◌, ◌||◌, ◌&&◌, not, ◌∙◌, ap, sym, subst, is_some}
+use Rattle.std.proofs.Common.{◌||◌, ◌&&◌, not, ◌∙◌, ap, sym, subst, is_some}
 use Rattle.std.specs.Str.{bytes_eq}
+use Rattle.std.specs.List.Sorted.{IsStrictlySortedBy}
+use Rattle.std.specs.Map.{keys_of}
 use Rattle.fsl_order.specs.Names.{bytes_cmp, has}
-use Rattle.fsl_table.specs.Contents.{value_at, with_entry}
+use Rattle.fsl_table.specs.Contents.{with_entry, value_at}
 use Rattle.fsl_table.specs.Exact.{pair_cmp}
 use Rattle.fsl_table.specs.Pairs.{is_name}
-use Rattle.fsl_table.proofs.Outcomes.{on_ok_map, both_ok}
+use Rattle.fsl_table.proofs.Outcomes.{on_ok_map, four_ok}
 use Rattle.fsl_cluster.specs.declared.entry.Entry.{Entry}
-use Rattle.fsl_cluster.specs.declared.tables.Tables.{Tables}
-use Rattle.fsl_cluster.specs.Kept.{entry_of, is_in, is_unheld, AreUndone, AreTurned}
+use Rattle.fsl_cluster.specs.Kept.{entry_of, is_in, is_named}
 use Rattle.fsl_cluster.proofs.Putting.{kept_with}
 use Rattle.fsl_cluster.proofs.rows.put_fact.Goals as goal
 
-pub returns-in_err-put-clause-undoes : goal.returns-in_err-put-clause-undoes
-returns-in_err-put-clause-undoes g c = λ before u.
-    let s : AreUndone c.spread.new.logs c.spread.new.tables before = c.spread.ensures.undoes before u in
-    record {
-      facts = c.put.ensures.undoes before.facts s.facts;
-      members = s.members;
-      refs = s.refs;
-      unclustered = s.unclustered;
-      missing = s.missing;
-    }
+pub returns-clause-entries : goal.returns-clause-entries
+returns-clause-entries g c =
+    let v : Entry = entry_of c.args.fact in
+    on_ok_map c.enter_fact.result (λ is. is ∙ ap (λ t. with_entry bytes_cmp c.args.fact.name v t.entries) c.in_ok-spread.ensures.facts) c.enter_fact.ensures.entries
 
 pub returns-clause-undoes : goal.returns-clause-undoes
-returns-clause-undoes g c = λ before u.
-    let s : AreUndone c.spread.new.logs c.spread.new.tables before = c.spread.ensures.undoes before u in
-    record {
-      facts = c.put.ensures.undoes before.facts s.facts;
-      members = s.members;
-      refs = s.refs;
-      unclustered = c.enter_last.ensures.undoes before.unclustered s.unclustered;
-      missing = s.missing;
-    }
+returns-clause-undoes g c = λ before u. c.enter_fact.ensures.undoes before (c.spread.ensures.undoes before u)
 
 pub returns-clause-flips : goal.returns-clause-flips
-returns-clause-flips g c =
-    on_ok_map c.enter_last.result
-    (λ turned before f.
-    let s = c.in_ok-spread.ensures.flips before f in
-    record {
-      unclustered = turned (is_in before.unclustered.entries) s.unclustered;
-      missing = subst (λ set. AreTurned (is_in before.missing.entries) set.keys c.spread.new.tables.missing.entries) (sym c.enter_last.ensures.missing) s.missing;
-    })
-    c.enter_last.ensures.turned
+returns-clause-flips g c = on_ok_map c.enter_fact.result (λ turned before f. turned before (c.in_ok-spread.ensures.flips before f)) c.enter_fact.ensures.flips
 
 pub returns-clause-kept : goal.returns-clause-kept
 returns-clause-kept g c =
     let old = c.args.tables.now in
+    let new = c.enter_fact.new.tables in
     let name = c.args.fact.name in
     let v : Entry = entry_of c.args.fact in
-    let new : Tables = record {
-      facts = c.put.new.table;
-      members = c.spread.new.tables.members;
-      refs = c.spread.new.tables.refs;
-      unclustered = c.enter_last.new.unclustered;
-      missing = c.spread.new.tables.missing;
-    } in
-    let facts : c.put.new.table.entries ≡ with_entry bytes_cmp name v old.facts.entries =
-    c.in_ok-put.ensures.ok ∙ ap (λ t. with_entry bytes_cmp name v t.entries) c.in_ok-spread.ensures.facts in
-    both_ok c.enter_last.result
-    (λ names ordered.
-    kept_with old new name v c.requires.kept c.requires.absent facts
-    c.in_ok-spread.ensures.members_ordered c.in_ok-spread.ensures.refs_ordered
-    (λ k. c.in_ok-spread.ensures.members k ∙ ap (λ l. is_some (value_at pair_cmp k old.members.entries) || (is_name k.second name && has l k.first)) c.items.ensures)
-    (λ k. c.in_ok-spread.ensures.refs k ∙ ap (λ l. is_some (value_at pair_cmp k old.refs.entries) || (is_name k.second name && has l k.first)) c.items-2.ensures)
-    ordered c.in_ok-spread.ensures.missing_ordered
-    (λ q.
-    names q
-    ∙ (λ i. (c.in_ok-spread.ensures.unclustered q ∙ ap (λ l. is_in old.unclustered.entries q && not (has l q)) c.items.ensures) i || (bytes_eq q name && c.is_unclustered-free.ensures.is i)))
-    (λ q. c.in_ok-spread.ensures.missing q ∙ ap (λ l. (is_in old.missing.entries q || (has l q && is_unheld old.facts.entries name q)) && not (bytes_eq q name)) c.items-2.ensures))
-    c.enter_last.ensures.names c.enter_last.ensures.ordered
+    let members = c.enter_fact.ensures.members in
+    let refs = c.enter_fact.ensures.refs in
+    let missing = c.enter_fact.ensures.missing in
+    four_ok c.enter_fact.result
+    (λ entries names ordered flips.
+    kept_with old new name v c.requires.kept c.requires.absent
+    (entries ∙ ap (λ t. with_entry bytes_cmp name v t.entries) c.in_ok-spread.ensures.facts)
+    (subst (λ t. IsStrictlySortedBy pair_cmp (keys_of t.entries)) (sym members) c.in_ok-spread.ensures.members_ordered)
+    (subst (λ t. IsStrictlySortedBy pair_cmp (keys_of t.entries)) (sym refs) c.in_ok-spread.ensures.refs_ordered)
+    (λ k. ap (λ t. is_some (value_at pair_cmp k t.entries)) members ∙ c.in_ok-spread.ensures.members k)
+    (λ k. ap (λ t. is_some (value_at pair_cmp k t.entries)) refs ∙ c.in_ok-spread.ensures.refs k)
+    ordered
+    (subst (λ t. IsStrictlySortedBy bytes_cmp (keys_of t.entries)) (sym missing) c.in_ok-spread.ensures.missing_ordered)
+    (λ q. names q ∙ (λ i. c.in_ok-spread.ensures.unclustered q i || (bytes_eq q name && (c.is_unclustered-free.ensures.is ∙ ap (λ t. not v.private && not (is_named t.entries name)) (sym members)) i)))
+    (λ q. ap (λ t. is_in t.entries q) missing ∙ c.in_ok-spread.ensures.missing q))
+    c.enter_fact.ensures.entries c.enter_fact.ensures.names c.enter_fact.ensures.unclustered_ordered c.enter_fact.ensures.flips

@@ -1,21 +1,15 @@
-use Rattle.fsl_table.proofs.Outcomes.{on_ok_map}
-use Rattle.fsl_cluster.specs.Kept.{is_in}
+use Rattle.std.proofs.Common.{◌≡◌, ◌||◌, ◌&&◌, not, ◌∙◌, ap}
+use Rattle.std.specs.Str.{bytes_eq}
+use Rattle.fsl_order.specs.Names.{has}
+use Rattle.fsl_table.proofs.Outcomes.{on_ok_map, always_ok}
+use Rattle.fsl_cluster.specs.Kept.{is_in, is_unheld}
 use Rattle.fsl_cluster.proofs.rows.spread.Goals as goal
 
-pub returns-in_err-link_each-clause-undoes : goal.returns-in_err-link_each-clause-undoes
-returns-in_err-link_each-clause-undoes g c = λ before u. record {
+pub returns-in_err-link_both-clause-undoes : goal.returns-in_err-link_both-clause-undoes
+returns-in_err-link_both-clause-undoes g c = λ before u. record {
   facts = u.facts;
-  members = c.link_each.ensures.undoes before.members u.members;
-  refs = u.refs;
-  unclustered = u.unclustered;
-  missing = u.missing;
-}
-
-pub returns-in_err-link_each-2-clause-undoes : goal.returns-in_err-link_each-2-clause-undoes
-returns-in_err-link_each-2-clause-undoes g c = λ before u. record {
-  facts = u.facts;
-  members = c.link_each.ensures.undoes before.members u.members;
-  refs = c.link_each-2.ensures.undoes before.refs u.refs;
+  members = c.link_both.ensures.undoes_members before.members u.members;
+  refs = c.link_both.ensures.undoes_refs before.refs u.refs;
   unclustered = u.unclustered;
   missing = u.missing;
 }
@@ -23,35 +17,54 @@ returns-in_err-link_each-2-clause-undoes g c = λ before u. record {
 pub returns-in_err-take_names-clause-undoes : goal.returns-in_err-take_names-clause-undoes
 returns-in_err-take_names-clause-undoes g c = λ before u. record {
   facts = u.facts;
-  members = c.link_each.ensures.undoes before.members u.members;
-  refs = c.link_each-2.ensures.undoes before.refs u.refs;
+  members = c.link_both.ensures.undoes_members before.members u.members;
+  refs = c.link_both.ensures.undoes_refs before.refs u.refs;
   unclustered = c.take_names.ensures.undoes before.unclustered u.unclustered;
   missing = u.missing;
-}
-
-pub returns-in_err-put_unheld-clause-undoes : goal.returns-in_err-put_unheld-clause-undoes
-returns-in_err-put_unheld-clause-undoes g c = λ before u. record {
-  facts = u.facts;
-  members = c.link_each.ensures.undoes before.members u.members;
-  refs = c.link_each-2.ensures.undoes before.refs u.refs;
-  unclustered = c.take_names.ensures.undoes before.unclustered u.unclustered;
-  missing = c.put_unheld.ensures.undoes before.missing u.missing;
 }
 
 pub returns-clause-undoes : goal.returns-clause-undoes
 returns-clause-undoes g c = λ before u. record {
   facts = u.facts;
-  members = c.link_each.ensures.undoes before.members u.members;
-  refs = c.link_each-2.ensures.undoes before.refs u.refs;
+  members = c.link_both.ensures.undoes_members before.members u.members;
+  refs = c.link_both.ensures.undoes_refs before.refs u.refs;
   unclustered = c.take_names.ensures.undoes before.unclustered u.unclustered;
-  missing = c.take_name.ensures.undoes before.missing (c.put_unheld.ensures.undoes before.missing u.missing);
+  missing = c.put_missing.ensures.undoes before.missing u.missing;
 }
 
 pub returns-clause-flips : goal.returns-clause-flips
 returns-clause-flips g c =
-    on_ok_map c.take_name.result
+    on_ok_map c.put_missing.result
     (λ turned before f. record {
       unclustered = c.in_ok-take_names.ensures.turned (is_in before.unclustered.entries) f.unclustered;
-      missing = turned (is_in before.missing.entries) (c.in_ok-put_unheld.ensures.turned (is_in before.missing.entries) f.missing);
+      missing = turned (is_in before.missing.entries) f.missing;
     })
-    c.take_name.ensures.turned
+    c.put_missing.ensures.turned
+
+pub returns-clause-members : goal.returns-clause-members
+returns-clause-members g c = always_ok c.put_missing.result c.in_ok-link_both.ensures.members
+
+pub returns-clause-refs : goal.returns-clause-refs
+returns-clause-refs g c = always_ok c.put_missing.result c.in_ok-link_both.ensures.refs
+
+pub returns-clause-unclustered : goal.returns-clause-unclustered
+returns-clause-unclustered g c =
+    always_ok c.put_missing.result
+    (λ q. c.in_ok-take_names.ensures.names q ∙ ap (λ l. is_in c.args.tables.now.unclustered.entries q && not (has l q)) c.items.ensures)
+
+pub returns-clause-missing : goal.returns-clause-missing
+returns-clause-missing g c =
+    let old = c.args.tables.now in
+    let name = c.args.fact.now.name in
+    on_ok_map c.put_missing.result
+    (λ names q. names q ∙ ap (λ l. (is_in old.missing.entries q || (has l q && is_unheld old.facts.entries name q)) && not (bytes_eq q name)) c.items-2.ensures)
+    c.put_missing.ensures.names
+
+pub returns-clause-members_ordered : goal.returns-clause-members_ordered
+returns-clause-members_ordered g c = always_ok c.put_missing.result c.in_ok-link_both.ensures.members_ordered
+
+pub returns-clause-refs_ordered : goal.returns-clause-refs_ordered
+returns-clause-refs_ordered g c = always_ok c.put_missing.result c.in_ok-link_both.ensures.refs_ordered
+
+pub returns-clause-unclustered_ordered : goal.returns-clause-unclustered_ordered
+returns-clause-unclustered_ordered g c = always_ok c.put_missing.result c.in_ok-take_names.ensures.ordered
