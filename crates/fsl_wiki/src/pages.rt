@@ -1,10 +1,12 @@
 //! The table of pages, technotes and attachments.
-ghost use Rattle.std.specs.Prelude.{◌≡◌, ◌+◌, ◌<◌, ◌≤◌, [], ◌∷◌, true, false, map, IfSome, IfOk, OnOk, OnErr};
+ghost use Rattle.std.specs.Prelude.{◌≡◌, ◌+◌, ◌<◌, ◌≤◌, [], ◌∷◌, true, false, None, map, IfSome, IfOk, OnOk, OnErr};
 ghost use Rattle.fsl_order.specs.TableState.{IsAsBefore};
-ghost use Rattle.fsl_order.specs.Names.{has};
+ghost use Rattle.fsl_order.specs.Names.{bytes_cmp, has};
 ghost use Rattle.fsl_order.specs.Rows.{by_name, AreDistinct, ListsChanged};
 ghost use Rattle.fsl_wiki.specs.Pages as table;
+ghost use Rattle.fsl_table.specs.Contents.{value_at, with_entry};
 ghost use Rattle.fsl_wiki.specs.Pages.{fact_name, as_page, pages_row};
+ghost use Rattle.fsl_wiki.specs.Kept.{IsKept, facts_of, entry_of};
 
 use super::entry::Entry;
 use super::group::Group;
@@ -75,6 +77,59 @@ impl Undo {
     }
 }
 
+/// Puts a fact whose name isn't there. What takes it out again isn't kept.
+fn put_unlogged<L: Ledger>(
+    alloc: Global,
+    entries: &mut Table<Name, Entry>,
+    spots: &mut Table<Within<Group, Late>, ()>,
+    targets: &mut Table<Within<Text, Late>, ()>,
+    fact: Fact,
+    steps: &mut Steps<L>,
+) -> Result<(), Memory>
+    requires kept { IsKept (record { facts = entries.old; spots = spots.old; targets = targets.old }) }
+    requires absent { value_at bytes_cmp (fact_name fact) entries.old.entries ≡ None }
+    ensures entries { OnOk result (entries.new.entries ≡ with_entry bytes_cmp (fact_name fact) (entry_of fact) entries.old.entries) }
+    ensures kept { OnOk result (IsKept (record { facts = entries.new; spots = spots.new; targets = targets.new })) }
+{
+    put_fact(
+        alloc,
+        entries,
+        spots,
+        targets,
+        &mut Log::new(alloc),
+        &mut Log::new(alloc),
+        &mut Log::new(alloc),
+        fact.name(),
+        Entry::of(fact),
+        steps,
+    )
+}
+
+/// Puts some facts into tables that have none, the last one first.
+fn fill<L: Ledger>(
+    alloc: Global,
+    entries: &mut Table<Name, Entry>,
+    spots: &mut Table<Within<Group, Late>, ()>,
+    targets: &mut Table<Within<Text, Late>, ()>,
+    facts: &[Fact],
+    steps: &mut Steps<L>,
+) -> Result<(), Memory>
+    requires entries { entries.old.entries ≡ [] }
+    requires spots { spots.old.entries ≡ [] }
+    requires targets { targets.old.entries ≡ [] }
+    requires distinct { AreDistinct (map fact_name facts.now) }
+    ensures facts { OnOk result (facts_of entries.new.entries ≡ by_name fact_name facts.now) }
+    ensures kept { OnOk result (IsKept (record { facts = entries.new; spots = spots.new; targets = targets.new })) }
+{
+    let mut left = facts.len();
+    while left > 0 {
+        left -= 1;
+        let fact = facts[left].copied(alloc)?;
+        put_unlogged(alloc, entries, spots, targets, fact, steps)?;
+    }
+    Ok(())
+}
+
 impl Pages {
     /// The table without facts. Takes no memory.
     pub fn new(alloc: Global) -> Pages
@@ -114,23 +169,14 @@ impl Pages {
         let mut entries = Table::new(alloc);
         let mut spots = Table::new(alloc);
         let mut targets = Table::new(alloc);
-        let mut left = facts.len();
-        while left > 0 {
-            left -= 1;
-            let fact = facts[left].copied(alloc)?;
-            put_fact(
-                alloc,
-                &mut entries,
-                &mut spots,
-                &mut targets,
-                &mut Log::new(alloc),
-                &mut Log::new(alloc),
-                &mut Log::new(alloc),
-                fact.name(),
-                Entry::of(fact),
-                &mut steps,
-            )?;
-        }
+        fill(
+            alloc,
+            &mut entries,
+            &mut spots,
+            &mut targets,
+            facts,
+            &mut steps,
+        )?;
         Ok(Pages {
             facts: entries,
             spots,
@@ -276,8 +322,9 @@ impl Pages {
         requires counts { 0 < L.parts }
         ensures { IfOk result (λ pages. pages ≡ table.history self.now.facts title.now) }
     {
+        let page = Group::page(alloc, title)?;
         let mut steps: Steps<L> = Steps::new(blank);
-        let versions = places(alloc, &self.spots, Group::page(alloc, title)?, &mut steps)?;
+        let versions = places(alloc, &self.spots, page, &mut steps)?;
         pages_from(alloc, &self.facts, versions, &mut steps)
     }
 
@@ -326,8 +373,9 @@ impl Pages {
         requires counts { 0 < L.parts }
         ensures { IfOk result (λ list. list ≡ table.attached self.now.facts target.now) }
     {
+        let key = Text::of(alloc, target)?;
         let mut steps: Steps<L> = Steps::new(blank);
-        let found = places(alloc, &self.targets, Text::of(alloc, target)?, &mut steps)?;
+        let found = places(alloc, &self.targets, key, &mut steps)?;
         let files = first_files(alloc, &self.facts, &found, &mut steps)?;
         listed(alloc, files)
     }

@@ -1,5 +1,6 @@
 //! The facts at the keys of a page or of a target, one after another.
-ghost use Rattle.std.specs.Prelude.{◌≡◌, ◌++◌, ℕ, List, IfOk, OnOk, reverse};
+ghost use Rattle.std.specs.Prelude.{◌≡◌, ◌++◌, ℕ, List, Some, IfOk, OnOk, cond, reverse};
+ghost use Rattle.std.specs.BTreeMap.{is_at};
 ghost use Rattle.std.specs.List.{filter_map};
 ghost use Rattle.std.specs.Option.{option_or, option_to_list};
 ghost use Rattle.std.specs.List.Sorted.{IsStrictlySortedBy};
@@ -108,20 +109,34 @@ fn file_of<L: Ledger>(
     }
 }
 
-/// Puts an attachment in, where there is one and its file has none.
-fn put_first(alloc: Global, files: &mut Files, attached: Option<Attached>) -> Result<(), Memory>
-    ensures { OnOk result ((file : List ℕ) → maps.value_at files.new.entries file ≡ option_or (maps.value_at files.old.entries file) (first_file attached file)) }
+/// Puts an attachment in at a file.
+fn insert(files: &mut Files, file: Text, attached: Attached) -> Result<(), Memory>
+    ensures { OnOk result ((q : List ℕ) → maps.value_at files.new.entries q ≡ cond (is_at (bytes_cmp file) q) (Some attached) (maps.value_at files.old.entries q)) }
 {
-    let Some(attached) = attached else {
-        return Ok(());
-    };
+    if files.insert(file, attached).is_err() {
+        return Err(Memory);
+    }
+    Ok(())
+}
+
+/// Puts an attachment in, where its file has none.
+fn put_file(alloc: Global, files: &mut Files, attached: Attached) -> Result<(), Memory>
+    ensures { OnOk result ((file : List ℕ) → maps.value_at files.new.entries file ≡ option_or (maps.value_at files.old.entries file) (first_file (Some attached) file)) }
+{
     if files.contains_key(&attached.file) {
         return Ok(());
     }
     let file = Text::of(alloc, attached.file.bytes())?;
-    match files.insert(file, attached) {
-        Ok(_) => Ok(()),
-        Err(_) => Err(Memory),
+    insert(files, file, attached)
+}
+
+/// Puts an attachment in, where there is one and its file has none.
+fn put_first(alloc: Global, files: &mut Files, attached: Option<Attached>) -> Result<(), Memory>
+    ensures { OnOk result ((file : List ℕ) → maps.value_at files.new.entries file ≡ option_or (maps.value_at files.old.entries file) (first_file attached file)) }
+{
+    match attached {
+        None => Ok(()),
+        Some(attached) => put_file(alloc, files, attached),
     }
 }
 

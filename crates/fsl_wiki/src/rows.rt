@@ -9,7 +9,7 @@ ghost use Rattle.fsl_order.specs.Rows.{ListsChanged};
 ghost use Rattle.fsl_table.specs.Contents.{Contents, value_at, with_entry, without_key};
 ghost use Rattle.fsl_table.specs.Undo.{Undoes};
 ghost use Rattle.fsl_wiki.specs.declared.entry.Entry as entry_type;
-ghost use Rattle.fsl_wiki.specs.Kept.{IsKept, Spot, spot_cmp, Target, target_cmp, facts_of, race_at, row_by, is_placed, top, same_row, in_one, spot_of, target_of, is_page, with_target, without_target, without_spot};
+ghost use Rattle.fsl_wiki.specs.Kept.{IsKept, Spot, spot_cmp, Target, target_cmp, facts_of, race_at, row_by, is_placed, top, same_row, in_one, race_in, spot_of, target_of, is_page, with_target, without_target, without_spot};
 ghost use Rattle.fsl_wiki.specs.Pages.{pages_row};
 
 use crate::entry::{Entry, Row};
@@ -23,7 +23,26 @@ use std::alloc::Global;
 use std::collections::BTreeSet;
 use std::sync::ledger::Ledger;
 
-/// Puts the key of an attachment among those of its target, where it is one.
+/// Puts the key of an entry among the versions of what it is one of.
+fn put_spot<L: Ledger>(
+    alloc: Global,
+    spots: &mut Table<Within<Group, Late>, ()>,
+    log: &mut Log<Within<Group, Late>, ()>,
+    name: Name,
+    entry: &Entry,
+    steps: &mut Steps<L>,
+) -> Result<(), Memory>
+    ensures entries { OnOk result (spots.new.entries ≡ with_entry spot_cmp (spot_of name entry.now) tt spots.old.entries) }
+    ensures undoes { (before : Contents Spot Unit) → Undoes spot_cmp log.old spots.old before → Undoes spot_cmp log.new spots.new before }
+    ensures cost { steps.new ≤ steps.old + 1 }
+    ensures logged { length log.new ≤ length log.old + 1 }
+{
+    let spot = entry.spot(alloc, name)?;
+    let again = entry.spot(alloc, name)?;
+    log::put(spots, log, spot, again, (), steps)
+}
+
+/// Puts the key of an attachment among those of its target, where there is one.
 fn put_target<L: Ledger>(
     targets: &mut Table<Within<Text, Late>, ()>,
     log: &mut Log<Within<Text, Late>, ()>,
@@ -41,6 +60,47 @@ fn put_target<L: Ledger>(
         (Some(target), Some(again)) => log::put(targets, log, target, again, (), steps),
         _ => Ok(()),
     }
+}
+
+/// Puts the key of an entry among the attachments of its target, where it is one.
+fn put_attachment<L: Ledger>(
+    alloc: Global,
+    targets: &mut Table<Within<Text, Late>, ()>,
+    log: &mut Log<Within<Text, Late>, ()>,
+    name: Name,
+    entry: &Entry,
+    steps: &mut Steps<L>,
+) -> Result<(), Memory>
+    ensures entries { OnOk result (targets.new.entries ≡ with_target (target_of name entry.now) targets.old.entries) }
+    ensures undoes { (before : Contents Target Unit) → Undoes target_cmp log.old targets.old before → Undoes target_cmp log.new targets.new before }
+    ensures cost { target_of name entry.now ≡ None → steps.new ≡ steps.old }
+    ensures logged { target_of name entry.now ≡ None → log.new ≡ log.old }
+{
+    let target = entry.target(alloc, name)?;
+    let again = entry.target(alloc, name)?;
+    put_target(targets, log, target, again, steps)
+}
+
+/// Puts the keys of an entry.
+fn place<L: Ledger>(
+    alloc: Global,
+    spots: &mut Table<Within<Group, Late>, ()>,
+    targets: &mut Table<Within<Text, Late>, ()>,
+    spots_log: &mut Log<Within<Group, Late>, ()>,
+    targets_log: &mut Log<Within<Text, Late>, ()>,
+    name: Name,
+    entry: &Entry,
+    steps: &mut Steps<L>,
+) -> Result<(), Memory>
+    ensures spots { OnOk result (spots.new.entries ≡ with_entry spot_cmp (spot_of name entry.now) tt spots.old.entries) }
+    ensures targets { OnOk result (targets.new.entries ≡ with_target (target_of name entry.now) targets.old.entries) }
+    ensures undoes_spots { (before : Contents Spot Unit) → Undoes spot_cmp spots_log.old spots.old before → Undoes spot_cmp spots_log.new spots.new before }
+    ensures undoes_targets { (before : Contents Target Unit) → Undoes target_cmp targets_log.old targets.old before → Undoes target_cmp targets_log.new targets.new before }
+    ensures cost { target_of name entry.now ≡ None → steps.new ≤ steps.old + 1 }
+    ensures logged { target_of name entry.now ≡ None → length spots_log.new + length targets_log.new ≤ length spots_log.old + length targets_log.old + 1 }
+{
+    put_spot(alloc, spots, spots_log, name, entry, steps)?;
+    put_attachment(alloc, targets, targets_log, name, entry, steps)
 }
 
 /// Puts a new fact, and logs what takes it out again. Its texts are copied for its keys alone. After `Memory` a part may be done; the
@@ -67,12 +127,16 @@ pub(crate) fn put_fact<L: Ledger>(
     ensures cost { target_of name entry ≡ None → steps.new ≤ steps.old + 2 }
     ensures logged { target_of name entry ≡ None → length facts_log.new + length spots_log.new + length targets_log.new ≤ length facts_log.old + length spots_log.old + length targets_log.old + 2 }
 {
-    let spot = entry.spot(alloc, name)?;
-    let spot_again = entry.spot(alloc, name)?;
-    let target = entry.target(alloc, name)?;
-    let target_again = entry.target(alloc, name)?;
-    log::put(spots, spots_log, spot, spot_again, (), steps)?;
-    put_target(targets, targets_log, target, target_again, steps)?;
+    place(
+        alloc,
+        spots,
+        targets,
+        spots_log,
+        targets_log,
+        name,
+        &entry,
+        steps,
+    )?;
     log::put(facts, facts_log, name, name, entry, steps)
 }
 
@@ -112,8 +176,8 @@ fn unplace<L: Ledger>(
         None => Ok(()),
         Some(entry) => {
             let spot = entry.spot(alloc, name)?;
-            let target = entry.target(alloc, name)?;
             log::remove(spots, spots_log, spot, steps)?;
+            let target = entry.target(alloc, name)?;
             remove_target(targets, targets_log, target, steps)
         }
     }
@@ -276,6 +340,35 @@ fn note_if(names: &mut BTreeSet<Name>, name: Name, wanted: bool) -> Result<(), M
     }
 }
 
+/// Puts those of a set in that another hasn't.
+fn note_missing(
+    alloc: Global,
+    names: &mut BTreeSet<Name>,
+    set: &BTreeSet<Name>,
+    other: &BTreeSet<Name>,
+) -> Result<(), Memory>
+    ensures { OnOk result ((q : List ℕ) → has names.new.keys q ≡ ((has set.now.keys q && not (has other.now.keys q)) || has names.old.keys q)) }
+{
+    let list = names::listed(alloc, set)?;
+    names::note_others(names, list.items(), other)
+}
+
+/// Puts the names in that are in one of two sets and not in the other, and a name, if it is wanted.
+fn note_differing(
+    alloc: Global,
+    names: &mut BTreeSet<Name>,
+    name: Name,
+    wanted: bool,
+    before: &BTreeSet<Name>,
+    after: &BTreeSet<Name>,
+) -> Result<(), Memory>
+    ensures { OnOk result ((q : List ℕ) → has names.new.keys q ≡ ((bytes_eq q name && wanted) || ((has after.now.keys q && not (has before.now.keys q)) || ((has before.now.keys q && not (has after.now.keys q)) || has names.old.keys q)))) }
+{
+    note_missing(alloc, names, before, after)?;
+    note_missing(alloc, names, after, before)?;
+    note_if(names, name, wanted)
+}
+
 /// The names that are in one of two sets and not in the other, and a name, if it is wanted.
 fn differing(
     alloc: Global,
@@ -288,12 +381,114 @@ fn differing(
     ensures rising { IfOk result (λ list. IsStrictlySortedBy bytes_cmp list) }
 {
     let mut names = BTreeSet::new(alloc);
-    let old = names::listed(alloc, before)?;
-    let new = names::listed(alloc, after)?;
-    names::note_others(&mut names, old.items(), after)?;
-    names::note_others(&mut names, new.items(), before)?;
-    note_if(&mut names, name, wanted)?;
+    note_differing(alloc, &mut names, name, wanted, before, after)?;
     names::listed(alloc, &names)
+}
+
+/// What is known of a name before its fact changes: the races that the old fact and the new one are in, its row, and the other names
+/// that lead these races.
+#[derive(Drop)]
+struct Known {
+    old_race: Option<Within<Group, Late>>,
+    race: Option<Within<Group, Late>>,
+    row: Row,
+    leaders: BTreeSet<Name>,
+}
+
+/// What is known of a name to which an entry is to be put.
+fn known_of<L: Ledger>(
+    alloc: Global,
+    facts: &Table<Name, Entry>,
+    spots: &Table<Within<Group, Late>, ()>,
+    name: Name,
+    entry: &Entry,
+    steps: &mut Steps<L>,
+) -> Result<Known, Memory>
+    requires { IsStrictlySortedBy spot_cmp (keys_of spots.now.entries) }
+    ensures old_race { IfOk result (λ known. known.old_race ≡ race_at facts.now.entries name) }
+    ensures race { IfOk result (λ known. known.race ≡ race_in entry.now) }
+    ensures row { IfOk result (λ known. known.row ≡ row_by (value_at bytes_cmp name facts.now.entries) (λ race. is_placed name (top spots.now.entries race))) }
+    ensures leaders { IfOk result (λ known. (q : List ℕ) → has known.leaders.keys q ≡ (not (bytes_eq q name) && (is_placed q (top spots.now.entries known.race) || is_placed q (top spots.now.entries known.old_race)))) }
+{
+    let row = row_of(alloc, facts, spots, name, steps)?;
+    let old_race = race_of(alloc, facts, name, steps)?;
+    let race = entry.race(alloc)?;
+    let leaders = leaders(alloc, spots, &old_race, &race, name, steps)?;
+    Ok(Known {
+        old_race,
+        race,
+        row,
+        leaders,
+    })
+}
+
+/// The names whose rows differ from those that are known.
+fn changed_since<L: Ledger>(
+    alloc: Global,
+    facts: &Table<Name, Entry>,
+    spots: &Table<Within<Group, Late>, ()>,
+    name: Name,
+    known: &Known,
+    steps: &mut Steps<L>,
+) -> Result<List<Name>, Memory>
+    requires { IsStrictlySortedBy spot_cmp (keys_of spots.now.entries) }
+    ensures names { IfOk result (λ list. (q : List ℕ) → has list q ≡ ((bytes_eq q name && not (same_row known.now.row (row_by (value_at bytes_cmp name facts.now.entries) (λ race. is_placed name (top spots.now.entries race))))) || in_one (has known.now.leaders.keys q) (not (bytes_eq q name) && (is_placed q (top spots.now.entries known.now.race) || is_placed q (top spots.now.entries known.now.old_race))))) }
+    ensures rising { IfOk result (λ list. IsStrictlySortedBy bytes_cmp list) }
+{
+    let row = row_of(alloc, facts, spots, name, steps)?;
+    let after = leaders(alloc, spots, &known.old_race, &known.race, name, steps)?;
+    differing(
+        alloc,
+        name,
+        !is_same(known.row, row),
+        &known.leaders,
+        &after,
+    )
+}
+
+/// Puts a fact, in the place of that of its name where there is one. After `Memory` a part may be done; the logs have it.
+fn replace<L: Ledger>(
+    alloc: Global,
+    facts: &mut Table<Name, Entry>,
+    spots: &mut Table<Within<Group, Late>, ()>,
+    targets: &mut Table<Within<Text, Late>, ()>,
+    facts_log: &mut Log<Name, Entry>,
+    spots_log: &mut Log<Within<Group, Late>, ()>,
+    targets_log: &mut Log<Within<Text, Late>, ()>,
+    name: Name,
+    entry: Entry,
+    steps: &mut Steps<L>,
+) -> Result<(), Memory>
+    requires kept { IsKept (record { facts = facts.old; spots = spots.old; targets = targets.old }) }
+    ensures entries { OnOk result (facts.new.entries ≡ with_entry bytes_cmp name entry facts.old.entries) }
+    ensures kept { OnOk result (IsKept (record { facts = facts.new; spots = spots.new; targets = targets.new })) }
+    ensures undoes_facts { (before : Contents (List ℕ) entry_type.Entry) → Undoes bytes_cmp facts_log.old facts.old before → Undoes bytes_cmp facts_log.new facts.new before }
+    ensures undoes_spots { (before : Contents Spot Unit) → Undoes spot_cmp spots_log.old spots.old before → Undoes spot_cmp spots_log.new spots.new before }
+    ensures undoes_targets { (before : Contents Target Unit) → Undoes target_cmp targets_log.old targets.old before → Undoes target_cmp targets_log.new targets.new before }
+{
+    take_out(
+        alloc,
+        facts,
+        spots,
+        targets,
+        facts_log,
+        spots_log,
+        targets_log,
+        name,
+        steps,
+    )?;
+    put_fact(
+        alloc,
+        facts,
+        spots,
+        targets,
+        facts_log,
+        spots_log,
+        targets_log,
+        name,
+        entry,
+        steps,
+    )
 }
 
 /// Puts a fact, in the place of that of its name where there is one, and tells the names whose rows differ.
@@ -317,22 +512,8 @@ fn put_among<L: Ledger>(
     ensures undoes_spots { (before : Contents Spot Unit) → Undoes spot_cmp spots_log.old spots.old before → Undoes spot_cmp spots_log.new spots.new before }
     ensures undoes_targets { (before : Contents Target Unit) → Undoes target_cmp targets_log.old targets.old before → Undoes target_cmp targets_log.new targets.new before }
 {
-    let race = entry.race(alloc)?;
-    let old_race = race_of(alloc, facts, name, steps)?;
-    let old_row = row_of(alloc, facts, spots, name, steps)?;
-    let before = leaders(alloc, spots, &old_race, &race, name, steps)?;
-    take_out(
-        alloc,
-        facts,
-        spots,
-        targets,
-        facts_log,
-        spots_log,
-        targets_log,
-        name,
-        steps,
-    )?;
-    put_fact(
+    let known = known_of(alloc, facts, spots, name, &entry, steps)?;
+    replace(
         alloc,
         facts,
         spots,
@@ -344,9 +525,7 @@ fn put_among<L: Ledger>(
         entry,
         steps,
     )?;
-    let row = row_of(alloc, facts, spots, name, steps)?;
-    let after = leaders(alloc, spots, &old_race, &race, name, steps)?;
-    differing(alloc, name, !is_same(old_row, row), &before, &after)
+    changed_since(alloc, facts, spots, name, &known, steps)
 }
 
 /// The list of a name.
@@ -383,7 +562,6 @@ fn put_page<L: Ledger>(
     ensures cost { steps.new ≤ steps.old + 2 }
     ensures logged { length facts_log.new + length spots_log.new + length targets_log.new ≤ length facts_log.old + length spots_log.old + length targets_log.old + 2 }
 {
-    let changed = one(alloc, name)?;
     put_fact(
         alloc,
         facts,
@@ -396,7 +574,7 @@ fn put_page<L: Ledger>(
         entry,
         steps,
     )?;
-    Ok(changed)
+    one(alloc, name)
 }
 
 /// Puts a fact, a new one where `new` says so, or in the place of that of its name, and tells the names whose rows differ. After

@@ -16,13 +16,10 @@ pub returns-clause-names : goal.returns-clause-names
 returns-clause-names c =
     let before = c.args.before.now.keys in
     let after = c.args.after.now.keys in
-    if_ok_map c.listed-3.result
+    if_ok_map c.listed.result
     (λ list e q.
     ap (λ l. has l q) e
-    ∙ c.in_ok-note_if.ensures.noted q
-    ∙ ap (λ r. (bytes_eq q c.args.name && c.args.wanted) || r)
-    (c.in_ok-note_others-2.ensures.noted q
-    ∙ (λ i. (has ((c.items-2.ensures ∙ c.in_ok-new.ensures.names) i) q && not (has before q)) || c.in_ok-note_others.ensures.noted q i)
-    ∙ (λ i. (has after q && not (has before q)) || ((has ((c.items.ensures ∙ c.in_ok-old.ensures.names) i) q && not (has after q)) || has (c.new-names.ensures.empty i) q)))
+    ∙ c.in_ok-note_differing.ensures q
+    ∙ (λ i. (bytes_eq q c.args.name && c.args.wanted) || ((has after q && not (has before q)) || ((has before q && not (has after q)) || has (c.new-names.ensures.empty i) q)))
     ∙ told (bytes_eq q c.args.name && c.args.wanted) (has before q) (has after q))
-    c.listed-3.ensures.names
+    c.listed.ensures.names

@@ -17,7 +17,7 @@ returns g c =
     (λ list is. is
     ∙ listed (facts_of r.facts.entries) target c.in_ok-files.files.entries c.listed.ensures.rising
     (λ file. c.in_ok-files.ensures file
-    ∙ ap (first_of_file r.facts.entries file) (c.deref.ensures.value ∙ c.in_ok-found.ensures ∙ ap (λ t. keys_of (within bytes_cmp t r.targets.entries)) c.in_ok-of.ensures)
+    ∙ ap (first_of_file r.facts.entries file) (c.deref.ensures.value ∙ c.in_ok-found.ensures ∙ ap (λ t. keys_of (within bytes_cmp t r.targets.entries)) c.in_ok-key.ensures)
     ∙ file_is r c.self.invariant target file)
     ∙ ap (λ h. table.attached h.facts target) c.self.view_is)
     c.listed.ensures.list

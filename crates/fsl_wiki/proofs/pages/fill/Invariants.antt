@@ -2,7 +2,7 @@ use Rattle.std.proofs.Common.{◌≡◌, ◌≤◌, drop, length}
 use Rattle.fsl_order.specs.Rows.{by_name}
 use Rattle.fsl_wiki.specs.Pages.{fact_name}
 use Rattle.fsl_wiki.specs.Kept.{IsKept, facts_of}
-use Rattle.fsl_wiki.proofs.pages.Pages.build_counted.Given as goal
+use Rattle.fsl_wiki.proofs.pages.fill.Given as goal
 
 -- those that are done are there
 abbrev pub invariant-loop-left : goal.invariant-loop-left
