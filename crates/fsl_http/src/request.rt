@@ -11,7 +11,7 @@ use fsl_text::Text;
 use std::alloc::Global;
 
 /// What a connection asks.
-#[derive(Debug, Drop)]
+#[derive(Drop)]
 pub enum Asked {
     /// Nothing: it ended before its first byte.
     Closed,
@@ -22,7 +22,7 @@ pub enum Asked {
 }
 
 /// Why nothing is known of a request.
-#[derive(Clone, Copy, Debug, PartialEq, Eq)]
+#[derive(Clone, Copy, PartialEq, Eq)]
 pub enum HttpFault {
     /// A read failed.
     Link,
