@@ -10,5 +10,6 @@ pub mod AttachmentAgain
 pub mod TechnoteAgain
 pub mod ForumAgain
 pub mod FormReadLemmas
+pub mod PartLemmas
 pub mod MemberOrder
 pub mod Exact

@@ -1,10 +1,11 @@
 -- Fields that are read, or tested, together.
-use Rattle.std.specs.Prelude.{◌&&◌, ◌||◌, ℕ, Bool, true, not, is_some, List, [], ◌∷◌, IsTrue}
+use Rattle.std.specs.Prelude.{◌==◌, ◌&&◌, ◌||◌, ℕ, Bool, true, false, not, is_some, Option, Some, None, List, [], ◌∷◌, IsTrue, if◌then◌else◌}
 use Rattle.std.specs.List.{list_all}
 use Rattle.fsl_order.specs.Names.{is_before}
+use Rattle.fsl_text.specs.Bytes.{is_empty}
 use Rattle.fsl_card.specs.declared.types.Card.{Card}
 use Rattle.fsl_grammar.specs.declared.TagCard.{TagCard}
-use Rattle.fsl_grammar.specs.Forms.{HasAtMostOne, HasEach, hash_form, tag_form, text_form}
+use Rattle.fsl_grammar.specs.Forms.{HasAtMostOne, HasEach, given, hash_form, tag_form, text_form}
 use Rattle.fsl_forms.specs.declared.forum.Place.{Place}
 use Rattle.fsl_forms.specs.Kinds.{is_own_tag, names_target}
 
@@ -22,6 +23,11 @@ pub record HasTargetedTags (cards : List Card) (found : List TagCard) : Type 0 w
 pub record HasOwnTags (cards : List Card) (found : List TagCard) : Type 0 where
   pub tags : HasEach cards 84 tag_form found
   pub own : IsTrue (list_all is_own_tag found)
+
+-- a field of a ticket, and whether a `+` before it appends
+abbrev pub field_in : List ℕ → Option (Bool × List ℕ)
+field_in [] = None
+field_in (b ∷ rest) = if b == 43 then given (not (is_empty rest)) (true, rest) else Some (false, b ∷ rest)
 
 -- a post has a title and answers nothing, or it has a root and answers a post, and no title
 abbrev pub is_place : Bool → Bool → Bool → Bool

@@ -105,11 +105,11 @@ fn read_cards(alloc: Global, cards: &[Card]) -> Result<Attachment, Unread>
     if !has_attachment_letters(cards) {
         return Err(Unread::Form);
     }
-    let attached = one::<AttachedForm>(alloc, cards, b'A')?;
-    let comment = at_most_one::<TextForm>(alloc, cards, b'C')?;
     let date = one::<DateForm>(alloc, cards, b'D')?;
+    let comment = at_most_one::<TextForm>(alloc, cards, b'C')?;
     let mime = at_most_one::<TextForm>(alloc, cards, b'N')?;
     let user = at_most_one::<UserForm>(alloc, cards, b'U')?;
+    let attached = one::<AttachedForm>(alloc, cards, b'A')?;
     Ok(Attachment {
         file: attached.file,
         target: attached.target,

@@ -107,10 +107,10 @@ fn read_cards(alloc: Global, cards: &[Card]) -> Result<Forum, Unread>
         return Err(Unread::Form);
     }
     let date = one::<DateForm>(alloc, cards, b'D')?;
-    let place = read_place(alloc, cards)?;
-    let mime = at_most_one::<TextForm>(alloc, cards, b'N')?;
     let prior = at_most_one::<HashForm>(alloc, cards, b'P')?;
     let user = one::<UserForm>(alloc, cards, b'U')?;
+    let mime = at_most_one::<TextForm>(alloc, cards, b'N')?;
+    let place = read_place(alloc, cards)?;
     let text = body(alloc, cards)?;
     Ok(Forum {
         date,

@@ -108,19 +108,19 @@ fn read_cards(alloc: Global, cards: &[Card]) -> Result<Technote, Unread>
     if !has_technote_letters(cards) {
         return Err(Unread::Form);
     }
-    let comment = at_most_one::<TextForm>(alloc, cards, b'C')?;
     let date = one::<DateForm>(alloc, cards, b'D')?;
-    let event = one::<EventForm>(alloc, cards, b'E')?;
+    let Event { time, id } = one::<EventForm>(alloc, cards, b'E')?;
+    let comment = at_most_one::<TextForm>(alloc, cards, b'C')?;
     let mime = at_most_one::<TextForm>(alloc, cards, b'N')?;
+    let user = at_most_one::<UserForm>(alloc, cards, b'U')?;
     let parents = parents(alloc, cards)?;
     let tags = read_tags(alloc, cards)?;
-    let user = at_most_one::<UserForm>(alloc, cards, b'U')?;
     let text = body(alloc, cards)?;
     Ok(Technote {
         comment,
         date,
-        time: event.time,
-        id: event.id,
+        time,
+        id,
         mime,
         parents,
         tags,

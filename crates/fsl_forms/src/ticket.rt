@@ -4,6 +4,7 @@ ghost use Rattle.std.specs.List.{list_all};
 ghost use Rattle.fsl_card.specs.Cards.{IsReading, IsTextOf, card_text, text_of};
 ghost use Rattle.fsl_date.specs.Moment.{IsMoment};
 ghost use Rattle.fsl_forms.specs.Kinds.{IsTicket, change_form, change_in};
+ghost use Rattle.fsl_forms.specs.Parts.{field_in};
 ghost use Rattle.fsl_forms.specs.WellFormed.{is_change_written, is_ticket_well_formed};
 ghost use Rattle.fsl_forms.specs.Writing.{IsTicketText, change_card, ticket_cards};
 ghost use Rattle.fsl_grammar.specs.Reading.{IsGiven, IsRead};
@@ -126,25 +127,34 @@ impl Form for ChangeForm {
 fn read_change(alloc: Global, name: &[u8], value: Option<Text>) -> Result<TicketChange, Unread>
     ensures { IsGiven (change_in (unescape name.now) value) result }
 {
+    match read_field(alloc, name) {
+        Ok((append, field)) => Ok(TicketChange {
+            append,
+            field,
+            value,
+        }),
+        Err(why) => {
+            drop(value);
+            Err(why)
+        }
+    }
+}
+
+/// A field, and whether a `+` before it appends. `Form` where no byte stands behind the `+`, or none at all.
+fn read_field(alloc: Global, name: &[u8]) -> Result<(bool, Text), Unread>
+    ensures { IsGiven (field_in (unescape name.now)) result }
+{
     let name = unescape(alloc, name)?;
     let Some((first, rest)) = name.bytes().split_first() else {
         return Err(Unread::Form);
     };
     if *first != b'+' {
-        return Ok(TicketChange {
-            append: false,
-            field: name,
-            value,
-        });
+        return Ok((false, name));
     }
     if rest.is_empty() {
         return Err(Unread::Form);
     }
-    Ok(TicketChange {
-        append: true,
-        field: Text::of(alloc, rest)?,
-        value,
-    })
+    Ok((true, Text::of(alloc, rest)?))
 }
 
 fn all_changes_written(changes: &[TicketChange]) -> bool

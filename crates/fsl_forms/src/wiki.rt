@@ -90,12 +90,12 @@ fn read_cards(alloc: Global, cards: &[Card]) -> Result<Wiki, Unread>
     if !has_wiki_letters(cards) {
         return Err(Unread::Form);
     }
-    let comment = at_most_one::<TextForm>(alloc, cards, b'C')?;
     let date = one::<DateForm>(alloc, cards, b'D')?;
     let title = one::<TextForm>(alloc, cards, b'L')?;
+    let user = one::<UserForm>(alloc, cards, b'U')?;
+    let comment = at_most_one::<TextForm>(alloc, cards, b'C')?;
     let mime = at_most_one::<TextForm>(alloc, cards, b'N')?;
     let parents = parents(alloc, cards)?;
-    let user = one::<UserForm>(alloc, cards, b'U')?;
     let text = body(alloc, cards)?;
     Ok(Wiki {
         comment,
