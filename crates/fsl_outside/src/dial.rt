@@ -17,7 +17,7 @@ use std::marker::Model;
 /// A dial over memory. Each connection gives the next reply, and behind the last one that one again; where there is no
 /// reply it gives no byte. `fails` has the numbers of the calls that fail, counted from 1. A growth that finds no memory,
 /// and a read or a write without a connection, are failed calls, too.
-#[derive(Debug, Drop)]
+#[derive(Drop)]
 pub struct MemoryDial {
     lines: Connections,
     replies: Vec<Vec<u8>>,

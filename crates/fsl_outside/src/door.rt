@@ -18,7 +18,7 @@ use std::marker::Model;
 /// A door over memory, which is closed behind the last of its connections. `fails` has the numbers of the reads and
 /// writes that fail, `accept_fails` those of the accepts, both counted from 1. A growth that finds no memory, and a read
 /// or a write without a connection, are failed calls, too.
-#[derive(Debug, Drop)]
+#[derive(Drop)]
 pub struct MemoryDoor {
     lines: Connections,
     connections: Vec<Vec<u8>>,

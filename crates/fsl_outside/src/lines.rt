@@ -11,7 +11,7 @@ use std::alloc::Global;
 use std::marker::Model;
 
 /// A connection over bytes.
-#[derive(Debug, Drop)]
+#[derive(Drop)]
 pub(crate) struct Line {
     bytes: Vec<u8>,
     at: usize,
@@ -94,7 +94,7 @@ impl Line {
 }
 
 /// The connections so far, of which the last is the present one, and their calls, of which those of these numbers fail.
-#[derive(Debug, Drop)]
+#[derive(Drop)]
 pub(crate) struct Connections {
     earlier: Vec<Line>,
     present: Option<Line>,

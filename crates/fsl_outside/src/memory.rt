@@ -10,7 +10,7 @@ use std::alloc::Global;
 use std::marker::Model;
 
 /// A source over bytes. `fails` has the numbers of the calls that fail, counted from 1.
-#[derive(Debug, Drop)]
+#[derive(Drop)]
 pub struct MemorySource {
     bytes: Vec<u8>,
     at: usize,
@@ -76,7 +76,7 @@ impl Source for MemorySource {
 
 /// A sink that keeps what it takes. `fails` has the numbers of the calls that fail, counted from 1. A growth that finds
 /// no memory is a failed call, too.
-#[derive(Debug, Drop)]
+#[derive(Drop)]
 pub struct MemorySink {
     bytes: Vec<u8>,
     fails: Vec<u64>,

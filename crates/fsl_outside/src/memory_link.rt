@@ -14,7 +14,7 @@ use std::marker::Model;
 
 /// A link over bytes. `fails` has the numbers of the calls that fail, counted from 1. A growth that finds no memory is a
 /// failed call, too.
-#[derive(Debug, Drop)]
+#[derive(Drop)]
 pub struct MemoryLink {
     line: Line,
     fails: Vec<u64>,
