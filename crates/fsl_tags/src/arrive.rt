@@ -1,15 +1,18 @@
 //! A fact more, or another parent of a fact: all tables follow, and logs know what takes that back.
 ghost use Rattle.std.specs.List.{AllByRecursion};
+ghost use Rattle.std.specs.List.Sorted.{IsStrictlySortedBy};
+ghost use Rattle.std.specs.Map.{keys_of};
 ghost use Rattle.std.specs.Prelude.{◌≡◌, ◌+◌, ◌*◌, ◌≤◌, [], ◌∷◌, List, ℕ, length, OnOk, IfOk};
 ghost use Rattle.fsl_order.specs.Names.{bytes_cmp};
 ghost use Rattle.fsl_order.specs.Rows.{by_name, ListsChanged};
-ghost use Rattle.fsl_table.specs.Contents.{Contents};
+ghost use Rattle.fsl_table.specs.Contents.{Contents, with_entry};
 ghost use Rattle.fsl_table.specs.Exact.{pair_cmp};
 ghost use Rattle.fsl_table.specs.Pairs.{seconds};
 ghost use Rattle.fsl_table.specs.Undo.{Undoes};
 ghost use Rattle.fsl_table.specs.declared.key.Pair as pair;
 ghost use Rattle.fsl_tags.specs.Conditions.{IsParentChange};
 ghost use Rattle.fsl_tags.specs.Held.{facts_of, IsKept};
+ghost use Rattle.fsl_tags.specs.Laid.{AreNoted, AreRight};
 ghost use Rattle.fsl_tags.specs.Tags as table;
 ghost use Rattle.fsl_tags.specs.declared.Assertion as made;
 ghost use Rattle.fsl_tags.specs.declared.node.Node as given;
@@ -105,6 +108,65 @@ pub(crate) fn take_in<L: Ledger>(
     changed_names(alloc, noted, rows, steps)
 }
 
+/// Takes the parent of a node out, where it has one, and then puts the node with its own. An error leaves what the logs take back.
+fn move_node<L: Ledger>(
+    alloc: Global,
+    facts: &mut Table<Name, Node>,
+    children: &mut Table<Pair, ()>,
+    own: &Table<Name, List<Shared>>,
+    rows: &mut Table<Name, List<Shared>>,
+    facts_log: &mut Log<Name, Node>,
+    children_log: &mut Log<Pair, ()>,
+    rows_log: &mut Log<Name, List<Shared>>,
+    noted: &mut BTreeMap<Name, List<Shared>>,
+    name: Name,
+    node: Node,
+    steps: &mut Steps<L>,
+) -> Result<(), Memory>
+    requires right { AreRight facts.old.entries children.old.entries own.now.entries rows.old.entries }
+    requires ordered { IsStrictlySortedBy bytes_cmp (keys_of facts.old.entries) }
+    ensures right { OnOk result (AreRight facts.new.entries children.new.entries own.now.entries rows.new.entries) }
+    ensures facts { OnOk result (facts.new.entries ≡ with_entry bytes_cmp name node facts.old.entries) }
+    ensures noted { OnOk result ((before : List ℕ → List made.Assertion) → AreNoted before noted.old.entries rows.old.entries → AreNoted before noted.new.entries rows.new.entries) }
+    ensures undoes_facts { (before : Contents (List ℕ) given.Node) → Undoes bytes_cmp facts_log.old facts.old before → Undoes bytes_cmp facts_log.new facts.new before }
+    ensures undoes_children { (before : Contents pair.Pair Unit) → Undoes pair_cmp children_log.old children.old before → Undoes pair_cmp children_log.new children.new before }
+    ensures undoes_rows { (before : Contents (List ℕ) (List made.Assertion)) → Undoes bytes_cmp rows_log.old rows.old before → Undoes bytes_cmp rows_log.new rows.new before }
+{
+    let up = node.parent;
+    match cut(
+        alloc,
+        facts,
+        facts_log,
+        children,
+        children_log,
+        own,
+        rows,
+        rows_log,
+        noted,
+        name,
+        node.checkin,
+        node.tags.items(),
+        steps,
+    ) {
+        Ok(()) => set_node(
+            alloc,
+            facts,
+            facts_log,
+            children,
+            children_log,
+            own,
+            rows,
+            rows_log,
+            noted,
+            name,
+            up,
+            node,
+            steps,
+        ),
+        Err(Memory) => Err(Memory),
+    }
+}
+
 /// Gives a fact another parent, and logs what gives it the old one again.
 pub(crate) fn give_parent<L: Ledger>(
     alloc: Global,
@@ -136,34 +198,17 @@ pub(crate) fn give_parent<L: Ledger>(
     } = fact;
     let tags = share(alloc, tags)?;
     let mut noted = BTreeMap::new(alloc);
-    cut(
+    move_node(
         alloc,
         facts,
-        facts_log,
         children,
-        children_log,
         own,
         rows,
+        facts_log,
+        children_log,
         rows_log,
         &mut noted,
         name,
-        checkin,
-        tags.items(),
-        steps,
-    )?;
-    let (up, parent) = twice(parent);
-    set_node(
-        alloc,
-        facts,
-        facts_log,
-        children,
-        children_log,
-        own,
-        rows,
-        rows_log,
-        &mut noted,
-        name,
-        up,
         Node {
             checkin,
             parent,

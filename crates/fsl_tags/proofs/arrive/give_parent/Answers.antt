@@ -16,45 +16,27 @@ use Rattle.fsl_tags.proofs.DirectWith.{direct-kept, tags_there}
 use Rattle.fsl_tags.proofs.WithFact.{facts_with}
 use Rattle.fsl_tags.proofs.arrive.give_parent.Goals as goal
 
-pub returns-in_err-set_node-clause-undoes_facts : goal.returns-in_err-set_node-clause-undoes_facts
-returns-in_err-set_node-clause-undoes_facts g c = λ before u. c.set_node.ensures.undoes_facts before (c.cut.ensures.undoes_facts before u)
-
-pub returns-in_err-set_node-clause-undoes_children : goal.returns-in_err-set_node-clause-undoes_children
-returns-in_err-set_node-clause-undoes_children g c = λ before u. c.set_node.ensures.undoes_children before (c.cut.ensures.undoes_children before u)
-
-pub returns-in_err-set_node-clause-undoes_rows : goal.returns-in_err-set_node-clause-undoes_rows
-returns-in_err-set_node-clause-undoes_rows g c = λ before u. c.set_node.ensures.undoes_rows before (c.cut.ensures.undoes_rows before u)
-
-pub returns-clause-undoes_facts : goal.returns-clause-undoes_facts
-returns-clause-undoes_facts g c = λ before u. c.set_node.ensures.undoes_facts before (c.cut.ensures.undoes_facts before u)
-
-pub returns-clause-undoes_children : goal.returns-clause-undoes_children
-returns-clause-undoes_children g c = λ before u. c.set_node.ensures.undoes_children before (c.cut.ensures.undoes_children before u)
-
-pub returns-clause-undoes_rows : goal.returns-clause-undoes_rows
-returns-clause-undoes_rows g c = λ before u. c.set_node.ensures.undoes_rows before (c.cut.ensures.undoes_rows before u)
-
 pub returns-clause-facts : goal.returns-clause-facts
 returns-clause-facts g c =
-    let node : Node = record { checkin = c.args.fact.checkin; parent = c.twice-up.result.1; tags = c.in_ok-tags.tags } in
+    let node : Node = record { checkin = c.args.fact.checkin; parent = c.args.fact.parent; tags = c.in_ok-tags.tags } in
     let old : Rows = record { facts = c.args.facts.now; children = c.args.children.now; own = c.args.own.now; rows = c.args.rows.now } in
-    let new : Rows = record { facts = c.set_node.new.facts; children = c.set_node.new.children; own = c.args.own.now; rows = c.set_node.new.rows } in
+    let new : Rows = record { facts = c.move_node.new.facts; children = c.move_node.new.children; own = c.args.own.now; rows = c.move_node.new.rows } in
     let es = c.args.facts.now.entries in
-    let put : c.set_node.new.facts.entries ≡ with_entry bytes_cmp c.args.fact.name node es = c.in_ok-set_node.ensures.facts ∙ c.in_ok-cut.ensures.facts node in
-    let is : fact_of (c.args.fact.name, node) ≡ c.args.fact = λ i. record { name = c.args.fact.name; checkin = c.args.fact.checkin; parent = (ap (λ p. p.1) c.twice-up.ensures) i; tags = c.in_ok-tags.ensures i } in
-    let facts : facts_of c.set_node.new.facts.entries ≡ by_name (λ f. f.name) (c.args.fact ∷ facts_of es) =
+    let put : c.move_node.new.facts.entries ≡ with_entry bytes_cmp c.args.fact.name node es = c.in_ok-move_node.ensures.facts in
+    let is : fact_of (c.args.fact.name, node) ≡ c.args.fact = λ i. record { name = c.args.fact.name; checkin = c.args.fact.checkin; parent = c.args.fact.parent; tags = c.in_ok-tags.ensures i } in
+    let facts : facts_of c.move_node.new.facts.entries ≡ by_name (λ f. f.name) (c.args.fact ∷ facts_of es) =
     ap facts_of put ∙ facts_with c.args.fact.name node es c.requires.kept.ordered ∙ ap (λ f. by_name (λ f. f.name) (f ∷ facts_of es)) is in
     always_ok c.changed_names.result facts
 
 pub returns-clause-kept : goal.returns-clause-kept
 returns-clause-kept g c =
-    let node : Node = record { checkin = c.args.fact.checkin; parent = c.twice-up.result.1; tags = c.in_ok-tags.tags } in
+    let node : Node = record { checkin = c.args.fact.checkin; parent = c.args.fact.parent; tags = c.in_ok-tags.tags } in
     let old : Rows = record { facts = c.args.facts.now; children = c.args.children.now; own = c.args.own.now; rows = c.args.rows.now } in
-    let new : Rows = record { facts = c.set_node.new.facts; children = c.set_node.new.children; own = c.args.own.now; rows = c.set_node.new.rows } in
+    let new : Rows = record { facts = c.move_node.new.facts; children = c.move_node.new.children; own = c.args.own.now; rows = c.move_node.new.rows } in
     let es = c.args.facts.now.entries in
-    let put : c.set_node.new.facts.entries ≡ with_entry bytes_cmp c.args.fact.name node es = c.in_ok-set_node.ensures.facts ∙ c.in_ok-cut.ensures.facts node in
-    let is : fact_of (c.args.fact.name, node) ≡ c.args.fact = λ i. record { name = c.args.fact.name; checkin = c.args.fact.checkin; parent = (ap (λ p. p.1) c.twice-up.ensures) i; tags = c.in_ok-tags.ensures i } in
-    let facts : facts_of c.set_node.new.facts.entries ≡ by_name (λ f. f.name) (c.args.fact ∷ facts_of es) =
+    let put : c.move_node.new.facts.entries ≡ with_entry bytes_cmp c.args.fact.name node es = c.in_ok-move_node.ensures.facts in
+    let is : fact_of (c.args.fact.name, node) ≡ c.args.fact = λ i. record { name = c.args.fact.name; checkin = c.args.fact.checkin; parent = c.args.fact.parent; tags = c.in_ok-tags.ensures i } in
+    let facts : facts_of c.move_node.new.facts.entries ≡ by_name (λ f. f.name) (c.args.fact ∷ facts_of es) =
     ap facts_of put ∙ facts_with c.args.fact.name node es c.requires.kept.ordered ∙ ap (λ f. by_name (λ f. f.name) (f ∷ facts_of es)) is in
     let there = tags_there c.args.fact.name c.requires.change.old es c.requires.change.there in
     let kept : IsKept new = record {
@@ -64,19 +46,19 @@ returns-clause-kept g c =
           c.requires.kept.newest x t
           ∙ sym (direct-kept c.args.fact.name node x t es c.requires.kept.ordered there.0 there.1 (there.2 ∙ sym (ap (λ f. f.tags) c.requires.change.kept) ∙ sym c.in_ok-tags.ensures))
           ∙ ap (λ es. direct (facts_of es) x t) (sym put);
-      right = c.in_ok-set_node.ensures.right;
+      right = c.in_ok-move_node.ensures.right;
     } in
     always_ok c.changed_names.result kept
 
 pub returns-clause-changed : goal.returns-clause-changed
 returns-clause-changed g c =
-    let node : Node = record { checkin = c.args.fact.checkin; parent = c.twice-up.result.1; tags = c.in_ok-tags.tags } in
+    let node : Node = record { checkin = c.args.fact.checkin; parent = c.args.fact.parent; tags = c.in_ok-tags.tags } in
     let old : Rows = record { facts = c.args.facts.now; children = c.args.children.now; own = c.args.own.now; rows = c.args.rows.now } in
-    let new : Rows = record { facts = c.set_node.new.facts; children = c.set_node.new.children; own = c.args.own.now; rows = c.set_node.new.rows } in
+    let new : Rows = record { facts = c.move_node.new.facts; children = c.move_node.new.children; own = c.args.own.now; rows = c.move_node.new.rows } in
     let es = c.args.facts.now.entries in
-    let put : c.set_node.new.facts.entries ≡ with_entry bytes_cmp c.args.fact.name node es = c.in_ok-set_node.ensures.facts ∙ c.in_ok-cut.ensures.facts node in
-    let is : fact_of (c.args.fact.name, node) ≡ c.args.fact = λ i. record { name = c.args.fact.name; checkin = c.args.fact.checkin; parent = (ap (λ p. p.1) c.twice-up.ensures) i; tags = c.in_ok-tags.ensures i } in
-    let facts : facts_of c.set_node.new.facts.entries ≡ by_name (λ f. f.name) (c.args.fact ∷ facts_of es) =
+    let put : c.move_node.new.facts.entries ≡ with_entry bytes_cmp c.args.fact.name node es = c.in_ok-move_node.ensures.facts in
+    let is : fact_of (c.args.fact.name, node) ≡ c.args.fact = λ i. record { name = c.args.fact.name; checkin = c.args.fact.checkin; parent = c.args.fact.parent; tags = c.in_ok-tags.ensures i } in
+    let facts : facts_of c.move_node.new.facts.entries ≡ by_name (λ f. f.name) (c.args.fact ∷ facts_of es) =
     ap facts_of put ∙ facts_with c.args.fact.name node es c.requires.kept.ordered ∙ ap (λ f. by_name (λ f. f.name) (f ∷ facts_of es)) is in
     let there = tags_there c.args.fact.name c.requires.change.old es c.requires.change.there in
     let kept : IsKept new = record {
@@ -86,12 +68,12 @@ returns-clause-changed g c =
           c.requires.kept.newest x t
           ∙ sym (direct-kept c.args.fact.name node x t es c.requires.kept.ordered there.0 there.1 (there.2 ∙ sym (ap (λ f. f.tags) c.requires.change.kept) ∙ sym c.in_ok-tags.ensures))
           ∙ ap (λ es. direct (facts_of es) x t) (sym put);
-      right = c.in_ok-set_node.ensures.right;
+      right = c.in_ok-move_node.ensures.right;
     } in
-    let noted : AreNoted (row_in c.args.rows.now.entries) c.set_node.new.noted.entries c.set_node.new.rows.entries =
-    c.in_ok-set_node.ensures.noted (row_in c.args.rows.now.entries)
-    (c.in_ok-cut.ensures.noted (row_in c.args.rows.now.entries) (subst (λ es. AreNoted (row_in c.args.rows.now.entries) es c.args.rows.now.entries) (sym c.new-noted.ensures.empty) (λ x. refl))) in
+    let noted : AreNoted (row_in c.args.rows.now.entries) c.move_node.new.noted.entries c.move_node.new.rows.entries =
+    c.in_ok-move_node.ensures.noted (row_in c.args.rows.now.entries)
+    (subst (λ es. AreNoted (row_in c.args.rows.now.entries) es c.args.rows.now.entries) (sym c.new-noted.ensures.empty) (λ x. refl)) in
     if_ok_map c.changed_names.result
     (λ list f. subst (λ after. ListsChanged (tags_row (facts_of es)) after list) (λ i x. kept-row new kept x i)
-    (subst (λ before. ListsChanged before (row_in c.set_node.new.rows.entries) list) (λ i x. kept-row old c.requires.kept x i) (f (row_in c.args.rows.now.entries) noted)))
+    (subst (λ before. ListsChanged before (row_in c.move_node.new.rows.entries) list) (λ i x. kept-row old c.requires.kept x i) (f (row_in c.args.rows.now.entries) noted)))
     c.changed_names.ensures.list
