@@ -17,11 +17,18 @@ use std::alloc::Global;
 /// What stands in a login until its tail is made.
 const NO_TAIL: [u8; 20] = [0; 20];
 
-/// Copies of the codes of a server and of a project.
-fn codes(alloc: Global, server: &[u8], project: &[u8]) -> Result<(Text, Text), Memory>
-    ensures { IfOk result (λ codes. codes ≡ (server.now, project.now)) }
+/// An escaped text, unescaped, behind a pointer.
+fn boxed_unescaped(alloc: Global, text: &[u8]) -> Result<Boxed<Text>, Memory>
+    ensures { IfOk result (λ boxed. boxed ≡ unescape text.now) }
 {
-    Ok((Text::of(alloc, server)?, Text::of(alloc, project)?))
+    Boxed::of(alloc, unescape(alloc, text)?)
+}
+
+/// A copy of a text behind a pointer.
+fn boxed_copy(alloc: Global, text: &[u8]) -> Result<Boxed<Text>, Memory>
+    ensures { IfOk result (λ boxed. boxed ≡ text.now) }
+{
+    Boxed::of(alloc, Text::of(alloc, text)?)
 }
 
 /// A login with its line. No byte stands for its tail yet.
@@ -34,12 +41,31 @@ fn login(
 ) -> Result<WireCard, Memory>
     ensures { IfOk result (λ card. (b : Items ℕ) → with_tail b card ≡ card_is.Login (unescape user.now) nonce.now signature.now (name_of b) line) }
 {
+    let tail = Boxed::of(alloc, Name::from_bytes(NO_TAIL))?;
     Ok(WireCard::Login {
-        user: Boxed::of(alloc, unescape(alloc, user)?)?,
-        nonce: Boxed::of(alloc, Text::of(alloc, nonce)?)?,
-        signature: Boxed::of(alloc, Text::of(alloc, signature)?)?,
-        tail: Boxed::of(alloc, Name::from_bytes(NO_TAIL))?,
+        user: boxed_unescaped(alloc, user)?,
+        nonce: boxed_copy(alloc, nonce)?,
+        signature: boxed_copy(alloc, signature)?,
+        tail,
         line,
+    })
+}
+
+fn push(alloc: Global, server: &[u8], project: &[u8]) -> Result<WireCard, Memory>
+    ensures { IfOk result (λ card. card ≡ card_is.Push server.now project.now) }
+{
+    Ok(WireCard::Push {
+        server: Text::of(alloc, server)?,
+        project: Text::of(alloc, project)?,
+    })
+}
+
+fn pull(alloc: Global, server: &[u8], project: &[u8]) -> Result<WireCard, Memory>
+    ensures { IfOk result (λ card. card ≡ card_is.Pull server.now project.now) }
+{
+    Ok(WireCard::Pull {
+        server: Text::of(alloc, server)?,
+        project: Text::of(alloc, project)?,
     })
 }
 
@@ -52,38 +78,32 @@ fn card_of(
 ) -> Result<Option<WireCard>, Memory>
     ensures { IfOk result (λ card. (b : Items ℕ) → option_to_list (option_map (with_tail b) card) ≡ line_cards (line_of meaning.now) line content.now b) }
 {
-    Ok(Some(match *meaning {
+    match *meaning {
         Meaning::Login {
             user,
             nonce,
             signature,
-        } => login(alloc, user, nonce, signature, line)?,
-        Meaning::Push { server, project } => {
-            let (server, project) = codes(alloc, server, project)?;
-            WireCard::Push { server, project }
-        }
-        Meaning::Pull { server, project } => {
-            let (server, project) = codes(alloc, server, project)?;
-            WireCard::Pull { server, project }
-        }
-        Meaning::Clone { from } => WireCard::Clone { from },
-        Meaning::CloneSeqno { next } => WireCard::CloneSeqno { next },
-        Meaning::File { name, .. } => WireCard::File {
+        } => Ok(Some(login(alloc, user, nonce, signature, line)?)),
+        Meaning::Push { server, project } => Ok(Some(push(alloc, server, project)?)),
+        Meaning::Pull { server, project } => Ok(Some(pull(alloc, server, project)?)),
+        Meaning::Clone { from } => Ok(Some(WireCard::Clone { from })),
+        Meaning::CloneSeqno { next } => Ok(Some(WireCard::CloneSeqno { next })),
+        Meaning::File { name, .. } => Ok(Some(WireCard::File {
             name,
             bytes: Text::of(alloc, content)?,
-        },
-        Meaning::Private => WireCard::Private,
-        Meaning::Igot { name, private } => WireCard::Igot { name, private },
-        Meaning::Gimme { name } => WireCard::Gimme { name },
-        Meaning::Error { text } => WireCard::Error {
+        })),
+        Meaning::Private => Ok(Some(WireCard::Private)),
+        Meaning::Igot { name, private } => Ok(Some(WireCard::Igot { name, private })),
+        Meaning::Gimme { name } => Ok(Some(WireCard::Gimme { name })),
+        Meaning::Error { text } => Ok(Some(WireCard::Error {
             text: unescape(alloc, text)?,
-        },
-        Meaning::Message { text } => WireCard::Message {
+        })),
+        Meaning::Message { text } => Ok(Some(WireCard::Message {
             text: unescape(alloc, text)?,
-        },
-        Meaning::SendPrivate => WireCard::SendPrivate,
-        Meaning::Blank | Meaning::Bad(_) => return Ok(None),
-    }))
+        })),
+        Meaning::SendPrivate => Ok(Some(WireCard::SendPrivate)),
+        Meaning::Blank | Meaning::Bad(_) => Ok(None),
+    }
 }
 
 /// Puts an item at the end. The room grows by an eighth at a time: to double it would take as much again as the items do.
@@ -110,11 +130,10 @@ fn add_made<'a>(
     ensures cards { OnOk result (with_tails cards.new.items behinds.new.items ≡ with_tails cards.old.items behinds.old.items ++ with_tail behind.now card ∷ []) }
     ensures each { OnOk result (length behinds.new.items ≡ logins_of cards.new.items) }
 {
-    if is_login(&card) {
-        put(behinds, behind)?;
-        return put(cards, card);
-    }
-    put(cards, card)
+    let login = is_login(&card);
+    // The card goes first, so that none is held where there is no memory for the bytes.
+    put(cards, card)?;
+    if login { put(behinds, behind) } else { Ok(()) }
 }
 
 /// Puts the card of a line at the end, if it has one, and the bytes behind the line's newline at the end of theirs, if it is a login.

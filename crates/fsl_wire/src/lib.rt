@@ -36,7 +36,7 @@ pub use writing::{
 };
 
 /// One card of a message.
-#[derive(Debug, Drop)]
+#[derive(Drop)]
 pub enum WireCard {
     /// `login USER NONCE SIGNATURE`: the user is unescaped. The tail is the SHA-1 of all bytes behind the newline of
     /// the card's line, and the line is counted from 1. All but the line stand behind pointers, since every card is as large as
@@ -95,7 +95,7 @@ pub enum WireCard {
 }
 
 /// Why a message doesn't read. The line is the first that doesn't read, counted from 1; contents aren't counted.
-#[derive(Clone, Copy, Debug, PartialEq, Eq)]
+#[derive(Clone, Copy, PartialEq, Eq)]
 pub enum WireFault {
     /// Another operator.
     Unknown { line: u64 },
@@ -112,7 +112,7 @@ pub enum WireFault {
 }
 
 /// The cards of a message, in order.
-#[derive(Debug, Drop)]
+#[derive(Drop)]
 pub struct Message {
     cards: List<WireCard>,
 }

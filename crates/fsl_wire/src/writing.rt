@@ -176,6 +176,30 @@ pub fn append_error(into: &mut Text, text: &[u8]) -> Result<(), Memory>
     append_text_line(into, b"error", text)
 }
 
+/// Puts the line of an operator alone at the end of a text.
+fn append_operator(into: &mut Text, operator: &[u8]) -> Result<(), Memory>
+    ensures ok { OnOk result (into.new ≡ into.old ++ line (operator.now ∷ [])) }
+    ensures err { OnErr result (into.new ≡ into.old) }
+{
+    append_line(into, &[operator])
+}
+
+/// Puts the line of an operator and two tokens at the end of a text.
+fn append_pair(into: &mut Text, operator: &[u8], first: &[u8], second: &[u8]) -> Result<(), Memory>
+    ensures ok { OnOk result (into.new ≡ into.old ++ line (operator.now ∷ first.now ∷ second.now ∷ [])) }
+    ensures err { OnErr result (into.new ≡ into.old) }
+{
+    append_line(into, &[operator, first, second])
+}
+
+/// Puts a `pragma send-private` card at the end of a text.
+fn append_send_private(into: &mut Text) -> Result<(), Memory>
+    ensures ok { OnOk result (into.new ≡ into.old ++ card_bytes card_is.SendPrivate) }
+    ensures err { OnErr result (into.new ≡ into.old) }
+{
+    append_line(into, &[b"pragma", b"send-private"])
+}
+
 /// Puts a card that can be written, so no login, at the end of a text.
 fn append_card(into: &mut Text, card: &WireCard) -> Result<(), Memory>
     requires { IsTrue (is_writable card.now) }
@@ -185,20 +209,20 @@ fn append_card(into: &mut Text, card: &WireCard) -> Result<(), Memory>
     match card {
         WireCard::Login { .. } => Ok(()),
         WireCard::Push { server, project } => {
-            append_line(into, &[b"push", server.bytes(), project.bytes()])
+            append_pair(into, b"push", server.bytes(), project.bytes())
         }
         WireCard::Pull { server, project } => {
-            append_line(into, &[b"pull", server.bytes(), project.bytes()])
+            append_pair(into, b"pull", server.bytes(), project.bytes())
         }
         WireCard::Clone { from } => append_clone(into, *from),
         WireCard::CloneSeqno { next } => append_seqno(into, *next),
         WireCard::File { name, bytes } => append_file(into, name, bytes.bytes()),
-        WireCard::Private => append_line(into, &[b"private"]),
+        WireCard::Private => append_operator(into, b"private"),
         WireCard::Igot { name, private } => append_igot(into, name, *private),
         WireCard::Gimme { name } => append_gimme(into, name),
         WireCard::Error { text } => append_error(into, text.bytes()),
         WireCard::Message { text } => append_text_line(into, b"message", text.bytes()),
-        WireCard::SendPrivate => append_line(into, &[b"pragma", b"send-private"]),
+        WireCard::SendPrivate => append_send_private(into),
     }
 }
 

@@ -5,5 +5,5 @@ use Rattle.fsl_wire.proofs.writing.append_card.Goals as goal
 
 pub returns-in-SendPrivate-clause-ok : goal.returns-in-SendPrivate-clause-ok
 returns-in-SendPrivate-clause-ok c =
-    subst (λ (card : WireCard). OnOk c.append_line-in-SendPrivate.result (c.append_line-in-SendPrivate.new.into ≡ c.args.into.now ++ card_bytes card)) (sym c.in-SendPrivate.is)
-    c.append_line-in-SendPrivate.ensures.ok
+    subst (λ (card : WireCard). OnOk c.append_send_private.result (c.append_send_private.new.into ≡ c.args.into.now ++ card_bytes card)) (sym c.in-SendPrivate.is)
+    c.append_send_private.ensures.ok
