@@ -95,7 +95,7 @@ pub enum WireCard {
 }
 
 /// Why a message doesn't read. The line is the first that doesn't read, counted from 1; contents aren't counted.
-#[derive(Clone, Copy, PartialEq, Eq)]
+#[derive(Clone, Copy, Debug, PartialEq, Eq)]
 pub enum WireFault {
     /// Another operator.
     Unknown { line: u64 },
