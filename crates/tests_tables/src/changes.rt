@@ -2,6 +2,7 @@
 //! that it can be taken back.
 ghost use Rattle.std.specs.Prelude.{◌≡◌, [], true, map, IfOk, OnOk};
 ghost use Rattle.fsl_order.specs.Names.{has};
+ghost use Rattle.fsl_order.specs.TableState.{IsAsBefore};
 
 use crate::names::{add, are_distinct, letter, moment, names_of, put_names};
 use crate::plays::{Play, shown};
@@ -9,7 +10,7 @@ use fsl_leaves::Leaves;
 use fsl_links::Links;
 use fsl_name::Name;
 use fsl_text::{Memory, Steps, Text};
-use fsl_timeline::{Row, RowKind, Timeline};
+use fsl_timeline::{Row, RowKind, Timeline, Undo};
 use std::alloc::Global;
 use std::sync::ledger::Ledger;
 
@@ -41,7 +42,32 @@ fn show_latest(alloc: Global, table: &Timeline, into: &mut Text) {
     let _ = add_latest(alloc, table, into);
 }
 
-/// Puts a row in the place of one of its name and takes that back: what it tells, and what stands after each.
+/// Takes a row in.
+fn come<L: Ledger>(
+    alloc: Global,
+    table: &mut Timeline,
+    name: Name,
+    steps: &mut Steps<L>,
+) -> Result<(), Memory>
+    requires { table.old.facts ≡ [] }
+    ensures { OnOk result (has (map (λ r. r.name) table.new.facts) name ≡ true) }
+{
+    table.add(alloc, row_at(alloc, 1, name, b"old")?, steps)?;
+    Ok(())
+}
+
+/// Takes the last change back: what it tells, and what stands before and after.
+fn take_back(alloc: Global, table: &mut Timeline, undo: Undo, into: &mut Text)
+    requires { undo.after ≡ table.old }
+    ensures { IsAsBefore undo.before table.new }
+{
+    put_names(into, undo.changed().items());
+    show_latest(alloc, table, into);
+    table.undo(undo);
+    show_latest(alloc, table, into);
+}
+
+/// Puts a row in the place of one of its name and takes that back.
 fn change_back<L: Ledger>(
     alloc: Global,
     table: &mut Timeline,
@@ -49,19 +75,20 @@ fn change_back<L: Ledger>(
     into: &mut Text,
     steps: &mut Steps<L>,
 ) -> Result<(), Memory>
-    requires { table.old.facts ≡ [] }
+    requires { has (map (λ r. r.name) table.old.facts) name ≡ true }
     ensures { OnOk result (has (map (λ r. r.name) table.new.facts) name ≡ true) }
 {
-    table.add(alloc, row_at(alloc, 1, name, b"old")?, steps)?;
-    let undo = table.change(alloc, row_at(alloc, 1, name, b"new")?, steps)?;
-    put_names(into, undo.changed().items());
-    show_latest(alloc, table, into);
-    table.undo(undo);
-    show_latest(alloc, table, into);
-    Ok(())
+    let changed = row_at(alloc, 1, name, b"new")?;
+    match table.change(alloc, changed, steps) {
+        Ok(undo) => {
+            take_back(alloc, table, undo, into);
+            Ok(())
+        }
+        Err(Memory) => Err(Memory),
+    }
 }
 
-/// Takes a row out and puts it back: what it tells, and what stands after each.
+/// Takes a row out and puts it back.
 fn retire_back<L: Ledger>(
     alloc: Global,
     table: &mut Timeline,
@@ -71,12 +98,13 @@ fn retire_back<L: Ledger>(
 ) -> Result<(), Memory>
     requires { has (map (λ r. r.name) table.old.facts) name ≡ true }
 {
-    let retired = table.retire(alloc, name, steps)?;
-    put_names(into, retired.changed().items());
-    show_latest(alloc, table, into);
-    table.undo(retired);
-    show_latest(alloc, table, into);
-    Ok(())
+    match table.retire(alloc, name, steps) {
+        Ok(retired) => {
+            take_back(alloc, table, retired, into);
+            Ok(())
+        }
+        Err(Memory) => Err(Memory),
+    }
 }
 
 fn change_and_retire<L: Ledger>(
@@ -88,6 +116,7 @@ fn change_and_retire<L: Ledger>(
     requires { table.old.facts ≡ [] }
 {
     let name = letter(b'p');
+    come(alloc, table, name, steps)?;
     change_back(alloc, table, name, into, steps)?;
     retire_back(alloc, table, name, into, steps)
 }
@@ -123,8 +152,10 @@ fn two_rows(alloc: Global) -> Result<Timeline, Memory> {
 }
 
 fn latest_of_two(alloc: Global) -> Result<Text, Memory> {
+    let table = two_rows(alloc)?;
     let mut into = Text::empty(alloc);
-    add_latest(alloc, &two_rows(alloc)?, &mut into)?;
+    show_latest(alloc, &table, &mut into);
+    drop(table);
     Ok(into)
 }
 
@@ -144,8 +175,42 @@ fn child_of(alloc: Global, name: Name, parent: u8) -> Result<fsl_links::Fact, Me
     Ok(fsl_links::Fact { name, parents })
 }
 
-/// A check-in, and one of its name with another parent: the names whose rows this changes.
+/// A check-in comes.
+fn link<L: Ledger>(
+    alloc: Global,
+    table: &mut Links,
+    name: Name,
+    steps: &mut Steps<L>,
+) -> Result<(), Memory>
+    requires { table.old.facts ≡ [] }
+    ensures { OnOk result (has (map (λ f. f.name) table.new.facts) name ≡ true) }
+{
+    table.add(alloc, child_of(alloc, name, b'q')?, steps)?;
+    Ok(())
+}
+
+/// One of its name with another parent: the names whose rows this changes.
 fn relink<L: Ledger>(
+    alloc: Global,
+    table: &mut Links,
+    name: Name,
+    into: &mut Text,
+    steps: &mut Steps<L>,
+) -> Result<(), Memory>
+    requires { has (map (λ f. f.name) table.old.facts) name ≡ true }
+{
+    let changed = child_of(alloc, name, b'r')?;
+    match table.change(alloc, changed, steps) {
+        Ok(undo) => {
+            put_names(into, undo.changed().items());
+            table.undo(undo);
+            Ok(())
+        }
+        Err(Memory) => Err(Memory),
+    }
+}
+
+fn link_twice<L: Ledger>(
     alloc: Global,
     table: &mut Links,
     into: &mut Text,
@@ -154,11 +219,8 @@ fn relink<L: Ledger>(
     requires { table.old.facts ≡ [] }
 {
     let name = letter(b'p');
-    table.add(alloc, child_of(alloc, name, b'q')?, steps)?;
-    let undo = table.change(alloc, child_of(alloc, name, b'r')?, steps)?;
-    put_names(into, undo.changed().items());
-    table.undo(undo);
-    Ok(())
+    link(alloc, table, name, steps)?;
+    relink(alloc, table, name, into, steps)
 }
 
 /// A check-in gets another parent.
@@ -167,7 +229,7 @@ struct OfLinks;
 impl Play for OfLinks {
     fn play<L: Ledger>(alloc: Global, into: &mut Text, steps: &mut Steps<L>) -> Result<(), Memory> {
         let mut table = Links::new(alloc);
-        relink(alloc, &mut table, into, steps)
+        link_twice(alloc, &mut table, into, steps)
     }
 }
 
@@ -191,8 +253,42 @@ fn leaf_of(alloc: Global, name: Name, parent: u8) -> Result<fsl_leaves::Fact, Me
     })
 }
 
-/// A check-in, and one of its name that names itself: the names whose rows this changes.
+/// A check-in comes.
+fn grow<L: Ledger>(
+    alloc: Global,
+    table: &mut Leaves,
+    name: Name,
+    steps: &mut Steps<L>,
+) -> Result<(), Memory>
+    requires { table.old.facts ≡ [] }
+    ensures { OnOk result (has (map (λ f. f.name) table.new.facts) name ≡ true) }
+{
+    table.add(alloc, leaf_of(alloc, name, b'q')?, steps)?;
+    Ok(())
+}
+
+/// One of its name that names itself: the names whose rows this changes.
 fn regrow<L: Ledger>(
+    alloc: Global,
+    table: &mut Leaves,
+    name: Name,
+    into: &mut Text,
+    steps: &mut Steps<L>,
+) -> Result<(), Memory>
+    requires { has (map (λ f. f.name) table.old.facts) name ≡ true }
+{
+    let changed = leaf_of(alloc, name, b'p')?;
+    match table.change(alloc, changed, steps) {
+        Ok(undo) => {
+            put_names(into, undo.changed().items());
+            table.undo(undo);
+            Ok(())
+        }
+        Err(Memory) => Err(Memory),
+    }
+}
+
+fn grow_twice<L: Ledger>(
     alloc: Global,
     table: &mut Leaves,
     into: &mut Text,
@@ -201,11 +297,8 @@ fn regrow<L: Ledger>(
     requires { table.old.facts ≡ [] }
 {
     let name = letter(b'p');
-    table.add(alloc, leaf_of(alloc, name, b'q')?, steps)?;
-    let undo = table.change(alloc, leaf_of(alloc, name, b'p')?, steps)?;
-    put_names(into, undo.changed().items());
-    table.undo(undo);
-    Ok(())
+    grow(alloc, table, name, steps)?;
+    regrow(alloc, table, name, into, steps)
 }
 
 /// A check-in comes to name itself.
@@ -214,7 +307,7 @@ struct OfLeaves;
 impl Play for OfLeaves {
     fn play<L: Ledger>(alloc: Global, into: &mut Text, steps: &mut Steps<L>) -> Result<(), Memory> {
         let mut table = Leaves::new(alloc);
-        regrow(alloc, &mut table, into, steps)
+        grow_twice(alloc, &mut table, into, steps)
     }
 }
 

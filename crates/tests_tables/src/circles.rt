@@ -34,7 +34,9 @@ fn are_around(alloc: Global, links: &Links) -> Result<bool, Memory> {
 
 fn linked(alloc: Global) -> Result<bool, Memory> {
     let links = links(alloc)?;
-    are_around(alloc, &links)
+    let are = are_around(alloc, &links);
+    drop(links);
+    are
 }
 
 #[test]
@@ -67,8 +69,10 @@ fn leaves(alloc: Global) -> Result<Leaves, Memory> {
 
 /// How many leaves they have.
 fn count_leaves(alloc: Global) -> Result<usize, Memory> {
-    let leaves = leaves(alloc)?;
-    Ok(leaves.leaves(alloc)?.items().len())
+    let table = leaves(alloc)?;
+    let found = table.leaves(alloc);
+    drop(table);
+    Ok(found?.items().len())
 }
 
 #[test]

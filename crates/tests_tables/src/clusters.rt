@@ -1,10 +1,11 @@
 //! Artifacts that become public or get other members, and are taken back.
 ghost use Rattle.std.specs.Prelude.{◌≡◌, [], true, map, IfOk, OnOk};
 ghost use Rattle.fsl_order.specs.Names.{has};
+ghost use Rattle.fsl_order.specs.TableState.{IsAsBefore};
 
 use crate::names::{letter, names_of, put, put_names};
 use crate::plays::{Play, shown};
-use fsl_cluster::{Clusters, Fact};
+use fsl_cluster::{Clusters, Fact, Undo};
 use fsl_name::Name;
 use fsl_text::{Memory, Steps, Text};
 use std::alloc::Global;
@@ -56,49 +57,69 @@ fn show(alloc: Global, clusters: &Clusters, into: &mut Text) {
     put_kind(alloc, clusters, b'k', into);
 }
 
-/// A private artifact becomes public and is taken back: what it tells, and what stands then.
-fn become_public<L: Ledger>(
+/// A private artifact comes.
+fn come<L: Ledger>(
     alloc: Global,
     clusters: &mut Clusters,
     name: Name,
-    into: &mut Text,
     steps: &mut Steps<L>,
 ) -> Result<(), Memory>
     requires { clusters.old.facts ≡ [] }
     ensures { OnOk result (has (map (λ f. f.name) clusters.new.facts) name ≡ true) }
 {
     clusters.add(alloc, artifact(alloc, name, true, b"")?, steps)?;
-    show(alloc, clusters, into);
-    let undo = clusters.change(alloc, artifact(alloc, name, false, b"")?, steps)?;
+    Ok(())
+}
+
+/// An artifact becomes a public one with members.
+fn gather<L: Ledger>(
+    alloc: Global,
+    clusters: &mut Clusters,
+    name: Name,
+    letters: &[u8],
+    steps: &mut Steps<L>,
+) -> Result<(), Memory>
+    requires { has (map (λ f. f.name) clusters.old.facts) name ≡ true }
+    ensures { OnOk result (has (map (λ f. f.name) clusters.new.facts) name ≡ true) }
+{
+    clusters.change(alloc, artifact(alloc, name, false, letters)?, steps)?;
+    Ok(())
+}
+
+/// Takes the last change back: what it tells, and what stands before and after.
+fn take_back(alloc: Global, clusters: &mut Clusters, undo: Undo, into: &mut Text)
+    requires { undo.after ≡ clusters.old }
+    ensures { IsAsBefore undo.before clusters.new }
+{
     put_names(into, undo.changed().items());
     show(alloc, clusters, into);
     clusters.undo(undo);
     show(alloc, clusters, into);
-    Ok(())
 }
 
-/// A cluster of two comes to be one of itself and is taken back: what it tells, and what stands then.
-fn get_members<L: Ledger>(
+/// An artifact becomes a public one with members, and that is taken back.
+fn gather_back<L: Ledger>(
     alloc: Global,
     clusters: &mut Clusters,
     name: Name,
+    letters: &[u8],
     into: &mut Text,
     steps: &mut Steps<L>,
 ) -> Result<(), Memory>
     requires { has (map (λ f. f.name) clusters.old.facts) name ≡ true }
+    ensures { OnOk result (has (map (λ f. f.name) clusters.new.facts) name ≡ true) }
 {
-    let first = artifact(alloc, name, false, b"ab")?;
-    clusters.change(alloc, first, steps)?;
-    show(alloc, clusters, into);
-    let second = artifact(alloc, name, false, b"k")?;
-    let undo = clusters.change(alloc, second, steps)?;
-    put_names(into, undo.changed().items());
-    show(alloc, clusters, into);
-    clusters.undo(undo);
-    show(alloc, clusters, into);
-    Ok(())
+    let gathered = artifact(alloc, name, false, letters)?;
+    match clusters.change(alloc, gathered, steps) {
+        Ok(undo) => {
+            take_back(alloc, clusters, undo, into);
+            Ok(())
+        }
+        Err(Memory) => Err(Memory),
+    }
 }
 
+/// A private artifact becomes public and is taken back; then a cluster of two comes to be one of itself and is taken back.
 fn be_changed<L: Ledger>(
     alloc: Global,
     clusters: &mut Clusters,
@@ -108,9 +129,13 @@ fn be_changed<L: Ledger>(
     requires { clusters.old.facts ≡ [] }
 {
     let name = letter(b'k');
-    become_public(alloc, clusters, name, into, steps)?;
+    come(alloc, clusters, name, steps)?;
+    show(alloc, clusters, into);
+    gather_back(alloc, clusters, name, b"", into, steps)?;
     put(into, b"then");
-    get_members(alloc, clusters, name, into, steps)
+    gather(alloc, clusters, name, b"ab", steps)?;
+    show(alloc, clusters, into);
+    gather_back(alloc, clusters, name, b"k", into, steps)
 }
 
 /// An artifact becomes public, and a cluster gets other members.

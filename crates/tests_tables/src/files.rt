@@ -6,7 +6,7 @@ ghost use Rattle.fsl_files.specs.Conditions.{IsFilesFact};
 
 use crate::names::{add, letter, put_names};
 use crate::plays::{Play, shown};
-use fsl_files::{Change, Fact, FileRow, Files, How, Listing, Perm};
+use fsl_files::{Change, Fact, FileRow, Files, How, Listing, Perm, Undo};
 use fsl_name::Name;
 use fsl_text::{List, Memory, Steps, Text};
 use std::alloc::Global;
@@ -73,26 +73,47 @@ fn show(alloc: Global, files: &Files, into: &mut Text) {
     let _ = add_changes(alloc, files, letter(b'd'), into);
 }
 
-/// Takes a check-in in that is the baseline and the primary parent of another one, which comes first.
-fn come<L: Ledger>(
+/// Takes a check-in in whose baseline and primary parent hasn't come.
+fn come_first<L: Ledger>(
     alloc: Global,
     files: &mut Files,
-    name: Name,
     delta: Name,
-    into: &mut Text,
+    name: Name,
     steps: &mut Steps<L>,
 ) -> Result<(), Memory>
     requires none { files.old.facts ≡ [] }
     requires differ { bytes_eq name delta ≡ false }
-    ensures { OnOk result (has (map (λ f. f.name) files.new.facts) name ≡ true) }
+    ensures { OnOk result (has (map (λ f. f.name) files.new.facts) name ≡ false) }
 {
     files.add(alloc, checkin(alloc, delta, Some(name), b"x")?, steps)?;
-    show(alloc, files, into);
+    Ok(())
+}
+
+/// Takes that one in.
+fn come<L: Ledger>(
+    alloc: Global,
+    files: &mut Files,
+    name: Name,
+    steps: &mut Steps<L>,
+) -> Result<(), Memory>
+    requires { has (map (λ f. f.name) files.old.facts) name ≡ false }
+    ensures { OnOk result (has (map (λ f. f.name) files.new.facts) name ≡ true) }
+{
     files.add(alloc, checkin(alloc, name, None, b"x")?, steps)?;
     Ok(())
 }
 
-/// Puts a check-in with another file in the place of that and takes it back: what it tells, and what stands after each.
+/// Takes the last change back: what it tells, and what stands before and after.
+fn take_back(alloc: Global, files: &mut Files, undo: Undo, into: &mut Text)
+    requires { undo.after ≡ files.old }
+{
+    put_names(into, undo.changed().items());
+    show(alloc, files, into);
+    files.undo(undo);
+    show(alloc, files, into);
+}
+
+/// Puts a check-in with another file in the place of one and takes it back.
 fn change_back<L: Ledger>(
     alloc: Global,
     files: &mut Files,
@@ -102,13 +123,14 @@ fn change_back<L: Ledger>(
 ) -> Result<(), Memory>
     requires { has (map (λ f. f.name) files.old.facts) name ≡ true }
 {
-    show(alloc, files, into);
-    let undo = files.change(alloc, checkin(alloc, name, None, b"z")?, steps)?;
-    put_names(into, undo.changed().items());
-    show(alloc, files, into);
-    files.undo(undo);
-    show(alloc, files, into);
-    Ok(())
+    let changed = checkin(alloc, name, None, b"z")?;
+    match files.change(alloc, changed, steps) {
+        Ok(undo) => {
+            take_back(alloc, files, undo, into);
+            Ok(())
+        }
+        Err(Memory) => Err(Memory),
+    }
 }
 
 fn there_and_back<L: Ledger>(
@@ -123,7 +145,10 @@ fn there_and_back<L: Ledger>(
     if name == delta {
         return Err(Memory);
     }
-    come(alloc, files, name, delta, into, steps)?;
+    come_first(alloc, files, delta, name, steps)?;
+    show(alloc, files, into);
+    come(alloc, files, name, steps)?;
+    show(alloc, files, into);
     change_back(alloc, files, name, into, steps)
 }
 

@@ -1,12 +1,13 @@
 //! A technote that becomes an attachment, and that taken back.
-ghost use Rattle.std.specs.Prelude.{◌≡◌, [], IfOk};
+ghost use Rattle.std.specs.Prelude.{◌≡◌, [], true, map, IfOk, OnOk};
+ghost use Rattle.fsl_order.specs.Names.{has};
 ghost use Rattle.fsl_wiki.specs.Pages.{fact_name};
 
 use crate::names::{letter, moment, put, put_names};
 use crate::plays::{Play, shown};
 use fsl_name::Name;
 use fsl_text::{Memory, Steps, Text};
-use fsl_wiki::{Attached, Fact, Note, Pages};
+use fsl_wiki::{Attached, Fact, Note, Pages, Undo};
 use std::alloc::Global;
 use std::sync::ledger::Ledger;
 
@@ -59,8 +60,52 @@ fn show(alloc: Global, pages: &Pages, into: &mut Text) {
     put_attached(alloc, pages, into);
 }
 
-/// Takes a technote in, puts an attachment in its place and takes that back: what it tells, and what stands after each.
+/// Takes a technote in.
+fn come<L: Ledger>(
+    alloc: Global,
+    pages: &mut Pages,
+    name: Name,
+    steps: &mut Steps<L>,
+) -> Result<(), Memory>
+    requires { pages.old.facts ≡ [] }
+    ensures { OnOk result (has (map fact_name pages.new.facts) name ≡ true) }
+{
+    pages.add(alloc, note(name)?, steps)?;
+    Ok(())
+}
+
+/// Takes the last change back: what it tells, and what stands before and after.
+fn take_back(alloc: Global, pages: &mut Pages, undo: Undo, into: &mut Text)
+    requires { undo.after ≡ pages.old }
+{
+    put_names(into, undo.changed().items());
+    show(alloc, pages, into);
+    pages.undo(undo);
+    show(alloc, pages, into);
+}
+
+/// Puts an attachment in the place of a technote and takes that back.
 fn move_back<L: Ledger>(
+    alloc: Global,
+    pages: &mut Pages,
+    name: Name,
+    into: &mut Text,
+    steps: &mut Steps<L>,
+) -> Result<(), Memory>
+    requires { has (map fact_name pages.old.facts) name ≡ true }
+{
+    let moved = attachment(alloc, name)?;
+    match pages.change(alloc, moved, steps) {
+        Ok(undo) => {
+            take_back(alloc, pages, undo, into);
+            Ok(())
+        }
+        Err(Memory) => Err(Memory),
+    }
+}
+
+/// Takes a technote in and moves it: what stands after each.
+fn come_and_move<L: Ledger>(
     alloc: Global,
     pages: &mut Pages,
     into: &mut Text,
@@ -69,14 +114,9 @@ fn move_back<L: Ledger>(
     requires { pages.old.facts ≡ [] }
 {
     let name = letter(b'b');
-    pages.add(alloc, note(name)?, steps)?;
+    come(alloc, pages, name, steps)?;
     show(alloc, pages, into);
-    let undo = pages.change(alloc, attachment(alloc, name)?, steps)?;
-    put_names(into, undo.changed().items());
-    show(alloc, pages, into);
-    pages.undo(undo);
-    show(alloc, pages, into);
-    Ok(())
+    move_back(alloc, pages, name, into, steps)
 }
 
 /// A technote becomes an attachment.
@@ -85,7 +125,7 @@ struct OfPages;
 impl Play for OfPages {
     fn play<L: Ledger>(alloc: Global, into: &mut Text, steps: &mut Steps<L>) -> Result<(), Memory> {
         let mut pages = Pages::new(alloc);
-        move_back(alloc, &mut pages, into, steps)
+        come_and_move(alloc, &mut pages, into, steps)
     }
 }
 

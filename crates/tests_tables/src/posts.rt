@@ -1,5 +1,6 @@
 //! A reply to a post that hasn't come, which is then a start.
-ghost use Rattle.std.specs.Prelude.{◌≡◌, [], IfOk};
+ghost use Rattle.std.specs.Prelude.{◌≡◌, [], true, map, IfOk, OnOk};
+ghost use Rattle.fsl_order.specs.Names.{has};
 
 use crate::names::{letter, moment, put, put_names};
 use crate::plays::{Play, shown};
@@ -32,9 +33,52 @@ fn put_place(threads: &Threads, name: Name, into: &mut Text) {
     }
 }
 
-/// Takes a reply to a post in that hasn't come, and then a start in its place, and takes that back: its thread, and the names that
-/// changed.
+/// Takes a reply to a post in that hasn't come.
+fn reply<L: Ledger>(
+    alloc: Global,
+    threads: &mut Threads,
+    name: Name,
+    steps: &mut Steps<L>,
+) -> Result<(), Memory>
+    requires { threads.old.facts ≡ [] }
+    ensures { OnOk result (has (map (λ f. f.name) threads.new.facts) name ≡ true) }
+{
+    let (root, reply) = (Some(letter(b'm')), Some(letter(b'a')));
+    threads.add(alloc, post(alloc, name, root, reply)?, steps)?;
+    Ok(())
+}
+
+/// Takes the last change back: the names that changed, and the thread of a post before and after.
+fn take_back(threads: &mut Threads, undo: Undo, name: Name, into: &mut Text)
+    requires { undo.after ≡ threads.old }
+{
+    put_names(into, undo.changed().items());
+    put_place(threads, name, into);
+    threads.undo(undo);
+    put_place(threads, name, into);
+}
+
+/// Puts a start in the place of a reply and takes that back: its thread, and the names that changed.
 fn there_and_back<L: Ledger>(
+    alloc: Global,
+    threads: &mut Threads,
+    name: Name,
+    into: &mut Text,
+    steps: &mut Steps<L>,
+) -> Result<(), Memory>
+    requires { has (map (λ f. f.name) threads.old.facts) name ≡ true }
+{
+    let start = post(alloc, name, None, None)?;
+    match threads.change(alloc, start, steps) {
+        Ok(undo) => {
+            take_back(threads, undo, name, into);
+            Ok(())
+        }
+        Err(Memory) => Err(Memory),
+    }
+}
+
+fn change<L: Ledger>(
     alloc: Global,
     threads: &mut Threads,
     into: &mut Text,
@@ -43,15 +87,9 @@ fn there_and_back<L: Ledger>(
     requires { threads.old.facts ≡ [] }
 {
     let name = letter(b'b');
-    let (root, reply) = (Some(letter(b'm')), Some(letter(b'a')));
-    threads.add(alloc, post(alloc, name, root, reply)?, steps)?;
+    reply(alloc, threads, name, steps)?;
     put_place(threads, name, into);
-    let undo = threads.change(alloc, post(alloc, name, None, None)?, steps)?;
-    put_names(into, undo.changed().items());
-    put_place(threads, name, into);
-    threads.undo(undo);
-    put_place(threads, name, into);
-    Ok(())
+    there_and_back(alloc, threads, name, into, steps)
 }
 
 /// A reply becomes a start.
@@ -60,7 +98,7 @@ struct OfPosts;
 impl Play for OfPosts {
     fn play<L: Ledger>(alloc: Global, into: &mut Text, steps: &mut Steps<L>) -> Result<(), Memory> {
         let mut threads = Threads::new(alloc);
-        there_and_back(alloc, &mut threads, into, steps)
+        change(alloc, &mut threads, into, steps)
     }
 }
 

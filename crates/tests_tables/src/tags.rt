@@ -72,7 +72,9 @@ fn told(alloc: Global, tags: &Tags) -> Result<Text, Memory> {
 
 fn built(alloc: Global) -> Result<Text, Memory> {
     let tags = table(alloc)?;
-    told(alloc, &tags)
+    let text = told(alloc, &tags);
+    drop(tags);
+    text
 }
 
 #[test]

@@ -1,11 +1,12 @@
 //! A ticket change that comes to be one of another ticket, and is taken back.
-ghost use Rattle.std.specs.Prelude.{◌≡◌, [], IfOk};
+ghost use Rattle.std.specs.Prelude.{◌≡◌, [], true, map, IfOk, OnOk};
+ghost use Rattle.fsl_order.specs.Names.{has};
 
 use crate::names::{add, letter, moment, put_names};
 use crate::plays::{Play, shown};
 use fsl_name::Name;
 use fsl_text::{List, Memory, Steps, Text};
-use fsl_ticket::{Fact, FieldChange, Tickets};
+use fsl_ticket::{Fact, FieldChange, Tickets, Undo};
 use std::alloc::Global;
 use std::sync::ledger::Ledger;
 
@@ -51,9 +52,52 @@ fn show(alloc: Global, tickets: &Tickets, into: &mut Text) {
     let _ = add_field(alloc, tickets, b'y', into);
 }
 
-/// Takes a change of `x` in, puts one of `y` in its place and takes that back: how many tickets that changes, and what stands
-/// after each.
+/// Takes a change of `x` in.
+fn come<L: Ledger>(
+    alloc: Global,
+    tickets: &mut Tickets,
+    name: Name,
+    steps: &mut Steps<L>,
+) -> Result<(), Memory>
+    requires { tickets.old.facts ≡ [] }
+    ensures { OnOk result (has (map (λ f. f.name) tickets.new.facts) name ≡ true) }
+{
+    tickets.add(alloc, change_of(alloc, name, b'x')?, steps)?;
+    Ok(())
+}
+
+/// Takes the last change back: which tickets it changed, and what stands before and after.
+fn take_back(alloc: Global, tickets: &mut Tickets, undo: Undo, into: &mut Text)
+    requires { undo.after ≡ tickets.old }
+{
+    put_names(into, undo.changed().items());
+    show(alloc, tickets, into);
+    tickets.undo(undo);
+    show(alloc, tickets, into);
+}
+
+/// Puts a change of `y` in the place of one and takes that back.
 fn move_back<L: Ledger>(
+    alloc: Global,
+    tickets: &mut Tickets,
+    name: Name,
+    into: &mut Text,
+    steps: &mut Steps<L>,
+) -> Result<(), Memory>
+    requires { has (map (λ f. f.name) tickets.old.facts) name ≡ true }
+{
+    let moved = change_of(alloc, name, b'y')?;
+    match tickets.change(alloc, moved, steps) {
+        Ok(undo) => {
+            take_back(alloc, tickets, undo, into);
+            Ok(())
+        }
+        Err(Memory) => Err(Memory),
+    }
+}
+
+/// Takes a change in and moves it: what stands after each.
+fn come_and_move<L: Ledger>(
     alloc: Global,
     tickets: &mut Tickets,
     into: &mut Text,
@@ -62,14 +106,9 @@ fn move_back<L: Ledger>(
     requires { tickets.old.facts ≡ [] }
 {
     let name = letter(b'a');
-    tickets.add(alloc, change_of(alloc, name, b'x')?, steps)?;
+    come(alloc, tickets, name, steps)?;
     show(alloc, tickets, into);
-    let undo = tickets.change(alloc, change_of(alloc, name, b'y')?, steps)?;
-    put_names(into, undo.changed().items());
-    show(alloc, tickets, into);
-    tickets.undo(undo);
-    show(alloc, tickets, into);
-    Ok(())
+    move_back(alloc, tickets, name, into, steps)
 }
 
 /// A table of tickets with the field `f`.
@@ -87,7 +126,7 @@ struct OfTickets;
 impl Play for OfTickets {
     fn play<L: Ledger>(alloc: Global, into: &mut Text, steps: &mut Steps<L>) -> Result<(), Memory> {
         let mut tickets = table(alloc)?;
-        move_back(alloc, &mut tickets, into, steps)
+        come_and_move(alloc, &mut tickets, into, steps)
     }
 }
 

@@ -1,6 +1,9 @@
 //! Check-ins of which each is the other's parent, who come one after the other, and the last step taken back.
-ghost use Rattle.std.specs.Prelude.{◌≡◌, ◌∷◌, [], false, None, IsTrue, IfOk};
+ghost use Rattle.std.specs.Prelude.{◌≡◌, ◌∷◌, [], false, None, map, IsTrue, IfOk, OnOk};
 ghost use Rattle.std.specs.Str.{bytes_eq};
+ghost use Rattle.fsl_order.specs.Names.{has};
+ghost use Rattle.fsl_order.specs.Rows.{by_name};
+ghost use Rattle.fsl_tags.specs.Conditions.{IsParentChange};
 ghost use Rattle.fsl_tags.specs.Tags.{IsTagFact};
 
 use super::fit::is_fit;
@@ -33,6 +36,52 @@ fn fit(alloc: Global, early: &Fact, second: &Fact, whole: &Fact) -> Result<bool,
     Ok(is_fit(&alone, early) && is_fit(&both, second) && is_fit(&both, whole))
 }
 
+/// Takes a fact in.
+fn add<L: Ledger>(
+    alloc: Global,
+    tags: &mut Tags,
+    fact: &Fact,
+    steps: &mut Steps<L>,
+) -> Result<(), Memory>
+    requires absent { has (map (λ f. f.name) tags.old.facts) fact.now.name ≡ false }
+    requires fit { IsTagFact (fact.now ∷ tags.old.facts) fact.now }
+    ensures { OnOk result (tags.new.facts ≡ by_name (λ f. f.name) (fact.now ∷ tags.old.facts)) }
+{
+    tags.add(alloc, fact.copied(alloc)?, steps)?;
+    Ok(())
+}
+
+/// Takes the last change back: what it tells, and what stands before and after.
+fn take_back(tags: &mut Tags, undo: Undo, into: &mut Text)
+    requires { undo.after ≡ tags.old }
+{
+    put_names(into, undo.changed().items());
+    show(tags, into);
+    tags.undo(undo);
+    show(tags, into);
+}
+
+/// Gives a fact its parent and takes that back.
+fn change_back<L: Ledger>(
+    alloc: Global,
+    tags: &mut Tags,
+    whole: &Fact,
+    into: &mut Text,
+    steps: &mut Steps<L>,
+) -> Result<(), Memory>
+    requires change { IsParentChange tags.old.facts whole.now }
+    requires fit { IsTagFact tags.old.facts whole.now }
+{
+    let changed = whole.copied(alloc)?;
+    match tags.change(alloc, changed, steps) {
+        Ok(undo) => {
+            take_back(tags, undo, into);
+            Ok(())
+        }
+        Err(Memory) => Err(Memory),
+    }
+}
+
 /// Takes a fact in, a second one, and then the first with its parent.
 fn arrive<L: Ledger>(
     alloc: Global,
@@ -50,15 +99,10 @@ fn arrive<L: Ledger>(
     requires second_fit { IsTagFact (second.now ∷ early.now ∷ []) second.now }
     requires whole_fit { IsTagFact (second.now ∷ early.now ∷ []) whole.now }
 {
-    tags.add(alloc, early.copied(alloc)?, steps)?;
-    tags.add(alloc, second.copied(alloc)?, steps)?;
+    add(alloc, tags, early, steps)?;
+    add(alloc, tags, second, steps)?;
     show(tags, into);
-    let undo = tags.change(alloc, whole.copied(alloc)?, steps)?;
-    put_names(into, undo.changed().items());
-    show(tags, into);
-    tags.undo(undo);
-    show(tags, into);
-    Ok(())
+    change_back(alloc, tags, whole, into, steps)
 }
 
 /// Adds the value of a tag on a check-in, or a dash.

@@ -2,4 +2,4 @@ use Rattle.tests_tables.proofs.Own.{as_is}
 use Rattle.tests_tables.proofs.changes.relink.Goals as goal
 
 pub undo-requires : goal.undo-requires
-undo-requires g c = as_is c.in_ok-undo.undo.after c.change.new.self c.in_ok-undo.ensures.after
+undo-requires g c = as_is c.in-Ok.undo.after c.change.new.self c.in-Ok.ensures.after

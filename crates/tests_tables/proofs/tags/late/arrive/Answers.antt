@@ -8,7 +8,6 @@ use Rattle.fsl_order.proofs.NamedLemmas.{named-by_name}
 use Rattle.fsl_tags.specs.declared.Fact.{Fact}
 use Rattle.fsl_tags.specs.Conditions.{IsParentChange}
 use Rattle.fsl_tags.specs.Tags.{IsTagFact}
-use Rattle.tests_tables.proofs.Own.{as_is}
 use Rattle.tests_tables.proofs.tags.late.arrive.Goals as goal
 
 -- the first fact is there without its parent
@@ -37,17 +36,14 @@ fits facts some f is fit = record {
   places = fit.places;
 }
 
-pub change-requires-clause-change : goal.change-requires-clause-change
-change-requires-clause-change g c =
-    let facts : c.add-2.new.self.facts ≡ by_name (λ f. f.name) (c.args.second.now ∷ c.args.early.now ∷ []) =
-    c.in_ok-add-2.ensures.facts ∙ (λ i. by_name (λ f. f.name) (c.in_ok-copied-2.ensures i ∷ (c.in_ok-add.ensures.facts ∙ (λ j. by_name (λ f. f.name) (c.in_ok-copied.ensures j ∷ c.requires.none j))) i)) in
-    subst (IsParentChange c.add-2.new.self.facts) (sym c.in_ok-copied-3.ensures) (moved c.args.early.now c.args.second.now c.args.whole.now c.add-2.new.self.facts facts c.requires.early c.requires.differ)
+pub change_back-requires-clause-change : goal.change_back-requires-clause-change
+change_back-requires-clause-change g c =
+    let facts : c.add-2.new.tags.facts ≡ by_name (λ f. f.name) (c.args.second.now ∷ c.args.early.now ∷ []) =
+    c.in_ok-add-2.ensures ∙ (λ i. by_name (λ f. f.name) (c.args.second.now ∷ (c.in_ok-add.ensures ∙ (λ j. by_name (λ f. f.name) (c.args.early.now ∷ c.requires.none j))) i)) in
+    moved c.args.early.now c.args.second.now c.args.whole.now c.add-2.new.tags.facts facts c.requires.early c.requires.differ
 
-pub change-requires-clause-fit : goal.change-requires-clause-fit
-change-requires-clause-fit g c =
-    let facts : c.add-2.new.self.facts ≡ by_name (λ f. f.name) (c.args.second.now ∷ c.args.early.now ∷ []) =
-    c.in_ok-add-2.ensures.facts ∙ (λ i. by_name (λ f. f.name) (c.in_ok-copied-2.ensures i ∷ (c.in_ok-add.ensures.facts ∙ (λ j. by_name (λ f. f.name) (c.in_ok-copied.ensures j ∷ c.requires.none j))) i)) in
-    subst (IsTagFact c.add-2.new.self.facts) (sym c.in_ok-copied-3.ensures) (fits c.add-2.new.self.facts (c.args.second.now ∷ c.args.early.now ∷ []) c.args.whole.now facts c.requires.whole_fit)
-
-pub undo-requires : goal.undo-requires
-undo-requires g c = as_is c.in_ok-undo.undo.after c.change.new.self c.in_ok-undo.ensures.after
+pub change_back-requires-clause-fit : goal.change_back-requires-clause-fit
+change_back-requires-clause-fit g c =
+    let facts : c.add-2.new.tags.facts ≡ by_name (λ f. f.name) (c.args.second.now ∷ c.args.early.now ∷ []) =
+    c.in_ok-add-2.ensures ∙ (λ i. by_name (λ f. f.name) (c.args.second.now ∷ (c.in_ok-add.ensures ∙ (λ j. by_name (λ f. f.name) (c.args.early.now ∷ c.requires.none j))) i)) in
+    fits c.add-2.new.tags.facts (c.args.second.now ∷ c.args.early.now ∷ []) c.args.whole.now facts c.requires.whole_fit

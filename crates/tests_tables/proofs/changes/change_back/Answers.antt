@@ -1,5 +1,0 @@
-use Rattle.tests_tables.proofs.Own.{as_is}
-use Rattle.tests_tables.proofs.changes.change_back.Goals as goal
-
-pub undo-requires : goal.undo-requires
-undo-requires g c = as_is c.in_ok-undo.undo.after c.change.new.self c.in_ok-undo.ensures.after

@@ -1,0 +1,5 @@
+use Rattle.tests_tables.proofs.Own.{as_is}
+use Rattle.tests_tables.proofs.clusters.take_back.Goals as goal
+
+pub undo-requires : goal.undo-requires
+undo-requires c = as_is c.args.undo.after c.args.clusters.now c.requires
