@@ -2,10 +2,9 @@ use Rattle.std.proofs.Common.{◌||◌, ◌&&◌, not, ◌∙◌, ap, sym, subst
 use Rattle.std.specs.Str.{bytes_eq}
 use Rattle.std.specs.List.Sorted.{IsStrictlySortedBy}
 use Rattle.std.specs.Map.{keys_of}
-use Rattle.fsl_order.specs.Names.{bytes_cmp, has}
+use Rattle.fsl_order.specs.Names.{bytes_cmp}
 use Rattle.fsl_table.specs.Contents.{with_entry, value_at}
 use Rattle.fsl_table.specs.Exact.{pair_cmp}
-use Rattle.fsl_table.specs.Pairs.{is_name}
 use Rattle.fsl_table.proofs.Outcomes.{on_ok_map, four_ok}
 use Rattle.fsl_cluster.specs.declared.entry.Entry.{Entry}
 use Rattle.fsl_cluster.specs.Kept.{entry_of, is_in, is_named}

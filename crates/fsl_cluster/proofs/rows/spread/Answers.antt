@@ -1,4 +1,4 @@
-use Rattle.std.proofs.Common.{◌≡◌, ◌||◌, ◌&&◌, not, ◌∙◌, ap}
+use Rattle.std.proofs.Common.{◌||◌, ◌&&◌, not, ◌∙◌, ap}
 use Rattle.std.specs.Str.{bytes_eq}
 use Rattle.fsl_order.specs.Names.{has}
 use Rattle.fsl_table.proofs.Outcomes.{on_ok_map, always_ok}

@@ -1,4 +1,4 @@
-use Rattle.std.proofs.Common.{◌≡◌, ◌&&◌, not, ◌∙◌, ap, is_some}
+use Rattle.std.proofs.Common.{◌&&◌, not, ◌∙◌, ap, is_some}
 use Rattle.fsl_order.specs.Names.{has}
 use Rattle.fsl_table.specs.Contents.{value_at}
 use Rattle.fsl_table.specs.Exact.{pair_cmp}
