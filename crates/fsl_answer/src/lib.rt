@@ -16,7 +16,7 @@ pub use reasons::Refusal;
 pub use refusing::refusal;
 
 /// A file of a reply.
-#[derive(Debug, Drop)]
+#[derive(Drop)]
 pub struct SentFile {
     pub name: Name,
     pub private: bool,
@@ -24,7 +24,7 @@ pub struct SentFile {
 }
 
 /// What a reply has, in its order.
-#[derive(Debug, Drop)]
+#[derive(Drop)]
 pub struct Lists {
     /// Notices, as plain texts. A reply has the first 100.
     pub notices: List<Text>,

@@ -17,7 +17,7 @@ pub use laws::{text_is_of_one_kind, text_is_one_artifact, text_is_some_artifact}
 pub use references::{members, refs};
 
 /// An artifact: of one of eight kinds, or plain content.
-#[derive(Debug, Drop)]
+#[derive(Drop)]
 pub enum Artifact {
     /// Of none of the kinds.
     Plain,

@@ -5,7 +5,7 @@ use fsl_text::{List, Text};
 use std::marker::Model;
 
 /// One card. The arguments are kept as they are written, and only a `W` card has a body.
-#[derive(Debug, Drop)]
+#[derive(Drop)]
 pub struct Card {
     pub letter: u8,
     pub args: List<Text>,
@@ -13,7 +13,7 @@ pub struct Card {
 }
 
 /// The cards of a structural text, in order, the `Z` card included. `cards` alone makes them.
-#[derive(Debug, Drop)]
+#[derive(Drop)]
 pub struct Cards {
     items: List<Card>,
 }

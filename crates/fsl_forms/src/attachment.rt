@@ -19,7 +19,7 @@ use fsl_text::{Memory, Text, unescape};
 use std::alloc::Global;
 
 /// A file that is attached to a page, a ticket or a technote. Without a source it is deleted.
-#[derive(Debug, Drop)]
+#[derive(Drop)]
 pub struct Attachment {
     pub file: Text,
     pub target: Text,

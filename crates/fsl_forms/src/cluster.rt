@@ -15,7 +15,7 @@ use fsl_text::{List, Memory, Text};
 use std::alloc::Global;
 
 /// A list of artifacts that are known: the names of its M cards.
-#[derive(Debug, Drop)]
+#[derive(Drop)]
 pub struct Cluster {
     pub members: List<Name>,
 }

@@ -20,7 +20,7 @@ use fsl_text::{List, Memory, Text};
 use std::alloc::Global;
 
 /// Tags on other artifacts, each of which names its target.
-#[derive(Debug, Drop)]
+#[derive(Drop)]
 pub struct Control {
     pub date: Moment,
     pub tags: List<TagCard>,

@@ -21,7 +21,7 @@ use fsl_text::{Memory, Text};
 use std::alloc::Global;
 
 /// A post in a forum. It has a title and begins a thread, or it has a root and answers another post. Only its text may be empty.
-#[derive(Debug, Drop)]
+#[derive(Drop)]
 pub struct Forum {
     pub date: Moment,
     pub root: Option<Name>,

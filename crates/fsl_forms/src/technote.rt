@@ -24,7 +24,7 @@ use fsl_text::{List, Memory, Text};
 use std::alloc::Global;
 
 /// A note at a moment, which is its `time`; the date is that of the artifact. Only its text may be empty.
-#[derive(Debug, Drop)]
+#[derive(Drop)]
 pub struct Technote {
     pub comment: Option<Text>,
     pub date: Moment,

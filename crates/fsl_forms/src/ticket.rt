@@ -23,7 +23,7 @@ use std::alloc::Global;
 
 /// A field of a ticket that is replaced, or appended to. A field that is replaced doesn't begin with `+`; a value that is there may be
 /// empty.
-#[derive(Debug, Drop)]
+#[derive(Drop)]
 pub struct TicketChange {
     pub append: bool,
     pub field: Text,
@@ -31,7 +31,7 @@ pub struct TicketChange {
 }
 
 /// A change of a ticket: its fields in the order of the J cards.
-#[derive(Debug, Drop)]
+#[derive(Drop)]
 pub struct Ticket {
     pub date: Moment,
     pub changes: List<TicketChange>,

@@ -20,7 +20,7 @@ use fsl_text::{List, Memory, Text};
 use std::alloc::Global;
 
 /// A version of a wiki page. Only its text may be empty.
-#[derive(Debug, Drop)]
+#[derive(Drop)]
 pub struct Wiki {
     pub comment: Option<Text>,
     pub date: Moment,

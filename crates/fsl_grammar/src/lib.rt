@@ -43,7 +43,7 @@ pub enum Prefix {
 }
 
 /// A T card. No target stands for the artifact itself.
-#[derive(Debug, Drop)]
+#[derive(Drop)]
 pub struct TagCard {
     pub prefix: Prefix,
     pub tag: Text,

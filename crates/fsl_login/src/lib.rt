@@ -20,7 +20,7 @@ pub use logins::{granted, granted_by};
 use std::marker::Model;
 
 /// A user: a name, what the user may do, and the secret that signs logins.
-#[derive(Debug, Drop)]
+#[derive(Drop)]
 pub struct User {
     pub name: Text,
     pub caps: Caps,
@@ -28,7 +28,7 @@ pub struct User {
 }
 
 /// The users of a file, in its order. Their names differ, and each has at most 2^20 bytes.
-#[derive(Debug, Drop)]
+#[derive(Drop)]
 pub struct Users {
     items: List<User>,
 }

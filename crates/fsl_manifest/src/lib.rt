@@ -27,7 +27,7 @@ pub enum Perm {
 }
 
 /// An F card: a file of a check-in. Without a hash it deletes the baseline's file.
-#[derive(Debug, Drop)]
+#[derive(Drop)]
 pub struct FileCard {
     pub path: Text,
     pub hash: Option<Name>,
@@ -44,7 +44,7 @@ pub struct Pick {
 }
 
 /// A check-in. Its fields are its B, C, D, F, N, P, Q, R, T and U cards.
-#[derive(Debug, Drop)]
+#[derive(Drop)]
 pub struct Manifest {
     pub baseline: Option<Name>,
     pub comment: Text,

@@ -33,7 +33,7 @@ pub use pulling::pull;
 pub use pushing::push;
 
 /// Who asks.
-#[derive(Debug, Drop)]
+#[derive(Drop)]
 pub struct Login {
     pub user: Text,
     pub secret: Text,

@@ -21,7 +21,7 @@ pub use writing::{write, write_config};
 
 /// The codes of a repository, and its configured ticket fields. Where a Config is written, the fields are in their form:
 /// at most 256, each of 1 to 64 bytes of `a` to `z`, digits and `_` that begin with a letter, and all different.
-#[derive(Debug, Drop)]
+#[derive(Drop)]
 pub struct Config {
     pub project: Name,
     pub server: Name,
@@ -46,7 +46,7 @@ pub enum RecordFault {
 }
 
 /// A record. Its bytes are a letter and its parts, and numbers are written with the greatest byte first.
-#[derive(Debug, Drop)]
+#[derive(Drop)]
 pub enum Record {
     /// `C`, the two codes, the number of fields in 2 bytes, and each field behind its length in 1 byte.
     Config(Config),

@@ -15,7 +15,7 @@ pub use reading::read;
 use thiserror::Error;
 
 /// What a report command asks. A prefix is 4 to 40 digits of a name, in lower case.
-#[derive(Debug, Drop)]
+#[derive(Drop)]
 pub enum Question {
     /// `cat PREFIX`: the content of the artifact.
     Cat { prefix: Text },
@@ -40,7 +40,7 @@ pub enum Question {
 }
 
 /// A command with its words.
-#[derive(Debug, Drop)]
+#[derive(Drop)]
 pub enum Command {
     /// `init PROJECT SERVER [FIELD ...]`: a new repository with these two codes and configured ticket fields. A field is 1
     /// to 64 bytes of `a` to `z`, digits and `_` that begin with a letter; they differ and are at most 256.
@@ -98,7 +98,7 @@ pub enum Command {
 }
 
 /// A repository's path and a command.
-#[derive(Debug, Drop)]
+#[derive(Drop)]
 pub struct Words {
     pub repository: Text,
     pub command: Command,

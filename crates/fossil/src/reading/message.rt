@@ -11,7 +11,7 @@ use fsl_wire::{WireCard, WireFault, line_of, read_bare};
 use std::alloc::Global;
 
 /// A file as it was sent, under a name that may be wrong.
-#[derive(Debug, Drop)]
+#[derive(Drop)]
 pub struct Sent {
     pub name: Name,
     pub bytes: Text,
