@@ -18,3 +18,4 @@ pub mod Steps
 pub mod Walk
 pub mod Weaving
 pub mod Trails
+pub mod Putting

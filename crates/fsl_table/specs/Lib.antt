@@ -8,3 +8,4 @@ pub mod Trail
 pub mod Within
 pub mod ExactWithin
 pub mod Placed
+pub mod Put

@@ -1,5 +1,5 @@
 //! The steps that take tables back, the last one first.
-ghost use Rattle.std.specs.Prelude.{◌≡◌, ◌+◌, ◌≤◌, length, [], ◌∷◌, ◌++◌, is_some, IfOk, OnOk, OnErr, IfErr, MatchOption};
+ghost use Rattle.std.specs.Prelude.{◌≡◌, ◌+◌, ◌≤◌, length, [], ◌∷◌, ◌++◌, is_some, IfOk, OnOk, OnErr, MatchOption};
 ghost use Rattle.fsl_table.specs.Contents.{Contents, value_at, with_entry, without_key};
 ghost use Rattle.fsl_table.specs.Undo.{stepped, undone, IsAllowed, IsAsGood, CanUndo, Undoes};
 
@@ -36,17 +36,6 @@ impl<K, V> Log<K, V> {
         }
     }
 
-    fn push(&mut self, step: Step<K, V>) -> Result<(), Step<K, V>>
-        ensures ok { OnOk result (self.new ≡ self.old ++ step ∷ []) }
-        ensures back { IfErr result (λ back. back ≡ step) }
-        ensures err { OnErr result (self.new ≡ self.old) }
-    {
-        match self.steps.push(step) {
-            Ok(()) => Ok(()),
-            Err(refused) => Err(refused.value),
-        }
-    }
-
     fn pop(&mut self) -> Option<Step<K, V>>
         ensures { MatchOption result ((self.old ≡ []) × (self.new ≡ [])) (λ step. self.old ≡ self.new ++ step ∷ []) }
     {
@@ -66,10 +55,11 @@ fn step_back<K: Key + Drop, V: Drop, L: Ledger>(
 {
     match step {
         Step::Put(key, value) => {
-            let _ = table.put(key, value, steps);
+            drop(table.put(key, value, steps));
         }
         Step::Remove(key) => {
-            let _ = table.remove(&key, steps);
+            drop(table.remove(&key, steps));
+            drop(key);
         }
     }
 }
@@ -113,11 +103,11 @@ pub fn insert<K: Key + Drop, V: Drop, L: Ledger>(
     }
     match table.put(key, value, steps) {
         Ok(None) => {
-            let _ = log.steps.push(Step::Remove(again));
+            log.steps.push_reserved(Step::Remove(again));
             Ok(false)
         }
         Ok(Some(before)) => {
-            let _ = log.steps.push(Step::Put(again, before));
+            log.steps.push_reserved(Step::Put(again, before));
             Ok(true)
         }
         Err(_) => Err(Memory),
@@ -165,7 +155,7 @@ pub fn take<K: Key + Drop, V: Drop, L: Ledger>(
     }
     match table.remove(&key, steps) {
         Some(before) => {
-            let _ = log.steps.push(Step::Put(key, before));
+            log.steps.push_reserved(Step::Put(key, before));
             Ok(true)
         }
         None => Ok(false),

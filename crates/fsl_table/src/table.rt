@@ -5,7 +5,7 @@ ghost use Rattle.std.specs.List.Sorted.{IsStrictlySortedBy};
 ghost use Rattle.std.specs.Map.{keys_of};
 ghost use Rattle.fsl_table.specs.Contents.{value_at, with_entry, without_key, entries_after, first_of};
 
-use crate::waiting::{has_room, lower_of, place_of, replace_at, settle_last};
+use crate::waiting::{lower_of, place_of, put_entry, settle_last, take_at};
 use fsl_text::Steps;
 use std::alloc::Global;
 use std::collections::BTreeMap;
@@ -64,16 +64,6 @@ impl<K: Ord, V> Table<K, V> {
         }
     }
 
-    /// Moves what waits into the tree, where there is memory for it now. What the table is stays the same.
-    fn settle(&mut self)
-    where
-        K: Drop,
-        V: Drop,
-        ensures { self.new ≡ self.old }
-    {
-        settle_last(&mut self.tree, &mut self.waiting);
-    }
-
     /// Puts a value at a key, and gives the one that was there. One step. The pair comes back for want of memory, and the
     /// table then stays: never at a key that is there, nor where anything is spare.
     pub fn put<L: Ledger>(
@@ -96,44 +86,9 @@ impl<K: Ord, V> Table<K, V> {
         ensures was_ordered { IsStrictlySortedBy K.cmp (keys_of self.old.entries) }
         ensures cost { steps.new ≡ steps.old + 1 }
     {
-        self.settle();
-        self.put_settled(key, value, steps)
-    }
-
-    /// Puts a value without a look at what waits for memory.
-    fn put_settled<L: Ledger>(
-        &mut self,
-        key: K,
-        value: V,
-        steps: &mut Steps<L>,
-    ) -> Result<Option<V>, (K, V)>
-    where
-        K: Drop,
-        ensures before { IfOk result (λ before. before ≡ value_at K.cmp key self.old.entries) }
-        ensures ok { OnOk result (self.new.entries ≡ with_entry K.cmp key value self.old.entries) }
-        ensures spare_of_new { IfOk result (λ before. IfNone before (self.old.spare ≤ self.new.spare + 1)) }
-        ensures spare_of_old { IfOk result (λ before. IfSome before (λ _. self.new.spare ≡ self.old.spare)) }
-        ensures back { IfErr result (λ pair. pair ≡ (key, value)) }
-        ensures unchanged { OnErr result (self.new ≡ self.old) }
-        ensures none_spare { OnErr result (self.old.spare ≡ 0) }
-        ensures absent { OnErr result (value_at K.cmp key self.old.entries ≡ None) }
-        ensures was_ordered { IsStrictlySortedBy K.cmp (keys_of self.old.entries) }
-        ensures cost { steps.new ≡ steps.old + 1 }
-    {
         steps.tick();
-        if let Some(at) = place_of(&self.waiting, &key) {
-            return Ok(Some(replace_at(&mut self.waiting, at, value)));
-        }
-        if !has_room(&self.tree, &mut self.waiting, &key) {
-            return Err((key, value));
-        }
-        match self.tree.insert(key, value) {
-            Ok(before) => Ok(before),
-            Err(refused) => match self.waiting.insert(0, refused.value) {
-                Ok(()) => Ok(None),
-                Err(refused) => Err(refused.value),
-            },
-        }
+        settle_last(&mut self.tree, &mut self.waiting);
+        put_entry(&mut self.tree, &mut self.waiting, key, value)
     }
 
     /// Takes a key out, and gives its value, or `None` where the key isn't there. One step; takes no memory, and leaves one
@@ -150,10 +105,7 @@ impl<K: Ord, V> Table<K, V> {
     {
         steps.tick();
         match place_of(&self.waiting, key) {
-            Some(at) => {
-                let (_, value) = self.waiting.remove(at);
-                Some(value)
-            }
+            Some(at) => Some(take_at(&mut self.waiting, at)),
             None => self.tree.remove(key),
         }
     }

@@ -1,8 +1,10 @@
 //! The entries that wait beside the tree, in no order.
-ghost use Rattle.std.specs.Prelude.{◌≡◌, ◌+◌, ◌<◌, ◌≤◌, ◌⊎◌, false, length, slice_index_or, slice_set, vec_capacity, vec_len, IsSome, IsTrue, None};
+ghost use Rattle.std.specs.Prelude.{◌≡◌, ◌+◌, ◌<◌, ◌≤◌, ◌⊎◌, ◌∷◌, false, length, slice_index_or, slice_set, vec_capacity, vec_len, IsSome, IsTrue, None, Ok};
+ghost use Rattle.std.specs.List.{remove};
 ghost use Rattle.std.specs.Option.{option_map};
 ghost use Rattle.std.specs.BTreeMap.{btree_map_len, get, is_at};
 ghost use Rattle.fsl_table.specs.Kept.{IsKept};
+ghost use Rattle.fsl_table.specs.Put.{IsPut, seen};
 ghost use Rattle.fsl_table.specs.Weave.{lower, place, weave};
 
 use std::collections::BTreeMap;
@@ -21,7 +23,7 @@ pub(crate) fn place_of<K: Ord, V>(waiting: &[(K, V)], key: &K) -> Option<usize>
 }
 
 /// Puts a value in the place of another.
-pub(crate) fn replace_at<K, V>(waiting: &mut Vec<(K, V)>, at: usize, value: V) -> V
+fn replace_at<K, V>(waiting: &mut Vec<(K, V)>, at: usize, value: V) -> V
     requires { at < vec_len waiting.old }
     ensures items { (d : K × V) → waiting.new.items ≡ slice_set waiting.old.items at ((slice_index_or waiting.old.items at d).0, value) }
     ensures before { (d : K × V) → result ≡ (slice_index_or waiting.old.items at d).1 }
@@ -29,6 +31,19 @@ pub(crate) fn replace_at<K, V>(waiting: &mut Vec<(K, V)>, at: usize, value: V) -
 {
     let slot = &mut waiting[at];
     mem::replace(&mut slot.1, value)
+}
+
+/// Takes the entry at a place out, and gives its value.
+pub(crate) fn take_at<K: Drop, V>(waiting: &mut Vec<(K, V)>, at: usize) -> V
+    requires { at < vec_len waiting.old }
+    ensures items { waiting.new.items ≡ remove waiting.old.items at }
+    ensures value { (d : K × V) → result ≡ (slice_index_or waiting.old.items at d).1 }
+    ensures len { length waiting.new.items + 1 ≡ length waiting.old.items }
+    ensures room { vec_capacity waiting.new ≡ vec_capacity waiting.old }
+{
+    let (key, value) = waiting.remove(at);
+    drop(key);
+    value
 }
 
 /// The lower of an entry and what may be there.
@@ -51,7 +66,7 @@ pub(crate) fn lower_of<'a, K: Ord, V>(
 }
 
 /// Makes room for one more entry, unless the tree has the key.
-pub(crate) fn has_room<K: Ord, V>(tree: &BTreeMap<K, V>, waiting: &mut Vec<(K, V)>, key: &K) -> bool
+fn has_room<K: Ord, V>(tree: &BTreeMap<K, V>, waiting: &mut Vec<(K, V)>, key: &K) -> bool
     requires { btree_map_len tree.now + vec_len waiting.old ≤ vec_capacity waiting.old }
     ensures items { waiting.new.items ≡ waiting.old.items }
     ensures len { vec_len waiting.new ≡ vec_len waiting.old }
@@ -69,6 +84,61 @@ pub(crate) fn has_room<K: Ord, V>(tree: &BTreeMap<K, V>, waiting: &mut Vec<(K, V
         return true;
     }
     waiting.reserve(tree.len() + 1).is_ok()
+}
+
+/// Puts an entry before those that wait. There is room for it, so it never comes back.
+fn wait<K, V>(waiting: &mut Vec<(K, V)>, entry: (K, V)) -> Result<Option<V>, (K, V)>
+    requires { vec_len waiting.old < vec_capacity waiting.old }
+    ensures items { waiting.new.items ≡ entry ∷ waiting.old.items }
+    ensures grows { vec_capacity waiting.old ≤ vec_capacity waiting.new }
+    ensures done { result ≡ Ok None }
+{
+    match waiting.insert(0, entry) {
+        Ok(()) => Ok(None),
+        Err(refused) => Err(refused.value),
+    }
+}
+
+/// Puts an entry whose key doesn't wait into the tree, or beside it for want of memory.
+fn put_beside<K: Ord + Drop, V>(
+    tree: &mut BTreeMap<K, V>,
+    waiting: &mut Vec<(K, V)>,
+    key: K,
+    value: V,
+) -> Result<Option<V>, (K, V)>
+    requires kept { IsKept K.cmp (vec_capacity waiting.old) waiting.old.items tree.old.entries }
+    requires absent { place (is_at (K.cmp key)) waiting.old.items ≡ None }
+    ensures kept { IsKept K.cmp (vec_capacity waiting.new) waiting.new.items tree.new.entries }
+    ensures put { IsPut K.cmp key value (seen K.cmp (vec_capacity waiting.old) waiting.old.items tree.old.entries) (seen K.cmp (vec_capacity waiting.new) waiting.new.items tree.new.entries) result }
+{
+    if !has_room(tree, waiting, &key) {
+        return Err((key, value));
+    }
+    match tree.insert(key, value) {
+        Ok(before) => Ok(before),
+        Err(refused) => wait(waiting, refused.value),
+    }
+}
+
+/// Puts an entry where its key waits, or else into the tree. It comes back for want of memory.
+pub(crate) fn put_entry<K: Ord + Drop, V>(
+    tree: &mut BTreeMap<K, V>,
+    waiting: &mut Vec<(K, V)>,
+    key: K,
+    value: V,
+) -> Result<Option<V>, (K, V)>
+    requires { IsKept K.cmp (vec_capacity waiting.old) waiting.old.items tree.old.entries }
+    ensures kept { IsKept K.cmp (vec_capacity waiting.new) waiting.new.items tree.new.entries }
+    ensures put { IsPut K.cmp key value (seen K.cmp (vec_capacity waiting.old) waiting.old.items tree.old.entries) (seen K.cmp (vec_capacity waiting.new) waiting.new.items tree.new.entries) result }
+{
+    match place_of(waiting, &key) {
+        Some(at) => {
+            let before = replace_at(waiting, at, value);
+            drop(key);
+            Ok(Some(before))
+        }
+        None => put_beside(tree, waiting, key, value),
+    }
 }
 
 /// Moves the last entry that waits into the tree, where there is memory for it now. So what waits after memory was refused

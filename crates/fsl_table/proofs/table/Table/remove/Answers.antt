@@ -6,8 +6,8 @@ use Rattle.fsl_table.proofs.Keeping.{kept-remove_place, weave-remove_place, kept
 use Rattle.fsl_table.proofs.Weaving.{lookup-waiting, lookup-tree, sorted-weave}
 use Rattle.fsl_table.proofs.table.Table.remove.Goals as goal
 
-pub remove-value-requires : goal.remove-value-requires
-remove-value-requires g c =
+pub take_at-requires : goal.take_at-requires
+take_at-requires g c =
     let p : place (is_at (g.K.Ord.cmp c.args.key.now)) c.self.inside.waiting.items ≡ Some c.in-Some.at = cc in
     let within = (place_some (is_at (g.K.Ord.cmp c.args.key.now)) c.self.inside.waiting.items c.in-Some.at p).within in
     grind (arith, within)
@@ -15,7 +15,7 @@ remove-value-requires g c =
 pub invariant_of-self : goal.invariant_of-self
 invariant_of-self g c =
     let p : place (is_at (g.K.Ord.cmp c.args.key.now)) c.self.inside.waiting.items ≡ Some c.in-Some.at = cc in
-    rw (c.remove-value.ensures.items, c.remove-value.ensures.capacity) (kept-remove_place g.met.K.Ord.total c.args.key.now c.self.inside.waiting.items c.self.inside.tree.entries _ c.in-Some.at c.remove-value.result p c.self.invariant)
+    rw (c.take_at.ensures.items, c.take_at.ensures.room) (kept-remove_place g.met.K.Ord.total c.args.key.now c.self.inside.waiting.items c.self.inside.tree.entries _ c.in-Some.at (c.args.key.now, c.take_at.result) p c.self.invariant)
 
 pub invariant_of-self-in-None : goal.invariant_of-self-in-None
 invariant_of-self-in-None g c =
@@ -25,12 +25,12 @@ invariant_of-self-in-None g c =
 pub returns-in-Some-clause-value : goal.returns-in-Some-clause-value
 returns-in-Some-clause-value g c =
     let p : place (is_at (g.K.Ord.cmp c.args.key.now)) c.self.inside.waiting.items ≡ Some c.in-Some.at = cc in
-    rw (← c.self.view_is) (sym (lookup-waiting g.met.K.Ord.total c.args.key.now c.self.inside.waiting.items c.self.inside.tree.entries c.in-Some.at c.remove-value.result p ∙ ap (λ e. Some e.1) (sym c.remove-value.ensures.value)))
+    rw (← c.self.view_is) (sym (lookup-waiting g.met.K.Ord.total c.args.key.now c.self.inside.waiting.items c.self.inside.tree.entries c.in-Some.at (c.args.key.now, c.take_at.result) p ∙ ap (λ v. Some v) (sym (c.take_at.ensures.value (c.args.key.now, c.take_at.result)))))
 
 pub returns-in-Some-clause-entries : goal.returns-in-Some-clause-entries
 returns-in-Some-clause-entries g c =
     let p : place (is_at (g.K.Ord.cmp c.args.key.now)) c.self.inside.waiting.items ≡ Some c.in-Some.at = cc in
-    rw (c.remove-value.ensures.items, ← c.self.view_is) (weave-remove_place g.met.K.Ord.total c.args.key.now c.self.inside.waiting.items c.self.inside.tree.entries _ c.in-Some.at c.remove-value.result p c.self.invariant)
+    rw (c.take_at.ensures.items, ← c.self.view_is) (weave-remove_place g.met.K.Ord.total c.args.key.now c.self.inside.waiting.items c.self.inside.tree.entries _ c.in-Some.at (c.args.key.now, c.take_at.result) p c.self.invariant)
 
 pub returns-in-None-clause-value : goal.returns-in-None-clause-value
 returns-in-None-clause-value g c =
