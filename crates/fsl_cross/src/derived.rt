@@ -64,7 +64,8 @@ impl Derived {
         Derived::after(alloc, fields, items, history)
     }
 
-    /// The tables, of which those of check-ins stand. It is a function of its own since each way out of it lets these tables go.
+    /// The tables, of which those of check-ins stand. Where memory lacks these go by a call, since each way out that lets so many parts go
+    /// by itself is dear to prove.
     fn after(
         alloc: Global,
         fields: &List<Text>,
@@ -76,8 +77,13 @@ impl Derived {
         requires history { IsHistoryOf items.now history }
         ensures { IfOk result (λ d. AreTablesOf fields.now items.now d) }
     {
-        let contents = Contents::build(alloc, fields, items)?;
-        Derived::joined(alloc, fields, items, history, contents)
+        match Contents::build(alloc, fields, items) {
+            Ok(contents) => Derived::joined(alloc, fields, items, history, contents),
+            Err(Memory) => {
+                drop(history);
+                Err(Memory)
+            }
+        }
     }
 
     /// The tables, of which those of check-ins and those told from cards alone stand.
@@ -94,12 +100,18 @@ impl Derived {
         requires contents { AreContentsOf fields.now items.now contents }
         ensures { IfOk result (λ d. AreTablesOf fields.now items.now d) }
     {
-        let (timeline, attached) = told(alloc, &history, &contents, items)?;
-        Ok(Derived {
-            history,
-            contents,
-            timeline,
-            attached,
-        })
+        match told(alloc, &history, &contents, items) {
+            Ok((timeline, attached)) => Ok(Derived {
+                history,
+                contents,
+                timeline,
+                attached,
+            }),
+            Err(Memory) => {
+                drop(contents);
+                drop(history);
+                Err(Memory)
+            }
+        }
     }
 }
