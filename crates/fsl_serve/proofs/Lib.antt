@@ -6,3 +6,4 @@ pub mod Answering
 pub mod Working
 pub mod Staffing
 pub mod Sent
+pub mod Moving
