@@ -5,8 +5,7 @@ use Rattle.fsl_serve.proofs.staff.dismissed.Goals as goal
 pub loop-jobs-init : goal.loop-jobs-init
 loop-jobs-init g c =
     let none = c.requires.empty in
-    let room = c.requires.room in
-    (
+    let room = c.requires.room in (
       none_there _ c.args.crews.now.items (map (λ j. j.crew) c.args.jobs.items) none.0 c.args.crews.now.ok.0,
       none_there _ c.args.passes.now.items (map (λ j. j.pass) c.args.jobs.items) none.1 c.args.passes.now.ok.0,
       none_there _ c.args.works.items (map (λ j. j.work) c.args.jobs.items) none.2 c.args.works.ok.0,
@@ -19,8 +18,7 @@ pub loop-jobs-preserved : goal.loop-jobs-preserved
 loop-jobs-preserved g c =
     let before = c.loop-jobs.invariant in
     let left = c.remove-crew.ensures in
-    let some = some_there _ _ _ c.loop-jobs-test.true c.len.ensures c.loop-jobs.jobs.ok.0 in
-    (
+    let some = some_there _ _ _ c.loop-jobs-test.true c.len.ensures c.loop-jobs.jobs.ok.0 in (
       taken_apart (λ j. j.crew) c.loop-jobs.crews.items c.push.new.self.items c.loop-jobs.jobs.items c.remove-crew.new.self.items _ c.remove-crew.result some left.value left.items (pushed _ _ _ _ _ c.unwrap.ensures c.push.ensures.items) before.0,
       taken_apart (λ j. j.pass) c.loop-jobs.passes.items c.push-in-loop-jobs.new.self.items c.loop-jobs.jobs.items c.remove-crew.new.self.items _ c.remove-crew.result some left.value left.items (pushed _ _ _ _ _ c.unwrap-in-loop-jobs.ensures c.push-in-loop-jobs.ensures.items) before.1,
       taken_apart (λ j. j.work) c.loop-jobs.works.items c.push-in-loop-jobs-2.new.self.items c.loop-jobs.jobs.items c.remove-crew.new.self.items _ c.remove-crew.result some left.value left.items (pushed _ _ _ _ _ c.unwrap-in-loop-jobs-2.ensures c.push-in-loop-jobs-2.ensures.items) before.2,

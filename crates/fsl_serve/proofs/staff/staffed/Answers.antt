@@ -4,8 +4,7 @@ use Rattle.fsl_serve.proofs.staff.staffed.Goals as goal
 
 pub loop-crews-init : goal.loop-crews-init
 loop-crews-init g c =
-    let none = c.requires.empty in
-    (
+    let none = c.requires.empty in (
       none_staffed (λ j. j.crew) _ c.args.jobs.items c.args.crews.now.items none c.args.jobs.ok.0,
       none_staffed (λ j. j.pass) _ c.args.jobs.items c.args.passes.now.items none c.args.jobs.ok.0,
       c.requires.each,
@@ -21,8 +20,7 @@ loop-crews-preserved g c =
     let before = c.loop-crews.invariant in
     let more = pushed _ _ _ _ _ c.unwrap.ensures c.push.ensures.items in
     let crews = some_there _ _ _ c.loop-crews-test.true c.len.ensures c.loop-crews.crews.ok.0 in
-    let passes = some_there _ _ _ c.loop-crews-test.true (c.len.ensures ∙ before.2) c.loop-crews.passes.ok.0 in
-    (
+    let passes = some_there _ _ _ c.loop-crews-test.true (c.len.ensures ∙ before.2) c.loop-crews.passes.ok.0 in (
       put_together (λ j. j.crew) c.loop-crews.jobs.items c.push.new.self.items c.loop-crews.crews.items c.remove-crew.new.self.items c.args.crews.now.items _ c.remove-crew.result crews crew.value crew.items refl more before.0,
       put_together (λ j. j.pass) c.loop-crews.jobs.items c.push.new.self.items c.loop-crews.passes.items c.remove-pass.new.self.items c.args.passes.now.items _ c.remove-pass.result passes pass.value pass.items refl more before.1,
       as_many _ _ _ _ before.2 crew.len pass.len,
