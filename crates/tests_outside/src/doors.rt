@@ -3,11 +3,12 @@ use crate::sockets::gets;
 use fsl_outside::{Accepted, Dial, Door, Link, MemoryDial, MemoryDoor};
 use std::alloc::{AllocError, Global};
 
-/// A dial with one reply.
-fn dial(alloc: Global) -> Result<MemoryDial, AllocError> {
-    let mut replies = Vec::new(alloc);
-    replies.push(b"x".to_vec(alloc)?)?;
-    Ok(MemoryDial::new(alloc, replies, Vec::new(alloc)))
+/// These bytes alone.
+fn one(alloc: Global, bytes: &[u8]) -> Result<Vec<Vec<u8>>, AllocError> {
+    let bytes = bytes.to_vec(alloc)?;
+    let mut all = Vec::new(alloc);
+    all.push(bytes)?;
+    Ok(all)
 }
 
 /// Whether a connection begins, takes a request, and gives the reply.
@@ -27,19 +28,16 @@ fn exchanges_twice(dial: &mut MemoryDial) -> bool {
     done == [true; 2] && sent
 }
 
-#[test]
-fn dials_give_their_replies_in_turn(rt: HostRuntime) -> Result<(), AllocError> {
-    let mut dial = dial(rt.alloc())?;
-    assert!(rt; exchanges_twice(&mut dial));
-    Ok(())
+/// Whether this holds of a dial with one reply.
+fn repeats_its_reply(alloc: Global) -> Result<bool, AllocError> {
+    let mut dial = MemoryDial::new(alloc, one(alloc, b"x")?, Vec::new(alloc));
+    Ok(exchanges_twice(&mut dial))
 }
 
-/// A door of one connection, whose first accept fails.
-fn door(alloc: Global) -> Result<MemoryDoor, AllocError> {
-    let mut connections = Vec::new(alloc);
-    connections.push(b"abc".to_vec(alloc)?)?;
-    let fails = [1u64].to_vec(alloc)?;
-    Ok(MemoryDoor::new(alloc, connections, Vec::new(alloc), fails))
+#[test]
+fn dials_give_their_replies_in_turn(rt: HostRuntime) -> Result<(), AllocError> {
+    assert!(rt; repeats_its_reply(rt.alloc())?);
+    Ok(())
 }
 
 /// Whether the first accept fails, the second takes the one connection, and the third finds the door closed.
@@ -62,9 +60,16 @@ fn has_counted(door: &MemoryDoor) -> bool {
     sent && counts == [1; 3]
 }
 
+/// Whether both hold of a door of one connection, whose first accept fails.
+fn closes_and_counts(alloc: Global) -> Result<bool, AllocError> {
+    let fails = [1u64].to_vec(alloc)?;
+    let mut door = MemoryDoor::new(alloc, one(alloc, b"abc")?, Vec::new(alloc), fails);
+    let is_closed = closes(&mut door);
+    Ok(is_closed & has_counted(&door))
+}
+
 #[test]
 fn doors_close_behind_the_last_connection(rt: HostRuntime) -> Result<(), AllocError> {
-    let mut door = door(rt.alloc())?;
-    assert!(rt; closes(&mut door) && has_counted(&door));
+    assert!(rt; closes_and_counts(rt.alloc())?);
     Ok(())
 }

@@ -98,31 +98,59 @@ fn write_twice<K: Sink>(sink: &mut K) -> ([bool; 2], u64) {
     (done, sink.faults())
 }
 
+/// The same of a sink in memory whose second write fails, and whether it has taken the first one alone.
+fn write_memory(alloc: Global) -> Result<(([bool; 2], u64), bool), AllocError> {
+    let mut sink = MemorySink::new(alloc, vec![in alloc; 2u64]?);
+    let found = write_twice(&mut sink);
+    let is_taken = sink.taken() == b"seven b".as_slice();
+    Ok((found, is_taken))
+}
+
 #[test]
 fn writes_whole(rt: HostRuntime) -> Result<(), AllocError> {
-    let mut sink = MemorySink::new(rt.alloc(), vec![in rt.alloc(); 2u64]?);
-    assert_eq!(rt; write_twice(&mut sink), ([true, false], 1));
-    assert_eq!(rt; sink.taken(), b"seven b".as_slice());
+    assert_eq!(rt; write_memory(rt.alloc())?, (([true, false], 1), true));
     Ok(())
+}
+
+/// What `count_read` tells of a source that is let go then.
+fn count_let_go<S: Source + Drop>(
+    alloc: Global,
+    mut source: S,
+    limit: usize,
+) -> (Option<usize>, u64) {
+    count_read(alloc, &mut source, limit)
+}
+
+/// What `count_read` tells of a drip, and the read behind it.
+fn count_drip(alloc: Global) -> ((Option<usize>, u64), (Result<usize, Failed>, u64)) {
+    let mut drip = StdSource::new(dripping(9));
+    let found = count_read(alloc, &mut drip, 6);
+    let next = drip.read(&mut [0u8; 4]);
+    (found, (next, drip.faults()))
 }
 
 #[test]
 fn adapts_readers(rt: HostRuntime) {
-    let mut whole = StdSource::new(b"text".as_slice());
-    assert_eq!(rt; count_read(rt.alloc(), &mut whole, 4), (Some(4), 0));
-    let mut drip = StdSource::new(dripping(9));
-    assert_eq!(rt; count_read(rt.alloc(), &mut drip, 6), (None, 0));
-    assert_eq!(rt; (drip.read(&mut [0u8; 4]), drip.faults()), (Err(Failed), 1));
-    let mut none = StdSource::<Drip>::none();
-    assert_eq!(rt; count_read(rt.alloc(), &mut none, 6), (None, 1));
+    let whole = count_let_go(rt.alloc(), StdSource::new(b"text".as_slice()), 4);
+    let none = count_let_go(rt.alloc(), StdSource::<Drip>::none(), 6);
+    assert_eq!(rt; [whole, none], [(Some(4), 0), (None, 1)]);
+    assert_eq!(rt; count_drip(rt.alloc()), ((None, 0), (Err(Failed), 1)));
+}
+
+/// What `write_twice` tells of a sink that is let go then.
+fn write_let_go<K: Sink + Drop>(mut sink: K) -> ([bool; 2], u64) {
+    write_twice(&mut sink)
 }
 
 #[test]
 fn adapts_writers(rt: HostRuntime) {
-    let mut whole = StdSink::new(Vec::<u8>::new(rt.alloc()));
-    assert_eq!(rt; write_twice(&mut whole), ([true; 2], 0));
-    let mut drip = StdSink::new(dripping(9));
-    assert_eq!(rt; write_twice(&mut drip), ([true, false], 1));
-    let mut none = StdSink::<Drip>::none();
-    assert_eq!(rt; write_twice(&mut none), ([false; 2], 2));
+    let found = [
+        write_let_go(StdSink::new(Vec::<u8>::new(rt.alloc()))),
+        write_let_go(StdSink::new(dripping(9))),
+        write_let_go(StdSink::<Drip>::none()),
+    ];
+    assert_eq!(rt;
+        found,
+        [([true; 2], 0), ([true, false], 1), ([false; 2], 2)]
+    );
 }

@@ -135,14 +135,6 @@ fn takes<A: Door, N: Dial>(door: &mut A, dial: &mut N) -> bool {
     done == [true; 3]
 }
 
-#[test]
-fn a_door_passes_over_what_broke_off(rt: HostRuntime) -> Result<(), Fail> {
-    let hand = at_zero();
-    let (mut door, mut dial) = pair(rt, &hand, &BROKEN_OFF)?;
-    assert!(rt; takes(&mut door, &mut dial));
-    Ok(())
-}
-
 /// Whether the first accept fails and is counted, and the second one takes the connection.
 fn fails_once<A: Door, N: Dial>(door: &mut A, dial: &mut N) -> bool {
     let done = [
@@ -153,14 +145,6 @@ fn fails_once<A: Door, N: Dial>(door: &mut A, dial: &mut N) -> bool {
         door.accept_faults() == 1,
     ];
     done == [true; 5]
-}
-
-#[test]
-fn a_door_fails_where_its_socket_does(rt: HostRuntime) -> Result<(), Fail> {
-    let hand = at_zero();
-    let (mut door, mut dial) = pair(rt, &hand, &OWN_FAULT)?;
-    assert!(rt; fails_once(&mut door, &mut dial));
-    Ok(())
 }
 
 /// Whether of two connections the first, which can't be timed, is let go, and the second one is taken.
@@ -183,14 +167,19 @@ fn takes_second<A: Door, N: Dial>(
     [begun, taken, found] == [[true; 2]; 3]
 }
 
-/// A connection that can't be timed is let go, and the next one taken.
-#[test]
-fn a_door_passes_over_what_has_no_time(rt: HostRuntime) -> Result<(), Fail> {
+/// Whether it is so of a door and two dials to it.
+fn passes_over_untimed(rt: HostRuntime) -> io::Result<bool> {
     let hand = at_zero();
     let (mut door, address) = door(rt, &hand, &[])?;
     let mut first = TcpDial::new(rt, address.clone()?);
     let mut second = TcpDial::new(rt, address);
-    assert!(rt; takes_second(&mut door, &mut first, &mut second, &hand));
+    Ok(takes_second(&mut door, &mut first, &mut second, &hand))
+}
+
+/// A connection that can't be timed is let go, and the next one taken.
+#[test]
+fn a_door_passes_over_what_has_no_time(rt: HostRuntime) -> Result<(), Fail> {
+    assert!(rt; passes_over_untimed(rt)?);
     Ok(())
 }
 
@@ -230,11 +219,49 @@ fn is_timed<A: Door, N: Dial>(door: &mut A, dial: &mut N, hand: &Hand) -> bool {
     done == [true; 5]
 }
 
+/// What is tried of a door with one dial to it.
+#[derive(Clone, Copy)]
+enum Trial {
+    BrokenOff,
+    OwnFault,
+    Timed,
+}
+
+/// How the first accepts of a trial's door fail.
+fn codes_of(trial: Trial) -> &'static [i32] {
+    match trial {
+        Trial::BrokenOff => &BROKEN_OFF,
+        Trial::OwnFault => &OWN_FAULT,
+        Trial::Timed => &[],
+    }
+}
+
+/// Whether a trial holds. All trials go through this one function, as the door and the dial that it lets go are dear to prove.
+fn holds(rt: HostRuntime, trial: Trial) -> io::Result<bool> {
+    let hand = at_zero();
+    let (mut door, mut dial) = pair(rt, &hand, codes_of(trial))?;
+    Ok(match trial {
+        Trial::BrokenOff => takes(&mut door, &mut dial),
+        Trial::OwnFault => fails_once(&mut door, &mut dial),
+        Trial::Timed => is_timed(&mut door, &mut dial, &hand),
+    })
+}
+
+#[test]
+fn a_door_passes_over_what_broke_off(rt: HostRuntime) -> Result<(), Fail> {
+    assert!(rt; holds(rt, Trial::BrokenOff)?);
+    Ok(())
+}
+
+#[test]
+fn a_door_fails_where_its_socket_does(rt: HostRuntime) -> Result<(), Fail> {
+    assert!(rt; holds(rt, Trial::OwnFault)?);
+    Ok(())
+}
+
 /// Sixty seconds until the first write, and sixty from there on.
 #[test]
 fn the_time_begins_anew_at_the_first_write(rt: HostRuntime) -> Result<(), Fail> {
-    let hand = at_zero();
-    let (mut door, mut dial) = pair(rt, &hand, &[])?;
-    assert!(rt; is_timed(&mut door, &mut dial, &hand));
+    assert!(rt; holds(rt, Trial::Timed)?);
     Ok(())
 }
