@@ -5,7 +5,7 @@ ghost use Rattle.fsl_order.specs.Names.{has};
 ghost use Rattle.fsl_order.specs.TableState.{IsAsBefore};
 
 use crate::names::{add, are_distinct, letter, moment, names_of, put_names};
-use crate::plays::{Play, shown};
+use crate::plays::{Play, shown, want};
 use fsl_leaves::Leaves;
 use fsl_links::Links;
 use fsl_name::Name;
@@ -134,8 +134,7 @@ impl Play for OfRows {
 /// A row in the place of one of its name is told, and one that is taken out, and both go back.
 #[test]
 fn rows_change_and_go(rt: HostRuntime) -> Result<(), Memory> {
-    let text = shown::<OfRows>(rt.alloc())?;
-    assert_eq!(rt; text.bytes(), b" 516b new old 516b old".as_slice());
+    want(&rt, shown::<OfRows>(rt.alloc())?, b" 516b new old 516b old");
     Ok(())
 }
 
@@ -162,8 +161,7 @@ fn latest_of_two(alloc: Global) -> Result<Text, Memory> {
 /// The latest row comes first.
 #[test]
 fn rows_are_built(rt: HostRuntime) -> Result<(), Memory> {
-    let text = latest_of_two(rt.alloc())?;
-    assert_eq!(rt; text.bytes(), b" late early".as_slice());
+    want(&rt, latest_of_two(rt.alloc())?, b" late early");
     Ok(())
 }
 
@@ -236,8 +234,7 @@ impl Play for OfLinks {
 /// Another parent changes the rows of the old parent and of the new one.
 #[test]
 fn other_parents_are_told(rt: HostRuntime) -> Result<(), Memory> {
-    let text = shown::<OfLinks>(rt.alloc())?;
-    assert_eq!(rt; text.bytes(), b" 22ea 4dc7".as_slice());
+    want(&rt, shown::<OfLinks>(rt.alloc())?, b" 22ea 4dc7");
     Ok(())
 }
 
@@ -314,7 +311,6 @@ impl Play for OfLeaves {
 /// A check-in that comes to name itself is no leaf any more.
 #[test]
 fn its_own_parent_is_told(rt: HostRuntime) -> Result<(), Memory> {
-    let text = shown::<OfLeaves>(rt.alloc())?;
-    assert_eq!(rt; text.bytes(), b" 516b".as_slice());
+    want(&rt, shown::<OfLeaves>(rt.alloc())?, b" 516b");
     Ok(())
 }

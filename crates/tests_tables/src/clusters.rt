@@ -4,7 +4,7 @@ ghost use Rattle.fsl_order.specs.Names.{has};
 ghost use Rattle.fsl_order.specs.TableState.{IsAsBefore};
 
 use crate::names::{letter, names_of, put, put_names};
-use crate::plays::{Play, shown};
+use crate::plays::{Play, shown, want};
 use fsl_cluster::{Clusters, Fact, Undo};
 use fsl_name::Name;
 use fsl_text::{Memory, Steps, Text};
@@ -150,10 +150,10 @@ impl Play for OfClusters {
 
 #[test]
 fn artifacts_become_public_and_clusters_get_other_members(rt: HostRuntime) -> Result<(), Memory> {
-    let text = shown::<OfClusters>(rt.alloc())?;
-    assert_eq!(rt;
-        text.bytes(),
-        b" are - - - 13fb are - - u are - - - then are m m u 13fb 86f7 e9d7 are - - - are m m u".as_slice()
+    want(
+        &rt,
+        shown::<OfClusters>(rt.alloc())?,
+        b" are - - - 13fb are - - u are - - - then are m m u 13fb 86f7 e9d7 are - - - are m m u",
     );
     Ok(())
 }

@@ -5,7 +5,7 @@ ghost use Rattle.fsl_order.specs.Names.{has};
 ghost use Rattle.fsl_files.specs.Conditions.{IsFilesFact};
 
 use crate::names::{add, letter, put_names};
-use crate::plays::{Play, shown};
+use crate::plays::{Play, shown, want};
 use fsl_files::{Change, Fact, FileRow, Files, How, Listing, Perm, Undo};
 use fsl_name::Name;
 use fsl_text::{List, Memory, Steps, Text};
@@ -164,10 +164,10 @@ impl Play for OfFiles {
 
 #[test]
 fn a_baseline_comes_after_its_delta_and_changes(rt: HostRuntime) -> Result<(), Memory> {
-    let text = shown::<OfFiles>(rt.alloc())?;
-    assert_eq!(rt;
-        text.bytes(),
-        b" = ? / ? = x / *x 3c36 86f7 = x z / +x = x / *x".as_slice()
+    want(
+        &rt,
+        shown::<OfFiles>(rt.alloc())?,
+        b" = ? / ? = x / *x 3c36 86f7 = x z / +x = x / *x",
     );
     Ok(())
 }

@@ -4,7 +4,7 @@ ghost use Rattle.fsl_order.specs.Names.{has};
 ghost use Rattle.fsl_wiki.specs.Pages.{fact_name};
 
 use crate::names::{letter, moment, put, put_names};
-use crate::plays::{Play, shown};
+use crate::plays::{Play, shown, want};
 use fsl_name::Name;
 use fsl_text::{Memory, Steps, Text};
 use fsl_wiki::{Attached, Fact, Note, Pages, Undo};
@@ -131,7 +131,10 @@ impl Play for OfPages {
 
 #[test]
 fn a_technote_becomes_an_attachment(rt: HostRuntime) -> Result<(), Memory> {
-    let text = shown::<OfPages>(rt.alloc())?;
-    assert_eq!(rt; text.bytes(), b" e9d7 e9d7 - attached e9d7".as_slice());
+    want(
+        &rt,
+        shown::<OfPages>(rt.alloc())?,
+        b" e9d7 e9d7 - attached e9d7",
+    );
     Ok(())
 }

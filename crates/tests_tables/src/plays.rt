@@ -4,6 +4,7 @@ ghost use Rattle.std.specs.Prelude.{◌≡◌, ◌<◌};
 use fsl_text::{Memory, Steps, Text};
 use std::alloc::Global;
 use std::marker::Brand;
+use std::process::Abort;
 use std::sync::ledger::{Blank, Ledger};
 
 /// A table, what comes into it, and what it shows.
@@ -30,4 +31,10 @@ pub fn shown<P: Play>(alloc: Global) -> Result<Text, Memory> {
     let mut into = Text::empty(alloc);
     play_counted::<P, Brand>(alloc, &mut into, Blank::new(1))?;
     Ok(into)
+}
+
+/// Wants a text to be this one. The tests hand theirs over to this one function, as a text that is held where an assertion may end is dear to
+/// prove.
+pub fn want(rt: &impl Abort, found: Text, wanted: &[u8]) {
+    assert_eq!(rt; found.bytes(), wanted);
 }

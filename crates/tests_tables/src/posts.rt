@@ -3,7 +3,7 @@ ghost use Rattle.std.specs.Prelude.{◌≡◌, [], true, map, IfOk, OnOk};
 ghost use Rattle.fsl_order.specs.Names.{has};
 
 use crate::names::{letter, moment, put, put_names};
-use crate::plays::{Play, shown};
+use crate::plays::{Play, shown, want};
 use fsl_forum::*;
 use fsl_name::Name;
 use fsl_text::{Memory, Steps, Text};
@@ -105,7 +105,6 @@ impl Play for OfPosts {
 #[test]
 fn a_reply_becomes_a_start(rt: HostRuntime) -> Result<(), Memory> {
     invalid_stays();
-    let text = shown::<OfPosts>(rt.alloc())?;
-    assert_eq!(rt; text.bytes(), b" 6b0d e9d7 e9d7 6b0d".as_slice());
+    want(&rt, shown::<OfPosts>(rt.alloc())?, b" 6b0d e9d7 e9d7 6b0d");
     Ok(())
 }

@@ -3,6 +3,7 @@ mod fit;
 mod late;
 
 use crate::names::{add, are_distinct, letter, moment};
+use crate::plays::want;
 use fit::are_fit;
 use fsl_tags::*;
 use fsl_text::{List, Memory, Text};
@@ -81,7 +82,6 @@ fn built(alloc: Global) -> Result<Text, Memory> {
 fn check_ins_in_a_circle_share_what_propagates(rt: HostRuntime) -> Result<(), Memory> {
     effective_by_row();
     others_stay();
-    let found = built(rt.alloc())?;
-    assert_eq!(rt; found.bytes(), b"a j k\nb k\n v v - v".as_slice());
+    want(&rt, built(rt.alloc())?, b"a j k\nb k\n v v - v");
     Ok(())
 }

@@ -3,7 +3,7 @@ ghost use Rattle.std.specs.Prelude.{◌≡◌, [], true, map, IfOk, OnOk};
 ghost use Rattle.fsl_order.specs.Names.{has};
 
 use crate::names::{add, letter, moment, put_names};
-use crate::plays::{Play, shown};
+use crate::plays::{Play, shown, want};
 use fsl_name::Name;
 use fsl_text::{List, Memory, Steps, Text};
 use fsl_ticket::{Fact, FieldChange, Tickets, Undo};
@@ -132,7 +132,10 @@ impl Play for OfTickets {
 
 #[test]
 fn a_change_moves_to_another_ticket(rt: HostRuntime) -> Result<(), Memory> {
-    let text = shown::<OfTickets>(rt.alloc())?;
-    assert_eq!(rt; text.bytes(), b" 1 - 11f6 95cb - 1 1 -".as_slice());
+    want(
+        &rt,
+        shown::<OfTickets>(rt.alloc())?,
+        b" 1 - 11f6 95cb - 1 1 -",
+    );
     Ok(())
 }

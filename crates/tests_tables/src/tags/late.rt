@@ -9,7 +9,7 @@ ghost use Rattle.fsl_tags.specs.Tags.{IsTagFact};
 use super::fit::is_fit;
 use super::{child, tags};
 use crate::names::{letter, put, put_names};
-use crate::plays::{Play, shown};
+use crate::plays::{Play, shown, want};
 use fsl_name::Name;
 use fsl_rows::Named;
 use fsl_tags::*;
@@ -153,7 +153,10 @@ impl Play for OfTags {
 
 #[test]
 fn check_ins_come_into_a_circle(rt: HostRuntime) -> Result<(), Memory> {
-    let text = shown::<OfTags>(rt.alloc())?;
-    assert_eq!(rt; text.bytes(), b" v v - - e9d7 v v - v v v - -".as_slice());
+    want(
+        &rt,
+        shown::<OfTags>(rt.alloc())?,
+        b" v v - - e9d7 v v - v v v - -",
+    );
     Ok(())
 }
