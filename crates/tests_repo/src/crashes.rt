@@ -30,9 +30,9 @@ fn takes_three(repo: &mut Repo<FuseDisk<MemoryDisk>>) -> bool {
 
 /// Takes the three steps and commits them, as far as the disk doesn't fail.
 fn take_and_commit(alloc: Global, mut repo: Repo<FuseDisk<MemoryDisk>>) -> Left {
-    let before = show_all(alloc, &repo);
+    let before = show_all(alloc, &mut repo);
     let are_taken = takes_three(&mut repo);
-    let behind = show_all(alloc, &repo);
+    let behind = show_all(alloc, &mut repo);
     let is_committed = repo.commit().is_ok();
     Left {
         before,

@@ -117,7 +117,7 @@ fn returns(
     committed: &Shown,
     fails: bool,
 ) -> bool {
-    let end = show_all(alloc, &repo);
+    let end = show_all(alloc, &mut repo);
     let ends = repo.commit().is_ok();
     let again = shown_by(alloc, repo.close().inner());
     let is_end = again.is_like(&end);

@@ -168,15 +168,15 @@ fn played(alloc: Global, play: &Play, number: u64) -> Shown {
 /// What a repository shows behind a play. It is let go.
 fn shown_played(alloc: Global, mut repo: Repo<MemoryDisk>, play: &Play, number: u64) -> Shown {
     let taken = are_taken(alloc, &mut repo, play, number);
-    let mut shown = show_of(alloc, &repo, play.set);
+    let mut shown = show_of(alloc, &mut repo, play.set);
     let same = shows_again(alloc, repo);
     shown.fails_unless(taken & same);
     shown
 }
 
 /// Whether a repository shows the same when its disk is loaded anew.
-fn shows_again(alloc: Global, repo: Repo<MemoryDisk>) -> bool {
-    let shown = show_all(alloc, &repo);
+fn shows_again(alloc: Global, mut repo: Repo<MemoryDisk>) -> bool {
+    let shown = show_all(alloc, &mut repo);
     let again = shown_by(alloc, repo.close());
     again.is_like(&shown)
 }

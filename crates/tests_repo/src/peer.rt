@@ -40,8 +40,8 @@ impl<'a, R> PeerDial<'a, R> {
     }
 
     /// The repository.
-    pub(crate) fn repo(&self) -> &Repo<MemoryDisk> {
-        &self.pass.machine
+    pub(crate) fn repo(&mut self) -> &mut Repo<MemoryDisk> {
+        &mut self.pass.machine
     }
 
     /// Closes the repository.

@@ -4,7 +4,7 @@ ghost use Rattle.std.specs.Prelude.{◌≡◌, ◌<◌};
 use crate::events::arrives;
 use crate::histories::Dice;
 use crate::peer::PeerDial;
-use crate::printing::{held, show_of};
+use crate::printing::{held, show_many};
 use crate::repo::{CONFIGURED, fused, loaded, opened};
 use fsl_disk::{Disk, MemoryDisk};
 use fsl_gen::artifacts;
@@ -84,10 +84,10 @@ fn is_synced<D: Disk, N: Dial>(
 }
 
 /// Whether two repositories hold and show the same, and hold all of the artifacts.
-fn are_alike(alloc: Global, repo: &Repo<MemoryDisk>, peer: &Repo<MemoryDisk>) -> bool {
+fn are_alike(alloc: Global, repo: &mut Repo<MemoryDisk>, peer: &mut Repo<MemoryDisk>) -> bool {
     let placed = held(alloc, repo);
-    let mine = show_of(alloc, repo, placed.items());
-    let theirs = show_of(alloc, peer, placed.items());
+    let mine = show_many(alloc, repo, placed.items());
+    let theirs = show_many(alloc, peer, placed.items());
     let are_all = COUNT <= placed.items().len() as u64;
     let alike = mine.is_like(&theirs);
     drop(placed);
@@ -97,7 +97,7 @@ fn are_alike(alloc: Global, repo: &Repo<MemoryDisk>, peer: &Repo<MemoryDisk>) ->
 }
 
 /// Whether a repository is like the one that a dial leads to.
-fn is_like<R>(alloc: Global, repo: &Repo<MemoryDisk>, dial: &PeerDial<'_, R>) -> bool {
+fn is_like<R>(alloc: Global, repo: &mut Repo<MemoryDisk>, dial: &mut PeerDial<'_, R>) -> bool {
     are_alike(alloc, repo, dial.repo())
 }
 
@@ -152,7 +152,7 @@ fn comes_to_end<R: Wait>(alloc: Global, dial: &mut PeerDial<'_, R>, disk: Memory
         return false;
     };
     let ended = is_synced(alloc, &mut repo, dial, false);
-    let alike = is_like(alloc, &repo, dial);
+    let alike = is_like(alloc, &mut repo, dial);
     drop(repo.close());
     ended && alike
 }
