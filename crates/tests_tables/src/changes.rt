@@ -52,8 +52,14 @@ fn come<L: Ledger>(
     requires { table.old.facts ≡ [] }
     ensures { OnOk result (has (map (λ r. r.name) table.new.facts) name ≡ true) }
 {
-    table.add(alloc, row_at(alloc, 1, name, b"old")?, steps)?;
-    Ok(())
+    let fact = row_at(alloc, 1, name, b"old")?;
+    match table.add(alloc, fact, steps) {
+        Ok(undo) => {
+            drop(undo);
+            Ok(())
+        }
+        Err(Memory) => Err(Memory),
+    }
 }
 
 /// Takes the last change back: what it tells, and what stands before and after.
@@ -183,8 +189,14 @@ fn link<L: Ledger>(
     requires { table.old.facts ≡ [] }
     ensures { OnOk result (has (map (λ f. f.name) table.new.facts) name ≡ true) }
 {
-    table.add(alloc, child_of(alloc, name, b'q')?, steps)?;
-    Ok(())
+    let fact = child_of(alloc, name, b'q')?;
+    match table.add(alloc, fact, steps) {
+        Ok(undo) => {
+            drop(undo);
+            Ok(())
+        }
+        Err(Memory) => Err(Memory),
+    }
 }
 
 /// One of its name with another parent: the names whose rows this changes.
@@ -260,8 +272,14 @@ fn grow<L: Ledger>(
     requires { table.old.facts ≡ [] }
     ensures { OnOk result (has (map (λ f. f.name) table.new.facts) name ≡ true) }
 {
-    table.add(alloc, leaf_of(alloc, name, b'q')?, steps)?;
-    Ok(())
+    let fact = leaf_of(alloc, name, b'q')?;
+    match table.add(alloc, fact, steps) {
+        Ok(undo) => {
+            drop(undo);
+            Ok(())
+        }
+        Err(Memory) => Err(Memory),
+    }
 }
 
 /// One of its name that names itself: the names whose rows this changes.

@@ -67,8 +67,14 @@ fn come<L: Ledger>(
     requires { clusters.old.facts ≡ [] }
     ensures { OnOk result (has (map (λ f. f.name) clusters.new.facts) name ≡ true) }
 {
-    clusters.add(alloc, artifact(alloc, name, true, b"")?, steps)?;
-    Ok(())
+    let fact = artifact(alloc, name, true, b"")?;
+    match clusters.add(alloc, fact, steps) {
+        Ok(undo) => {
+            drop(undo);
+            Ok(())
+        }
+        Err(Memory) => Err(Memory),
+    }
 }
 
 /// An artifact becomes a public one with members.
@@ -82,8 +88,14 @@ fn gather<L: Ledger>(
     requires { has (map (λ f. f.name) clusters.old.facts) name ≡ true }
     ensures { OnOk result (has (map (λ f. f.name) clusters.new.facts) name ≡ true) }
 {
-    clusters.change(alloc, artifact(alloc, name, false, letters)?, steps)?;
-    Ok(())
+    let fact = artifact(alloc, name, false, letters)?;
+    match clusters.change(alloc, fact, steps) {
+        Ok(undo) => {
+            drop(undo);
+            Ok(())
+        }
+        Err(Memory) => Err(Memory),
+    }
 }
 
 /// Takes the last change back: what it tells, and what stands before and after.

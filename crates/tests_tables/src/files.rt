@@ -85,8 +85,14 @@ fn come_first<L: Ledger>(
     requires differ { bytes_eq name delta ≡ false }
     ensures { OnOk result (has (map (λ f. f.name) files.new.facts) name ≡ false) }
 {
-    files.add(alloc, checkin(alloc, delta, Some(name), b"x")?, steps)?;
-    Ok(())
+    let fact = checkin(alloc, delta, Some(name), b"x")?;
+    match files.add(alloc, fact, steps) {
+        Ok(undo) => {
+            drop(undo);
+            Ok(())
+        }
+        Err(Memory) => Err(Memory),
+    }
 }
 
 /// Takes that one in.
@@ -99,8 +105,14 @@ fn come<L: Ledger>(
     requires { has (map (λ f. f.name) files.old.facts) name ≡ false }
     ensures { OnOk result (has (map (λ f. f.name) files.new.facts) name ≡ true) }
 {
-    files.add(alloc, checkin(alloc, name, None, b"x")?, steps)?;
-    Ok(())
+    let fact = checkin(alloc, name, None, b"x")?;
+    match files.add(alloc, fact, steps) {
+        Ok(undo) => {
+            drop(undo);
+            Ok(())
+        }
+        Err(Memory) => Err(Memory),
+    }
 }
 
 /// Takes the last change back: what it tells, and what stands before and after.

@@ -70,8 +70,14 @@ fn come<L: Ledger>(
     requires { pages.old.facts ≡ [] }
     ensures { OnOk result (has (map fact_name pages.new.facts) name ≡ true) }
 {
-    pages.add(alloc, note(name)?, steps)?;
-    Ok(())
+    let fact = note(name)?;
+    match pages.add(alloc, fact, steps) {
+        Ok(undo) => {
+            drop(undo);
+            Ok(())
+        }
+        Err(Memory) => Err(Memory),
+    }
 }
 
 /// Takes the last change back: what it tells, and what stands before and after.

@@ -44,8 +44,14 @@ fn reply<L: Ledger>(
     ensures { OnOk result (has (map (λ f. f.name) threads.new.facts) name ≡ true) }
 {
     let (root, reply) = (Some(letter(b'm')), Some(letter(b'a')));
-    threads.add(alloc, post(alloc, name, root, reply)?, steps)?;
-    Ok(())
+    let fact = post(alloc, name, root, reply)?;
+    match threads.add(alloc, fact, steps) {
+        Ok(undo) => {
+            drop(undo);
+            Ok(())
+        }
+        Err(Memory) => Err(Memory),
+    }
 }
 
 /// Takes the last change back: the names that changed, and the thread of a post before and after.

@@ -62,8 +62,14 @@ fn come<L: Ledger>(
     requires { tickets.old.facts ≡ [] }
     ensures { OnOk result (has (map (λ f. f.name) tickets.new.facts) name ≡ true) }
 {
-    tickets.add(alloc, change_of(alloc, name, b'x')?, steps)?;
-    Ok(())
+    let fact = change_of(alloc, name, b'x')?;
+    match tickets.add(alloc, fact, steps) {
+        Ok(undo) => {
+            drop(undo);
+            Ok(())
+        }
+        Err(Memory) => Err(Memory),
+    }
 }
 
 /// Takes the last change back: which tickets it changed, and what stands before and after.

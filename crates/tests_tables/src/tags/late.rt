@@ -47,8 +47,14 @@ fn add<L: Ledger>(
     requires fit { IsTagFact (fact.now ∷ tags.old.facts) fact.now }
     ensures { OnOk result (tags.new.facts ≡ by_name (λ f. f.name) (fact.now ∷ tags.old.facts)) }
 {
-    tags.add(alloc, fact.copied(alloc)?, steps)?;
-    Ok(())
+    let fact = fact.copied(alloc)?;
+    match tags.add(alloc, fact, steps) {
+        Ok(undo) => {
+            drop(undo);
+            Ok(())
+        }
+        Err(Memory) => Err(Memory),
+    }
 }
 
 /// Takes the last change back: what it tells, and what stands before and after.
