@@ -63,7 +63,6 @@ fn fill_one<L: Ledger>(
     ensures ends { OnOk result ((x : List ℕ) → value_at bytes_cmp x ends.new.entries ≡ cond (bytes_eq x fact.now.name) end (value_at bytes_cmp x ends.old.entries)) }
     ensures placed { OnOk result ((first : List ℕ → Option (List ℕ)) → AreOf first placed.old.entries → first fact.now.name ≡ None → AreOf (λ x. cond (bytes_eq x fact.now.name) (place_by end fact.now) (first x)) placed.new.entries) }
 {
-    let node = node_for(alloc, fact)?;
     relink(
         followers,
         &mut Log::new(alloc),
@@ -73,6 +72,7 @@ fn fill_one<L: Ledger>(
         steps,
     )?;
     set_end(ends, &mut Log::new(alloc), fact.name, &end, steps)?;
+    let node = node_for(alloc, fact)?;
     let place = node.place(fact.name, end);
     relink(placed, &mut Log::new(alloc), fact.name, None, place, steps)?;
     match posts.put(fact.name, node, steps) {
