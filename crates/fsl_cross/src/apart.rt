@@ -103,7 +103,11 @@ impl Items {
         let tags = self.tags(alloc)?;
         let two = beside(tags, self.wiki(alloc))?;
         let ((tags, pages), threads) = beside(two, self.forum(alloc))?;
-        timeline::table(alloc, &tags, &pages, &threads, self)
+        let rows = timeline::table(alloc, &tags, &pages, &threads, self);
+        drop(threads);
+        drop(pages);
+        drop(tags);
+        rows
     }
 
     /// The tip of a symbolic name: of the check-ins on which the tag of `sym-` and the name is in force, the one with the

@@ -40,7 +40,9 @@ impl Model for Back {
 
 impl Back {
     /// Lets go what would take the change back: the change stays.
-    pub fn settle(self) {}
+    pub fn settle(self) {
+        drop(self);
+    }
 }
 
 /// Takes changes of the tables of parentage, tags and leaves back. Takes no memory.

@@ -36,7 +36,10 @@ impl Held {
                 private: item.private,
                 artifact,
             }),
-            Err(_) => Err(Memory),
+            Err(refused) => {
+                drop(refused);
+                Err(Memory)
+            }
         }
     }
 

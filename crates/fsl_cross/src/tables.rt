@@ -305,7 +305,9 @@ impl Tables {
     }
 
     /// Lets the tables go. They have so many parts that a crate which lets them go by itself proves some sixty functions for it.
-    pub fn close(self) {}
+    pub fn close(self) {
+        drop(self);
+    }
 }
 
 /// Copies of some texts. `Memory` is the only error.
