@@ -47,21 +47,15 @@ fn ticket_of<D: Disk>(alloc: Global, repo: &Repo<D>, id: Name) -> Result<Text, Q
     )
 }
 
-/// The text of a report on what a repository holds, by its tables; `report_from` tells the same of what was loaded without
-/// tables. The bytes of `cat` are copied; `content` lends them. The repository stays.
-///
-/// Errors: `Refused` where there is nothing to report; `Memory` for want of memory.
-pub fn report<D: Disk>(
+/// The text of a report on what a repository holds, by its tables. The repository stays.
+fn answer<D: Disk>(
     alloc: Global,
     repo: &mut Repo<D>,
     question: &Question,
 ) -> Result<Text, QueryFault>
-    ensures ok { IfOk result (λ text. report (now repo.old.seen.state) repo.old.seen.items question.now ≡ Ok text) }
-    ensures refused { (refused : Refused) → result ≡ Err (query_fault.Refused refused) → report (now repo.old.seen.state) repo.old.seen.items question.now ≡ Err refused }
-    ensures means { IsReported (now repo.old.seen.state) question.now result }
+    ensures answer { IsAnswer (report (now repo.old.seen.state) repo.old.seen.items question.now) result }
     ensures same { repo.new ≡ repo.old }
 {
-    repo.is_whole();
     match question {
         Question::Cat { prefix } => copied(alloc, repo, prefix.bytes()),
         Question::Timeline { count } => Ok(timeline::report(
@@ -87,4 +81,22 @@ pub fn report<D: Disk>(
             Ok(phantoms::report(alloc, wanted.items())?)
         }
     }
+}
+
+/// The text of a report on what a repository holds, by its tables; `report_from` tells the same of what was loaded without
+/// tables. The bytes of `cat` are copied; `content` lends them. The repository stays.
+///
+/// Errors: `Refused` where there is nothing to report; `Memory` for want of memory.
+pub fn report<D: Disk>(
+    alloc: Global,
+    repo: &mut Repo<D>,
+    question: &Question,
+) -> Result<Text, QueryFault>
+    ensures ok { IfOk result (λ text. report (now repo.old.seen.state) repo.old.seen.items question.now ≡ Ok text) }
+    ensures refused { (refused : Refused) → result ≡ Err (query_fault.Refused refused) → report (now repo.old.seen.state) repo.old.seen.items question.now ≡ Err refused }
+    ensures means { IsReported (now repo.old.seen.state) question.now result }
+    ensures same { repo.new ≡ repo.old }
+{
+    repo.is_whole();
+    answer(alloc, repo, question)
 }

@@ -23,7 +23,9 @@ fn timeline_of(alloc: Global, items: &Items, count: u64) -> Result<Text, Memory>
     ensures { (fields : Texts (Texts ℕ)) → IfOk result (λ text. text ≡ timeline_report (tables fields items.now).timeline count) }
 {
     let table = items.timeline(alloc)?;
-    timeline::report(alloc, &table, count)
+    let text = timeline::report(alloc, &table, count);
+    drop(table);
+    text
 }
 
 /// The leaves of some artifacts.
@@ -31,7 +33,10 @@ fn leaves_of(alloc: Global, items: &Items) -> Result<Text, Memory>
     ensures { (fields : Texts (Texts ℕ)) → IfOk result (λ text. text ≡ leaves_report (branch items.now) (tables fields items.now).leaves) }
 {
     let (tags, table) = items.tags_and_leaves(alloc)?;
-    leaves::report(alloc, &table, &tags)
+    let text = leaves::report(alloc, &table, &tags);
+    drop(table);
+    drop(tags);
+    text
 }
 
 /// The tags in force on one of some artifacts.
@@ -39,7 +44,9 @@ fn tags_of(alloc: Global, items: &Items, name: Name) -> Result<Text, Memory>
     ensures { (fields : Texts (Texts ℕ)) → IfOk result (λ text. text ≡ tags_report (tables fields items.now).tags name) }
 {
     let table = items.tags(alloc)?;
-    tags::report(alloc, &table, name)
+    let text = tags::report(alloc, &table, name);
+    drop(table);
+    text
 }
 
 /// The files of one of some artifacts, and their changes.
@@ -48,7 +55,9 @@ fn files_of(alloc: Global, items: &Items, name: Name) -> Result<Text, QueryFault
     ensures { (fields : Texts (Texts ℕ)) → IsAnswer (files_report (tables fields items.now).files name) result }
 {
     let table = items.files(alloc)?;
-    files::report(alloc, &table, name)
+    let text = files::report(alloc, &table, name);
+    drop(table);
+    text
 }
 
 /// The versions of the page of a title.
@@ -56,7 +65,9 @@ fn wiki_of(alloc: Global, items: &Items, title: &[u8]) -> Result<Text, QueryFaul
     ensures { (fields : Texts (Texts ℕ)) → IsAnswer (wiki_report (tables fields items.now).pages title.now) result }
 {
     let table = items.wiki(alloc)?;
-    wiki::report(alloc, &table, title)
+    let text = wiki::report(alloc, &table, title);
+    drop(table);
+    text
 }
 
 /// The configured fields of a ticket, by the tables of pages and of tickets.
@@ -71,7 +82,9 @@ fn ticket_by(
     ensures { IsAnswer (ticket_report fields.now (tables fields.now items.now).tickets (tables fields.now items.now).pages id) result }
 {
     let table = items.ticket(alloc, fields)?;
-    ticket::report(alloc, &table, pages, fields.items(), id)
+    let text = ticket::report(alloc, &table, pages, fields.items(), id);
+    drop(table);
+    text
 }
 
 /// The configured fields of a ticket, and its attachments.
@@ -84,7 +97,9 @@ fn ticket_of(
     ensures { IsAnswer (ticket_report fields.now (tables fields.now items.now).tickets (tables fields.now items.now).pages id) result }
 {
     let pages = items.wiki(alloc)?;
-    ticket_by(alloc, items, &pages, fields, id)
+    let text = ticket_by(alloc, items, &pages, fields, id);
+    drop(pages);
+    text
 }
 
 /// The posts of a thread.
@@ -92,7 +107,9 @@ fn thread_of(alloc: Global, items: &Items, name: Name) -> Result<Text, QueryFaul
     ensures { (fields : Texts (Texts ℕ)) → IsAnswer (thread_report (tables fields items.now).threads name) result }
 {
     let table = items.forum(alloc)?;
-    thread::report(alloc, &table, name)
+    let text = thread::report(alloc, &table, name);
+    drop(table);
+    text
 }
 
 /// The text of a report on what was loaded, by what its artifacts are.

@@ -4,4 +4,4 @@ use Rattle.fsl_query.specs.Reports.{wiki_report}
 use Rattle.fsl_query.proofs.loaded.wiki_of.Goals as goal
 
 pub returns : goal.returns
-returns c fields = subst (λ facts. IsAnswer (wiki_report facts c.args.title.now) c.report.result) (c.in_ok-table.ensures.facts fields) c.report.ensures
+returns c fields = subst (λ facts. IsAnswer (wiki_report facts c.args.title.now) c.report-text.result) (c.in_ok-table.ensures.facts fields) c.report-text.ensures
