@@ -11,17 +11,33 @@ use fsl_outside::{StdSink, StdSource, TcpDial};
 use fsl_words::{Command, WordsFault, read};
 use open::{dial, listen, open, open_peer, open_users};
 use sockets::serve_at;
+use std::alloc::Global;
+use std::env::Args;
 use std::io;
 use std::io::ErrorKind;
 use std::process::ExitCode;
 
 /// Runs a command over the real input, the real output, its files and its dial, and gives the status.
 fn over_file(rt: &HostRuntime, words: &[String], command: &Command) -> u8 {
+    match dial(rt, words, command) {
+        Some(mut dial) => {
+            let status = over_dial(rt, words, command, &mut dial);
+            drop(dial);
+            status
+        }
+        None => NO_MEMORY,
+    }
+}
+
+/// The same, over this dial.
+fn over_dial(
+    rt: &HostRuntime,
+    words: &[String],
+    command: &Command,
+    dial: &mut TcpDial<HostRuntime>,
+) -> u8 {
     let mut input = StdSource::new(rt.stdin());
     let mut out = StdSink::new(io::writer(rt));
-    let Some(mut dial) = dial(rt, words, command) else {
-        return NO_MEMORY;
-    };
     run(
         rt.alloc(),
         words,
@@ -29,7 +45,7 @@ fn over_file(rt: &HostRuntime, words: &[String], command: &Command) -> u8 {
         &mut out,
         open(rt, words, command),
         open_peer(rt, words, command),
-        &mut dial,
+        dial,
     )
     .status
 }
@@ -54,19 +70,21 @@ fn over_nothing(rt: &HostRuntime, words: &[String]) -> u8 {
 /// The words behind the program's name, or none where there is no memory for them. A word that isn't UTF-8 is outside the grammar, as no
 /// words are.
 fn given_words(rt: &HostRuntime) -> Option<Vec<String>> {
-    let mut words = Vec::new(rt.alloc());
     match std::env::args(rt) {
-        Ok(args) => {
-            for word in args.skip(1) {
-                if words.push(word).is_err() {
-                    return None;
-                }
-            }
-        }
-        Err(fault) if fault.kind() == ErrorKind::OutOfMemory => return None,
-        Err(_) => {}
+        Ok(args) => behind_name(rt.alloc(), args),
+        Err(fault) if fault.kind() == ErrorKind::OutOfMemory => None,
+        Err(_) => Some(Vec::new(rt.alloc())),
     }
-    Some(words)
+}
+
+/// The words behind the first one. The loop goes to its end in any case: a way out of it would be dear to prove.
+fn behind_name(alloc: Global, args: Args<Global>) -> Option<Vec<String>> {
+    let mut words = Vec::new(alloc);
+    let mut are_kept = true;
+    for word in args.skip(1) {
+        are_kept &= words.push(word).is_ok();
+    }
+    if are_kept { Some(words) } else { None }
 }
 
 fn main(rt: HostRuntime) -> ExitCode {
@@ -74,21 +92,26 @@ fn main(rt: HostRuntime) -> ExitCode {
         return ExitCode::from(NO_MEMORY);
     };
     let words = words.as_slice();
-    ExitCode::from(match read(rt.alloc(), words) {
-        Ok(parsed) => match &parsed.command {
-            Command::Serve { workers, .. } => serve_at(
-                &rt,
-                rt.alloc(),
-                words,
-                &mut open_users(&rt, words),
-                open(&rt, words, &parsed.command),
-                listen(&rt, words),
-                *workers,
-                &mut StdSink::new(io::writer(&rt)),
-            ),
-            command => over_file(&rt, words, command),
-        },
+    let status = match read(rt.alloc(), words) {
+        Ok(parsed) => {
+            let status = match &parsed.command {
+                Command::Serve { workers, .. } => serve_at(
+                    &rt,
+                    rt.alloc(),
+                    words,
+                    &mut open_users(&rt, words),
+                    open(&rt, words, &parsed.command),
+                    listen(&rt, words),
+                    *workers,
+                    &mut StdSink::new(io::writer(&rt)),
+                ),
+                command => over_file(&rt, words, command),
+            };
+            drop(parsed);
+            status
+        }
         Err(WordsFault::Usage) => over_nothing(&rt, words),
         Err(WordsFault::Memory) => NO_MEMORY,
-    })
+    };
+    ExitCode::from(status)
 }

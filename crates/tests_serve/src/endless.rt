@@ -3,10 +3,8 @@ ghost use Rattle.std.specs.Prelude.{◌≡◌, ◌≤◌, None};
 ghost use Rattle.fsl_order.specs.Causes.{Rose};
 ghost use Rattle.fsl_outside.specs.Memory.{next};
 
-use crate::runs::{NEW_FILE, disk_of, owned};
-use fossil::{Ran, run};
-use fsl_disk::FileDisk;
-use fsl_outside::{Dial, Failed, Link, MemorySink, MemorySource, Source};
+use crate::runs::{NEW_FILE, disk_of, end};
+use fsl_outside::{Dial, Failed, Link, MemorySource, Source};
 use std::alloc::{AllocError, Global};
 use std::marker::Model;
 use std::test::Fail;
@@ -93,37 +91,18 @@ impl Dial for EndlessDial {
     }
 }
 
-/// The status of a pull over the dial, and what it prints.
-fn pulled(alloc: Global, dial: &mut EndlessDial) -> Result<(u8, Vec<u8>), AllocError> {
-    let words = owned(alloc, &PULL)?;
-    let mut source = MemorySource::new(Vec::new(alloc), Vec::new(alloc));
-    let mut sink = MemorySink::new(alloc, Vec::new(alloc));
+/// The status of a pull over such a dial, whether it prints that there are too many rounds, and how many connections it began.
+fn pulled(alloc: Global) -> Result<(u8, bool, u64), AllocError> {
+    let mut dial = EndlessDial::new(alloc);
     let disk = disk_of(alloc, NEW_FILE)?;
-    let Ran {
-        status,
-        repo: _,
-        peer: _,
-    } = run(
-        alloc,
-        words.as_slice(),
-        &mut source,
-        &mut sink,
-        disk,
-        FileDisk::none(),
-        dial,
-    );
-    Ok((status, sink.taken().to_vec(alloc)?))
+    let (status, printed) = end(alloc, &PULL, b"", disk, &mut dial)?;
+    let is_told = printed.as_slice() == b"too many rounds\n".as_slice();
+    Ok((status, is_told, dial.connections))
 }
 
 // It is given up behind 100,000 rounds, each with a connection of its own.
 #[test]
 fn pull_is_given_up(rt: HostRuntime) -> Result<(), Fail> {
-    let mut dial = EndlessDial::new(rt.alloc());
-    let (status, printed) = pulled(rt.alloc(), &mut dial)?;
-    assert_eq!(rt;
-        (status, printed.as_slice()),
-        (11, b"too many rounds\n".as_slice())
-    );
-    assert_eq!(rt; dial.connections, 100_000);
+    assert_eq!(rt; pulled(rt.alloc())?, (11, true, 100_000));
     Ok(())
 }

@@ -1,7 +1,7 @@
 //! Runs whose disk fails, what a crash leaves then, and a message too long for a transcript.
 use fossil::{Ran, one_outcome, run, some_outcome};
 use fsl_disk::{Disk, FileDisk, FuseDisk, MemoryDisk};
-use fsl_outside::{MemoryDial, MemorySink, MemorySource};
+use fsl_outside::{Dial, MemoryDial, MemorySink, MemorySource};
 use fsl_text::Memory;
 use std::alloc::{AllocError, Global};
 use std::test::Fail;
@@ -38,17 +38,22 @@ fn source_of(alloc: Global, bytes: &[u8]) -> Result<MemorySource, AllocError> {
     Ok(MemorySource::new(bytes.to_vec(alloc)?, Vec::new(alloc)))
 }
 
-/// Runs over a disk. There is no peer.
-fn ran<D: Disk + Drop>(
+/// A dial that begins no connection.
+fn nobody(alloc: Global) -> MemoryDial {
+    MemoryDial::new(alloc, Vec::new(alloc), Vec::new(alloc))
+}
+
+/// Runs over a disk and a dial. There is no peer.
+fn ran<D: Disk + Drop, N: Dial>(
     alloc: Global,
     words: &[&str],
     input: &[u8],
     sink: &mut MemorySink,
     repo: D,
+    dial: &mut N,
 ) -> Result<Ran<D, FileDisk>, AllocError> {
     let words = owned(alloc, words)?;
     let mut source = source_of(alloc, input)?;
-    let mut dial = MemoryDial::new(alloc, Vec::new(alloc), Vec::new(alloc));
     Ok(run(
         alloc,
         words.as_slice(),
@@ -56,29 +61,27 @@ fn ran<D: Disk + Drop>(
         sink,
         repo,
         FileDisk::none(),
-        &mut dial,
+        dial,
     ))
 }
 
 /// The status, and what was printed.
-fn end<D: Disk + Drop>(
+pub(crate) fn end<D: Disk + Drop, N: Dial>(
     alloc: Global,
     words: &[&str],
     input: &[u8],
     repo: D,
+    dial: &mut N,
 ) -> Result<(u8, Vec<u8>), AllocError> {
     let mut sink = MemorySink::new(alloc, Vec::new(alloc));
-    let Ran {
-        status,
-        repo: _,
-        peer: _,
-    } = ran(alloc, words, input, &mut sink, repo)?;
+    let status = ran(alloc, words, input, &mut sink, repo, dial)?.status;
     Ok((status, sink.taken().to_vec(alloc)?))
 }
 
 /// Whether `cat` finds `abc`, or no such artifact, in one of the files that a crash leaves.
 fn stands_or_not(alloc: Global, disk: &MemoryDisk, pick: u64) -> Result<bool, Memory> {
-    let (status, printed) = end(alloc, &CAT, b"", disk.crash(alloc, pick)?)?;
+    let left = disk.crash(alloc, pick)?;
+    let (status, printed) = end(alloc, &CAT, b"", left, &mut nobody(alloc))?;
     Ok(match status {
         0 => printed.as_slice() == b"abc".as_slice(),
         3 => printed.as_slice() == b"refused: no artifact a999\n".as_slice(),
@@ -105,7 +108,7 @@ fn put_after(alloc: Global, calls: u64) -> Result<(u8, u64), AllocError> {
         status,
         repo,
         peer: _,
-    } = ran(alloc, &PUT, ABC, &mut sink, disk)?;
+    } = ran(alloc, &PUT, ABC, &mut sink, disk, &mut nobody(alloc))?;
     Ok((status, count_others(alloc, &repo.inner())))
 }
 
@@ -133,12 +136,18 @@ fn large_message(alloc: Global) -> Result<Vec<u8>, AllocError> {
     Ok(message)
 }
 
+/// What an `ingest` of it ends with: the status, and whether this was printed.
+fn ingest_large(alloc: Global, wanted: &[u8]) -> Result<(u8, bool), AllocError> {
+    let message = large_message(alloc)?;
+    let none = FileDisk::none();
+    let (status, printed) = end(alloc, &INGEST, &message, none, &mut nobody(alloc))?;
+    Ok((status, printed.as_slice() == wanted))
+}
+
 // A content of a byte more than 2^24 is refused, before its name is looked at.
 #[test]
 fn ingest_refuses_a_file_that_is_too_large(rt: HostRuntime) -> Result<(), Fail> {
-    let message = large_message(rt.alloc())?;
-    let (status, printed) = end(rt.alloc(), &INGEST, message.as_slice(), FileDisk::none())?;
     let want = b"refused: too large a9993e364706816aba3e25717850c26c9cd0d89d 16777217\n";
-    assert_eq!(rt; (status, printed.as_slice()), (3, want.as_slice()));
+    assert_eq!(rt; ingest_large(rt.alloc(), want)?, (3, true));
     Ok(())
 }

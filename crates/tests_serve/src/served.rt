@@ -1,6 +1,7 @@
 // A served repository. One session pushes an artifact and asks for it, the other one pulls; each stays at its gate until the other one is inside.
 use super::doors::CountingDoor;
 use super::gates::{Signals, TurnGate};
+use super::runs::owned;
 use super::staffing::is_for_two;
 use fossil::{Served, State, serve};
 use fsl_blobs::BlobState;
@@ -33,15 +34,6 @@ const PUSHED: &[u8] =
 
 const PULLED: &[u8] = b"\r\n\r\nigot a9993e364706816aba3e25717850c26c9cd0d89d\n";
 
-/// Words as the program has them.
-fn owned(alloc: Global, words: &[&str]) -> Result<Vec<String>, AllocError> {
-    let mut owned = Vec::new(alloc);
-    for word in words {
-        owned.push(word.to_string(alloc)?)?;
-    }
-    Ok(owned)
-}
-
 /// A crew whose one connection brings this request.
 fn crew(
     alloc: Global,
@@ -49,15 +41,14 @@ fn crew(
     signals: &Arc<Signals, Global>,
     is_first: bool,
 ) -> Result<TurnCrew, AllocError> {
+    let signals = Arc::try_clone(signals)?;
+    let request = request.to_vec(alloc)?;
     let mut connections = Vec::new(alloc);
-    connections.push(request.to_vec(alloc)?)?;
+    connections.push(request)?;
     let door = MemoryDoor::new(alloc, connections, Vec::new(alloc), Vec::new(alloc));
     Ok(Crew {
         door: CountingDoor { door, left: 0 },
-        gate: TurnGate {
-            signals: Arc::try_clone(signals)?,
-            is_first,
-        },
+        gate: TurnGate { signals, is_first },
     })
 }
 

@@ -1,9 +1,10 @@
 //! Steps that serve a repository.
-ghost use Rattle.std.specs.Prelude.{◌≡◌, IfOk, vec_len};
+ghost use Rattle.std.specs.Prelude.{◌≡◌, IfOk, map, string_bytes, vec_len};
+ghost use Rattle.fossil.specs.Served.{AreStaffed};
 
 use crate::compare::{compare, compare_status};
 use crate::faults::{Device, Faults};
-use crate::files::Files;
+use crate::files::{Files, copies};
 use crate::line::Part;
 use crate::staffing::is_for_one;
 use crate::stop::Trouble;
@@ -82,88 +83,142 @@ impl Serve {
 
     /// Serves over the files, and compares what the connections took, what was printed, and the status.
     pub fn end<R: Threads + Wait + Sync>(
+        self,
+        rt: &R,
+        files: &mut Files,
+        wanted: u64,
+    ) -> Result<(), Trouble> {
+        let ended = self.end_printing(rt, files, wanted);
+        drop(self);
+        ended
+    }
+
+    /// The same, with an output of its own, which is let go at the one end.
+    fn end_printing<R: Threads + Wait + Sync>(
         &self,
         rt: &R,
         files: &mut Files,
         wanted: u64,
     ) -> Result<(), Trouble> {
-        let alloc = self.alloc;
-        let mut out = MemorySink::new(alloc, self.faults.output.to_vec(alloc)?);
-        let (status, crews) = self.start(rt, files, &mut out)?;
-        if let Some(crew) = crews.first() {
-            self.answers.compare(&crew.door)?;
-        }
-        compare(alloc, self.printed.bytes(), out.taken())?;
-        compare_status(alloc, wanted, status)
+        let fails = self.faults.output.to_vec(self.alloc)?;
+        let mut out = MemorySink::new(self.alloc, fails);
+        let ended = self.end_into(rt, files, &mut out, wanted);
+        drop(out);
+        ended
     }
 
-    /// Serves over the file that the first word names, to the users of the one that the fourth names.
+    /// The same, with this output.
+    fn end_into<R: Threads + Wait + Sync>(
+        &self,
+        rt: &R,
+        files: &mut Files,
+        out: &mut MemorySink,
+        wanted: u64,
+    ) -> Result<(), Trouble> {
+        let status = self.start(rt, files, out)?;
+        compare(self.alloc, self.printed.bytes(), out.taken())?;
+        compare_status(self.alloc, wanted, status)
+    }
+
+    /// Serves over the file that the first word names, to the users of the one that the fourth names, compares what the connections took,
+    /// and gives the status.
     fn start<R: Threads + Wait + Sync>(
         &self,
         rt: &R,
         files: &mut Files,
         out: &mut MemorySink,
-    ) -> Result<(u8, Vec<Crew<MemoryDoor, NoGate>>), Trouble> {
-        let alloc = self.alloc;
-        let words = self.words.as_slice();
-        let name = match words.first() {
-            Some(name) => name.clone()?,
-            None => String::new(alloc),
-        };
-        let mut users = self.users(files)?;
-        let crews = self.crews()?;
-        if !is_for_one(alloc, words)? {
+    ) -> Result<u8, Trouble> {
+        if !is_for_one(self.alloc, self.words.as_slice())? {
             return Err(Trouble::Unknown);
         }
-        let (disk, is_there) = files.open(name.as_str(), false, self.faults.disk);
+        let mut users = self.users(files)?;
+        let status = self.start_for(rt, files, &mut users, out);
+        drop(users);
+        status
+    }
+
+    /// The same, to these users, where the words ask for one worker at most. What the serve gives back is put away before the one end.
+    fn start_for<R: Threads + Wait + Sync>(
+        &self,
+        rt: &R,
+        files: &mut Files,
+        users: &mut MemorySource,
+        out: &mut MemorySink,
+    ) -> Result<u8, Trouble>
+        requires { AreStaffed (map string_bytes self.now.words.items) 1 }
+    {
+        let crews = self.crews()?;
+        let words = self.words.as_slice();
+        let (disk, is_there) = files.open(self.file(), false, self.faults.disk);
         let Served {
             status,
             state,
             crews,
-        } = serve(rt, alloc, words, &mut users, disk, crews, out);
-        let disk = state.into_disk().inner();
-        if is_there {
-            files.put(name, disk)?;
+        } = serve(rt, self.alloc, words, users, disk, crews, out);
+        let kept = files.put_back(self.file(), state.into_disk(), is_there);
+        let compared = self.compare_answers(&crews);
+        drop(crews);
+        compared?;
+        kept?;
+        Ok(status)
+    }
+
+    /// The name of the repository's file, which is the first word.
+    fn file(&self) -> &str {
+        match self.words.first() {
+            Some(name) => name.as_str(),
+            None => "",
         }
-        Ok((status, crews))
+    }
+
+    /// Compares what the connections took.
+    fn compare_answers(&self, crews: &[Crew<MemoryDoor, NoGate>]) -> Result<(), Trouble> {
+        match crews.first() {
+            Some(crew) => self.answers.compare(&crew.door),
+            None => Ok(()),
+        }
     }
 
     /// The users file. The first read fails of one that isn't there.
     fn users(&self, files: &Files) -> Result<MemorySource, AllocError> {
-        let alloc = self.alloc;
         let name = match self.words.get(3) {
             Some(name) => name.as_str(),
             None => "",
         };
-        Ok(match files.bytes(name) {
-            Some(bytes) => {
-                MemorySource::new(bytes.to_vec(alloc)?, self.faults.users.to_vec(alloc)?)
-            }
-            None => MemorySource::new(Vec::new(alloc), vec![in alloc; 1u64]?),
-        })
+        match files.bytes(name) {
+            Some(bytes) => self.users_of(bytes),
+            None => self.no_users(),
+        }
+    }
+
+    /// A users file of these bytes.
+    fn users_of(&self, bytes: &[u8]) -> Result<MemorySource, AllocError> {
+        let bytes = bytes.to_vec(self.alloc)?;
+        let fails = self.faults.users.to_vec(self.alloc)?;
+        Ok(MemorySource::new(bytes, fails))
+    }
+
+    /// A users file that isn't there.
+    fn no_users(&self) -> Result<MemorySource, AllocError> {
+        let fails = vec![in self.alloc; 1u64]?;
+        Ok(MemorySource::new(Vec::new(self.alloc), fails))
     }
 
     /// One crew, whose door has the connections.
     fn crews(&self) -> Result<Vec<Crew<MemoryDoor, NoGate>>, AllocError>
         ensures { IfOk result (λ crews. vec_len crews ≡ 1) }
     {
+        let door = self.door()?;
         let mut crews = Vec::new(self.alloc);
-        crews.push(Crew {
-            door: self.door()?,
-            gate: NoGate,
-        })?;
+        crews.push(Crew { door, gate: NoGate })?;
         Ok(crews)
     }
 
     /// The door.
     fn door(&self) -> Result<MemoryDoor, AllocError> {
-        let alloc = self.alloc;
-        let mut connections = Vec::new(alloc);
-        for bytes in &self.connections {
-            connections.push(bytes.bytes().to_vec(alloc)?)?;
-        }
-        let link = self.faults.link.to_vec(alloc)?;
-        let accept = self.faults.accept.to_vec(alloc)?;
-        Ok(MemoryDoor::new(alloc, connections, link, accept))
+        let link = self.faults.link.to_vec(self.alloc)?;
+        let accept = self.faults.accept.to_vec(self.alloc)?;
+        let connections = copies(self.alloc, &self.connections)?;
+        Ok(MemoryDoor::new(self.alloc, connections, link, accept))
     }
 }
