@@ -1,5 +1,5 @@
 -- Facts on the answer to a connection.
-use Rattle.std.proofs.Common.{◌≡◌, ℕ, ◌<◌, Bool, true, false, List, [], ◌∷◌, ◌++◌, length, drop, Option, refl, sym, ap, subst, ◌∙◌, arith, append_assoc, append-nil, inl, inr}
+use Rattle.std.proofs.Common.{◌≡◌, ℕ, ◌<◌, ◌≤◌, Bool, true, false, List, [], ◌∷◌, ◌++◌, length, drop, Option, refl, sym, ap, subst, ◌∙◌, arith, append_assoc, append-nil, inl, inr}
 use Rattle.std.specs.Prelude.{◌⊎◌, ◌≢◌, nat_lt, if◌then◌else◌}
 use Rattle.std.proofs.lemmas.Bool.Decides.{nat_tests}
 use Rattle.httparse.specs.Grammar.{RequestHead}
@@ -10,11 +10,14 @@ use Rattle.fsl_http.specs.declared.request_head.Verdict.TheVariants.{Refuse, Len
 use Rattle.fsl_http.specs.declared.head.Front.{Front}
 use Rattle.fsl_http.specs.declared.head.Front.TheVariants as front
 use Rattle.fsl_http.specs.declared.request.Asked.TheVariants.{Closed, Refused, Body}
-use Rattle.fsl_http.specs.Heads.{IsHeadNeeded, IsHeadRead, ReadsHead}
+use Rattle.fsl_http.specs.Limits.{most_body}
+use Rattle.fsl_http.specs.Heads.{IsHeadNeeded, IsHeadRead, ReadsHead, HasWhole}
 use Rattle.fsl_http.specs.Bodies.{IsBodyNeeded, IsBody, ReadsBody}
-use Rattle.fsl_http.specs.Requests.{IsHead, HasNoHead, IsUnfinished, IsOpen, IsShort, IsWholeHead, judge, Answers}
-use Rattle.fsl_http.specs.Asking.{IsNeeded, IsAnswered, IsAsked, ended_answer, body_answer}
-use Rattle.fsl_http.proofs.Steps.{Between-twice, Between-map, read_twice, some_front}
+use Rattle.fsl_http.specs.Requests.{IsHead, HasNoHead, IsUnfinished, IsOpen, IsShort, IsWholeHead, IsListed, judge, Answers}
+use Rattle.fsl_http.specs.Asking.{IsNeeded, IsAnswered, IsAsked, IsListedAnswer, ended_answer, body_answer}
+use Rattle.fsl_http.specs.Replies.{IsStatus}
+use Rattle.fsl_http.specs.Reading.{SendsNothing}
+use Rattle.fsl_http.proofs.Steps.{Between-twice, Between-map, read_twice, sends_nothing_after, some_front}
 
 head_append : (bytes more rest : List ℕ) (h : RequestHead) → IsHead bytes h rest → IsHead (bytes ++ more) h (rest ++ more)
 head_append bytes more rest h is = record { reads = ReadsRequest-append bytes h rest more is.reads; fields = is.fields; size = is.size }
@@ -52,6 +55,33 @@ body_needed bytes (m ∷ more) len size x asks needed is body = record {
 -- what was read up to a head
 pub head_moves : (a b : Option Connection) (bytes : List ℕ) (h : Front Verdict) → ReadsHead IsWholeHead HasNoHead IsUnfinished a b bytes h → Between a b (λ c d. IsRead c d bytes)
 head_moves a b bytes h r = Between-map {P = λ u v. IsHeadRead IsWholeHead HasNoHead IsUnfinished u v bytes h} {Q = λ u v. IsRead u v bytes} a b (λ u v i. i.moved) r
+
+-- what came behind a head that was read sent nothing
+pub head_sends_nothing : (a b c : Option Connection) (bytes : List ℕ) (h : Front Verdict) → ReadsHead IsWholeHead HasNoHead IsUnfinished a b bytes h → SendsNothing b c → SendsNothing a c
+head_sends_nothing a b c bytes h r none = sends_nothing_after a b c bytes (head_moves a b bytes h r) none
+
+-- ---- an answer that is in the list
+
+-- the status of a head that is refused
+pub listed_status : (bytes : List ℕ) (len status : ℕ) (x : Verdict) (h : Front Verdict) → h ≡ front.Whole len x → x ≡ Refuse status → HasWhole IsWholeHead bytes h → IsStatus status
+listed_status bytes len status x h whole refuses is =
+    subst (λ (v : Verdict). IsListed v) refuses (subst (λ (k : Front Verdict). HasWhole IsWholeHead bytes k) whole is).0.listed
+
+-- the length that a head asks for
+pub listed_length : (bytes : List ℕ) (len size : ℕ) (x : Verdict) (h : Front Verdict) → h ≡ front.Whole len x → x ≡ Length size → HasWhole IsWholeHead bytes h → size ≤ most_body
+listed_length bytes len size x h whole asks is =
+    subst (λ (v : Verdict). IsListed v) asks (subst (λ (k : Front Verdict). HasWhole IsWholeHead bytes k) whole is).0.listed
+
+pub listed_ended : (bytes : List ℕ) → IsListedAnswer (ended_answer bytes)
+listed_ended [] = tt
+listed_ended (x ∷ xs) = refl
+
+pub listed_body : (text : List ℕ) (size : ℕ) → length text ≤ size → size ≤ most_body → IsListedAnswer (body_answer text size)
+listed_body text size fits most = by_test (nat_lt (length text) size)
+  where
+    by_test : (t : Bool) → IsListedAnswer (if t then Refused 400 else Body text)
+    by_test true = refl
+    by_test false = omega (arith, fits, most)
 
 -- ---- a head that is refused
 

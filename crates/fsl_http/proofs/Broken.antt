@@ -1,7 +1,7 @@
 -- Facts on reads that failed, or whose bytes found no room.
-use Rattle.std.proofs.Common.{◌≡◌, ℕ, ◌<◌, List, [], ◌++◌, length, take, Option, Result, Ok, Err, sym, ap, subst, ◌∙◌, append_assoc, append-nil}
+use Rattle.std.proofs.Common.{◌≡◌, ℕ, ◌<◌, List, [], ◌++◌, length, take, Option, Some, None, refl, sym, ap, subst, ◌∙◌, append_assoc, append-nil}
 use Rattle.fsl_outside.specs.Memory.{next}
-use Rattle.fsl_outside.specs.Connections.{Connection, Between, IsRead, IsFailed, LinkReads}
+use Rattle.fsl_outside.specs.Connections.{Connection, Between, IsRead, IsFailed}
 use Rattle.fsl_http.specs.declared.request.HttpFault.{HttpFault}
 use Rattle.fsl_http.specs.declared.request.HttpFault.TheVariants as http
 use Rattle.fsl_http.specs.declared.client.ExchangeFault.{ExchangeFault}
@@ -11,7 +11,7 @@ use Rattle.fsl_http.specs.Heads.{IsHeadRead, ReadsHead}
 use Rattle.fsl_http.specs.Reading.{IsBroken, Breaks}
 use Rattle.fsl_http.specs.Responses.{HasNoReply, IsUnfinishedReply}
 use Rattle.fsl_http.specs.Exchanges.{IsWholeReply, IsFaultOf, BreaksReply}
-use Rattle.fsl_http.proofs.Steps.{Between-twice, Between-map}
+use Rattle.fsl_http.proofs.Steps.{Between-twice, Between-map, Brings}
 
 broken_by : (c d : Connection) → IsFailed c d → IsBroken c d (next c.failed)
 broken_by c d f = record {
@@ -23,16 +23,14 @@ broken_by c d f = record {
 }
 
 -- a read that failed
-pub broken_read : {E : Type 0} (a b : Option Connection) (r : Result ℕ E) (e : E) (into : List ℕ) → r ≡ Err e → LinkReads a b r into → Breaks a b http.Link
-broken_read a b r e into is moves =
-    Between-map {P = λ c d. IsFailed c d} {Q = λ c d. IsBroken c d (next c.failed)} a b broken_by (subst (λ x. LinkReads a b x into) is moves)
+pub broken_read : (a b : Option Connection) → Between a b (λ c d. IsFailed c d) → Breaks a b http.Link
+broken_read a b moves = Between-map {P = λ c d. IsFailed c d} {Q = λ c d. IsBroken c d (next c.failed)} a b broken_by moves
 
 -- a read whose bytes found no room
-pub kept_read : {E : Type 0} (a b : Option Connection) (r : Result ℕ E) (n : ℕ) (into : List ℕ) → r ≡ Ok n → LinkReads a b r into → Breaks a b http.Memory
-kept_read a b r n into is moves =
+pub kept_read : (a b : Option Connection) (n : ℕ) (into : List ℕ) → Brings a b n into → Breaks a b http.Memory
+kept_read a b n into moves =
     Between-map {P = λ c d. IsRead c d (take n into) × (n ≡ 0 → 0 < length into → d.left ≡ [])} {Q = λ c d. IsBroken c d c.failed} a b
-    (λ c d m. record { bytes = take n into; left = m.0.left; read = m.0.read; taken = m.0.taken; count = m.0.failed })
-    (subst (λ x. LinkReads a b x into) is moves)
+    (λ c d m. record { bytes = take n into; left = m.0.left; read = m.0.read; taken = m.0.taken; count = m.0.failed }) moves
 
 -- a fault after some bytes
 pub breaks_after : (a b c : Option Connection) (x : List ℕ) (e : HttpFault) → Between a b (λ u v. IsRead u v x) → Breaks b c e → Breaks a c e
@@ -54,6 +52,11 @@ breaks_after a b c x http.Memory m k =
       taken = j.taken ∙ i.taken;
       count = j.count ∙ i.failed;
     }) m k
+
+-- want of memory before any read
+pub broken_at_once : (a : Option Connection) → Breaks a a http.Memory
+broken_at_once None = tt
+broken_at_once (Some c) = record { bytes = []; left = refl; read = sym (append-nil c.read); taken = refl; count = refl }
 
 -- the fault of a reading as that of an exchange
 pub broken_reply : (a b : Option Connection) (h : HttpFault) (e : ExchangeFault) → IsFaultOf h e → Breaks a b h → BreaksReply a b e

@@ -9,3 +9,4 @@ pub mod OneReply
 pub mod Replying
 pub mod Sent
 pub mod Steps
+pub mod Handed

@@ -1,8 +1,9 @@
 -- Facts on connections, step after step.
-use Rattle.std.proofs.Common.{◌≡◌, ℕ, ◌<◌, ◌≤◌, List, [], ◌∷◌, ◌++◌, length, take, drop, Option, Some, None, refl, sym, ap, ◌∙◌, arith, append_assoc, append-nil}
-use Rattle.std.specs.Prelude.{◌≢◌}
-use Rattle.std.proofs.lemmas.List.{take-append-drop, take_at, take-append-le}
-use Rattle.fsl_outside.specs.Connections.{Connection, Between, IsRead}
+use Rattle.std.proofs.Common.{◌≡◌, ℕ, ◌<◌, ◌≤◌, Bool, true, List, [], ◌∷◌, ◌++◌, length, take, drop, min, Option, Some, None, refl, sym, ap, ◌∙◌, arith, append_assoc, append-nil}
+use Rattle.std.specs.Prelude.{◌≢◌, if◌then◌else◌}
+use Rattle.std.proofs.lemmas.List.{take-append-drop, take_at, take-append-le, length-take-le}
+use Rattle.fsl_outside.specs.Connections.{Connection, Between, IsRead, IsFailed}
+use Rattle.fsl_http.specs.Limits.{most_piece}
 use Rattle.fsl_http.specs.Reading.{SendsNothing, IsPiece}
 
 pub reads_nothing : (a : Option Connection) → Between a a (λ c d. IsRead c d [])
@@ -33,6 +34,32 @@ Between-map None None f p = tt
 Between-map None (Some y) f p = absurd p
 Between-map (Some x) None f p = absurd p
 Between-map (Some x) (Some y) f p = f x y p
+
+-- a read that brought n bytes to that place
+abbrev pub Brings : Option Connection → Option Connection → ℕ → List ℕ → Type 0
+Brings a b n into = Between a b (λ c d. IsRead c d (take n into) × (n ≡ 0 → 0 < length into → d.left ≡ []))
+
+-- what it brought joined the text
+pub piece_joined : (a b : Option Connection) (into rest text now : List ℕ) (stored : Bool) (room most n : ℕ) → 0 < room → most ≡ min room most_piece → length into ≡ most → n ≤ length into
+    → stored ≡ true → now ≡ (if stored then text ++ take n (into ++ rest) else text) → Brings a b n into → IsPiece a b text now room n
+piece_joined a b into rest text now stored room most n some is_most size fits is_stored joined moves = record {
+  bytes = take n into;
+  joined = joined ∙ ap (λ (t : Bool). if t then text ++ take n (into ++ rest) else text) is_stored
+      ∙ ap (λ (t : List ℕ). text ++ t) (take-append-le n into rest fits);
+  count = length-take-le n into fits;
+  fits = omega (arith, is_most, size, fits);
+  few = omega (arith, is_most, size, fits);
+  moved =
+      Between-map {P = λ c d. IsRead c d (take n into) × (n ≡ 0 → 0 < length into → d.left ≡ [])} {Q = λ c d. IsRead c d (take n into) × (n ≡ 0 → d.left ≡ [])} a b
+      (λ c d m. (m.0, λ none. m.1 none (omega (arith, some, is_most, size)))) moves;
+}
+
+pub piece_sends_nothing : (a b : Option Connection) (n : ℕ) (into : List ℕ) → Brings a b n into → SendsNothing a b
+piece_sends_nothing a b n into moves =
+    Between-map {P = λ c d. IsRead c d (take n into) × (n ≡ 0 → 0 < length into → d.left ≡ [])} {Q = λ c d. d.taken ≡ c.taken} a b (λ c d m. m.0.taken) moves
+
+pub failed_sends_nothing : (a b : Option Connection) → Between a b (λ c d. IsFailed c d) → SendsNothing a b
+failed_sends_nothing a b moves = Between-map {P = λ c d. IsFailed c d} {Q = λ c d. d.taken ≡ c.taken} a b (λ c d f. ap (λ (k : Connection). k.taken) f) moves
 
 -- a piece was read behind those bytes
 pub read_piece_more : (a b c : Option Connection) (x s t : List ℕ) (room n : ℕ) → Between a b (λ u v. IsRead u v x) → (p : IsPiece b c s t room n)

@@ -5,26 +5,10 @@ use Rattle.fsl_http.specs.Limits.{most_head}
 use Rattle.fsl_http.specs.Heads.{Never, IsHeadReadTo}
 use Rattle.fsl_http.specs.Reading.{FailsBy}
 use Rattle.fsl_http.proofs.Broken.{breaks_after}
+use Rattle.fsl_http.proofs.Handed.{no_answer, no_success, same_fault, counted_fault}
 use Rattle.fsl_http.proofs.Headed.{head_start, head_whole, head_never, head_more, head_ended}
 use Rattle.fsl_http.proofs.Steps.{sends_nothing_after}
 use Rattle.fsl_http.proofs.head.read_head.Goals as goal
-
--- what a fault that is handed on leaves of each clause
-no_answer : {X : Type 0} (r : Result X HttpFault) (Q : HttpFault → Type 0) → IsErrAnd r Q → (P : X → Type 0) → IfOk r P
-no_answer (Ok x) Q h P = absurd h
-no_answer (Err e) Q h P = tt
-
-no_success : {X : Type 0} (r : Result X HttpFault) (Q : HttpFault → Type 0) → IsErrAnd r Q → (P : Type 0) → OnOk r P
-no_success (Ok x) Q h P = absurd h
-no_success (Err e) Q h P = tt
-
-same_fault : {X : Type 0} (r : Result X HttpFault) (fault : HttpFault) → IsErrAnd r (λ e. e ≡ fault) → (P : HttpFault → Type 0) → P fault → IfErr r P
-same_fault (Ok x) fault h P p = absurd h
-same_fault (Err e) fault h P p = subst P (sym h) p
-
--- the count was still the first when it failed
-counted_fault : {X : Type 0} (r : Result X HttpFault) (fault : HttpFault) → IsErrAnd r (λ e. e ≡ fault) → (first before now : ℕ) → before ≡ first → FailsBy before now fault → IfErr r (FailsBy first now)
-counted_fault r fault h first before now same fails = same_fault r fault h (FailsBy first now) (subst (λ n. FailsBy n now fault) same fails)
 
 pub loop-bytes-init : goal.loop-bytes-init
 loop-bytes-init g c = record {
