@@ -1,5 +1,5 @@
 -- Facts on reads that failed, or whose bytes found no room.
-use Rattle.std.proofs.Common.{◌≡◌, ℕ, ◌<◌, List, [], ◌++◌, length, take, Option, Some, None, refl, sym, ap, subst, ◌∙◌, append_assoc, append-nil}
+use Rattle.std.proofs.Common.{◌≡◌, ℕ, ◌<◌, List, [], ◌++◌, length, take, Option, Some, None, Err, refl, sym, ap, subst, ◌∙◌, append_assoc, append-nil}
 use Rattle.fsl_outside.specs.Memory.{next}
 use Rattle.fsl_outside.specs.Connections.{Connection, Between, IsRead, IsFailed}
 use Rattle.fsl_http.specs.declared.request.HttpFault.{HttpFault}
@@ -8,9 +8,9 @@ use Rattle.fsl_http.specs.declared.client.ExchangeFault.{ExchangeFault}
 use Rattle.fsl_http.specs.declared.reply_head.ReplyHead.{ReplyHead}
 use Rattle.fsl_http.specs.declared.head.Front.{Front}
 use Rattle.fsl_http.specs.Heads.{IsHeadRead, ReadsHead}
-use Rattle.fsl_http.specs.Reading.{IsBroken, Breaks}
+use Rattle.fsl_http.specs.Reading.{IsBroken, Breaks, FailsBy}
 use Rattle.fsl_http.specs.Responses.{HasNoReply, IsUnfinishedReply}
-use Rattle.fsl_http.specs.Exchanges.{IsWholeReply, IsFaultOf, BreaksReply}
+use Rattle.fsl_http.specs.Exchanges.{IsWholeReply, IsFaultOf, ReadsReply, BreaksReply, FailsBy as FailsReply}
 use Rattle.fsl_http.proofs.Steps.{Between-twice, Between-map, Brings}
 
 broken_by : (c d : Connection) → IsFailed c d → IsBroken c d (next c.failed)
@@ -62,6 +62,16 @@ broken_at_once (Some c) = record { bytes = []; left = refl; read = sym (append-n
 pub broken_reply : (a b : Option Connection) (h : HttpFault) (e : ExchangeFault) → IsFaultOf h e → Breaks a b h → BreaksReply a b e
 broken_reply a b http.Link e is k = subst (λ (x : ExchangeFault). BreaksReply a b x) (sym is) k
 broken_reply a b http.Memory e is k = subst (λ (x : ExchangeFault). BreaksReply a b x) (sym is) k
+
+-- such a fault tells no reply
+pub fault_tells_nothing : (a b : Option Connection) (h : HttpFault) (e : ExchangeFault) → IsFaultOf h e → ReadsReply a b (Err e)
+fault_tells_nothing a b http.Link e is = subst (λ (x : ExchangeFault). ReadsReply a b (Err x)) (sym is) tt
+fault_tells_nothing a b http.Memory e is = subst (λ (x : ExchangeFault). ReadsReply a b (Err x)) (sym is) tt
+
+-- and has the cause that it had
+pub fault_counted : (before now : ℕ) (h : HttpFault) (e : ExchangeFault) → IsFaultOf h e → FailsBy before now h → FailsReply before now e
+fault_counted before now http.Link e is k = subst (λ (x : ExchangeFault). FailsReply before now x) (sym is) k
+fault_counted before now http.Memory e is k = subst (λ (x : ExchangeFault). FailsReply before now x) (sym is) k
 
 -- a fault in the body of a reply, after its head
 pub broken_body : (a b c : Option Connection) (bytes : List ℕ) (f : Front ReplyHead) (h : HttpFault) (e : ExchangeFault)

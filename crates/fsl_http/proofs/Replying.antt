@@ -1,6 +1,6 @@
 -- Facts on the reply that was read.
 use Rattle.std.proofs.Common.{◌≡◌, ℕ, ◌<◌, ◌≤◌, Bool, true, false, List, [], ◌∷◌, ◌++◌, length, drop, map, Option, Ok, Err, refl, sym, ap, subst, ◌∙◌, arith, inl, inr, append_assoc, append-nil}
-use Rattle.std.specs.Prelude.{◌≢◌, ◌⊎◌, nat_lt, if◌then◌else◌}
+use Rattle.std.specs.Prelude.{◌≢◌, ◌⊎◌, nat_lt, if◌then◌else◌, IfErr, OnOk}
 use Rattle.std.proofs.lemmas.Bool.Decides.{nat_tests}
 use Rattle.httparse.specs.Grammar.{ResponseHead, ReadsResponse, print_blank, print_version}
 use Rattle.httparse.specs.Spans.{name_and_value}
@@ -10,12 +10,14 @@ use Rattle.fsl_http.specs.declared.limits.TheConstants.{BODY_LIMIT}
 use Rattle.fsl_http.specs.declared.head.Front.{Front}
 use Rattle.fsl_http.specs.declared.head.Front.TheVariants as front
 use Rattle.fsl_http.specs.declared.reply_head.ReplyHead.{ReplyHead}
+use Rattle.fsl_http.specs.declared.client.ExchangeFault.{ExchangeFault}
 use Rattle.fsl_http.specs.declared.client.ExchangeFault.TheVariants as fault
 use Rattle.fsl_http.specs.Heads.{Never, IsHeadNeeded, IsHeadRead, ReadsHead}
 use Rattle.fsl_http.specs.Bodies.{IsBodyNeeded, IsBody, ReadsBody}
 use Rattle.fsl_http.specs.Responses.{SaysLength, IsReply, HasNoReply, IsUnfinishedReply, IsShortReply, Exchanged, no_head, status, long, short, body, Gives, IsReplyNeeded}
 use Rattle.fsl_http.specs.Exchanges.{IsWholeReply, IsReplied, ReadsReply, body_result}
-use Rattle.fsl_http.proofs.Steps.{Between-twice, Between-map, read_twice}
+use Rattle.fsl_http.specs.Reading.{SendsNothing}
+use Rattle.fsl_http.proofs.Steps.{Between-twice, Between-map, read_twice, sends_nothing_after}
 
 reply_append : (bytes more rest : List ℕ) (h : ResponseHead) (size : ℕ) → IsReply bytes h rest size → IsReply (bytes ++ more) h (rest ++ more) size
 reply_append bytes more rest h size is = record { reads = ReadsResponse-append bytes h rest more is.reads; fields = is.fields; long = is.long; says = is.says }
@@ -158,3 +160,23 @@ reply_of a b c bytes text len head good fits h r = by_test (nat_lt (length text)
         Between-twice {P = λ u v. IsHeadRead IsWholeReply HasNoReply IsUnfinishedReply u v bytes (front.Whole len head)} {Q = λ u v. IsBody u v (drop len bytes) text head.size}
         {R = λ u w. IsReplied u w (body text)} a b c
         (λ u v w i j. whole u v w bytes text len head good fits i j (let most = j.behind.fits in grind (arith, nat_tests, all, most))) h r
+
+-- what was sent behind the head of a reply
+pub reply_sends_nothing : (a b c : Option Connection) (bytes : List ℕ) (h : Front ReplyHead) → ReadsHead IsWholeReply HasNoReply IsUnfinishedReply a b bytes h → SendsNothing b c → SendsNothing a c
+reply_sends_nothing a b c bytes h r none =
+    sends_nothing_after a b c bytes (Between-map {P = λ u v. IsHeadRead IsWholeReply HasNoReply IsUnfinishedReply u v bytes h} {Q = λ u v. IsRead u v bytes} a b (λ u v i. i.moved) r) none
+
+-- what came of a body is it, or tells how many bytes there are
+pub body_fault : (text : List ℕ) (size : ℕ) (P : ExchangeFault → Type 0) → P (fault.Short (length text)) → IfErr (body_result text size) P
+body_fault text size P few = by_test (nat_lt (length text) size)
+  where
+    by_test : (t : Bool) → IfErr {T = List ℕ} (if t then Err (fault.Short (length text)) else Ok text) P
+    by_test true = few
+    by_test false = tt
+
+pub body_success : (text : List ℕ) (size : ℕ) (P : Type 0) → P → OnOk (body_result text size) P
+body_success text size P holds = by_test (nat_lt (length text) size)
+  where
+    by_test : (t : Bool) → OnOk {T = List ℕ} {E = ExchangeFault} (if t then Err (fault.Short (length text)) else Ok text) P
+    by_test true = tt
+    by_test false = holds
