@@ -1,4 +1,4 @@
-use Rattle.std.proofs.Common.{◌≡◌, ◌≤◌, [], length, refl, sym, subst, ◌∙◌, arith}
+use Rattle.std.proofs.Common.{◌≤◌, ℕ, List, [], length, refl, sym, subst, ◌∙◌, arith}
 use Rattle.fsl_http.specs.Bodies.{ReadsBody}
 use Rattle.fsl_http.proofs.Bodied.{body_start, body_more, body_ended, body_whole}
 use Rattle.fsl_http.proofs.Broken.{broken_at_once, breaks_after}
@@ -36,7 +36,7 @@ pub loop-body-init : goal.loop-body-init
 loop-body-init g c = record {
   reads =
       let m = c.min-here.ensures in
-      body_start _ c.args.front.now c.min-here.result c.args.size (omega arith) (omega arith) (λ lt. omega (arith, lt)) _ (c.reserve_exact.ensures.items ∙ c.in-Ok.ensures.items);
+      body_start _ c.args.front.now c.min-here.result c.args.size (omega arith) (omega arith) (λ lt. omega (arith, lt)) _ (◌∙◌ {A = List ℕ} c.reserve_exact.ensures.items c.in-Ok.ensures.items);
   stands = refl;
   same = refl;
 }
@@ -64,9 +64,9 @@ returns-then-count-eq0 g c =
     let room = c.len-in-loop-body.ensures in
     let same = piece.same ∙ before.same in record {
       ok = subst (λ t. ReadsBody (g.L.Link.state c.args.link.now).present (g.L.Link.state c.read_piece.new.link).present c.args.front.now c.args.size t) (sym c.from_vec.ensures)
-      (body_ended _ (g.L.Link.state c.loop-body.link).present _ _ c.loop-body.body.items _ _ _ _ before.reads (omega arith) piece.ok (omega (arith, room)) c.if-count-eq0.true);
+          (body_ended _ (g.L.Link.state c.loop-body.link).present _ _ c.loop-body.body.items _ _ _ _ before.reads (omega arith) piece.ok (omega (arith, room)) c.if-count-eq0.true);
       fits = subst (λ t. length t ≤ c.args.size) (sym c.from_vec.ensures)
-      (body_more _ (g.L.Link.state c.loop-body.link).present _ c.args.front.now c.loop-body.body.items _ _ c.args.size _ before.reads (omega arith) piece.ok (omega (arith, room))).behind.fits;
+          (body_more _ (g.L.Link.state c.loop-body.link).present _ c.args.front.now c.loop-body.body.items _ _ c.args.size _ before.reads (omega arith) piece.ok (omega (arith, room))).behind.fits;
       err = tt;
       broken = tt;
       sent = sends_nothing_after _ (g.L.Link.state c.loop-body.link).present _ before.reads.bytes before.reads.moved piece.sent;

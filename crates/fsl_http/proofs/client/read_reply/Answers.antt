@@ -37,7 +37,7 @@ returns-in_default g c =
 pub returns-then-head-ne200 : goal.returns-then-head-ne200
 returns-then-head-ne200 g c =
     let head = c.in-Ok.ensures in record {
-      replied = 
+      replied =
           is_status _ _ c.read_head.new.bytes.items c.in-Whole.len c.in-Whole.head c.if-head-ne200.true
           (subst (λ h. ReadsHead IsWholeReply HasNoReply IsUnfinishedReply (g.L.Link.state c.args.link.now).present (g.L.Link.state c.read_head.new.link).present c.read_head.new.bytes.items h) c.in-Whole.is head.ok);
       broken = tt;
@@ -51,7 +51,7 @@ returns-then-head-ne200 g c =
 pub returns-then-head-gt-BODY_LIMIT : goal.returns-then-head-gt-BODY_LIMIT
 returns-then-head-gt-BODY_LIMIT g c =
     let head = c.in-Ok.ensures in record {
-      replied = 
+      replied =
           is_long _ _ c.read_head.new.bytes.items c.in-Whole.len c.in-Whole.head c.if-head-ne200.false c.if-head-gt-BODY_LIMIT.true
           (subst (λ h. ReadsHead IsWholeReply HasNoReply IsUnfinishedReply (g.L.Link.state c.args.link.now).present (g.L.Link.state c.read_head.new.link).present c.read_head.new.bytes.items h) c.in-Whole.is head.ok);
       broken = tt;

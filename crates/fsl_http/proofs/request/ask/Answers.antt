@@ -28,7 +28,7 @@ pub returns-in-Refuse : goal.returns-in-Refuse
 returns-in-Refuse g c =
     let head = c.in_ok-len.ensures in record {
       ok = ask_refused _ _ c.read_head.new.bytes.items c.in-Whole.len c.in-Refuse.status c.in-Whole.head c.in-Refuse.is
-      (subst (λ h. ReadsHead IsWholeHead HasNoHead IsUnfinished (g.L.Link.state c.args.link.now).present (g.L.Link.state c.read_head.new.link).present c.read_head.new.bytes.items h) c.in-Whole.is c.in_ok-len.ensures.ok);
+          (subst (λ h. ReadsHead IsWholeHead HasNoHead IsUnfinished (g.L.Link.state c.args.link.now).present (g.L.Link.state c.read_head.new.link).present c.read_head.new.bytes.items h) c.in-Whole.is c.in_ok-len.ensures.ok);
       listed = listed_status c.read_head.new.bytes.items c.in-Whole.len c.in-Refuse.status c.in-Whole.head _ c.in-Whole.is c.in-Refuse.is head.whole;
       err = tt;
       broken = tt;
@@ -80,7 +80,7 @@ pub returns-in-Never : goal.returns-in-Never
 returns-in-Never g c =
     let head = c.in_ok-len.ensures in record {
       ok = ask_never _ _ c.read_head.new.bytes.items
-      (subst (λ h. ReadsHead IsWholeHead HasNoHead IsUnfinished (g.L.Link.state c.args.link.now).present (g.L.Link.state c.read_head.new.link).present c.read_head.new.bytes.items h) c.in-Never.is c.in_ok-len.ensures.ok);
+          (subst (λ h. ReadsHead IsWholeHead HasNoHead IsUnfinished (g.L.Link.state c.args.link.now).present (g.L.Link.state c.read_head.new.link).present c.read_head.new.bytes.items h) c.in-Never.is c.in_ok-len.ensures.ok);
       listed = refl;
       err = tt;
       broken = tt;
@@ -93,7 +93,7 @@ returns-in-Never g c =
 pub returns : goal.returns
 returns g c =
     let head = c.in_ok-len.ensures in record {
-      ok = 
+      ok =
           subst (λ a. IsAsked (g.L.Link.state c.args.link.now).present (g.L.Link.state c.read_head.new.link).present a)
           (sym (c.ended.ensures ∙ ap ended_answer c.deref-in-Open.ensures.value))
           (ask_ended _ _ c.read_head.new.bytes.items

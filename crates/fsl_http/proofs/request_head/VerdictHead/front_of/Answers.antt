@@ -18,3 +18,10 @@ returns-then-bytes-lt-HEAD_LIMIT c =
     let may : MayBecomeRequest c.args.bytes.now =
     subst (λ x. OnPartial {E = Error} (Ok x) (MayBecomeRequest c.args.bytes.now)) c.in-Ok-Partial.field-0-is c.in-Ok-Partial.ensures.unfinished in
     (record { none = λ h rest is. none h rest is.reads; may = may; fits = omega arith }, omega arith)
+
+-- no head has more fields than there is room for
+pub returns-in-Err : goal.returns-in-Err
+returns-in-Err c = λ more h rest is.
+    let over = c.in-Err.ensures.no_room more h rest is.reads in
+    let few = is.fields in
+    absurd (omega (arith, over, few))
