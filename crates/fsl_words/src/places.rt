@@ -1,11 +1,11 @@
 //! The words by place, as `clap` reads them: a repository, a command, and the command's words.
-ghost use Rattle.std.specs.Prelude.{◌≡◌, ◌≤◌, ◌<◌, ◌-◌, ◌∷◌, [], true, map, drop, length, string_bytes, Err, IfOk, codes, option_map, unwrap_or};
+ghost use Rattle.std.specs.Prelude.{◌≡◌, ◌≤◌, ◌<◌, ◌-◌, ◌∷◌, [], true, map, drop, length, string_bytes, Err, IfOk, IsOkAnd, codes, option_map, unwrap_or};
 ghost use Rattle.std.specs.List.{list_all};
 ghost use Rattle.clap.specs.Simple.{app_of};
 ghost use Rattle.clap.specs.Matches.{found_of, matched_of, raw_values};
 ghost use Rattle.fsl_words.specs.declared.WordsFault.TheVariants as words_fault;
 ghost use Rattle.fsl_words.specs.Grammar.{is_word};
-ghost use Rattle.fsl_words.specs.Places.{HasPlaces, line};
+ghost use Rattle.fsl_words.specs.Places.{HasPlaces, bare_line, line};
 
 use crate::WordsFault;
 use clap::error::ErrorKind;
@@ -21,21 +21,25 @@ pub struct Places<'a> {
     pub words: &'a [String],
 }
 
-/// One command of words by place, of which none is a flag.
-fn line<'a>(alloc: Global) -> Result<Command<'a>, AllocError>
-    ensures { IfOk result (λ made. app_of made ≡ line) }
+/// A command without places, of whose words none is a flag.
+fn bare<'a>(alloc: Global) -> Command<'a>
+    ensures { app_of result ≡ bare_line }
 {
-    let repository = Arg::new(alloc, "repository").required(true);
-    let command = Arg::new(alloc, "command").required(true);
-    let words = Arg::new(alloc, "words").num_args(0..);
     Command::new(alloc, "fossil")
         .no_binary_name(true)
         .disable_help_flag(true)
         .disable_version_flag(true)
         .disable_help_subcommand(true)
-        .arg(repository)?
-        .arg(command)?
-        .arg(words)
+}
+
+/// One command of words by place.
+fn line<'a>(alloc: Global) -> Result<Command<'a>, AllocError>
+    ensures { IfOk result (λ made. app_of made ≡ line) }
+{
+    bare(alloc)
+        .arg(Arg::new(alloc, "repository").required(true))?
+        .arg(Arg::new(alloc, "command").required(true))?
+        .arg(Arg::new(alloc, "words").num_args(0..))
 }
 
 /// The matches of plain words.
@@ -75,6 +79,24 @@ fn last(words: &[String], count: usize) -> &[String]
     &words[words.len() - count..]
 }
 
+/// The words at the places that the matches tell.
+fn found<'a>(matches: &ArgMatches<'a>, words: &'a [String]) -> Result<Places<'a>, WordsFault>
+    requires { HasPlaces (map string_bytes words.now) matches.now }
+    ensures { IsOkAnd result (λ places. map string_bytes words.now ≡ places.repository.now ∷ places.command.now ∷ map string_bytes places.words.now) }
+{
+    let Some(repository) = matches.get_str("repository") else {
+        return Err(WordsFault::Usage);
+    };
+    let Some(command) = matches.get_str("command") else {
+        return Err(WordsFault::Usage);
+    };
+    Ok(Places {
+        repository,
+        command,
+        words: last(words, count(matches)),
+    })
+}
+
 /// Plain words by place.
 ///
 /// Errors: `Usage` where they are fewer than two; `Memory` for want of memory.
@@ -83,20 +105,8 @@ pub fn by_place<'a>(alloc: Global, words: &'a [String]) -> Result<Places<'a>, Wo
     ensures ok { IfOk result (λ places. map string_bytes words.now ≡ places.repository.now ∷ places.command.now ∷ map string_bytes places.words.now) }
     ensures usage { result ≡ Err words_fault.Usage → length words.now < 2 }
 {
-    let matches = match matches(alloc, words) {
-        Ok(matches) => matches,
-        Err(fault) => return Err(fault),
-    };
-    let Some(repository) = matches.get_str("repository") else {
-        return Err(WordsFault::Usage);
-    };
-    let Some(command) = matches.get_str("command") else {
-        return Err(WordsFault::Usage);
-    };
-    let words = last(words, count(&matches));
-    Ok(Places {
-        repository,
-        command,
-        words,
-    })
+    match matches(alloc, words) {
+        Ok(matches) => found(&matches, words),
+        Err(fault) => Err(fault),
+    }
 }
