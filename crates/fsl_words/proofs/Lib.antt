@@ -1,3 +1,4 @@
 pub mod WordLemmas
 pub mod GrammarLemmas
 pub mod PlaceLemmas
+pub mod PartLemmas
