@@ -18,16 +18,16 @@ pub fn checkin(alloc: Global, number: u64, names: &[Name]) -> Result<Manifest, M
     ensures written { IfOk result (λ manifest. IsTrue (is_well_formed manifest)) }
 {
     Ok(Manifest {
-        baseline: None,
         comment: numbered(alloc, b"check-in ", number)?,
+        user: user_of(alloc, number)?,
+        parents: parents(alloc, number, names)?,
+        tags: tags(alloc, number)?,
+        baseline: None,
         date: date_of(number),
         files: List::new(alloc),
         mime: None,
-        parents: parents(alloc, number, names)?,
         picks: List::new(alloc),
         checksum: None,
-        tags: tags(alloc, number)?,
-        user: user_of(alloc, number)?,
     })
 }
 

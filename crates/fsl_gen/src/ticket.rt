@@ -1,7 +1,7 @@
 //! Changes of tickets: each ten in a row are those of one.
-ghost use Rattle.std.specs.Prelude.{◌≡◌, ◌<◌, IfOk, IsTrue};
+ghost use Rattle.std.specs.Prelude.{◌≡◌, ◌<◌, ◌∷◌, ◌/◌, [], codes, IfOk, IsTrue};
 ghost use Rattle.fsl_forms.specs.WellFormed.{is_ticket_well_formed};
-ghost use Rattle.fsl_gen.specs.Table.{appended, replaced, ticket_at};
+ghost use Rattle.fsl_gen.specs.Table.{appended, numbered, replaced, ticket_at, ticket_id};
 
 use crate::by_number::{date_of, numbered, user_of};
 use fsl_forms::{Ticket, TicketChange};
@@ -15,16 +15,33 @@ pub fn ticket(alloc: Global, number: u64) -> Result<Ticket, Memory>
     ensures value { IfOk result (λ ticket. ticket ≡ ticket_at number) }
     ensures written { IfOk result (λ ticket. IsTrue (is_ticket_well_formed ticket)) }
 {
-    let mut changes = List::new(alloc);
-    changes.append(appended(alloc, numbered(alloc, b"x", number)?)?)?;
-    changes.append(replaced(alloc)?)?;
-    let ticket = numbered(alloc, b"", number / 40)?;
+    let ticket = id_of(alloc, number)?;
+    let user = user_of(alloc, number)?;
     Ok(Ticket {
+        changes: changes(alloc, number)?,
         date: date_of(number),
-        changes,
-        id: Name::of(ticket.bytes()),
-        user: user_of(alloc, number)?,
+        id: ticket,
+        user,
     })
+}
+
+/// The id of the ticket that a change belongs to.
+fn id_of(alloc: Global, number: u64) -> Result<Name, Memory>
+    ensures { IfOk result (λ id. id ≡ ticket_id (number / 40)) }
+{
+    let ticket = numbered(alloc, b"", number / 40)?;
+    Ok(Name::of(ticket.bytes()))
+}
+
+/// What a change does: it appends to the comment, and sets the status.
+fn changes(alloc: Global, number: u64) -> Result<List<TicketChange>, Memory>
+    ensures { IfOk result (λ changes. changes ≡ appended (numbered (codes "x") number) ∷ replaced ∷ []) }
+{
+    let mut changes = List::new(alloc);
+    let value = numbered(alloc, b"x", number)?;
+    changes.append(appended(alloc, value)?)?;
+    changes.append(replaced(alloc)?)?;
+    Ok(changes)
 }
 
 /// What is appended to the comment.
