@@ -81,6 +81,13 @@ module _ (held : List ℕ) (place : ℕ) (body : List ℕ) (size : length held �
       (subst (λ (l : List ℕ). Torn place 1 l c) (whole old (λ i. get_or held place 0)) torn) in
       torn_byte (take place held) body old c at_front
 
+-- The body is written, and synced.
+pub after_body : (held : List ℕ) (place : ℕ) (body : List ℕ) (s0 s1 : DiskState) → LeavesOnly s0 s1 (Begins held) → LeavesOnly s0 s1 (HeldOrGated held place body)
+after_body held place body s0 s1 = weaker s0 s1 (Begins held) (HeldOrGated held place body) (λ c begins. inl begins)
+
+pub after_sync : (held : List ℕ) (place : ℕ) (body : List ℕ) (s0 s1 s2 : DiskState) → IsTrue s0.is_model → LeavesOnly s0 s1 (Begins held) → Keeps s0 s1 → Calls Same s1 s2 → LeavesOnly s0 s2 (HeldOrGated held place body)
+after_sync held place body s0 s1 s2 model so_far keeps sync = rests s0 s1 s2 (HeldOrGated held place body) (after_body held place body s0 s1 so_far) (keeps.model ∙ model) sync
+
 -- The body is written, synced, the gate is written, and synced.
 module _ (held : List ℕ) (place : ℕ) (body : List ℕ) (s0 s1 s2 s3 : DiskState) (size : length held ≡ place + 1) (model : IsTrue s0.is_model) where
   abbrev P : List ℕ → Type 0
@@ -92,7 +99,7 @@ module _ (held : List ℕ) (place : ℕ) (body : List ℕ) (s0 s1 s2 s3 : DiskSt
       let model1 = keeps.model ∙ model in
       let only = durable model1 (held ++ body) wrote in
       let passes = gate.crash (sync.keeps.model ∙ model1) in
-      goes_on s0 s2 s3 P (Torn place 1) (rests s0 s1 s2 P (weaker s0 s1 (Begins held) P (λ c begins. inl begins) so_far) model1 sync) passes
+      goes_on s0 s2 s3 P (Torn place 1) (after_sync held place body s0 s1 s2 model so_far keeps sync) passes
       (λ c left. let from = passes.follows c left in inr (gate_torn held place body size c (subst (λ (d : List ℕ). Torn place 1 d c) (only from.0 from.1) from.2)))
 
   -- and synced

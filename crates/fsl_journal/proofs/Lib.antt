@@ -1,4 +1,5 @@
 pub mod Belonging
+mod Ends
 pub mod Failing
 mod Files
 mod Gate

@@ -2,8 +2,8 @@
 use Rattle.std.proofs.Common.{◌≡◌, ◌≢◌, inl, inr, ℕ, ◌^◌, ◌<◌, ◌≤◌, true, List, [], ◌∷◌, ◌++◌, length, drop, refl, sym, ◌∙◌, ap, subst, arith, length-append, IsTrue, Some}
 use Rattle.std.proofs.lemmas.Bool.{cases_eq}
 use Rattle.std.proofs.lemmas.List.{append-nil, take_all}
-use Rattle.fsl_disk.specs.Disk.{DiskState, IsModelled, Told, Begins, Calls, Same, Keeps, Only, LeavesOnly}
-use Rattle.fsl_disk.proofs.Moments.{and_then, quiet_call, quiet_moments, told_before, modelled_after, weaker}
+use Rattle.fsl_disk.specs.Disk.{DiskState, IsModelled, Told, Torn, Begins, Calls, Keeps, Quiet, Only, LeavesOnly, written}
+use Rattle.fsl_disk.proofs.Moments.{started, goes_on, and_then, quiet_moments, told_before, modelled_after, weaker}
 use Rattle.fsl_disk.proofs.Pieces.{split}
 use Rattle.fsl_record.specs.declared.Config.{Config}
 use Rattle.fsl_record.specs.declared.Record.{Record}
@@ -64,14 +64,27 @@ module _ (config : Config) (bytes body : List ℕ) (fit : IsFit (record_of.Confi
   pub create_moments : (s0 s2 s3 : DiskState) → LeavesOnly s0 s2 (NothingOr config) → s2.contents ≡ Some new_file → IsTrue s2.is_model → (IsTrue s2.is_model → Told s2 (λ held. LeavesOnly s2 s3 (HeldOrGated held 15 body))) → LeavesOnly s0 s3 (NothingOr config)
   create_moments s0 s2 s3 so_far told model wrote = and_then s0 s2 s3 (NothingOr config) so_far (weaker s2 s3 (HeldOrGated new_file 15 body) (NothingOr config) nothing_or (wrote model new_file told))
 
--- a look at the length, and then the file
-pub file_moments : (config : Config) (s0 s1 s2 : DiskState) → Calls Same s0 s1 → s1.contents ≡ s0.contents → IsModelled s0 → ((c : List ℕ) → s0.since s0.moment c → s0.images c) → ((c : List ℕ) → s0.images c → c ≡ [])
+-- a look at the length
+pub look_moments : (config : Config) (s0 s1 : DiskState) → Quiet s0 s1 → IsModelled s0 → ((c : List ℕ) → s0.since s0.moment c → s0.images c) → ((c : List ℕ) → s0.images c → c ≡ []) → LeavesOnly s0 s1 (NothingOr config)
+look_moments config s0 s1 quiet modelled no_other empty =
+    quiet_moments s0 s1 (NothingOr config) quiet modelled.model no_other (λ c left. short_nothing config c (omega (arith, ap length (empty c left))))
+
+-- and then the file
+pub file_moments : (config : Config) (s0 s1 s2 : DiskState) → Quiet s0 s1 → IsModelled s0 → ((c : List ℕ) → s0.since s0.moment c → s0.images c) → ((c : List ℕ) → s0.images c → c ≡ [])
     → (IsModelled s1 → ((c : List ℕ) → s1.images c → c ≡ []) → LeavesOnly s1 s2 (NothingOr config)) → LeavesOnly s0 s2 (NothingOr config)
-file_moments config s0 s1 s2 len same modelled no_other empty wrote =
-    let quiet = quiet_call s0 s1 len same in
-    let short : (c : List ℕ) → s0.images c → NothingOr config c = λ c left. short_nothing config c (omega (arith, ap length (empty c left))) in
-    and_then s0 s1 s2 (NothingOr config) (quiet_moments s0 s1 (NothingOr config) quiet modelled.model no_other short)
-    (wrote (modelled_after s0 s1 len.keeps modelled) (λ c left. empty c (quiet.images modelled.model c left)))
+file_moments config s0 s1 s2 quiet modelled no_other empty wrote =
+    and_then s0 s1 s2 (NothingOr config) (look_moments config s0 s1 quiet modelled no_other empty)
+    (wrote (modelled_after s0 s1 quiet.keeps modelled) (λ c left. empty c (quiet.images modelled.model c left)))
+
+-- the header is written into an empty file
+pub header_moments : (s0 s1 : DiskState) → Calls (Torn 0 16) s0 s1 → IsTrue s0.is_model → ((c : List ℕ) → s0.since s0.moment c → s0.images c) → ((c : List ℕ) → s0.images c → c ≡ []) → LeavesOnly s0 s1 IsShort
+header_moments s0 s1 call model no_other empty =
+    let passes = call.crash model in
+    goes_on s0 s0 s1 IsShort (Torn 0 16) (started s0 IsShort no_other (λ c left. omega (arith, ap length (empty c left)))) passes
+    (λ c left. let from = passes.follows c left in omega (arith, from.2.no_longer, ap length (empty from.0 from.1)))
+
+pub header_held : (held : List ℕ) (s0 s1 : DiskState) → held ≡ [] → s0.contents ≡ Some held → Told s0 (λ h. s1.contents ≡ Some (written 0 new_file h)) → s1.contents ≡ Some new_file
+header_held held s0 s1 empty told wrote = wrote held told ∙ ap (λ h. Some (written 0 new_file h)) empty
 
 pub header_told : (s1 s2 : DiskState) → Keeps s1 s2 → Told s1 (λ held. s2.contents ≡ Some new_file) → (held : List ℕ) → s2.contents ≡ Some held → held ≡ new_file
 header_told s1 s2 keeps wrote held told = let before = told_before s1 s2 held keeps told in some_same (sym told ∙ wrote before.0 before.1)

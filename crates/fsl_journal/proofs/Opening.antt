@@ -1,15 +1,17 @@
 -- What a disk may leave while a journal is opened.
-use Rattle.std.proofs.Common.{◌≡◌, inl, inr, ℕ, ◌+◌, List, [], ◌∷◌, ◌++◌, length, take, drop, sym, ◌∙◌, ap, subst, arith, append_assoc, length-append, take-append-drop, IsTrue, Some, None}
+use Rattle.std.proofs.Common.{◌≡◌, refl, inl, inr, ℕ, ◌+◌, List, [], ◌∷◌, ◌++◌, length, take, drop, sym, ◌∙◌, ap, subst, arith, append_assoc, length-append, take-append-drop, IsTrue, Some, None}
 use Rattle.std.proofs.lemmas.List.{take_all, take_at}
 use Rattle.fsl_disk.specs.Disk.{DiskState, IsModelled, Told, Begins, Keeps, Calls, CutShort, Same, Quiet, Only, LeavesOnly}
 use Rattle.fsl_disk.proofs.Moments.{goes_on, keeps_on, quiet_call, quiet_on, quiet_moments, told_before, told_contents, modelled_before}
 use Rattle.fsl_disk.proofs.Pieces.{cut_whole}
+use Rattle.fsl_order.specs.Causes.{Rose}
 use Rattle.fsl_record.specs.declared.Record.{Record}
+use Rattle.fsl_record.specs.Records.{AreRecords}
 use Rattle.fsl_journal.specs.declared.LoadFault.{LoadFault}
 use Rattle.fsl_journal.specs.declared.LoadFault.TheVariants as load_fault
 use Rattle.fsl_journal.specs.File.{header, IsFileOf, FailsAt}
 use Rattle.fsl_journal.specs.Journal.{Belongs, LoadFailed, HeldOrSame, IsSpared}
-use Rattle.fsl_journal.specs.Reading.{FileFailed}
+use Rattle.fsl_journal.specs.Reading.{FileFailed, ReadFailed}
 use Rattle.fsl_journal.specs.Log.{Log, IsLog, IsLoaded, IsBetween, StandsBetween}
 use Rattle.fsl_journal.proofs.Failing.{no_file}
 use Rattle.fsl_journal.proofs.Files.{laid, is_log, groups_bytes}
@@ -49,6 +51,10 @@ module _ (records : List Record) (place : ℕ) (held : List ℕ) (is : IsLog rec
 abbrev pub resumed_log : List Record → ℕ → Log
 resumed_log records place = record { records = records; stable = length records; stopped = None; place = place }
 
+pub is_loaded : (log : Log) (records loaded : List Record) (place : ℕ) → log ≡ resumed_log records place → loaded ≡ records → AreRecords records → IsLoaded log loaded
+is_loaded log records loaded place is same fit =
+    subst (IsLoaded log) (sym same) (subst (λ (l : Log). IsLoaded l records) (sym is) (record { records = refl; stable = refl; runs = refl; fit = fit }))
+
 -- a sync, a read of everything, and a cut
 pub record LoadRun (s0 s1 s2 s3 : DiskState) (file : List ℕ) (records : List Record) (place : ℕ) : Type 0 where
   pub sync : Calls Same s0 s1
@@ -63,7 +69,7 @@ module _ (s0 s1 s2 s3 : DiskState) (file : List ℕ) (records : List Record) (pl
   so_far : Quiet s0 s2
   so_far = quiet_on s0 s1 s2 (quiet_call s0 s1 run.sync run.same) run.quiet
 
-  all_keeps : Keeps s0 s3
+  pub all_keeps : Keeps s0 s3
   all_keeps = keeps_on s0 s2 s3 so_far.keeps run.cut.keeps
 
   file_told : (held : List ℕ) → s0.contents ≡ Some held → file ≡ held
@@ -108,6 +114,9 @@ module _ (s0 s1 s2 s3 : DiskState) (file : List ℕ) (records : List Record) (pl
     λ modelled held told. loaded_durable modelled held (reads_as_image held (all_keeps.model ∙ modelled.model) told),
   )
 
+  pub cut_held : (log : Log) → log ≡ resumed_log records place → Told s2 (λ held. s3.contents ≡ Some (take (place + 1) held)) → Told s0 (λ held. s3.contents ≡ Some (take (log.place + 1) held))
+  cut_held log is cut held told = subst (λ (l : Log). s3.contents ≡ Some (take (l.place + 1) held)) (sym is) (cut held (so_far.contents ∙ told))
+
   pub belongs_loaded : (log : Log) → log ≡ resumed_log records place → Told s2 (λ held. s3.contents ≡ Some (take (place + 1) held)) → Belongs log s3
   belongs_loaded log is cut = subst (λ (l : Log). Belongs l s3) (sym is) (record {
     counts = omega arith;
@@ -146,6 +155,16 @@ pub load_failed : (fault : LoadFault) (s0 s2 : DiskState) (file : List ℕ) → 
 load_failed load_fault.Disk s0 s2 file quiet faults told fails = absurd fails
 load_failed (load_fault.NotRepository at) s0 s2 file quiet faults told fails = (record { contents = quiet.contents; faults = faults }, quiet, (file, told, fails))
 load_failed load_fault.Memory s0 s2 file quiet faults told fails = (record { contents = quiet.contents; faults = faults }, quiet)
+
+-- a read that failed
+pub read_failed : (fault : LoadFault) (s0 s1 s2 : DiskState) → Quiet s0 s2 → s1.faults ≡ s0.faults → ReadFailed fault s1 s2 → LoadFailed fault s0 s2
+read_failed load_fault.Disk s0 s1 s2 quiet same fails = subst (λ n. Rose n s2.faults) same fails
+read_failed (load_fault.NotRepository at) s0 s1 s2 quiet same fails = absurd fails
+read_failed load_fault.Memory s0 s1 s2 quiet same fails = (record { contents = quiet.contents; faults = fails ∙ same }, quiet)
+
+-- and it says nothing of the file
+pub read_says_none : (X : Type 0) (fault : LoadFault) (s1 s2 : DiskState) → ReadFailed fault s1 s2 → (at : ℕ) → fault ≡ load_fault.NotRepository at → X
+read_says_none X fault s1 s2 fails at is = absurd (subst (λ f. ReadFailed f s1 s2) is fails)
 
 -- a file that stands for records doesn't fail to
 pub not_refused : (X : Type 0) (records : List Record) (place : ℕ) (file held : List ℕ) → IsLog records place file → file ≡ held → (at : ℕ) → FailsAt held at → X

@@ -26,8 +26,7 @@ fn write_body<D: Disk>(disk: &mut D, place: u64, bytes: &[u8]) -> Result<(), Fai
     let head = (bytes.len() as u64).to_be_bytes();
     disk.write_at(place + 1, &head)?;
     disk.write_at(place + 9, bytes)?;
-    disk.write_at(place + 9 + bytes.len() as u64, &[CLOSED])?;
-    Ok(())
+    disk.write_at(place + 9 + bytes.len() as u64, &[CLOSED])
 }
 
 /// Writes the group of these bytes behind the closed gate at this place, makes it stable, opens the gate, and makes
@@ -48,6 +47,5 @@ pub(crate) fn write_group<D: Disk>(disk: &mut D, place: u64, bytes: &[u8]) -> Re
     write_body(disk, place, bytes)?;
     disk.sync()?;
     disk.write_at(place, &[OPEN])?;
-    disk.sync()?;
-    Ok(())
+    disk.sync()
 }

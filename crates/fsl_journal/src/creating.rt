@@ -30,8 +30,7 @@ fn write_header<D: Disk>(disk: &mut D) -> Result<(), Failed>
     ensures cause { HasCause (D.state disk.old).faults (D.state disk.new).faults result }
 {
     disk.write_at(0, &NEW_FILE)?;
-    disk.sync()?;
-    Ok(())
+    disk.sync()
 }
 
 /// Writes the header, and then the group whose records have these bytes.
@@ -48,8 +47,7 @@ fn write_file<D: Disk>(disk: &mut D, config: &Config, bytes: &[u8]) -> Result<()
 {
     let _config = config;
     write_header(disk)?;
-    write_group(disk, 15, bytes)?;
-    Ok(())
+    write_group(disk, 15, bytes)
 }
 
 /// Makes the file of a repository with this Config on an empty disk, stable when it answers Ok. The configured fields
