@@ -99,6 +99,11 @@ stands_committed log disk belongs runs modelled c left =
     let told = told_contents disk modelled in
     file_behind (committed log) log.place told.0 c (belongs.reads runs told.0 told.1).0 (belongs.images runs modelled.model told.0 told.1 c left)
 
+-- And where no other are there, each image stands for all.
+pub settled_durable : (log : Log) (disk : DiskState) → Belongs log disk → log.stopped ≡ None → log.stable ≡ length log.records → IsModelled disk → (c : List ℕ) → disk.images c → IsFileOf c log.records
+settled_durable log disk belongs runs all modelled c left =
+    subst (λ (rs : List Record). IsFileOf c rs) (take_all log.stable log.records (omega (arith, all))) (stands_committed log disk belongs runs modelled c left)
+
 -- Other records that aren't committed.
 same_committed : (old : Log) (records : List Record) (disk : DiskState) → Belongs old disk → old.stopped ≡ None → old.stable ≤ length records → take old.stable records ≡ committed old → Belongs (record old { records = records }) disk
 same_committed old records disk belongs runs counts same = record {

@@ -1,6 +1,6 @@
 -- What the end of a call leaves of a clause: an end by a fault that is handed on, and one by a last call whose answer is handed on.
 use Rattle.std.proofs.Common.{◌≡◌, ℕ, ◌≤◌, Result, Ok, Err, sym, subst}
-use Rattle.std.specs.Prelude.{IsErrAnd, IfOk, IfErr, OnOk}
+use Rattle.std.specs.Prelude.{IsErrAnd, IfOk, IfErr, OnOk, OnErr}
 use Rattle.fsl_order.specs.Causes.{Rose, HasCause}
 
 pub no_answer : {X E : Type 0} (r : Result X E) (Q : E → Type 0) → IsErrAnd r Q → (P : X → Type 0) → IfOk r P
@@ -27,3 +27,8 @@ cause_on r first before now same cause = subst (λ n. HasCause n now r) same cau
 pub on_success : {X E : Type 0} (r : Result X E) (P : Type 0) → P → OnOk r P
 on_success (Ok x) P p = p
 on_success (Err e) P p = tt
+
+-- and whatever fault it is
+pub on_fault : {X E : Type 0} (r : Result X E) (P : Type 0) → P → OnErr r P
+on_fault (Ok x) P p = tt
+on_fault (Err e) P p = p

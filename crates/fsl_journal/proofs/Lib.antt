@@ -1,3 +1,4 @@
+mod Appended
 pub mod Belonging
 mod Ends
 pub mod Failing

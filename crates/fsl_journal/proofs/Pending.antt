@@ -1,5 +1,5 @@
 -- The bytes of the records that aren't committed.
-use Rattle.std.proofs.Common.{◌≡◌, ℕ, zero, suc, ◌+◌, ◌<◌, ◌^◌, List, [], ◌∷◌, length, get_or, take, take-append-drop, drop, sym, ◌∙◌, ap, subst, arith, length-drop}
+use Rattle.std.proofs.Common.{◌≡◌, ◌⊎◌, inl, inr, Option, Some, None, IsSome, ℕ, zero, suc, ◌+◌, ◌<◌, ◌^◌, List, [], ◌∷◌, length, get_or, take, take-append-drop, drop, sym, ◌∙◌, ap, subst, arith, length-drop}
 use Rattle.std.proofs.lemmas.List.{length-map, take_at, drop-take, get_or-take, take-take}
 use Rattle.std.proofs.lemmas.List.Concat.{flat_map-append}
 use Rattle.fsl_record.specs.declared.Record.{Record}
@@ -57,3 +57,12 @@ module _ (records : List Record) (stable count n : ℕ) (size : length records �
 
 pub not_all : (j : Inside) (log : Log) (count : ℕ) → log_of j ≡ log → count ≡ length log.records → (j.stable ≡ count → ⊥) → j.stable ≡ length (records_of j) → ⊥
 not_all j log count view_is counts other same = other (same ∙ ap (λ (l : Log). length l.records) view_is ∙ sym counts)
+
+-- a commit with something to write isn't idle
+pub not_idle : (X A : Type 0) (stopped : Option ℕ) → stopped ≡ None → (A → ⊥) → IsSome stopped ⊎ A → X
+not_idle X A None runs other (inl some) = absurd (cc)
+not_idle X A None runs other (inr all) = absurd (other all)
+not_idle X A (Some faults) runs other idle = absurd (cc)
+
+pub stopped_log : (inside old : Log) (faults now : ℕ) → inside ≡ old → faults ≡ now → record inside { stopped = Some faults } ≡ record old { stopped = Some now }
+stopped_log inside old faults now is same = λ i. record (is i) { stopped = Some (same i) }
