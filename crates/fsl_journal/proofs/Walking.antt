@@ -144,6 +144,18 @@ some_is items n is some = λ none. zero_is n (is ∙ ap length none) some
     zero_is : (k : ℕ) → k ≡ 0 → false ≡ (k == 0) → ⊥
     zero_is k zero_k other = grind (arith, nat_tests)
 
+-- a group that was read, and what stands behind it
+pub group_there : (behind body bytes more : List ℕ) (size : ℕ) (first : Bool) (group : List Record) → behind ≡ eight size ++ body → size < 2 ^ 64 → body ≡ bytes ++ more → length bytes ≡ size → IsGroupOf first bytes group → IsGroup group × (behind ≡ group_body group ++ more)
+group_there behind body bytes more size first group number fits split long is =
+    let size_is : size ≡ length (records_bytes group) = sym long ∙ ap length is.layout in
+    let body_is : body ≡ records_bytes group ++ more = split ∙ ap (λ (l : List ℕ). l ++ more) is.layout in (
+      (is.some, subst (λ n. n < 2 ^ 64) size_is fits),
+      number
+          ∙ ap (λ n. eight n ++ body) size_is
+          ∙ ap (λ (l : List ℕ). eight (length (records_bytes group)) ++ l) body_is
+          ∙ sym (append_assoc (eight (length (records_bytes group))) (records_bytes group) more),
+    )
+
 -- a group goes on with what was read
 pub group_on : (records group after items : List Record) (bytes : List ℕ) (first : Bool) → first ≡ (length records == 0) → (records ≡ []) ⊎ AreRecords records → IsGroupOf first bytes group → items ≡ group → after ≡ records ++ items → AreRecords after
 group_on records group after items bytes first first_is before is items_are after_is =
