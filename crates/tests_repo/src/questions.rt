@@ -16,8 +16,7 @@ const CHECKIN: &[u8] =
     b"C first\nD 2024-01-02T03:04:05\nF abc.txt a9993e364706816aba3e25717850c26c9cd0d89d\nT *branch * stable\nT *sym-stable *\nU ann\nZ 6600220b6a402faaa6889cfbbcc33537\n";
 
 /// The report on the leaves where it is alone.
-const LEAF: &[u8] =
-    b"385aee5fd248cee3fe13ac2e20a25527b5ed828a stable\n";
+const LEAF: &[u8] = b"385aee5fd248cee3fe13ac2e20a25527b5ed828a stable\n";
 
 /// Whether a report is the one on this leaf.
 fn tells_leaf(answer: Result<Text, QueryFault>) -> bool {
