@@ -1,6 +1,7 @@
-//! What a repository shows, as one text: its reports, and the lists of names that no report tells.
+//! What a repository shows, as one text: its reports, and what its tables tell that no report does.
 use crate::repo::loaded;
 use fsl_blobs::{BlobState, Placed};
+use fsl_cross::Values;
 use fsl_disk::{Disk, MemoryDisk};
 use fsl_name::Name;
 use fsl_query::{QueryFault, refusal_text, report};
@@ -124,9 +125,25 @@ fn show_state<D: Disk>(into: &mut Shown, repo: &Repo<D>, name: Name) {
     });
 }
 
-/// The same, and what the reports say of it.
+/// The values of a check-in, if it is one and there was memory for them.
+fn show_values(into: &mut Shown, values: Result<Option<Values>, Memory>) {
+    match &values {
+        Ok(Some(values)) => {
+            into.text(values.comment.bytes());
+            into.text(values.user.bytes());
+            into.text(values.branch.bytes());
+        }
+        Ok(None) => {}
+        Err(_) => into.fails_unless(false),
+    }
+    drop(values);
+}
+
+/// The same, its branch and its values, and what the reports say of it.
 fn show_name<D: Disk>(alloc: Global, into: &mut Shown, repo: &mut Repo<D>, name: Name) {
     show_state(into, repo, name);
+    into.text(repo.tables().branch(name));
+    show_values(into, repo.tables().values(alloc, name));
     show_about(alloc, into, repo, Ask::Tags, name.text().as_slice());
     show_about(alloc, into, repo, Ask::Files, name.text().as_slice());
     show(alloc, into, repo, Question::Thread { name });
@@ -146,10 +163,12 @@ fn show_names(into: &mut Shown, names: Result<List<Name>, Memory>) {
     drop(names);
 }
 
-/// The shunned names, those that stand in no cluster, and the reports on all artifacts, on two branches, a page and a ticket.
+/// The shunned names, those that stand in no cluster and those that are missing, and the reports on all artifacts, on two
+/// branches, a page and a ticket.
 fn show_lists<D: Disk>(alloc: Global, into: &mut Shown, repo: &mut Repo<D>) {
     show_names(into, repo.shuns());
     show_names(into, repo.tables().cluster().unclustered(alloc));
+    show_names(into, repo.tables().cluster().missing(alloc));
     show(alloc, into, repo, Question::Phantoms);
     show(alloc, into, repo, Question::Leaves);
     show(alloc, into, repo, Question::Timeline { count: 1000 });
