@@ -14,6 +14,18 @@ pub(crate) struct Time {
     pub milli: u16,
 }
 
+/// The milliseconds in the text of a date, or 0 where it has none.
+fn milli(text: &[u8]) -> u16
+    requires { IsTrue (has_date_shape text.now) }
+    ensures { result ≡ (civil_in text.now).milli }
+{
+    if text.len() == 23 {
+        number(&text[20..23])
+    } else {
+        0
+    }
+}
+
 impl Time {
     /// The numbers of the time of day in the text of a date, which may have no milliseconds.
     pub(crate) fn read(text: &[u8]) -> Time
@@ -27,11 +39,7 @@ impl Time {
             hour: number(&text[11..13]),
             minute: number(&text[14..16]),
             second: number(&text[17..19]),
-            milli: if text.len() == 23 {
-                number(&text[20..23])
-            } else {
-                0
-            },
+            milli: milli(text),
         }
     }
 

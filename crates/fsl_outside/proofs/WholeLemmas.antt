@@ -1,7 +1,8 @@
 -- Facts on what is read and written as a whole.
-use Rattle.std.proofs.Common.{◌≡◌, ◌≤◌, ℕ, ◌-◌, List, ◌++◌, length, take, drop, Option, Some, None, sym, ap, ◌∙◌, append_assoc}
-use Rattle.std.specs.Io.KnownBytes.{Appends, Consumes}
-use Rattle.std.proofs.lemmas.List.{take-append-drop, take_rest}
+use Rattle.std.proofs.Common.{◌≡◌, ◌≤◌, ◌<◌, ℕ, ◌+◌, ◌-◌, Bool, true, List, ◌++◌, length, take, drop, Option, Some, None, sym, ap, subst, ◌∙◌, arith, append_assoc, append-nil}
+use Rattle.std.specs.Prelude.{if◌then◌else◌}
+use Rattle.std.specs.Io.KnownBytes.{Appends, Consumes, Keeps}
+use Rattle.std.proofs.lemmas.List.{take-append-drop, length-append, length-take-le, take_rest}
 
 -- the text is what was taken, and the rest
 pub record IsWrittenTo (old now : Option (List ℕ)) (text rest : List ℕ) : Type 0 where
@@ -38,4 +39,41 @@ write_more old mid new text rest n w p = record {
       w.whole ∙ ap (λ (l : List ℕ). w.front ++ l) (sym (take-append-drop n rest)) ∙ sym (append_assoc w.front (take n rest) (drop n rest))
       ∙ ap (λ (l : List ℕ). (w.front ++ take n rest) ++ l) (sym (take_rest rest n));
   taken = Appends-twice old mid new w.front (take n rest) w.taken p;
+}
+
+-- the text is all that was read where the last read gave nothing
+pub read_to_end : (old mid new : Option (List ℕ)) (text result into : List ℕ) (n : ℕ) → Consumes old mid text → Consumes mid new (take n into) → n ≡ 0 → result ≡ text
+    → Consumes old new result
+read_to_end old mid new text result into n read last none is =
+    subst (λ t. Consumes old new t) (ap (λ (k : ℕ). text ++ take k into) none ∙ append-nil text ∙ sym is) (Consumes-twice old mid new text (take n into) read last)
+
+-- a read that failed took nothing
+pub read_kept : (old mid new : Option (List ℕ)) (text : List ℕ) → Consumes old mid text → Keeps mid new → Consumes old new text
+read_kept None mid new text p q = tt
+read_kept (Some xs) None new text p q = absurd p
+read_kept (Some xs) (Some ys) None text p q = absurd q
+read_kept (Some xs) (Some ys) (Some zs) text p q = p ∙ ap (λ (l : List ℕ). text ++ l) (sym q)
+
+-- where a piece was stored, the text is followed by it
+pub stored_is : (text now into : List ℕ) (n : ℕ) (stored : Bool) → stored ≡ true → now ≡ (if stored then text ++ take n into else text) → now ≡ text ++ take n into
+stored_is text now into n stored is_stored joined = joined ∙ ap (λ (t : Bool). if t then text ++ take n into else text) is_stored
+
+-- the text with a piece behind it was read
+pub read_more : (old mid new : Option (List ℕ)) (text now into : List ℕ) (n : ℕ) → Consumes old mid text → Consumes mid new (take n into) → now ≡ text ++ take n into → Consumes old new now
+read_more old mid new text now into n read last is = subst (λ t. Consumes old new t) (sym is) (Consumes-twice old mid new text (take n into) read last)
+
+some : (n : ℕ) → (n ≡ 0 → ⊥) → 0 < n
+some n h = grind (arith, h)
+
+-- the turn of a loop that reads
+pub read_on : (old mid new : Option (List ℕ)) (first before after turns limit : ℕ) (text now into : List ℕ) (n : ℕ) → IsReadTo old mid first before turns limit text
+    → Consumes mid new (take n into) → n ≤ length into → (n ≡ 0 → ⊥) → after ≡ before → now ≡ text ++ take n into → length now ≤ limit → IsReadTo old new first after (turns + 1) limit now
+read_on old mid new first before after turns limit text now into n so_far last fits none same is within = record {
+  read = read_more old mid new text now into n so_far.read last is;
+  same = same ∙ so_far.same;
+  turn =
+      (let turn = so_far.turn in
+      let longer : length now ≡ length text + n = ap length is ∙ length-append text (take n into) ∙ ap (λ (k : ℕ). length text + k) (length-take-le n into fits) in
+      let more = some n none in omega (arith, turn, longer, more));
+  within = within;
 }

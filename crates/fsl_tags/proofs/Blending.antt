@@ -1,6 +1,7 @@
 -- Two rows by rising tag made one that has the newer assertion of each tag.
 use Rattle.std.specs.Prelude.{◌≡◌, ℕ, List, [], ◌∷◌, ◌++◌, true, false, cond, if◌then◌else◌, Option, Some, None, map, filter, ◌⊎◌}
-use Rattle.std.proofs.Common.{arith, ◌≤◌, length, drop, refl, sym, ap, ◌∙◌, subst, ⊎_elim}
+use Rattle.std.proofs.Common.{arith, ◌≤◌, ◌-◌, length, length-drop, take, drop, refl, sym, ap, ◌∙◌, subst, ⊎_elim}
+use Rattle.std.proofs.Math.Seq.{take-length}
 use Rattle.std.proofs.lemmas.List.{append-nil, append_assoc}
 use Rattle.std.proofs.lemmas.List.Elements.{filter-append}
 use Rattle.std.specs.Ordering.{is_lt, match_ordering}
@@ -144,6 +145,22 @@ blend-ends first second row mid out near far whole mid_is out_is end =
     (λ (h : length second ≤ far). ap (λ l. drop near first ++ l) (no_more far second h) ∙ append-nil (drop near first) ∙ ap (λ l. blend l (drop near first)) (sym (no_more far second h)))
     end)
     ∙ whole
+
+-- what is left of a list is all of it
+all_left : (n : ℕ) (xs : List Assertion) → take (length xs - n) (drop n xs) ≡ drop n xs
+all_left n xs = ap (λ m. take m (drop n xs)) (sym (length-drop n xs)) ∙ take-length (drop n xs)
+
+module _ (first second row mid out : List Assertion) (near far : ℕ) (whole : row ++ blend (drop far second) (drop near first) ≡ blend second first)
+    (mid_is : mid ≡ row ++ take (length first - near) (drop near first)) (end : (length first ≤ near) ⊎ (length second ≤ far)) (up_first : Rise first) (up_second : Rise second)
+    (out_is : out ≡ mid ++ take (length second - far) (drop far second)) where
+  both_are : out ≡ blend second first
+  both_are = blend-ends first second row mid out near far whole (mid_is ∙ ap (λ (l : List Assertion). row ++ l) (all_left near first)) (out_is ∙ ap (λ (l : List Assertion). mid ++ l) (all_left far second)) end
+
+  pub both_rise : Rise out
+  both_rise = subst (λ l. Rise l) (sym both_are) (blend-rises second first up_second up_first)
+
+  pub both_find : (tag : List ℕ) → of_tag out tag ≡ greater newer_cmp (of_tag first tag) (of_tag second tag)
+  both_find tag = ap (λ l. of_tag l tag) both_are ∙ blend-finds second first tag up_second up_first
 
 -- ---- a group in two
 

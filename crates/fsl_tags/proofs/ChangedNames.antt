@@ -1,7 +1,8 @@
 -- What differs from what was noted is what has changed.
 use mathlib.Core.Bool.{true≢false}
-use Rattle.std.specs.Prelude.{◌≡◌, ◌≢◌, ℕ, List, [], ◌∷◌, Bool, true, false, ◌||◌, not, cond, Option, Some, None}
-use Rattle.std.proofs.Common.{refl, sym, ap, ◌∙◌, subst}
+use Rattle.std.specs.Prelude.{◌≡◌, ◌≢◌, ℕ, List, [], ◌∷◌, ◌++◌, length, ◌+◌, Bool, true, false, ◌||◌, not, cond, Option, Some, None}
+use Rattle.std.proofs.Common.{refl, sym, ap, ◌∙◌, subst, arith}
+use Rattle.std.proofs.lemmas.List.{append-nil, append_assoc}
 use Rattle.std.specs.Bool.{MatchBool}
 use Rattle.std.specs.Str.{bytes_eq}
 use Rattle.std.specs.List.{AllByRecursion}
@@ -77,3 +78,24 @@ module _ (rows : List (List ℕ × List Assertion)) where
       rising = changed-rises noted up;
       differ = λ x. subst (λ b. MatchBool b (before x ≢ row_in rows x) (before x ≡ row_in rows x)) (sym (has-changed noted up x)) (one x (value_at bytes_cmp x noted) (all x));
     }
+
+-- ---- the list so far, with what is left
+
+module _ (rows : List (List ℕ × List Assertion)) (list whole : List (List ℕ)) (left : List (List ℕ × List Assertion)) (so_far : list ++ changed_of left rows ≡ whole) where
+  pub list_on : (e : List ℕ × List Assertion) (rest : List (List ℕ × List Assertion)) (now : List (List ℕ)) → left ≡ e ∷ rest → now ≡ list ++ cond (same_rows e.1 (row_in rows e.0)) [] (e.0 ∷ []) → now ++ changed_of rest rows ≡ whole
+  list_on e rest now is more =
+      ap (λ (l : List (List ℕ)). l ++ changed_of rest rows) more
+      ∙ append_assoc list (cond (same_rows e.1 (row_in rows e.0)) [] (e.0 ∷ [])) (changed_of rest rows)
+      ∙ ap (λ (l : List (List ℕ)). list ++ l) (one (same_rows e.1 (row_in rows e.0)))
+      ∙ sym (ap (λ es. list ++ changed_of es rows) is)
+      ∙ so_far
+    where
+      one : (b : Bool) → cond b [] (e.0 ∷ []) ++ changed_of rest rows ≡ cond b (changed_of rest rows) (e.0 ∷ changed_of rest rows)
+      one true = refl
+      one false = refl
+
+  pub list_end : left ≡ [] → list ≡ whole
+  list_end none = sym (append-nil list) ∙ sym (ap (λ es. list ++ changed_of es rows) none) ∙ so_far
+
+pub one_less : (left rest : List (List ℕ × List Assertion)) (e : List ℕ × List Assertion) → left ≡ e ∷ rest → length left ≡ length rest + 1
+one_less left rest e is = let size = ap length is in omega (arith, size)

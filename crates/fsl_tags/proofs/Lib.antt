@@ -28,3 +28,8 @@ pub mod Holding
 pub mod Others
 pub mod Grouping
 pub mod Blending
+pub mod Ends
+pub mod Refreshed
+pub mod Nodes
+pub mod Taken
+pub mod Stronger

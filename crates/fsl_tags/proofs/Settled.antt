@@ -177,6 +177,14 @@ placed rows mid then right root row is put x each =
     (λ (e : then x ≡ right x). inr e)
     each
 
+-- the root has the row that was put
+pub put_here : (rows mid : List ℕ → List Assertion) (root : List ℕ) (row : List Assertion) → ((x : List ℕ) → mid x ≡ cond (bytes_eq x root) row (rows x)) → mid root ≡ row
+put_here rows mid root row put = put root ∙ ap (λ b. cond b row (rows root)) ((bytes_decides root root).1 refl)
+
+pub right_end : (mid then right : List Assertion) → mid ≡ right → (then ≡ mid) ⊎ (then ≡ right) → then ≡ right
+right_end mid then right is (inl same) = same ∙ is
+right_end mid then right is (inr done) = done
+
 -- where a name's pairs are by the facts, its children are at most itself, if it had none before
 pub only_self : (facts then : List (List ℕ × Node)) (old new : List (Pair × Unit {0})) (own : List (List ℕ × List Assertion)) (name : List ℕ) → AreLaid facts old own → AreLaid then new own
     → ((x : List ℕ) → bytes_eq x name ≡ false → parent_in facts x ≡ parent_in then x) → seconds name old ≡ [] → AllByRecursion (λ c. bytes_eq c name ≡ true) (seconds name new)

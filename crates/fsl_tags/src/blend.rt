@@ -1,5 +1,5 @@
 //! Rows by rising tag, each with the newest assertion of each tag.
-ghost use Rattle.std.specs.Prelude.{◌≡◌, List, ℕ, IfOk};
+ghost use Rattle.std.specs.Prelude.{◌≡◌, [], List, ℕ, IfOk, OnOk};
 ghost use Rattle.fsl_order.specs.Rows.{named};
 ghost use Rattle.fsl_tags.specs.Kept.{newer, newest_of};
 ghost use Rattle.fsl_tags.specs.Laid.{Rises};
@@ -23,6 +23,30 @@ fn newer<'a>(first: &'a Shared, second: &'a Shared) -> &'a Shared
     }
 }
 
+/// Fills a row, which is empty, with the newer of two assertions for each tag.
+fn blend_into(row: &mut List<Shared>, first: &[Shared], second: &[Shared]) -> Result<(), Memory>
+    requires empty { row.old ≡ [] }
+    requires first { Rises first.now }
+    requires second { Rises second.now }
+    ensures rises { OnOk result (Rises row.new) }
+    ensures newest { OnOk result (HasNewer first.now (λ tag. named (λ a. a.tag) second.now tag) row.new) }
+{
+    let mut near = 0;
+    let mut far = 0;
+    while near < first.len() && far < second.len() {
+        let order = first[near].get().tag.cmp(&second[far].get().tag);
+        match order {
+            Ordering::Less => push(row, &first[near])?,
+            Ordering::Equal => push(row, newer(&first[near], &second[far]))?,
+            Ordering::Greater => push(row, &second[far])?,
+        }
+        near += usize::from(order.is_le());
+        far += usize::from(order.is_ge());
+    }
+    push_all(row, &first[near..])?;
+    push_all(row, &second[far..])
+}
+
 /// The newer of two assertions for each tag.
 fn blended(alloc: Global, first: &[Shared], second: &[Shared]) -> Result<List<Shared>, Memory>
     requires first { Rises first.now }
@@ -31,21 +55,10 @@ fn blended(alloc: Global, first: &[Shared], second: &[Shared]) -> Result<List<Sh
     ensures newest { IfOk result (λ row. HasNewer first.now (λ tag. named (λ a. a.tag) second.now tag) row) }
 {
     let mut row = List::new(alloc);
-    let mut near = 0;
-    let mut far = 0;
-    while near < first.len() && far < second.len() {
-        let order = first[near].get().tag.cmp(&second[far].get().tag);
-        match order {
-            Ordering::Less => push(&mut row, &first[near])?,
-            Ordering::Equal => push(&mut row, newer(&first[near], &second[far]))?,
-            Ordering::Greater => push(&mut row, &second[far])?,
-        }
-        near += usize::from(order.is_le());
-        far += usize::from(order.is_ge());
+    match blend_into(&mut row, first, second) {
+        Ok(()) => Ok(row),
+        Err(Memory) => Err(Memory),
     }
-    push_all(&mut row, &first[near..])?;
-    push_all(&mut row, &second[far..])?;
-    Ok(row)
 }
 
 /// The newest of some assertions for each tag. Both halves are worked out and blended, so that n assertions take time by n log n.

@@ -49,6 +49,38 @@ pub(crate) fn pop(noted: &mut BTreeMap<Name, List<Shared>>) -> Option<(Name, Lis
     noted.pop_first()
 }
 
+/// Puts a name at the end, unless its row is the one that was noted.
+fn append_changed<L: Ledger>(
+    rows: &Table<Name, List<Shared>>,
+    list: &mut List<Name>,
+    name: Name,
+    row: List<Shared>,
+    steps: &mut Steps<L>,
+) -> Result<(), Memory>
+    ensures cost { steps.new ≡ steps.old + 1 }
+    ensures list { OnOk result (list.new ≡ list.old ++ cond (same_rows row (row_in rows.now.entries name)) [] (name ∷ [])) }
+{
+    let same = is_row(rows, name, row.items(), steps);
+    append_unless(same, list, name)
+}
+
+/// Lists the names whose rows aren't those that are noted, and takes all that is noted out.
+fn list_changed<L: Ledger>(
+    noted: &mut BTreeMap<Name, List<Shared>>,
+    rows: &Table<Name, List<Shared>>,
+    list: &mut List<Name>,
+    steps: &mut Steps<L>,
+) -> Result<(), Memory>
+    requires { list.old ≡ [] }
+    ensures cost { steps.new ≤ steps.old + length noted.old.entries }
+    ensures list { OnOk result (list.new ≡ changed_of noted.old.entries rows.now.entries) }
+{
+    while let Some((name, row)) = pop(noted) {
+        append_changed(rows, list, name, row, steps)?;
+    }
+    Ok(())
+}
+
 /// The names whose rows aren't those that were noted.
 fn listed<L: Ledger>(
     alloc: Global,
@@ -61,11 +93,10 @@ fn listed<L: Ledger>(
 {
     let mut left = noted;
     let mut list = List::new(alloc);
-    while let Some((name, row)) = pop(&mut left) {
-        let same = is_row(rows, name, row.items(), steps);
-        append_unless(same, &mut list, name)?;
+    match list_changed(&mut left, rows, &mut list, steps) {
+        Ok(()) => Ok(list),
+        Err(Memory) => Err(Memory),
     }
-    Ok(list)
 }
 
 /// The names whose rows have changed since the first was noted, ascending.

@@ -1,13 +1,63 @@
-use Rattle.std.proofs.Common.{◌≡◌, ◌∙◌, sym, ap}
-use Rattle.fsl_tags.specs.Joined.{joined}
-use Rattle.fsl_tags.specs.Laid.{row_in}
-use Rattle.fsl_tags.proofs.Full.{unchanged}
-use Rattle.fsl_tags.proofs.SameRows.{rows-one}
+use Rattle.std.proofs.Common.{◌∙◌, sym, subst}
+use Rattle.fsl_table.proofs.Outcomes.{on_ok_map, always_ok}
+use Rattle.fsl_tags.specs.Laid.{Rises}
+use Rattle.fsl_tags.proofs.Ends.{no_success}
+use Rattle.fsl_tags.proofs.Refreshed.{row_is, stays, waits, waits_not, put_is}
 use Rattle.fsl_tags.proofs.spread.refresh.Goals as goal
 
-pub returns-then-is_same-clause-row : goal.returns-then-is_same-clause-row
-returns-then-is_same-clause-row g c =
-    let same : c.row_of-before.result.now ≡ c.items.result.now = rows-one c.row_of-before.result.now c.items.result.now (sym c.is_same.ensures ∙ c.if-is_same.true) in
-    unchanged c.args.name (joined c.args.above.now (row_in c.args.own.now.entries c.args.name)) c.args.rows.now.entries
-    (sym c.row_of-before.ensures.row ∙ same ∙ c.items.ensures ∙ c.in_ok-row.ensures.whole
-    ∙ ap (joined c.args.above.now) c.row_of-near.ensures.row)
+pub merged-requires-clause-own : goal.merged-requires-clause-own
+merged-requires-clause-own g c = subst (λ row. Rises row) (sym c.row_of-near.ensures.row) c.requires.rise
+
+pub merged-requires-clause-above : goal.merged-requires-clause-above
+merged-requires-clause-above g c = c.requires.above
+
+pub returns-in_err-row : goal.returns-in_err-row
+returns-in_err-row g c =
+    let r = c.from_residual.result in
+    let is = c.from_residual.ensures.1 in record {
+      full = no_success r _ is _;
+      row = no_success r _ is _;
+      waiting = no_success r _ is _;
+      noted = no_success r _ is _;
+      undoes = λ before u. u;
+    }
+
+pub returns-then-is_same : goal.returns-then-is_same
+returns-then-is_same g c =
+    let rows = c.args.rows.now.entries in
+    let name = c.args.name in
+    let items = row_is c.in_ok-row.row c.items.result.now c.row_of-near.result.now c.args.above.now _ c.items.ensures c.in_ok-row.ensures.whole c.row_of-near.ensures.row in record {
+      full = c.requires.full;
+      row = stays name rows c.row_of-before.result.now c.items.result.now _ c.is_same.result c.row_of-before.ensures.row items c.is_same.ensures c.if-is_same.true;
+      waiting = waits_not name c.args.waiting.now.items c.row_of-before.result.now c.items.result.now _ _ c.is_same.result c.row_of-before.ensures.row items c.is_same.ensures c.if-is_same.true;
+      noted = λ before n. n;
+      undoes = λ before u. u;
+    }
+
+pub returns-in_err-push : goal.returns-in_err-push
+returns-in_err-push g c =
+    let r = c.from_residual-in_err-push.result in
+    let is = c.from_residual-in_err-push.ensures.1 in record {
+      full = no_success r _ is _;
+      row = no_success r _ is _;
+      waiting = no_success r _ is _;
+      noted = no_success r _ is _;
+      undoes = λ before u. u;
+    }
+
+pub place-requires : goal.place-requires
+place-requires g c = c.requires.full
+
+pub returns : goal.returns
+returns g c =
+    let name = c.args.name in
+    let rows = c.args.rows.now.entries in
+    let items = row_is c.in_ok-row.row c.items.result.now c.row_of-near.result.now c.args.above.now _ c.items.ensures c.in_ok-row.ensures.whole c.row_of-near.ensures.row in record {
+      full = c.place.ensures.full;
+      row = on_ok_map c.place.result (put_is name rows c.place.new.rows.entries c.in_ok-row.row _ (sym c.items.ensures ∙ items)) c.place.ensures.row;
+      waiting =
+          always_ok c.place.result
+          (waits name c.args.waiting.now.items c.push.new.self.items c.row_of-before.result.now c.items.result.now _ _ c.is_same.result c.in_ok-push.ensures.items c.row_of-before.ensures.row items c.is_same.ensures c.if-is_same.false);
+      noted = c.place.ensures.noted;
+      undoes = c.place.ensures.undoes;
+    }

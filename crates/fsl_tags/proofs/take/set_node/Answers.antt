@@ -1,230 +1,128 @@
-use Rattle.std.proofs.Common.{◌≡◌, ◌∙◌, ◌+◌, ◌⊎◌, ◌&&◌, ◌||◌, not, ℕ, List, None, length, cond, false, is_some, option_and_then, sym, ap, subst, refl, arith}
-use Rattle.std.specs.Str.{bytes_eq}
-use Rattle.std.specs.Cmp.Lexicographic.{bytes_decides}
-use Rattle.fsl_order.specs.Names.{bytes_cmp}
-use Rattle.fsl_table.specs.Exact.{pair_cmp}
-use Rattle.fsl_table.specs.Contents.{value_at, with_entry}
-use Rattle.fsl_tags.specs.Climbed.{row_up}
-use Rattle.fsl_tags.specs.Joined.{joined}
-use Rattle.fsl_table.specs.Pairs.{is_name}
-use Rattle.fsl_tags.specs.Laid.{row_in, parent_in, AreLaid}
-use Rattle.fsl_tags.proofs.RowsOf.{of_tag}
-use Rattle.fsl_tags.proofs.Limits.{low-itself}
-use Rattle.fsl_table.proofs.Outcomes.{four_ok}
-use Rattle.fsl_tags.proofs.Linked.{parent-with, longer-with, relinked}
-use Rattle.fsl_tags.proofs.Renewal.{renewal-root, renewal-even, renewal-all, up-rises}
-use Rattle.fsl_table.specs.Pairs.{seconds}
-use Rattle.fsl_table.proofs.Seconds.{seconds_sorted}
-use Rattle.fsl_tags.proofs.Settled.{only_self, one_self}
+use Rattle.std.proofs.Common.{refl, ◌∙◌, arith}
+use Rattle.fsl_table.proofs.Outcomes.{four_ok, always_ok}
+use Rattle.fsl_tags.specs.Laid.{AreLaid}
+use Rattle.fsl_tags.proofs.Ends.{no_success}
+use Rattle.fsl_tags.proofs.Nodes.{put_laid, put_root, put_even, put_right, put_lone, put_one}
+use Rattle.fsl_tags.proofs.Renewal.{up-rises}
 use Rattle.fsl_tags.proofs.take.set_node.Goals as goal
 
-pub renew-requires-clause-laid : goal.renew-requires-clause-laid
-renew-requires-clause-laid g c =
-    let name = c.args.name in
-    let node = c.args.node in
+pub unlink-requires : goal.unlink-requires
+unlink-requires g c = c.requires.right.laid.ordered
+
+pub returns-in_err-unlink : goal.returns-in_err-unlink
+returns-in_err-unlink g c =
+    let r = c.from_residual.result in
+    let is = c.from_residual.ensures.1 in record {
+      right = no_success r _ is _;
+      facts = no_success r _ is _;
+      noted = no_success r _ is _;
+      undoes_facts = λ before u. u;
+      undoes_children = c.unlink.ensures.undoes;
+      undoes_rows = λ before u. u;
+      more = λ lone free. omega arith;
+      touches = λ lone free.
+          (let old = c.parent_of-old.ensures.cost in
+          let none = c.unlink.ensures.none (c.parent_of-old.ensures.parent ∙ lone) in omega (arith, old, none));
+      logged = λ lone free. (let none = c.unlink.ensures.none_logged (c.parent_of-old.ensures.parent ∙ lone) in omega (arith, none));
+    }
+
+pub link-requires : goal.link-requires
+link-requires g c = c.in_ok-unlink.ensures.ordered
+
+pub returns-in_err-link : goal.returns-in_err-link
+returns-in_err-link g c =
+    let r = c.from_residual-in_err-link.result in
+    let is = c.from_residual-in_err-link.ensures.1 in record {
+      right = no_success r _ is _;
+      facts = no_success r _ is _;
+      noted = no_success r _ is _;
+      undoes_facts = λ before u. u;
+      undoes_children = λ before u. c.link.ensures.undoes before (c.unlink.ensures.undoes before u);
+      undoes_rows = λ before u. u;
+      more = λ lone free. omega arith;
+      touches = λ lone free.
+          (let old = c.parent_of-old.ensures.cost in
+          let none = c.in_ok-unlink.ensures.none (c.parent_of-old.ensures.parent ∙ lone) in
+          let most = c.link.ensures.most in omega (arith, old, none, most));
+      logged = λ lone free.
+          (let none = c.in_ok-unlink.ensures.none_logged (c.parent_of-old.ensures.parent ∙ lone) in
+          let logged = c.link.ensures.logged in omega (arith, none, logged));
+    }
+
+pub put-requires : goal.put-requires
+put-requires g c = refl
+
+pub returns-in_err-put : goal.returns-in_err-put
+returns-in_err-put g c =
+    let r = c.from_residual-in_err-put.result in
+    let is = c.from_residual-in_err-put.ensures.1 in record {
+      right = no_success r _ is _;
+      facts = no_success r _ is _;
+      noted = no_success r _ is _;
+      undoes_facts = c.put.ensures.undoes;
+      undoes_children = λ before u. c.link.ensures.undoes before (c.unlink.ensures.undoes before u);
+      undoes_rows = λ before u. u;
+      more = λ lone free. omega arith;
+      touches = λ lone free.
+          (let old = c.parent_of-old.ensures.cost in
+          let none = c.in_ok-unlink.ensures.none (c.parent_of-old.ensures.parent ∙ lone) in
+          let most = c.in_ok-link.ensures.most in
+          let cost = c.put.ensures.cost in omega (arith, old, none, most, cost));
+      logged = λ lone free.
+          (let none = c.in_ok-unlink.ensures.none_logged (c.parent_of-old.ensures.parent ∙ lone) in
+          let link = c.in_ok-link.ensures.logged in
+          let put = c.put.ensures.logged in omega (arith, none, link, put));
+    }
+
+pub renew-requires : goal.renew-requires
+renew-requires g c =
     let facts = c.args.facts.now.entries in
     let then = c.put.new.table.entries in
+    let children = c.args.children.now.entries in
     let own = c.args.own.now.entries in
     let rows = c.args.rows.now.entries in
-    let r = c.requires.right in
-    let put : then ≡ with_entry bytes_cmp name node facts = c.in_ok-put.ensures.ok in
-    let par : (x : List ℕ) → parent_in then x ≡ cond (bytes_eq x name) node.parent (parent_in facts x) = λ x. ap (λ es. parent_in es x) put ∙ parent-with name node facts x in
-    let par_else : (x : List ℕ) → bytes_eq x name ≡ false → parent_in facts x ≡ parent_in then x = λ x h. sym (par x ∙ ap (λ b. cond b node.parent (parent_in facts x)) h) in
-    let here : parent_in then name ≡ node.parent = par name ∙ ap (λ b. cond b node.parent (parent_in facts name)) ((bytes_decides name name).1 refl) in
-    let longer = longer-with name node facts in
-    let long : length then ≡ longer.0 + length facts = ap length put ∙ longer.1 in
-    let laid : AreLaid then c.link.new.pairs.entries own = record {
-      ordered = c.in_ok-link.ensures.ordered;
-      pairs = λ k.
-          relinked facts name node c.args.children.now.entries c.unlink.new.pairs.entries c.link.new.pairs.entries r.laid.pairs
-          (λ k. c.in_ok-unlink.ensures.pairs k ∙ ap (λ o. not (is_name k.second name && is_name o k.first) && is_some (value_at pair_cmp k c.args.children.now.entries)) c.parent_of-old.ensures.parent)
-          (λ k. c.in_ok-link.ensures.pairs k ∙ ap (λ o. (is_name k.second name && is_name o k.first) || is_some (value_at pair_cmp k c.unlink.new.pairs.entries)) c.requires.parent) k
-          ∙ ap (λ es. is_name (option_and_then (parent_in es) k.second) k.first) (sym put);
-      rise = r.laid.rise;
-    } in
-    laid
+    let was = c.requires.right in
+    let put = c.in_ok-put.ensures.ok in record {
+      laid =
+          put_laid c.args.name c.args.node facts then children own rows was put c.unlink.new.pairs.entries c.link.new.pairs.entries c.parent_of-old.result c.args.up c.parent_of-old.ensures.parent c.requires.parent
+          c.in_ok-link.ensures.ordered c.in_ok-unlink.ensures.pairs c.in_ok-link.ensures.pairs;
+      full = was.full;
+      above = up-rises facts own rows was.laid.rise was.right c.parent_of-above.result;
+      root = put_root c.args.name c.args.node facts then children own rows was put c.parent_of-above.result c.parent_of-above.ensures.parent c.requires.before;
+      even = put_even c.args.name c.args.node facts then children own rows was put;
+    }
 
-pub renew-requires-clause-above : goal.renew-requires-clause-above
-renew-requires-clause-above g c = up-rises c.args.facts.now.entries c.args.own.now.entries c.args.rows.now.entries c.requires.right.laid.rise c.requires.right.right c.parent_of-above.result
-
-pub renew-requires-clause-root : goal.renew-requires-clause-root
-renew-requires-clause-root g c =
-    let name = c.args.name in
-    let node = c.args.node in
+pub returns : goal.returns
+returns g c =
     let facts = c.args.facts.now.entries in
     let then = c.put.new.table.entries in
+    let children = c.args.children.now.entries in
+    let links = c.link.new.pairs.entries in
     let own = c.args.own.now.entries in
     let rows = c.args.rows.now.entries in
-    let r = c.requires.right in
-    let put : then ≡ with_entry bytes_cmp name node facts = c.in_ok-put.ensures.ok in
-    let par : (x : List ℕ) → parent_in then x ≡ cond (bytes_eq x name) node.parent (parent_in facts x) = λ x. ap (λ es. parent_in es x) put ∙ parent-with name node facts x in
-    let par_else : (x : List ℕ) → bytes_eq x name ≡ false → parent_in facts x ≡ parent_in then x = λ x h. sym (par x ∙ ap (λ b. cond b node.parent (parent_in facts x)) h) in
-    let here : parent_in then name ≡ node.parent = par name ∙ ap (λ b. cond b node.parent (parent_in facts name)) ((bytes_decides name name).1 refl) in
-    let longer = longer-with name node facts in
-    let long : length then ≡ longer.0 + length facts = ap length put ∙ longer.1 in
-    let before : (parent_in then name ≡ None) ⊎ ((parent_in facts name ≡ None) ⊎ (parent_in facts name ≡ parent_in then name)) =
-    subst (λ o. (o ≡ None) ⊎ ((parent_in facts name ≡ None) ⊎ (parent_in facts name ≡ o))) (sym here) c.requires.before in
-    ap (λ o. joined (row_up (row_in rows) o) (row_in own name)) c.parent_of-above.ensures.parent
-    ∙ renewal-root facts then own own rows name r.laid.rise r.laid.rise r.right par_else (λ x h. refl) longer.0 long before (λ t. low-itself (of_tag (row_in own name) t))
-
-pub renew-requires-clause-even : goal.renew-requires-clause-even
-renew-requires-clause-even g c =
-    let name = c.args.name in
-    let node = c.args.node in
-    let facts = c.args.facts.now.entries in
-    let then = c.put.new.table.entries in
-    let own = c.args.own.now.entries in
-    let rows = c.args.rows.now.entries in
-    let r = c.requires.right in
-    let put : then ≡ with_entry bytes_cmp name node facts = c.in_ok-put.ensures.ok in
-    let par : (x : List ℕ) → parent_in then x ≡ cond (bytes_eq x name) node.parent (parent_in facts x) = λ x. ap (λ es. parent_in es x) put ∙ parent-with name node facts x in
-    let par_else : (x : List ℕ) → bytes_eq x name ≡ false → parent_in facts x ≡ parent_in then x = λ x h. sym (par x ∙ ap (λ b. cond b node.parent (parent_in facts x)) h) in
-    let here : parent_in then name ≡ node.parent = par name ∙ ap (λ b. cond b node.parent (parent_in facts name)) ((bytes_decides name name).1 refl) in
-    let longer = longer-with name node facts in
-    let long : length then ≡ longer.0 + length facts = ap length put ∙ longer.1 in
-    renewal-even facts then own own rows name r.laid.rise r.laid.rise r.right par_else (λ x h. refl) longer.0 long
-
-pub returns-clause-right : goal.returns-clause-right
-returns-clause-right g c =
-    let name = c.args.name in
-    let node = c.args.node in
-    let facts = c.args.facts.now.entries in
-    let then = c.put.new.table.entries in
-    let own = c.args.own.now.entries in
-    let rows = c.args.rows.now.entries in
-    let r = c.requires.right in
-    let put : then ≡ with_entry bytes_cmp name node facts = c.in_ok-put.ensures.ok in
-    let par : (x : List ℕ) → parent_in then x ≡ cond (bytes_eq x name) node.parent (parent_in facts x) = λ x. ap (λ es. parent_in es x) put ∙ parent-with name node facts x in
-    let par_else : (x : List ℕ) → bytes_eq x name ≡ false → parent_in facts x ≡ parent_in then x = λ x h. sym (par x ∙ ap (λ b. cond b node.parent (parent_in facts x)) h) in
-    let here : parent_in then name ≡ node.parent = par name ∙ ap (λ b. cond b node.parent (parent_in facts name)) ((bytes_decides name name).1 refl) in
-    let longer = longer-with name node facts in
-    let long : length then ≡ longer.0 + length facts = ap length put ∙ longer.1 in
-    let laid : AreLaid then c.link.new.pairs.entries own = record {
-      ordered = c.in_ok-link.ensures.ordered;
-      pairs = λ k.
-          relinked facts name node c.args.children.now.entries c.unlink.new.pairs.entries c.link.new.pairs.entries r.laid.pairs
-          (λ k. c.in_ok-unlink.ensures.pairs k ∙ ap (λ o. not (is_name k.second name && is_name o k.first) && is_some (value_at pair_cmp k c.args.children.now.entries)) c.parent_of-old.ensures.parent)
-          (λ k. c.in_ok-link.ensures.pairs k ∙ ap (λ o. (is_name k.second name && is_name o k.first) || is_some (value_at pair_cmp k c.unlink.new.pairs.entries)) c.requires.parent) k
-          ∙ ap (λ es. is_name (option_and_then (parent_in es) k.second) k.first) (sym put);
-      rise = r.laid.rise;
-    } in
-    four_ok c.renew.result
-    (λ full each root even. record { laid = laid; own_full = r.own_full; full = full; right = renewal-all facts then own own rows name r.laid.rise r.laid.rise r.right par_else (λ x h. refl) longer.0 long c.renew.new.rows.entries each root even })
-    c.renew.ensures.full c.renew.ensures.each c.renew.ensures.root c.renew.ensures.even
-
-pub returns-in_err-link-clause-undoes_children : goal.returns-in_err-link-clause-undoes_children
-returns-in_err-link-clause-undoes_children g c = λ before u. c.link.ensures.undoes before (c.unlink.ensures.undoes before u)
-
-pub returns-in_err-put-clause-undoes_children : goal.returns-in_err-put-clause-undoes_children
-returns-in_err-put-clause-undoes_children g c = λ before u. c.link.ensures.undoes before (c.unlink.ensures.undoes before u)
-
-pub returns-clause-undoes_children : goal.returns-clause-undoes_children
-returns-clause-undoes_children g c = λ before u. c.link.ensures.undoes before (c.unlink.ensures.undoes before u)
-
-pub returns-clause-touches : goal.returns-clause-touches
-returns-clause-touches g c = λ lone free.
-    let name = c.args.name in
-    let node = c.args.node in
-    let facts = c.args.facts.now.entries in
-    let then = c.put.new.table.entries in
-    let own = c.args.own.now.entries in
-    let rows = c.args.rows.now.entries in
-    let r = c.requires.right in
-    let put : then ≡ with_entry bytes_cmp name node facts = c.in_ok-put.ensures.ok in
-    let par : (x : List ℕ) → parent_in then x ≡ cond (bytes_eq x name) node.parent (parent_in facts x) = λ x. ap (λ es. parent_in es x) put ∙ parent-with name node facts x in
-    let par_else : (x : List ℕ) → bytes_eq x name ≡ false → parent_in facts x ≡ parent_in then x = λ x h. sym (par x ∙ ap (λ b. cond b node.parent (parent_in facts x)) h) in
-    let here : parent_in then name ≡ node.parent = par name ∙ ap (λ b. cond b node.parent (parent_in facts name)) ((bytes_decides name name).1 refl) in
-    let longer = longer-with name node facts in
-    let long : length then ≡ longer.0 + length facts = ap length put ∙ longer.1 in
-    let laid : AreLaid then c.link.new.pairs.entries own = record {
-      ordered = c.in_ok-link.ensures.ordered;
-      pairs = λ k.
-          relinked facts name node c.args.children.now.entries c.unlink.new.pairs.entries c.link.new.pairs.entries r.laid.pairs
-          (λ k. c.in_ok-unlink.ensures.pairs k ∙ ap (λ o. not (is_name k.second name && is_name o k.first) && is_some (value_at pair_cmp k c.args.children.now.entries)) c.parent_of-old.ensures.parent)
-          (λ k. c.in_ok-link.ensures.pairs k ∙ ap (λ o. (is_name k.second name && is_name o k.first) || is_some (value_at pair_cmp k c.unlink.new.pairs.entries)) c.requires.parent) k
-          ∙ ap (λ es. is_name (option_and_then (parent_in es) k.second) k.first) (sym put);
-      rise = r.laid.rise;
-    } in
-    let none = c.parent_of-old.ensures.parent ∙ lone in
-    let all = only_self facts then c.args.children.now.entries c.link.new.pairs.entries own name r.laid laid par_else free in
-    let n = one_self name (seconds name c.link.new.pairs.entries) (seconds_sorted name c.link.new.pairs.entries laid.ordered) all in
-    let t = c.renew.ensures.touches all in
-    omega (arith, n, t, c.parent_of-above.ensures.cost, c.in_ok-put.ensures.cost, c.in_ok-link.ensures.most, c.in_ok-unlink.ensures.none none, c.parent_of-old.ensures.cost)
-
-pub returns-clause-logged : goal.returns-clause-logged
-returns-clause-logged g c = λ lone free.
-    let name = c.args.name in
-    let node = c.args.node in
-    let facts = c.args.facts.now.entries in
-    let then = c.put.new.table.entries in
-    let own = c.args.own.now.entries in
-    let rows = c.args.rows.now.entries in
-    let r = c.requires.right in
-    let put : then ≡ with_entry bytes_cmp name node facts = c.in_ok-put.ensures.ok in
-    let par : (x : List ℕ) → parent_in then x ≡ cond (bytes_eq x name) node.parent (parent_in facts x) = λ x. ap (λ es. parent_in es x) put ∙ parent-with name node facts x in
-    let par_else : (x : List ℕ) → bytes_eq x name ≡ false → parent_in facts x ≡ parent_in then x = λ x h. sym (par x ∙ ap (λ b. cond b node.parent (parent_in facts x)) h) in
-    let here : parent_in then name ≡ node.parent = par name ∙ ap (λ b. cond b node.parent (parent_in facts name)) ((bytes_decides name name).1 refl) in
-    let longer = longer-with name node facts in
-    let long : length then ≡ longer.0 + length facts = ap length put ∙ longer.1 in
-    let laid : AreLaid then c.link.new.pairs.entries own = record {
-      ordered = c.in_ok-link.ensures.ordered;
-      pairs = λ k.
-          relinked facts name node c.args.children.now.entries c.unlink.new.pairs.entries c.link.new.pairs.entries r.laid.pairs
-          (λ k. c.in_ok-unlink.ensures.pairs k ∙ ap (λ o. not (is_name k.second name && is_name o k.first) && is_some (value_at pair_cmp k c.args.children.now.entries)) c.parent_of-old.ensures.parent)
-          (λ k. c.in_ok-link.ensures.pairs k ∙ ap (λ o. (is_name k.second name && is_name o k.first) || is_some (value_at pair_cmp k c.unlink.new.pairs.entries)) c.requires.parent) k
-          ∙ ap (λ es. is_name (option_and_then (parent_in es) k.second) k.first) (sym put);
-      rise = r.laid.rise;
-    } in
-    let none = c.parent_of-old.ensures.parent ∙ lone in
-    let all = only_self facts then c.args.children.now.entries c.link.new.pairs.entries own name r.laid laid par_else free in
-    let n = one_self name (seconds name c.link.new.pairs.entries) (seconds_sorted name c.link.new.pairs.entries laid.ordered) all in
-    let t = c.renew.ensures.logged all in
-    omega (arith, t, c.in_ok-put.ensures.logged, c.in_ok-link.ensures.logged, c.in_ok-unlink.ensures.none_logged none)
-
-pub returns-in_err-link-clause-touches : goal.returns-in_err-link-clause-touches
-returns-in_err-link-clause-touches g c = λ lone free. let none = c.parent_of-old.ensures.parent ∙ lone in omega (arith, c.parent_of-old.ensures.cost, c.in_ok-unlink.ensures.none none, c.link.ensures.most)
-
-pub returns-in_err-link-clause-logged : goal.returns-in_err-link-clause-logged
-returns-in_err-link-clause-logged g c = λ lone free. let none = c.parent_of-old.ensures.parent ∙ lone in omega (arith, c.in_ok-unlink.ensures.none_logged none, c.link.ensures.logged)
-
-pub returns-in_err-put-clause-touches : goal.returns-in_err-put-clause-touches
-returns-in_err-put-clause-touches g c = λ lone free. let none = c.parent_of-old.ensures.parent ∙ lone in omega (arith, c.parent_of-old.ensures.cost, c.in_ok-unlink.ensures.none none, c.in_ok-link.ensures.most, c.put.ensures.cost)
-
-pub returns-in_err-put-clause-logged : goal.returns-in_err-put-clause-logged
-returns-in_err-put-clause-logged g c = λ lone free. let none = c.parent_of-old.ensures.parent ∙ lone in omega (arith, c.in_ok-unlink.ensures.none_logged none, c.in_ok-link.ensures.logged, c.put.ensures.logged)
-
-pub returns-in_err-unlink-clause-touches : goal.returns-in_err-unlink-clause-touches
-returns-in_err-unlink-clause-touches g c = λ lone free. let none = c.parent_of-old.ensures.parent ∙ lone in omega (arith, c.parent_of-old.ensures.cost, c.unlink.ensures.none none)
-
-pub returns-in_err-unlink-clause-logged : goal.returns-in_err-unlink-clause-logged
-returns-in_err-unlink-clause-logged g c = λ lone free. let none = c.parent_of-old.ensures.parent ∙ lone in omega (arith, c.unlink.ensures.none_logged none)
-
-pub returns-clause-more : goal.returns-clause-more
-returns-clause-more g c = λ lone free.
-    let name = c.args.name in
-    let node = c.args.node in
-    let facts = c.args.facts.now.entries in
-    let then = c.put.new.table.entries in
-    let own = c.args.own.now.entries in
-    let rows = c.args.rows.now.entries in
-    let r = c.requires.right in
-    let put : then ≡ with_entry bytes_cmp name node facts = c.in_ok-put.ensures.ok in
-    let par : (x : List ℕ) → parent_in then x ≡ cond (bytes_eq x name) node.parent (parent_in facts x) = λ x. ap (λ es. parent_in es x) put ∙ parent-with name node facts x in
-    let par_else : (x : List ℕ) → bytes_eq x name ≡ false → parent_in facts x ≡ parent_in then x = λ x h. sym (par x ∙ ap (λ b. cond b node.parent (parent_in facts x)) h) in
-    let here : parent_in then name ≡ node.parent = par name ∙ ap (λ b. cond b node.parent (parent_in facts name)) ((bytes_decides name name).1 refl) in
-    let longer = longer-with name node facts in
-    let long : length then ≡ longer.0 + length facts = ap length put ∙ longer.1 in
-    let laid : AreLaid then c.link.new.pairs.entries own = record {
-      ordered = c.in_ok-link.ensures.ordered;
-      pairs = λ k.
-          relinked facts name node c.args.children.now.entries c.unlink.new.pairs.entries c.link.new.pairs.entries r.laid.pairs
-          (λ k. c.in_ok-unlink.ensures.pairs k ∙ ap (λ o. not (is_name k.second name && is_name o k.first) && is_some (value_at pair_cmp k c.args.children.now.entries)) c.parent_of-old.ensures.parent)
-          (λ k. c.in_ok-link.ensures.pairs k ∙ ap (λ o. (is_name k.second name && is_name o k.first) || is_some (value_at pair_cmp k c.unlink.new.pairs.entries)) c.requires.parent) k
-          ∙ ap (λ es. is_name (option_and_then (parent_in es) k.second) k.first) (sym put);
-      rise = r.laid.rise;
-    } in
-    let none = c.parent_of-old.ensures.parent ∙ lone in
-    let all = only_self facts then c.args.children.now.entries c.link.new.pairs.entries own name r.laid laid par_else free in
-    let n = one_self name (seconds name c.link.new.pairs.entries) (seconds_sorted name c.link.new.pairs.entries laid.ordered) all in
-    let t = c.renew.ensures.more all in
-    t
+    let was = c.requires.right in
+    let put = c.in_ok-put.ensures.ok in
+    let laid : AreLaid then links own =
+    put_laid c.args.name c.args.node facts then children own rows was put c.unlink.new.pairs.entries links c.parent_of-old.result c.args.up c.parent_of-old.ensures.parent c.requires.parent
+    c.in_ok-link.ensures.ordered c.in_ok-unlink.ensures.pairs c.in_ok-link.ensures.pairs in record {
+      right = four_ok c.renew.result (put_right c.args.name c.args.node facts then children own rows was put links c.renew.new.rows.entries laid) c.renew.ensures.full c.renew.ensures.each c.renew.ensures.root c.renew.ensures.even;
+      facts = always_ok c.renew.result put;
+      noted = c.renew.ensures.noted;
+      undoes_facts = c.put.ensures.undoes;
+      undoes_children = λ before u. c.link.ensures.undoes before (c.unlink.ensures.undoes before u);
+      undoes_rows = c.renew.ensures.undoes;
+      more = λ lone free. c.renew.ensures.more (put_lone c.args.name c.args.node facts then children own rows was put links laid free);
+      touches = λ lone free.
+          (let one = put_one c.args.name c.args.node facts then children own rows was put links laid free in
+          let touches = c.renew.ensures.touches (put_lone c.args.name c.args.node facts then children own rows was put links laid free) in
+          let old = c.parent_of-old.ensures.cost in
+          let none = c.in_ok-unlink.ensures.none (c.parent_of-old.ensures.parent ∙ lone) in
+          let link = c.in_ok-link.ensures.most in
+          let cost = c.in_ok-put.ensures.cost in
+          let above = c.parent_of-above.ensures.cost in omega (arith, one, touches, old, none, link, cost, above));
+      logged = λ lone free.
+          (let renewed = c.renew.ensures.logged (put_lone c.args.name c.args.node facts then children own rows was put links laid free) in
+          let none = c.in_ok-unlink.ensures.none_logged (c.parent_of-old.ensures.parent ∙ lone) in
+          let link = c.in_ok-link.ensures.logged in
+          let logged = c.in_ok-put.ensures.logged in omega (arith, renewed, none, link, logged));
+    }

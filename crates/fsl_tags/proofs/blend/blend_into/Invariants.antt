@@ -1,6 +1,6 @@
 use Rattle.std.proofs.Common.{◌≡◌, ◌≤◌, ◌+◌, ◌-◌, ◌++◌, drop, length}
 use Rattle.fsl_tags.proofs.Blending.{blend}
-use Rattle.fsl_tags.proofs.blend.blended.Given as goal
+use Rattle.fsl_tags.proofs.blend.blend_into.Given as goal
 
 -- with what is left, it is the whole
 abbrev pub invariant-loop-near : goal.invariant-loop-near
