@@ -10,7 +10,7 @@ ghost use Rattle.fsl_leaves.specs.Leaves as table;
 use super::Fact;
 use super::kin::Twig;
 use super::line::Line;
-use super::rows::{put_fact, put_listed};
+use super::rows::{put_all, put_listed};
 use fsl_name::Name;
 use fsl_rows::Named;
 use fsl_table::keys::keys;
@@ -127,29 +127,29 @@ impl Leaves {
         ensures facts { IfOk result (λ t. t.facts ≡ by_name (λ f. f.name) facts) }
     {
         let mut steps: Steps<L> = Steps::new(blank);
-        let mut left = facts.into_vec();
+        Leaves::from_all(alloc, facts, &mut steps)
+    }
+
+    /// The same, on a counter that is there.
+    fn from_all<L: Ledger>(
+        alloc: Global,
+        facts: List<Fact>,
+        steps: &mut Steps<L>,
+    ) -> Result<Leaves, Memory>
+        requires { AreDistinct (map (λ f. f.name) facts) }
+        ensures facts { IfOk result (λ t. t.facts ≡ by_name (λ f. f.name) facts) }
+    {
         let mut rows = Table::new(alloc);
         let mut children = Table::new(alloc);
         let mut leaves = Table::new(alloc);
-        while let Some(fact) = left.pop() {
-            put_fact(
-                alloc,
-                &mut rows,
-                &mut children,
-                &mut leaves,
-                &mut Log::new(alloc),
-                &mut Log::new(alloc),
-                &mut Log::new(alloc),
-                &mut BTreeSet::new(alloc),
-                fact,
-                &mut steps,
-            )?;
+        match put_all(alloc, &mut rows, &mut children, &mut leaves, facts, steps) {
+            Ok(()) => Ok(Leaves {
+                facts: rows,
+                children,
+                leaves,
+            }),
+            Err(Memory) => Err(Memory),
         }
-        Ok(Leaves {
-            facts: rows,
-            children,
-            leaves,
-        })
     }
 
     /// Adds a check-in whose name isn't there. `Memory` is the only error, and the table then holds what it held.

@@ -1,10 +1,11 @@
-use Rattle.std.proofs.Common.{◌≡◌, ◌||◌, ◌&&◌, not, if◌then◌else◌, ◌∙◌, ap, sym, subst, is_some, option_and_then}
+use Rattle.std.proofs.Common.{◌≡◌, ℕ, ◌+◌, ◌*◌, ◌≤◌, ◌||◌, ◌&&◌, not, if◌then◌else◌, ◌∙◌, ap, sym, subst, is_some, option_and_then, length, arith}
+use Rattle.std.specs.Prelude.{OnOk}
 use Rattle.std.specs.Str.{bytes_eq}
 use Rattle.std.specs.List.Sorted.{IsStrictlySortedBy}
 use Rattle.std.specs.Map.{keys_of}
 use Rattle.fsl_order.specs.Names.{bytes_cmp, has}
 use Rattle.fsl_order.proofs.Orders.{bytes_cmp-IsTotalOrder}
-use Rattle.fsl_leaves.specs.Keys.{kin_cmp, is_kin}
+use Rattle.fsl_leaves.specs.Keys.{kin_cmp, is_kin, walked}
 use Rattle.fsl_table.specs.Contents.{value_at, with_entry}
 use Rattle.fsl_table.proofs.Entries.{sorted-insert_entry}
 use Rattle.fsl_table.proofs.Outcomes.{on_ok_map, always_ok}
@@ -14,45 +15,64 @@ use Rattle.fsl_leaves.proofs.Facts.{pairs_with}
 use Rattle.fsl_leaves.proofs.Counting.{walked_is, leaf_with}
 use Rattle.fsl_leaves.proofs.rows.put_fact.Goals as goal
 
-pub returns-in_err-set_leaf-clause-undoes_leaves : goal.returns-in_err-set_leaf-clause-undoes_leaves
-returns-in_err-set_leaf-clause-undoes_leaves g c = λ before u. c.set_leaf.ensures.undoes before (c.end_leaves.ensures.undoes before u)
+cost_of : (n m first linked last : ℕ) → n ≡ m → linked ≤ first + (3 + 4 * n) → last ≤ linked + 1 → last ≤ first + (4 + 4 * m)
+cost_of n m first linked last same a b = omega (arith, same, a, b)
 
-pub returns-clause-undoes_leaves : goal.returns-clause-undoes_leaves
-returns-clause-undoes_leaves g c = λ before u. c.set_leaf.ensures.undoes before (c.end_leaves.ensures.undoes before u)
+pub returns-in-Err : goal.returns-in-Err
+returns-in-Err g c =
+    let parents : length c.items.result.now ≡ length c.args.fact.parents = ap length (c.items.ensures ∙ ap (λ l. l.parents) c.in-Ok.ensures) in
+    let cost = c.link_line.ensures.cost in
+    let logged = c.link_line.ensures.logged in
+    record {
+      entries = tt;
+      kept = tt;
+      flips = tt;
+      undoes_facts = λ before u. u;
+      undoes_children = c.link_line.ensures.undoes_children;
+      undoes_leaves = c.link_line.ensures.undoes_leaves;
+      cost = cost_of (length c.items.result.now) (length c.args.fact.parents) c.args.steps.now c.link_line.new.steps c.link_line.new.steps parents cost (omega arith);
+      logged = omega (arith, parents, logged);
+    }
 
-pub returns-clause-flips : goal.returns-clause-flips
-returns-clause-flips g c = always_ok c.put.result (λ before all. c.in_ok-set_leaf.ensures.flips before (c.in_ok-end_leaves.ensures.flips before all))
-
-pub returns-clause-entries : goal.returns-clause-entries
-returns-clause-entries g c =
-    on_ok_map c.put.result
-    (λ put. put ∙ ap (λ b. with_entry bytes_cmp c.args.fact.name (record { parents = c.args.fact.parents; branch = b }) c.args.facts.now.entries) c.in_ok-branch.ensures)
-    c.put.ensures.ok
-
-pub returns-clause-kept : goal.returns-clause-kept
-returns-clause-kept g c =
+pub returns-in-Ok-link_line : goal.returns-in-Ok-link_line
+returns-in-Ok-link_line g c =
     let k = c.requires.kept in
     let es = c.args.facts.now.entries in
     let cs = c.args.children.now.entries in
     let name = c.args.fact.name in
-    let line : Line = record { parents = c.args.fact.parents; branch = c.in_ok-branch.branch } in
-    let ended : c.neither-ended.result ≡ not (continued es name line.branch || has line.parents name) =
-    c.neither-ended.ensures ∙ (λ i. not ((c.in_ok-continued.ensures.is ∙ walked_is es cs k.ordered k.pairs name line.branch) i || (c.stands_in-named.ensures ∙ ap (λ ps. has ps name) c.items-names.ensures) i)) in
-    on_ok_map c.put.result
-    (λ put. record {
-      ordered = subst (λ es. IsStrictlySortedBy bytes_cmp (keys_of es)) (sym put) (sorted-insert_entry bytes_cmp-IsTotalOrder name line es k.ordered);
-      pairs_ordered = c.in_ok-link_each.ensures.ordered;
-      leaves_ordered = c.in_ok-set_leaf.ensures.ordered;
-      pairs = λ key.
-          c.in_ok-link_each.ensures.pairs key
-          ∙ ap (λ ps. is_some (value_at kin_cmp key cs) || is_kin name ps line.branch key) c.items-names.ensures
-          ∙ pairs_with es cs name line k.pairs c.requires.absent key
-          ∙ ap (λ es. continues_in (option_and_then (λ c. value_at bytes_cmp c es) key.second) key.first.parent key.first.branch) (sym put);
-      leaves = λ q.
-          let after = c.in_ok-end_leaves.ensures.leaves q ∙ (λ i. k.leaves q i && not (has (c.items-names.ensures i) q && is_in (value_at bytes_cmp q es) line.branch)) in
-          c.in_ok-set_leaf.ensures.leaves q
-          ∙ (λ i. if bytes_eq q name then ended i else after i)
-          ∙ sym (leaf_with es name line k.ordered c.requires.absent q)
-          ∙ ap (λ es. leaf es q) (sym put);
-    })
-    c.put.ensures.ok
+    let line : Line = record { parents = c.args.fact.parents; branch = c.args.fact.branch } in
+    let told : c.in-Ok.line ≡ line = c.in-Ok.ensures in
+    let parents : c.items.result.now ≡ c.args.fact.parents = c.items.ensures ∙ ap (λ l. l.parents) told in
+    let branch : c.in-Ok.line.branch ≡ c.args.fact.branch = ap (λ l. l.branch) told in
+    let count : length c.items.result.now ≡ length c.args.fact.parents = ap length parents in
+    let ended : not (walked cs name c.in-Ok.line.branch || has c.items.result.now name) ≡ not (continued es name line.branch || has line.parents name) =
+    (λ i. not (walked cs name (branch i) || has (parents i) name)) ∙ ap (λ b. not (b || has line.parents name)) (walked_is es cs k.ordered k.pairs name line.branch) in
+    let put = c.put.ensures.ok in
+    let entries : OnOk c.put.result (c.put.new.table.entries ≡ with_entry bytes_cmp name line es) = on_ok_map c.put.result (λ e. e ∙ ap (λ l. with_entry bytes_cmp name l es) told) put in
+    let linked = c.in-Ok-link_line.ensures in
+    record {
+      entries = entries;
+      kept = on_ok_map c.put.result
+          (λ put. record {
+            ordered = subst (λ es. IsStrictlySortedBy bytes_cmp (keys_of es)) (sym put) (sorted-insert_entry bytes_cmp-IsTotalOrder name line es k.ordered);
+            pairs_ordered = linked.pairs_ordered;
+            leaves_ordered = linked.leaves_ordered;
+            pairs = λ key.
+                linked.pairs key
+                ∙ (λ i. is_some (value_at kin_cmp key cs) || is_kin name (parents i) (branch i) key)
+                ∙ pairs_with es cs name line k.pairs c.requires.absent key
+                ∙ ap (λ es. continues_in (option_and_then (λ c. value_at bytes_cmp c es) key.second) key.first.parent key.first.branch) (sym put);
+            leaves = λ q.
+                linked.leaves q
+                ∙ (λ i. if bytes_eq q name then ended i else (k.leaves q i && not (has (parents i) q && is_in (value_at bytes_cmp q es) (branch i))))
+                ∙ sym (leaf_with es name line k.ordered c.requires.absent q)
+                ∙ ap (λ es. leaf es q) (sym put);
+          })
+          entries;
+      flips = always_ok c.put.result linked.flips;
+      undoes_facts = c.put.ensures.undoes;
+      undoes_children = c.link_line.ensures.undoes_children;
+      undoes_leaves = c.link_line.ensures.undoes_leaves;
+      cost = cost_of (length c.items.result.now) (length c.args.fact.parents) c.args.steps.now c.link_line.new.steps c.put.new.steps count c.link_line.ensures.cost c.put.ensures.cost;
+      logged = omega (arith, count, c.link_line.ensures.logged, c.put.ensures.logged);
+    }

@@ -7,14 +7,14 @@ use Rattle.fsl_table.proofs.Facts.{absent-entry, absent_before, facts_with, dist
 use Rattle.fsl_leaves.specs.declared.Fact.{Fact}
 use Rattle.fsl_leaves.specs.Kept.{fact_of, facts_of}
 use Rattle.fsl_leaves.proofs.Canonical.{kept_none}
-use Rattle.fsl_leaves.proofs.leaves.Leaves.from_counted.Goals as goal
+use Rattle.fsl_leaves.proofs.rows.put_all.Goals as goal
 
 pub loop-fact-init : goal.loop-fact-init
 loop-fact-init g c = (
   [],
   append-nil c.into_vec-left.result.items ∙ c.into_vec-left.ensures,
-  ap facts_of c.new-rows.ensures,
-  kept_none (record { facts = c.new-rows.result; children = c.new-children.result; leaves = c.new-leaves.result }) c.new-rows.ensures c.new-children.ensures c.new-leaves.ensures,
+  ap facts_of c.requires.no_facts,
+  kept_none (record { facts = c.args.facts.now; children = c.args.children.now; leaves = c.args.leaves.now }) c.requires.no_facts c.requires.no_children c.requires.no_leaves,
 )
 
 whole : (left rest done all : List Fact) (x : Fact) → left ≡ rest ++ x ∷ [] → left ++ done ≡ all → rest ++ x ∷ done ≡ all
@@ -23,22 +23,22 @@ whole left rest done all x cut is = sym (append_assoc rest (x ∷ []) done) ∙ 
 behind : (left rest done all : List Fact) (x : Fact) → left ≡ rest ++ x ∷ [] → left ++ done ≡ all → AreDistinct (map (λ f. f.name) all) → AreDistinct (map (λ f. f.name) (x ∷ done))
 behind left rest done all x cut is d = distinct_rear (λ f. f.name) rest (x ∷ done) (subst (λ l. AreDistinct (map (λ f. f.name) l)) (sym (whole left rest done all x cut is)) d)
 
-pub put_fact-requires-clause-absent : goal.put_fact-requires-clause-absent
-put_fact-requires-clause-absent g c =
+pub put_new-requires-clause-absent : goal.put_new-requires-clause-absent
+put_new-requires-clause-absent g c =
     let before = c.loop-fact.invariant in
     let f = c.in-Some.fact in
-    let d = behind c.loop-fact.left.items c.pop.new.self.items before.0 c.args.facts f c.in-Some.ensures.items before.1 c.requires.distinct in
-    absent-entry fact_of (λ f. f.name) (λ e. refl) c.loop-fact.rows.entries f.name (ap (λ l. has (map (λ f. f.name) l) f.name) before.2 ∙ absent_before (λ f. f.name) f before.0 d)
+    let d = behind c.loop-fact.left.items c.pop.new.self.items before.0 c.args.all f c.in-Some.ensures.items before.1 c.requires.distinct in
+    absent-entry fact_of (λ f. f.name) (λ e. refl) c.loop-fact.facts.entries f.name (ap (λ l. has (map (λ f. f.name) l) f.name) before.2 ∙ absent_before (λ f. f.name) f before.0 d)
 
 pub loop-fact-preserved : goal.loop-fact-preserved
 loop-fact-preserved g c =
     let before = c.loop-fact.invariant in
     let f = c.in-Some.fact in
-    let d = behind c.loop-fact.left.items c.pop.new.self.items before.0 c.args.facts f c.in-Some.ensures.items before.1 c.requires.distinct in (
+    let d = behind c.loop-fact.left.items c.pop.new.self.items before.0 c.args.all f c.in-Some.ensures.items before.1 c.requires.distinct in (
       f ∷ before.0,
-      whole c.loop-fact.left.items c.pop.new.self.items before.0 c.args.facts f c.in-Some.ensures.items before.1,
-      ap facts_of c.in_ok-put_fact.ensures.entries
-          ∙ facts_with fact_of (λ f. f.name) (λ e. refl) f.name (record { parents = f.parents; branch = f.branch }) c.loop-fact.rows.entries before.3.ordered
+      whole c.loop-fact.left.items c.pop.new.self.items before.0 c.args.all f c.in-Some.ensures.items before.1,
+      ap facts_of c.in-Ok.ensures.entries
+          ∙ facts_with fact_of (λ f. f.name) (λ e. refl) f.name (record { parents = f.parents; branch = f.branch }) c.loop-fact.facts.entries before.3.ordered
           ∙ ap (λ l. by_name (λ f. f.name) (f ∷ l)) before.2 ∙ by_name-again (λ f. f.name) f before.0 d,
-      c.in_ok-put_fact.ensures.kept,
+      c.in-Ok.ensures.kept,
     )
