@@ -17,5 +17,6 @@ pub mod Seconds
 pub mod Steps
 pub mod Walk
 pub mod Weaving
+pub mod Taken
 pub mod Trails
 pub mod Putting

@@ -1,5 +1,7 @@
 -- Steps back, from a state that is as good as another, and one more at the end of a log.
-use Rattle.std.proofs.Common.{◌≡◌, ◌+◌, ◌-◌, ◌<◌, ◌≤◌, true, false, cond, List, [], ◌∷◌, ◌++◌, refl, sym, ap, subst, ◌∙◌, arith, if◌then◌else◌}
+use Rattle.std.specs.Prelude.{Option, MatchOption, IfNone, IfSome}
+use Rattle.std.proofs.lemmas.List.{length-append}
+use Rattle.std.proofs.Common.{length, ◌≡◌, ◌+◌, ◌-◌, ◌<◌, ◌≤◌, true, false, cond, List, [], ◌∷◌, ◌++◌, refl, sym, ap, subst, ◌∙◌, arith, if◌then◌else◌}
 use Rattle.std.specs.declared.option.Option.TheVariants.{Some, None}
 use Rattle.std.specs.declared.cmp.Ordering.{Ordering}
 use Rattle.std.specs.declared.cmp.Ordering.TheVariants.{Equal}
@@ -104,6 +106,22 @@ module _ {K X : Type 0} {R : K → K → Ordering} (o : IsTotalOrder R) (exact :
 
   pub taken_allowed : (k : K) (w : X) (old new : Contents K X) → new.spare ≡ old.spare + 1 → IsAllowed R (Put k w) new
   taken_allowed k w old new spare = λ none. omega (arith, spare)
+
+pub logged_same : {S : Type 0} (log old : List S) → log ≡ old → length log ≤ length old + 1
+logged_same log old kept = let n : length log ≡ length old = ap length kept in omega (arith, n)
+
+-- a log with one step more
+pub logged_one : {S : Type 0} (log old new : List S) (s : S) → log ≡ old → new ≡ log ++ s ∷ [] → length new ≤ length old + 1
+logged_one log old new s kept pushed = let n : length new ≡ length old + 1 = ap length (pushed ∙ ap (λ l. l ++ s ∷ []) kept) ∙ length-append old (s ∷ []) in omega (arith, n)
+
+-- the log of what was put leads back, whatever was there before
+pub put_undoes : {K X : Type 0} {R : K → K → Ordering} → IsTotalOrder R → ((x y : K) → R x y ≡ Equal → x ≡ y) → (k : K) (v : X) (there : Option X) (s : Step K X) (log : List (Step K X)) (old new before : Contents K X)
+    → MatchOption there (s ≡ Remove k) (λ w. s ≡ Put k w) → IsStrictlySortedBy R (keys_of old.entries) → there ≡ value_at R k old.entries → new.entries ≡ with_entry R k v old.entries
+    → IfNone there (old.spare ≤ new.spare + 1) → IfSome there (λ _. new.spare ≡ old.spare) → Undoes R log old before → Undoes R (log ++ s ∷ []) new before
+put_undoes {R = R} o exact k v None s log old new before is sorted was e more same u =
+    subst (λ s. Undoes R (log ++ s ∷ []) new before) (sym is) (undoes-push R log (Remove k) old new before tt (new_taken o exact k v old new (sym was) e more) u)
+put_undoes {R = R} o exact k v (Some w) s log old new before is sorted was e more same u =
+    subst (λ s. Undoes R (log ++ s ∷ []) new before) (sym is) (undoes-push R log (Put k w) old new before (old_allowed o exact k v w old new e) (old_put o exact k v w old new sorted (sym was) e same) u)
 
 pub undoes-none : {K X : Type 0} (R : K → K → Ordering) (log : List (Step K X)) (c : Contents K X) → log ≡ [] → Undoes R log c c
 undoes-none R log c e = subst (λ l. Undoes R l c c) (sym e) (record { possible = tt; back = good_itself c })

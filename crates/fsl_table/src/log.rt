@@ -2,6 +2,7 @@
 ghost use Rattle.std.specs.Prelude.{◌≡◌, ◌+◌, ◌≤◌, length, [], ◌∷◌, ◌++◌, is_some, IfOk, OnOk, OnErr, MatchOption};
 ghost use Rattle.fsl_table.specs.Contents.{Contents, value_at, with_entry, without_key};
 ghost use Rattle.fsl_table.specs.Undo.{stepped, undone, IsAllowed, IsAsGood, CanUndo, Undoes};
+ghost use Rattle.fsl_table.specs.declared.step.Step.TheVariants as step_type;
 
 use crate::key::Key;
 use crate::step::Step;
@@ -80,6 +81,16 @@ pub fn undo<K: Key + Drop, V: Drop, L: Ledger>(
     }
 }
 
+/// The step that takes a put back, by what was at its key.
+fn step_before<K, V: Drop>(key: K, before: Option<V>) -> Step<K, V>
+    ensures { MatchOption before (result ≡ step_type.Remove key) (λ value. result ≡ step_type.Put key value) }
+{
+    match before {
+        None => Step::Remove(key),
+        Some(value) => Step::Put(key, value),
+    }
+}
+
 /// Puts a value, logs what takes it back, and tells whether the key was there. For want of memory all stays.
 pub fn insert<K: Key + Drop, V: Drop, L: Ledger>(
     table: &mut Table<K, V>,
@@ -102,13 +113,10 @@ pub fn insert<K: Key + Drop, V: Drop, L: Ledger>(
         return Err(Memory);
     }
     match table.put(key, value, steps) {
-        Ok(None) => {
-            log.steps.push_reserved(Step::Remove(again));
-            Ok(false)
-        }
-        Ok(Some(before)) => {
-            log.steps.push_reserved(Step::Put(again, before));
-            Ok(true)
+        Ok(before) => {
+            let there = before.is_some();
+            log.steps.push_reserved(step_before(again, before));
+            Ok(there)
         }
         Err(_) => Err(Memory),
     }

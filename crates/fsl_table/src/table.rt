@@ -33,6 +33,13 @@ impl<K: Ord, V> Model for Table<K, V> {
     ghost invariant = { λ t. IsKept K.cmp (vec_capacity t.waiting) t.waiting.items t.tree.entries };
 }
 
+/// The entry of the tree with the least key above this one.
+fn first_above<'a, K: Ord, V>(tree: &'a BTreeMap<K, V>, key: &K) -> Option<(&'a K, &'a V)>
+    ensures { option_map (λ p. (p.0.now, p.1.now)) result ≡ first_of (entries_after K.cmp key.now tree.now.entries) }
+{
+    tree.range((Bound::Excluded(key), Bound::Unbounded)).next()
+}
+
 impl<K: Ord, V> Table<K, V> {
     /// A table without a pair. Takes no memory until one is put.
     pub fn new(alloc: Global) -> Table<K, V>
@@ -131,10 +138,7 @@ impl<K: Ord, V> Table<K, V> {
         ensures cost { steps.new ≡ steps.old + 1 }
     {
         steps.tick();
-        let mut best = self
-            .tree
-            .range((Bound::Excluded(key), Bound::Unbounded))
-            .next();
+        let mut best = first_above(&self.tree, key);
         let mut at = self.waiting.len();
         while at > 0 {
             at -= 1;

@@ -1,26 +1,52 @@
-use Rattle.std.proofs.Common.{rules, ◌≡◌, ◌+◌, ◌≤◌, ◌++◌, [], ◌∷◌, sym, subst, ◌∙◌, Some, None}
-use Rattle.fsl_table.specs.Contents.{value_at}
-use Rattle.fsl_table.specs.Undo.{IsAsGood, Undoes, stepped}
+use Rattle.std.proofs.Common.{◌≡◌, refl, ◌++◌, ◌∷◌, [], ◌∙◌, ap, sym, subst, arith, is_some}
+use Rattle.std.specs.Prelude.{MatchOption}
+use Rattle.fsl_table.specs.Undo.{Undoes}
 use Rattle.fsl_table.specs.declared.step.Step.TheVariants.{Put, Remove}
-use Rattle.fsl_table.proofs.Steps.{new_taken, old_put, old_allowed, undoes-push}
+use Rattle.fsl_table.proofs.Steps.{logged_one, logged_same, put_undoes}
 use Rattle.fsl_table.proofs.log.insert.Goals as goal
 
-pub returns-in-Ok-None-clause-undoes : goal.returns-in-Ok-None-clause-undoes
-returns-in-Ok-None-clause-undoes g c = λ before u.
-    let none : value_at g.K.Ord.cmp c.args.key c.args.table.now.entries ≡ None = sym c.in-Ok-None.ensures.before ∙ c.in-Ok-None.field-0-is in
-    let spare : c.args.table.now.spare ≤ c.put.new.self.spare + 1 = rw c.in-Ok-None.field-0-is at c.in-Ok-None.ensures.spare_of_new in
-    let good = new_taken g.met.K.Ord.total g.met.K.Key.exact c.args.key c.args.value c.args.table.now c.put.new.self none c.in-Ok-None.ensures.ok spare in
-    let pushed : c.push_reserved.new.self.items ≡ c.args.log.now ++ Remove c.args.again ∷ [] = search rules in
-    subst (λ l. Undoes g.K.Ord.cmp l c.put.new.self before) (sym pushed)
-    (undoes-push g.K.Ord.cmp c.args.log.now (Remove c.args.again) c.args.table.now c.put.new.self before tt (subst (λ k. IsAsGood c.args.table.now (stepped g.K.Ord.cmp (Remove k) c.put.new.self)) (sym c.requires) good) u)
+pub returns-then-is_err : goal.returns-then-is_err
+returns-then-is_err g c =
+    let items : c.reserve.new.self.items ≡ c.args.log.now = c.reserve.ensures.items ∙ c.log.view_is in
+    record {
+      there = tt;
+      logged = logged_same c.reserve.new.self.items c.args.log.now items;
+      ok = tt;
+      err = refl;
+      kept = items;
+      undoes = λ before u. subst (λ l. Undoes g.K.Ord.cmp l c.args.table.now before) (sym items) u;
+      cost = omega arith;
+    }
 
-pub returns-in-Ok-Some-clause-undoes : goal.returns-in-Ok-Some-clause-undoes
-returns-in-Ok-Some-clause-undoes g c = λ before u.
-    let some : value_at g.K.Ord.cmp c.args.key c.args.table.now.entries ≡ Some c.in-Ok-Some.before = sym c.in-Ok-Some.ensures.before ∙ c.in-Ok-Some.field-0-is in
-    let spare : c.put.new.self.spare ≡ c.args.table.now.spare = rw c.in-Ok-Some.field-0-is at c.in-Ok-Some.ensures.spare_of_old in
-    let good = old_put g.met.K.Ord.total g.met.K.Key.exact c.args.key c.args.value c.in-Ok-Some.before c.args.table.now c.put.new.self c.put.ensures.was_ordered some c.in-Ok-Some.ensures.ok spare in
-    let pushed : c.push_reserved-in-Ok-Some.new.self.items ≡ c.args.log.now ++ Put c.args.again c.in-Ok-Some.before ∷ [] = search rules in
-    subst (λ l. Undoes g.K.Ord.cmp l c.put.new.self before) (sym pushed)
-    (undoes-push g.K.Ord.cmp c.args.log.now (Put c.args.again c.in-Ok-Some.before) c.args.table.now c.put.new.self before
-    (rw c.requires (old_allowed g.met.K.Ord.total g.met.K.Key.exact c.args.key c.args.value c.in-Ok-Some.before c.args.table.now c.put.new.self c.in-Ok-Some.ensures.ok))
-    (subst (λ k. IsAsGood c.args.table.now (stepped g.K.Ord.cmp (Put k c.in-Ok-Some.before) c.put.new.self)) (sym c.requires) good) u)
+pub returns-in-Ok : goal.returns-in-Ok
+returns-in-Ok g c =
+    let items : c.reserve.new.self.items ≡ c.args.log.now = c.reserve.ensures.items ∙ c.log.view_is in
+    let pushed : c.push_reserved.new.self.items ≡ c.args.log.now ++ c.step_before.result ∷ [] = c.push_reserved.ensures.items ∙ ap (λ l. l ++ c.step_before.result ∷ []) items in
+    record {
+      there = c.is_some-there.ensures ∙ ap is_some c.in-Ok.ensures.before;
+      logged = logged_one c.reserve.new.self.items c.args.log.now c.push_reserved.new.self.items c.step_before.result items c.push_reserved.ensures.items;
+      ok = c.in-Ok.ensures.ok;
+      err = tt;
+      kept = tt;
+      undoes = λ before u.
+          subst (λ l. Undoes g.K.Ord.cmp l c.put.new.self before) (sym pushed)
+          (put_undoes g.met.K.Ord.total g.met.K.Key.exact c.args.key c.args.value c.in-Ok.before c.step_before.result c.args.log.now c.args.table.now c.put.new.self before
+          (subst (λ k. MatchOption c.in-Ok.before (c.step_before.result ≡ Remove k) (λ w. c.step_before.result ≡ Put k w)) c.requires c.step_before.ensures)
+          c.put.ensures.was_ordered c.in-Ok.ensures.before c.in-Ok.ensures.ok c.in-Ok.ensures.spare_of_new c.in-Ok.ensures.spare_of_old u);
+      cost = omega (arith, c.put.ensures.cost);
+    }
+
+pub returns-in-Err : goal.returns-in-Err
+returns-in-Err g c =
+    let items : c.reserve.new.self.items ≡ c.args.log.now = c.reserve.ensures.items ∙ c.log.view_is in
+    record {
+      there = tt;
+      logged = logged_same c.reserve.new.self.items c.args.log.now items;
+      ok = tt;
+      err = c.in-Err.ensures.unchanged;
+      kept = items;
+      undoes = λ before u.
+          subst (λ t. Undoes g.K.Ord.cmp c.reserve.new.self.items t before) (sym c.in-Err.ensures.unchanged)
+          (subst (λ l. Undoes g.K.Ord.cmp l c.args.table.now before) (sym items) u);
+      cost = omega (arith, c.put.ensures.cost);
+    }
