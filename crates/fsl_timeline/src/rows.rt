@@ -1,11 +1,11 @@
 //! The rows of the timeline: a row put into the two tables and taken out, and the latest ones.
-ghost use Rattle.std.specs.Prelude.{ℕ, List, Bool, ◌≡◌, ◌+◌, ◌-◌, ◌<◌, ◌≤◌, ◌++◌, [], ◌∷◌, length, take, OnOk, IfOk, None, true, false, not, is_some, ◌&&◌, if◌then◌else◌};
+ghost use Rattle.std.specs.Prelude.{ℕ, List, Bool, ◌≡◌, ◌+◌, ◌-◌, ◌<◌, ◌≤◌, ◌++◌, [], ◌∷◌, length, take, OnOk, IfOk, None, true, false, map, not, is_some, ◌&&◌, if◌then◌else◌};
 ghost use Rattle.std.specs.Ordering.{is_eq, nat_cmp};
 ghost use Rattle.std.specs.Str.{bytes_eq};
 ghost use Rattle.std.specs.List.Sorted.{IsStrictlySortedBy};
 ghost use Rattle.std.specs.Map.{keys_of};
 ghost use Rattle.fsl_order.specs.Names.{bytes_cmp, latest_first};
-ghost use Rattle.fsl_order.specs.Rows.{ListsChanged};
+ghost use Rattle.fsl_order.specs.Rows.{by_name, AreDistinct, ListsChanged};
 ghost use Rattle.fsl_table.specs.Contents.{Contents, with_entry, without_key, value_at};
 ghost use Rattle.fsl_table.specs.Undo.{Undoes};
 ghost use Rattle.fsl_timeline.specs.declared.entry.Entry as entry_of;
@@ -57,6 +57,52 @@ pub(crate) fn put_row<L: Ledger>(
         text,
     };
     log::put(rows, rows_log, name, name, entry, steps)
+}
+
+/// Puts a new row. After `Memory` a part may be done.
+fn put_first<L: Ledger>(
+    alloc: Global,
+    rows: &mut Table<Name, Entry>,
+    places: &mut Table<Place, ()>,
+    row: Row,
+    steps: &mut Steps<L>,
+) -> Result<(), Memory>
+    requires kept { IsKept (record { rows = rows.old; places = places.old }) }
+    requires absent { value_at bytes_cmp row.name rows.old.entries ≡ None }
+    ensures entries { OnOk result (rows.new.entries ≡ with_entry bytes_cmp row.name (record { time = row.time; kind = row.kind; user = row.user; text = row.text }) rows.old.entries) }
+    ensures kept { OnOk result (IsKept (record { rows = rows.new; places = places.new })) }
+{
+    put_row(
+        rows,
+        places,
+        &mut Log::new(alloc),
+        &mut Log::new(alloc),
+        row,
+        steps,
+    )
+}
+
+/// Puts new rows, of which no two have one name, into tables without any. After `Memory` a part may be done.
+pub(crate) fn put_all<L: Ledger>(
+    alloc: Global,
+    rows: &mut Table<Name, Entry>,
+    places: &mut Table<Place, ()>,
+    all: List<Row>,
+    steps: &mut Steps<L>,
+) -> Result<(), Memory>
+    requires no_rows { rows.old.entries ≡ [] }
+    requires no_places { places.old.entries ≡ [] }
+    requires distinct { AreDistinct (map (λ r. r.name) all) }
+    ensures rows { OnOk result (rows_of rows.new.entries ≡ by_name (λ r. r.name) all) }
+    ensures kept { OnOk result (IsKept (record { rows = rows.new; places = places.new })) }
+{
+    let mut left = all.into_vec();
+    while let Some(row) = left.pop() {
+        let Ok(()) = put_first(alloc, rows, places, row, steps) else {
+            return Err(Memory);
+        };
+    }
+    Ok(())
 }
 
 /// Takes the place of a row out, where the row is there.
@@ -168,9 +214,28 @@ fn put_new<L: Ledger>(
     ensures cost { steps.new ≤ steps.old + 2 }
     ensures logged { length rows_log.new + length places_log.new ≤ length rows_log.old + length places_log.old + 2 }
 {
-    let changed = one(alloc, row.name, true)?;
+    let name = row.name;
     put_row(rows, places, rows_log, places_log, row, steps)?;
-    Ok(changed)
+    one(alloc, name, true)
+}
+
+/// Puts a row in the place of that of its name. After `Memory` a part may be done; the logs have it.
+fn replace_row<L: Ledger>(
+    rows: &mut Table<Name, Entry>,
+    places: &mut Table<Place, ()>,
+    rows_log: &mut Log<Name, Entry>,
+    places_log: &mut Log<Place, ()>,
+    row: Row,
+    steps: &mut Steps<L>,
+) -> Result<(), Memory>
+    requires kept { IsKept (record { rows = rows.old; places = places.old }) }
+    ensures entries { OnOk result (rows.new.entries ≡ with_entry bytes_cmp row.name (record { time = row.time; kind = row.kind; user = row.user; text = row.text }) rows.old.entries) }
+    ensures kept { OnOk result (IsKept (record { rows = rows.new; places = places.new })) }
+    ensures undoes_rows { (before : Contents (List ℕ) entry_of.Entry) → Undoes bytes_cmp rows_log.old rows.old before → Undoes bytes_cmp rows_log.new rows.new before }
+    ensures undoes_places { (before : Contents (ℕ × List ℕ) Unit) → Undoes latest_first places_log.old places.old before → Undoes latest_first places_log.new places.new before }
+{
+    take_out(rows, places, rows_log, places_log, row.name, steps)?;
+    put_row(rows, places, rows_log, places_log, row, steps)
 }
 
 /// Puts a row in the place of that of its name, and tells the names whose rows differ.
@@ -190,11 +255,10 @@ fn put_other<L: Ledger>(
     ensures undoes_rows { (before : Contents (List ℕ) entry_of.Entry) → Undoes bytes_cmp rows_log.old rows.old before → Undoes bytes_cmp rows_log.new rows.new before }
     ensures undoes_places { (before : Contents (ℕ × List ℕ) Unit) → Undoes latest_first places_log.old places.old before → Undoes latest_first places_log.new places.new before }
 {
+    let name = row.name;
     let same = stands(rows, &row, steps);
-    let changed = one(alloc, row.name, !same)?;
-    take_out(rows, places, rows_log, places_log, row.name, steps)?;
-    put_row(rows, places, rows_log, places_log, row, steps)?;
-    Ok(changed)
+    replace_row(rows, places, rows_log, places_log, row, steps)?;
+    one(alloc, name, !same)
 }
 
 /// Puts a row, a new one where `new` says so, or in the place of that of its name, and tells the names whose rows differ. After

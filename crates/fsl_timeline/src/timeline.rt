@@ -9,7 +9,7 @@ ghost use Rattle.fsl_timeline.specs.Timeline as table;
 use super::Row;
 use super::entry::Entry;
 use super::place::Place;
-use super::rows::{first_rows, put_either, put_row, retire_row};
+use super::rows::{first_rows, put_all, put_either, retire_row};
 use fsl_name::Name;
 use fsl_table::{Log, Table, log};
 use fsl_text::{List, Memory, Steps};
@@ -120,23 +120,27 @@ impl Timeline {
         ensures facts { IfOk result (λ t. t.facts ≡ by_name (λ r. r.name) rows) }
     {
         let mut steps: Steps<L> = Steps::new(blank);
-        let mut left = rows.into_vec();
+        Timeline::from_all(alloc, rows, &mut steps)
+    }
+
+    /// The same, on a counter that is there.
+    fn from_all<L: Ledger>(
+        alloc: Global,
+        rows: List<Row>,
+        steps: &mut Steps<L>,
+    ) -> Result<Timeline, Memory>
+        requires { AreDistinct (map (λ r. r.name) rows) }
+        ensures facts { IfOk result (λ t. t.facts ≡ by_name (λ r. r.name) rows) }
+    {
         let mut entries = Table::new(alloc);
         let mut places = Table::new(alloc);
-        while let Some(row) = left.pop() {
-            put_row(
-                &mut entries,
-                &mut places,
-                &mut Log::new(alloc),
-                &mut Log::new(alloc),
-                row,
-                &mut steps,
-            )?;
+        match put_all(alloc, &mut entries, &mut places, rows, steps) {
+            Ok(()) => Ok(Timeline {
+                rows: entries,
+                places,
+            }),
+            Err(Memory) => Err(Memory),
         }
-        Ok(Timeline {
-            rows: entries,
-            places,
-        })
     }
 
     /// Adds a row whose name isn't there, which is moved. `Memory` is the only error, and the table then holds what it held. It
