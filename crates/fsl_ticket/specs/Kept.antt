@@ -1,5 +1,5 @@
 -- How the tables hold the changes: each by its name, and a key of its ticket, date and name for each.
-use Rattle.std.specs.Prelude.{◌≡◌, ℕ, List, [], ◌∷◌, Bool, true, false, ◌&&◌, if◌then◌else◌, Option, Some, None, map, is_some}
+use Rattle.std.specs.Prelude.{◌≡◌, ℕ, List, [], ◌∷◌, Bool, true, false, ◌&&◌, ◌||◌, if◌then◌else◌, Option, Some, None, map, is_some}
 use Rattle.std.specs.Cmp.Lexicographic.{pointwise}
 use Rattle.std.specs.Option.{option_map}
 use Rattle.std.specs.Str.{bytes_eq}
@@ -7,7 +7,7 @@ use Rattle.std.specs.Ordering.{is_eq, nat_cmp}
 use Rattle.std.specs.List.Sorted.{IsStrictlySortedBy}
 use Rattle.std.specs.Map.{keys_of}
 use Rattle.std.specs.declared.cmp.Ordering.{Ordering}
-use Rattle.fsl_order.specs.Names.{bytes_cmp, dated_cmp}
+use Rattle.fsl_order.specs.Names.{bytes_cmp, dated_cmp, has}
 use Rattle.fsl_table.specs.Contents.{Contents, value_at}
 use Rattle.fsl_table.specs.Within.{within_cmp}
 use Rattle.fsl_table.specs.declared.within.Within.{Within}
@@ -96,6 +96,13 @@ row_of configured es id = record { id = id; values = fields configured (facts_of
 -- the id of a row, where it isn't the same any more
 abbrev pub if_other : List (List ℕ) → Lines → Row → Option (List ℕ)
 if_other configured es row = if is_same row.values (fields configured (facts_of es) row.id) then None else Some row.id
+
+-- the rows of the ids that another change of a name and an id may touch, ascending
+pub record AreTouched (configured : List (List ℕ)) (es : Lines) (name id : List ℕ) (rows : List Row) : Type 0 where
+  pub ids : List (List ℕ)
+  pub rising : IsStrictlySortedBy bytes_cmp ids
+  pub own : (q : List ℕ) → has ids q ≡ (is_id (value_at bytes_cmp name es) q || bytes_eq q id)
+  pub are : rows ≡ map (row_of configured es) ids
 
 pub record IsKept (r : Rows) : Type 0 where
   pub ordered : IsStrictlySortedBy bytes_cmp (keys_of r.facts.entries)

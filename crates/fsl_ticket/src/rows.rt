@@ -1,17 +1,17 @@
 //! The rows of tickets: a change put into the two tables and taken out, and the values of a ticket's fields.
-ghost use Rattle.std.specs.Prelude.{◌≡◌, ◌&&◌, ◌||◌, not, ℕ, List, Option, Some, None, ◌∷◌, ◌++◌, IfOk, OnOk, is_some, map};
+ghost use Rattle.std.specs.Prelude.{◌≡◌, [], ◌&&◌, ◌||◌, not, ℕ, List, Option, Some, None, ◌∷◌, ◌++◌, IfOk, OnOk, is_some, map};
 ghost use Rattle.std.specs.List.{filter_map};
 ghost use Rattle.std.specs.Option.{option_to_list};
 ghost use Rattle.std.specs.List.Sorted.{IsStrictlySortedBy};
 ghost use Rattle.std.specs.Map.{keys_of};
 ghost use Rattle.std.specs.Str.{bytes_eq};
 ghost use Rattle.fsl_order.specs.Names.{bytes_cmp, dated_cmp, has};
-ghost use Rattle.fsl_order.specs.Rows.{ListsChanged};
+ghost use Rattle.fsl_order.specs.Rows.{by_name, AreDistinct, ListsChanged};
 ghost use Rattle.fsl_table.specs.Contents.{Contents, value_at, with_entry, without_key};
 ghost use Rattle.fsl_table.specs.Undo.{Undoes};
 ghost use Rattle.fsl_table.specs.Within.{within};
 ghost use Rattle.fsl_table.proofs.Walk.{from};
-ghost use Rattle.fsl_ticket.specs.Kept.{IsKept, Spot, spot_cmp, change_at, changes_at, facts_of, if_other, is_id, is_of, is_same, put_before, row_of, is_spot};
+ghost use Rattle.fsl_ticket.specs.Kept.{AreTouched, IsKept, Spot, spot_cmp, change_at, changes_at, facts_of, if_other, is_id, is_of, is_same, put_before, row_of, is_spot};
 ghost use Rattle.fsl_ticket.specs.Seen.{value_in, value_after, value_from};
 ghost use Rattle.fsl_ticket.specs.Tickets.{tickets_row};
 ghost use Rattle.fsl_ticket.specs.Tickets as table;
@@ -22,6 +22,7 @@ use crate::entry::Entry;
 use crate::place::Place;
 use crate::{Fact, values};
 use fsl_name::Name;
+use fsl_rows::Named;
 use fsl_table::within::next_within;
 use fsl_table::{Log, Table, Within, log, names};
 use fsl_text::{List, Memory, Steps, Text};
@@ -73,6 +74,56 @@ pub(crate) fn put_fact<L: Ledger>(
     log::put(spots, spots_log, spot, again, (), steps)?;
     let entry = Entry { date, id, changes };
     log::put(facts, facts_log, name, name, entry, steps)
+}
+
+/// Puts a copy of a new change. After `Memory` a part may be done.
+fn put_copy<L: Ledger>(
+    alloc: Global,
+    facts: &mut Table<Name, Entry>,
+    spots: &mut Table<Within<Name, Place>, ()>,
+    fact: &Fact,
+    steps: &mut Steps<L>,
+) -> Result<(), Memory>
+    requires kept { IsKept (record { facts = facts.old; spots = spots.old }) }
+    requires absent { value_at bytes_cmp fact.now.name facts.old.entries ≡ None }
+    ensures entries { OnOk result (facts.new.entries ≡ with_entry bytes_cmp fact.now.name (record { date = fact.now.date; id = fact.now.id; changes = fact.now.changes }) facts.old.entries) }
+    ensures kept { OnOk result (IsKept (record { facts = facts.new; spots = spots.new })) }
+{
+    let Ok(copy) = fact.copied(alloc) else {
+        return Err(Memory);
+    };
+    put_fact(
+        facts,
+        spots,
+        &mut Log::new(alloc),
+        &mut Log::new(alloc),
+        copy,
+        steps,
+    )
+}
+
+/// Puts copies of new changes, of which no two have one name, into tables without any. After `Memory` a part may be done.
+pub(crate) fn put_all<L: Ledger>(
+    alloc: Global,
+    facts: &mut Table<Name, Entry>,
+    spots: &mut Table<Within<Name, Place>, ()>,
+    all: &[Fact],
+    steps: &mut Steps<L>,
+) -> Result<(), Memory>
+    requires no_facts { facts.old.entries ≡ [] }
+    requires no_spots { spots.old.entries ≡ [] }
+    requires distinct { AreDistinct (map (λ f. f.name) all.now) }
+    ensures facts { OnOk result (facts_of facts.new.entries ≡ by_name (λ f. f.name) all.now) }
+    ensures kept { OnOk result (IsKept (record { facts = facts.new; spots = spots.new })) }
+{
+    let mut left = all.len();
+    while left > 0 {
+        left -= 1;
+        let Ok(()) = put_copy(alloc, facts, spots, &all[left], steps) else {
+            return Err(Memory);
+        };
+    }
+    Ok(())
 }
 
 /// Takes the key of a change out, where the change is there.
@@ -286,6 +337,46 @@ fn others<L: Ledger>(
     Ok(list)
 }
 
+/// The rows that another change of this name and id may touch, ascending.
+fn rows_touched<L: Ledger>(
+    alloc: Global,
+    configured: &[Text],
+    facts: &Table<Name, Entry>,
+    spots: &Table<Within<Name, Place>, ()>,
+    name: Name,
+    id: Name,
+    steps: &mut Steps<L>,
+) -> Result<List<Row>, Memory>
+    requires { IsKept (record { facts = facts.now; spots = spots.now }) }
+    ensures { IfOk result (AreTouched configured.now facts.now.entries name id) }
+{
+    let Ok(ids) = ids_of(alloc, facts, name, id, steps) else {
+        return Err(Memory);
+    };
+    let rows = rows_of(alloc, configured, facts, spots, ids.items(), steps);
+    drop(ids);
+    rows
+}
+
+/// Puts a change in the place of that of its name, where there is one. After `Memory` a part may be done; the logs have it.
+fn replace_fact<L: Ledger>(
+    facts: &mut Table<Name, Entry>,
+    spots: &mut Table<Within<Name, Place>, ()>,
+    facts_log: &mut Log<Name, Entry>,
+    spots_log: &mut Log<Within<Name, Place>, ()>,
+    fact: Fact,
+    steps: &mut Steps<L>,
+) -> Result<(), Memory>
+    requires kept { IsKept (record { facts = facts.old; spots = spots.old }) }
+    ensures entries { OnOk result (facts.new.entries ≡ with_entry bytes_cmp fact.name (record { date = fact.date; id = fact.id; changes = fact.changes }) facts.old.entries) }
+    ensures kept { OnOk result (IsKept (record { facts = facts.new; spots = spots.new })) }
+    ensures undoes_facts { (before : Contents (List ℕ) entry_type.Entry) → Undoes bytes_cmp facts_log.old facts.old before → Undoes bytes_cmp facts_log.new facts.new before }
+    ensures undoes_spots { (before : Contents Spot Unit) → Undoes spot_cmp spots_log.old spots.old before → Undoes spot_cmp spots_log.new spots.new before }
+{
+    take_out(facts, spots, facts_log, spots_log, fact.name, steps)?;
+    put_fact(facts, spots, facts_log, spots_log, fact, steps)
+}
+
 /// Puts a change, in the place of that of its name where there is one, and tells the ids whose rows differ. After `Memory` a part
 /// may be done; the logs have it.
 pub(crate) fn put_either<L: Ledger>(
@@ -305,9 +396,15 @@ pub(crate) fn put_either<L: Ledger>(
     ensures undoes_facts { (before : Contents (List ℕ) entry_type.Entry) → Undoes bytes_cmp facts_log.old facts.old before → Undoes bytes_cmp facts_log.new facts.new before }
     ensures undoes_spots { (before : Contents Spot Unit) → Undoes spot_cmp spots_log.old spots.old before → Undoes spot_cmp spots_log.new spots.new before }
 {
-    let ids = ids_of(alloc, facts, fact.name, fact.id, steps)?;
-    let before = rows_of(alloc, configured, facts, spots, ids.items(), steps)?;
-    take_out(facts, spots, facts_log, spots_log, fact.name, steps)?;
-    put_fact(facts, spots, facts_log, spots_log, fact, steps)?;
-    others(alloc, configured, facts, spots, before.items(), steps)
+    let Ok(before) = rows_touched(alloc, configured, facts, spots, fact.name, fact.id, steps) else {
+        return Err(Memory);
+    };
+    match replace_fact(facts, spots, facts_log, spots_log, fact, steps) {
+        Ok(()) => {
+            let changed = others(alloc, configured, facts, spots, before.items(), steps);
+            drop(before);
+            changed
+        }
+        Err(Memory) => Err(Memory),
+    }
 }

@@ -8,7 +8,7 @@ ghost use Rattle.fsl_ticket.specs.Tickets as table;
 
 use super::entry::Entry;
 use super::place::Place;
-use super::rows::{fields_of, put_either, put_fact};
+use super::rows::{fields_of, put_all, put_either};
 use super::{Fact, cards};
 use fsl_name::Name;
 use fsl_table::{Log, Table, Within, log};
@@ -106,28 +106,34 @@ impl Tickets {
         ensures fields { IfOk result (λ t. t.fields ≡ fields.now) }
         ensures facts { IfOk result (λ t. t.facts ≡ by_name (λ f. f.name) facts.now) }
     {
-        let configured = cards::texts(alloc, fields.items())?;
         let mut steps: Steps<L> = Steps::new(blank);
+        Tickets::build_all(alloc, fields, facts, &mut steps)
+    }
+
+    /// The same, on a counter that is there.
+    fn build_all<L: Ledger>(
+        alloc: Global,
+        fields: &List<Text>,
+        facts: &[Fact],
+        steps: &mut Steps<L>,
+    ) -> Result<Tickets, Memory>
+        requires { AreDistinct (map (λ f. f.name) facts.now) }
+        ensures fields { IfOk result (λ t. t.fields ≡ fields.now) }
+        ensures facts { IfOk result (λ t. t.facts ≡ by_name (λ f. f.name) facts.now) }
+    {
+        let Ok(configured) = cards::texts(alloc, fields.items()) else {
+            return Err(Memory);
+        };
         let mut entries = Table::new(alloc);
         let mut spots = Table::new(alloc);
-        let mut left = facts.len();
-        while left > 0 {
-            left -= 1;
-            let fact = facts[left].copied(alloc)?;
-            put_fact(
-                &mut entries,
-                &mut spots,
-                &mut Log::new(alloc),
-                &mut Log::new(alloc),
-                fact,
-                &mut steps,
-            )?;
+        match put_all(alloc, &mut entries, &mut spots, facts, steps) {
+            Ok(()) => Ok(Tickets {
+                configured,
+                facts: entries,
+                spots,
+            }),
+            Err(Memory) => Err(Memory),
         }
-        Ok(Tickets {
-            configured,
-            facts: entries,
-            spots,
-        })
     }
 
     /// Adds a change whose name isn't there, which is moved. `Memory` is the only error, and the table then holds what it held.

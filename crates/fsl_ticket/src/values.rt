@@ -12,16 +12,23 @@ use fsl_text::{List, Memory, Text};
 use std::alloc::Global;
 use std::collections::BTreeMap;
 
+/// Puts other bytes in the place of a value.
+fn replace(alloc: Global, value: &mut Text, bytes: &[u8]) -> Result<(), Memory>
+    ensures { OnOk result (value.new ≡ bytes.now) }
+{
+    *value = Text::of(alloc, bytes)?;
+    Ok(())
+}
+
 /// What a card makes of the value of its field.
 fn take(alloc: Global, value: &mut Text, card: &FieldChange) -> Result<(), Memory>
     ensures { OnOk result (value.new ≡ after value.old card.now) }
 {
     if card.append {
-        value.append(card.value.bytes())?;
+        value.append(card.value.bytes())
     } else {
-        *value = Text::of(alloc, card.value.bytes())?;
+        replace(alloc, value, card.value.bytes())
     }
-    Ok(())
 }
 
 /// Takes the value of a field out, with the field; it is empty where there is none.

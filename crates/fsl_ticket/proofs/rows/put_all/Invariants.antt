@@ -1,14 +1,14 @@
 use Rattle.std.proofs.Common.{◌≡◌, ◌≤◌, drop, length}
 use Rattle.fsl_order.specs.Rows.{by_name}
 use Rattle.fsl_ticket.specs.Kept.{IsKept, facts_of}
-use Rattle.fsl_ticket.proofs.tickets.Tickets.build_counted.Given as goal
+use Rattle.fsl_ticket.proofs.rows.put_all.Given as goal
 
 -- those that are done are there
 abbrev pub invariant-loop-left : goal.invariant-loop-left
 invariant-loop-left g l = record {
-  done : facts_of l.entries.entries ≡ by_name (λ f. f.name) (drop l.left l.facts);
-  kept : IsKept (record { facts = l.entries; spots = l.spots });
-  within : l.left ≤ length l.facts;
+  done : facts_of l.facts.entries ≡ by_name (λ f. f.name) (drop l.left l.all);
+  kept : IsKept (record { facts = l.facts; spots = l.spots });
+  within : l.left ≤ length l.all;
 }
 
 abbrev pub decreases-loop-left : goal.decreases-loop-left
