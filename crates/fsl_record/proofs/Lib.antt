@@ -2,6 +2,7 @@ pub mod ReadAgain
 pub mod Unique
 pub mod FieldLists
 pub mod Cuts
+pub mod OfName
 pub mod GroupLists
 pub mod Fronts
 pub mod Exclusive

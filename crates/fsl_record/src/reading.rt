@@ -1,6 +1,8 @@
 //! Reads a record at the front of bytes.
-ghost use Rattle.std.specs.Prelude.{◌≡◌, ◌<◌, ◌≤◌, ℕ, List, [], ◌∷◌, ◌++◌, length, true, false, IfOk, IfErr};
+ghost use Rattle.std.specs.Prelude.{◌≡◌, ◌≢◌, ◌<◌, ◌≤◌, ℕ, List, [], ◌∷◌, ◌++◌, length, true, false, IfOk, IfErr, OnOk};
+ghost use Rattle.fsl_name.specs.Name.{name_of};
 ghost use Rattle.fsl_record.specs.declared.Record.{Record};
+ghost use Rattle.fsl_record.specs.declared.RecordFault.TheVariants.{NameWrong as NameFault};
 ghost use Rattle.fsl_record.specs.Records.{AreFields};
 ghost use Rattle.fsl_record.specs.Reading.{IsRead, IsFieldRead, AreRead, IsPrivateRead, FieldFails, FieldsFail, PrivateFails, Fails};
 
@@ -106,6 +108,18 @@ fn read_private(bytes: &[u8]) -> Result<(bool, &[u8]), RecordFault>
     }
 }
 
+/// Checks that a blob's bytes have the name that it is kept under.
+fn check_name(kept: Name, content: &[u8]) -> Result<(), RecordFault>
+    ensures right { OnOk result (kept ≡ name_of content.now) }
+    ensures fault { IfErr result (λ fault. (fault ≡ NameFault kept (name_of content.now)) × (kept ≢ name_of content.now)) }
+{
+    let found = Name::of(content);
+    if kept != found {
+        return Err(RecordFault::NameWrong { kept, found });
+    }
+    Ok(())
+}
+
 /// Reads what stands behind the letter of a Blob, and adds it.
 fn read_blob<'a>(
     alloc: Global,
@@ -129,10 +143,7 @@ fn read_blob<'a>(
         return Err(RecordFault::Short);
     };
     let name = Name::from_bytes(*name);
-    let found = Name::of(content);
-    if name != found {
-        return Err(RecordFault::NameWrong { kept: name, found });
-    }
+    check_name(name, content)?;
     let bytes = Text::of(alloc, content)?;
     records.push(Record::Blob {
         private,
@@ -179,10 +190,12 @@ pub fn read_first<'a>(
     ensures record { IfOk result (λ rest. (read : Record) × (records.new.items ≡ records.old.items ++ read ∷ []) × IsRead true bytes.now read rest.now) }
     ensures fault { IfErr result (λ fault. Fails true bytes.now fault) }
 {
-    match bytes {
-        [] => Err(RecordFault::Short),
-        [b'C', bytes @ ..] => read_config(alloc, bytes, records),
-        [found, ..] => Err(RecordFault::Kind { found: *found }),
+    let Some((letter, behind)) = bytes.split_first() else {
+        return Err(RecordFault::Short);
+    };
+    match *letter {
+        b'C' => read_config(alloc, behind, records),
+        found => Err(RecordFault::Kind { found }),
     }
 }
 
@@ -195,11 +208,13 @@ pub fn read_next<'a>(
     ensures record { IfOk result (λ rest. (read : Record) × (records.new.items ≡ records.old.items ++ read ∷ []) × IsRead false bytes.now read rest.now) }
     ensures fault { IfErr result (λ fault. Fails false bytes.now fault) }
 {
-    match bytes {
-        [] => Err(RecordFault::Short),
-        [b'B', bytes @ ..] => read_blob(alloc, bytes, records),
-        [b'P', bytes @ ..] => read_publish(bytes, records),
-        [b'S', bytes @ ..] => read_shun(bytes, records),
-        [found, ..] => Err(RecordFault::Kind { found: *found }),
+    let Some((letter, behind)) = bytes.split_first() else {
+        return Err(RecordFault::Short);
+    };
+    match *letter {
+        b'B' => read_blob(alloc, behind, records),
+        b'P' => read_publish(behind, records),
+        b'S' => read_shun(behind, records),
+        found => Err(RecordFault::Kind { found }),
     }
 }

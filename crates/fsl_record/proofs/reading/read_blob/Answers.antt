@@ -1,4 +1,4 @@
-use Rattle.std.proofs.Common.{◌≡◌, ℕ, ◌<◌, ◌++◌, List, length, get_or, arith, rules, ap, ◌∙◌, sym}
+use Rattle.std.proofs.Common.{◌≡◌, ℕ, ◌<◌, ◌++◌, List, length, get_or, arith, rules, refl, ap, ◌∙◌, sym}
 use Rattle.std.proofs.lemmas.Result.{err_from_is_err_and}
 use Rattle.fsl_name.specs.Name.{name_of}
 use Rattle.fsl_record.specs.declared.Record.TheVariants as record_of
@@ -36,14 +36,16 @@ returns-in_default-split_bytes-clause-fault c =
     let front = blob_front c.args.bytes.now c.in_ok-private.bytes.now c.in-Some.bytes.now c.in-Some-split_length.bytes.now c.in-Some.name.now c.in_ok-private.private c.in-Some-split_length.length c.in_ok-private.ensures.private.layout name.layout name.long size.0 in
     blob_no_content _ _ _ _ _ front (omega arith) c.in_default-split_bytes.ensures
 
-pub returns-then-ne-clause-fault : goal.returns-then-ne-clause-fault
-returns-then-ne-clause-fault c =
+pub returns-in_err-check_name-clause-fault : goal.returns-in_err-check_name-clause-fault
+returns-in_err-check_name-clause-fault c =
+    let p = err_from_is_err_and c.from_residual-in_err-check_name.result c.from_residual-in_err-check_name.ensures.1 in
     let s = c.in-Some.ensures.cases in
     let name = split_is 20 c.in_ok-private.bytes.now c.from_bytes-name.result c.in-Some.bytes.now (c.from_bytes-name.ensures.value ∙ s.0) s.1 s.2 in
     let size = c.in-Some-split_length.ensures in
     let front = blob_front c.args.bytes.now c.in_ok-private.bytes.now c.in-Some.bytes.now c.in-Some-split_length.bytes.now c.from_bytes-name.result c.in_ok-private.private c.in-Some-split_length.length c.in_ok-private.ensures.private.layout name.layout name.long size.0 in
     let content = c.in-Some-split_bytes.ensures in
-    blob_of_other_name _ _ _ _ _ front c.in-Some-split_bytes.content.now c.in-Some-split_bytes.rest.now (omega arith) content.0 content.1 c.of-found.result c.of-found.ensures.value (search rules)
+    let wrong = c.in_err-check_name.ensures.fault in
+    rw (p.1, p.2) (rw wrong.0 (blob_of_other_name _ _ _ _ _ front c.in-Some-split_bytes.content.now c.in-Some-split_bytes.rest.now (omega arith) content.0 content.1 _ refl wrong.1))
 
 pub returns-clause-record : goal.returns-clause-record
 returns-clause-record c =
@@ -54,5 +56,4 @@ returns-clause-record c =
     let content = c.in-Some-split_bytes.ensures in
     let text = c.in_ok-bytes.bytes in
     let is : c.in-Some-split_bytes.content.now ≡ text = sym c.in_ok-bytes.ensures in
-    let same : c.from_bytes-name.result ≡ c.of-found.result = search rules in
-    (record_of.Blob c.in_ok-private.private c.from_bytes-name.result text, c.in_ok-push.ensures.items, blob_read _ _ _ _ _ front text c.in-Some-split_bytes.rest.now (omega arith) (content.0 ∙ ap (λ (l : List ℕ). l ++ c.in-Some-split_bytes.rest.now) is) (ap length (sym is) ∙ content.1) (same ∙ c.of-found.ensures.value ∙ ap name_of is))
+    (record_of.Blob c.in_ok-private.private c.from_bytes-name.result text, c.in_ok-push.ensures.items, blob_read _ _ _ _ _ front text c.in-Some-split_bytes.rest.now (omega arith) (content.0 ∙ ap (λ (l : List ℕ). l ++ c.in-Some-split_bytes.rest.now) is) (ap length (sym is) ∙ content.1) (c.in_ok-check_name.ensures.right ∙ ap name_of is))
