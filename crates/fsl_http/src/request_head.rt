@@ -118,7 +118,8 @@ fn judge_value(text: &[u8]) -> Verdict
 {
     match decimal(text) {
         Ok(number) => {
-            if BODY_LIMIT < number {
+            let is_above = BODY_LIMIT < number;
+            if is_above {
                 return Verdict::Refuse(413);
             }
             Verdict::Length(number)
