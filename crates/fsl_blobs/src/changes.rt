@@ -11,6 +11,7 @@ ghost use Rattle.fsl_blobs.specs.Kept.{is_same, is_kept, held_at, stands, publis
 
 use crate::blobs::HeldArtifact;
 use crate::order::{Order, put, take};
+use crate::sizes::is_kept;
 use fsl_name::Name;
 use fsl_record::Record;
 use fsl_text::Memory;
@@ -30,7 +31,7 @@ fn add(
     // Nothing stood at its place.
     ensures order_err { OnErr result (((b : Bool) → name_in b order.old artifact.place ≡ None) → (b : Bool) (n : ℕ) → name_in b order.new n ≡ name_in b order.old n) }
 {
-    if held.contains_key(&name) || shunned.contains(&name) {
+    if is_kept(held, shunned, &name) {
         return Ok(());
     }
     let place = artifact.place;
