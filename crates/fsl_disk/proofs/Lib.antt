@@ -1,4 +1,5 @@
 pub mod Moments
+pub mod Failing
 pub mod Pieces
 mod Recording
 mod Places
