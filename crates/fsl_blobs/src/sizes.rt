@@ -25,7 +25,11 @@ pub(crate) fn size_of(held: &BTreeMap<Name, HeldArtifact>, name: &Name) -> u64
 }
 
 /// Whether a name is held or shunned.
-pub(crate) fn is_kept(held: &BTreeMap<Name, HeldArtifact>, shunned: &BTreeSet<Name>, name: &Name) -> bool
+pub(crate) fn is_kept(
+    held: &BTreeMap<Name, HeldArtifact>,
+    shunned: &BTreeSet<Name>,
+    name: &Name,
+) -> bool
     ensures { result ≡ is_kept held.now.entries shunned.now.keys name.now }
 {
     held.contains_key(name) || shunned.contains(name)
