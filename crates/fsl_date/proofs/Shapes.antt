@@ -29,6 +29,12 @@ module _ (f : ℕ → ℕ → Bool) where
       and_false true = refl
       and_false false = refl
 
+  pointwise-length : (xs ys : List ℕ) → pointwise f xs ys ≡ true → length ys ≡ length xs
+  pointwise-length [] [] h = refl
+  pointwise-length [] (y ∷ ys) h = absurd cc
+  pointwise-length (x ∷ xs) [] h = absurd cc
+  pointwise-length (x ∷ xs) (y ∷ ys) h = omega (arith, pointwise-length xs ys (second_holds (f x y) (pointwise f xs ys) h))
+
   pointwise-drop : (n : ℕ) (xs ys : List ℕ) → pointwise f xs ys ≡ true → pointwise f (drop n xs) (drop n ys) ≡ true
   pointwise-drop zero xs ys h = h
   pointwise-drop (suc n) [] [] h = refl
@@ -69,6 +75,14 @@ digits_at text from to n h short long =
     elim (or_cases (pointwise fits_place (codes "9999-99-99T99:99:99") text) (pointwise fits_place (codes "9999-99-99T99:99:99.999") text) h) [
       | inl s ↦ nines-digits n (slice_range text from to) (subst (λ (shape : List ℕ). pointwise fits_place shape (slice_range text from to) ≡ true) short (pointwise-range fits_place _ text from to s))
       | inr l ↦ nines-digits n (slice_range text from to) (subst (λ (shape : List ℕ). pointwise fits_place shape (slice_range text from to) ≡ true) long (pointwise-range fits_place _ text from to l))
+    ]
+
+-- a text of either shape reaches to the seconds
+pub to_seconds : (text : List ℕ) → has_date_shape text ≡ true → 19 ≤ length text
+to_seconds text h =
+    elim (or_cases (pointwise fits_place (codes "9999-99-99T99:99:99") text) (pointwise fits_place (codes "9999-99-99T99:99:99.999") text) h) [
+      | inl s ↦ omega (arith, pointwise-length fits_place (codes "9999-99-99T99:99:99") text s)
+      | inr l ↦ omega (arith, pointwise-length fits_place (codes "9999-99-99T99:99:99.999") text l)
     ]
 
 -- a text that is not as long as the second shape says no milliseconds

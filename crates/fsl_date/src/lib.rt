@@ -97,14 +97,17 @@ impl Moment {
     {
         let day = Day::of_number(self.since_year_zero / MS_OF_DAY);
         let time = Time::of_ms(self.since_year_zero % MS_OF_DAY);
-        let mut text = *b"0000-00-00T00:00:00.000";
-        text[0..4].copy_from_slice(&four(day.year));
-        text[5..7].copy_from_slice(&two(day.month));
-        text[8..10].copy_from_slice(&two(day.day));
-        text[11..13].copy_from_slice(&two(time.hour));
-        text[14..16].copy_from_slice(&two(time.minute));
-        text[17..19].copy_from_slice(&two(time.second));
-        text[20..23].copy_from_slice(&three(time.milli));
-        text
+        let year = four(day.year);
+        let month = two(day.month);
+        let date = two(day.day);
+        let hour = two(time.hour);
+        let minute = two(time.minute);
+        let second = two(time.second);
+        let milli = three(time.milli);
+        [
+            year[0], year[1], year[2], year[3], b'-', month[0], month[1], b'-', date[0], date[1],
+            b'T', hour[0], hour[1], b':', minute[0], minute[1], b':', second[0], second[1], b'.',
+            milli[0], milli[1], milli[2],
+        ]
     }
 }
