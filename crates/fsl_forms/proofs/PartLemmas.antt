@@ -1,5 +1,5 @@
 -- What a reader answers where a part of what it reads can't be read, and what a ticket's field gives.
-use Rattle.std.proofs.Common.{◌≡◌, Bool, true, false, not, cond, ℕ, List, [], ◌∷◌, Option, Some, None, Result, Ok, Err, refl, ap, sym, ◌∙◌}
+use Rattle.std.proofs.Common.{◌≡◌, Bool, true, false, not, cond, ℕ, List, [], ◌∷◌, length, Option, Some, None, Result, Ok, Err, refl, ap, sym, ◌∙◌}
 use Rattle.std.specs.Prelude.{◌==◌, IsErrAnd, MatchResult, option_map}
 use Rattle.fsl_text.specs.Bytes.{is_empty}
 use Rattle.fsl_grammar.specs.declared.Unread.{Unread}
@@ -37,3 +37,8 @@ change_read_from name value append field e = change_is name value ∙ ap (option
 
 pub no_change : (name : List ℕ) (value : Option (List ℕ)) → field_in name ≡ None → change_in name value ≡ None
 no_change name value e = change_is name value ∙ ap (option_map (change_with value)) e
+
+-- a `+` with a byte behind it appends to the field that stands there
+pub field_appended : (name rest text : List ℕ) (first : ℕ) → name ≡ first ∷ rest → first ≡ 43 → (length rest == 0) ≡ false → text ≡ rest → field_in name ≡ Some (true, text)
+field_appended name [] text first e plus filled same = absurd cc
+field_appended name (b ∷ more) text first e plus filled same = ap field_in (e ∙ ap (λ sign. sign ∷ b ∷ more) plus) ∙ ap (λ field. Some (true, field)) (sym same)

@@ -3,9 +3,11 @@ use Rattle.std.specs.Prelude.{◌==◌, ◌&&◌, ◌||◌, ℕ, Bool, true, fal
 use Rattle.std.specs.List.{list_all}
 use Rattle.fsl_order.specs.Names.{is_before}
 use Rattle.fsl_text.specs.Bytes.{is_empty}
+use Rattle.fsl_text.specs.Escapes.{unescape}
 use Rattle.fsl_card.specs.declared.types.Card.{Card}
 use Rattle.fsl_grammar.specs.declared.TagCard.{TagCard}
 use Rattle.fsl_grammar.specs.Forms.{HasAtMostOne, HasEach, given, hash_form, tag_form, text_form}
+use Rattle.fsl_forms.specs.declared.attachment.Attached.{Attached}
 use Rattle.fsl_forms.specs.declared.forum.Place.{Place}
 use Rattle.fsl_forms.specs.Kinds.{is_own_tag, names_target}
 
@@ -39,3 +41,7 @@ pub record HasPlace (cards : List Card) (place : Place) : Type 0 where
   pub title : HasAtMostOne cards 72 text_form place.title
   pub reply : HasAtMostOne cards 73 hash_form place.reply
   pub together : IsTrue (is_place (is_some place.root) (is_some place.title) (is_some place.reply))
+
+-- what an A card says of a file, a target and a source that was read
+abbrev pub attached_of : List ℕ → List ℕ → Option (List ℕ) → Attached
+attached_of file target source = record { file = unescape file; target = unescape target; source = source }

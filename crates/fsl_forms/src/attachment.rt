@@ -1,11 +1,12 @@
 //! Files that are attached to pages, tickets and technotes.
-ghost use Rattle.std.specs.Prelude.{◌≡◌, ◌++◌, IfOk, IsTrue, OnOk};
+ghost use Rattle.std.specs.Prelude.{◌≡◌, ◌++◌, IfOk, IsTrue, OnOk, Some};
 ghost use Rattle.fsl_card.specs.Cards.{IsReading, IsTextOf, card_text, text_of};
 ghost use Rattle.fsl_date.specs.Moment.{IsMoment};
 ghost use Rattle.fsl_forms.specs.Kinds.{IsAttachment, attached_form};
+ghost use Rattle.fsl_forms.specs.Parts.{attached_of};
 ghost use Rattle.fsl_forms.specs.WellFormed.{is_attachment_well_formed};
 ghost use Rattle.fsl_forms.specs.Writing.{IsAttachmentText, attached_card, attachment_cards};
-ghost use Rattle.fsl_grammar.specs.Reading.{IsRead};
+ghost use Rattle.fsl_grammar.specs.Reading.{IsGiven, IsRead};
 
 use fsl_card::{Card, Cards, finish};
 use fsl_date::Moment;
@@ -131,17 +132,28 @@ impl Form for AttachedForm {
 
     fn read(alloc: Global, args: &[Text]) -> Result<Attached, Unread> {
         match args {
-            [file, target] => Ok(Attached {
-                file: unescape(alloc, file.bytes())?,
-                target: unescape(alloc, target.bytes())?,
-                source: None,
-            }),
-            [file, target, source] => Ok(Attached {
-                source: Some(read_hash(source.bytes()).ok_or(Unread::Form)?),
-                file: unescape(alloc, file.bytes())?,
-                target: unescape(alloc, target.bytes())?,
-            }),
+            [file, target] => read_attached(alloc, file.bytes(), target.bytes(), None),
+            [file, target, source] => match read_hash(source.bytes()) {
+                Some(source) => read_attached(alloc, file.bytes(), target.bytes(), Some(source)),
+                None => Err(Unread::Form),
+            },
             _ => Err(Unread::Form),
         }
     }
+}
+
+/// What the arguments of an A card say, the last of which was read already, where it is there.
+fn read_attached(
+    alloc: Global,
+    file: &[u8],
+    target: &[u8],
+    source: Option<Name>,
+) -> Result<Attached, Unread>
+    ensures { IsGiven (Some (attached_of file.now target.now source)) result }
+{
+    Ok(Attached {
+        file: unescape(alloc, file)?,
+        target: unescape(alloc, target)?,
+        source,
+    })
 }

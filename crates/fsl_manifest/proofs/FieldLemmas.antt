@@ -1,5 +1,8 @@
--- Cards give the fields of one manifest at most.
-use Rattle.std.proofs.Common.{◌≡◌, true, List}
+-- Cards give the fields of one manifest at most, and none where they lack one.
+use Rattle.std.proofs.Common.{◌≡◌, true, List, Result, Ok, Err, sym, ◌∙◌}
+use Rattle.std.specs.Prelude.{IsErrAnd, MatchResult}
+use Rattle.fsl_grammar.specs.declared.Unread.{Unread}
+use Rattle.fsl_grammar.specs.declared.Unread.TheVariants.{Form}
 use Rattle.fsl_grammar.specs.Letters.{has_letters, manifest_letters}
 use Rattle.fsl_card.specs.declared.types.Card.{Card}
 use Rattle.fsl_grammar.specs.Forms.{hash_form, text_form, date_form, checksum_form, user_form, tag_form}
@@ -51,3 +54,10 @@ manifest_of cards m letters h hashes = record {
   user = h.user;
   hashes = hashes;
 }
+
+-- fields have that part, so where it can't be read they can't be either
+pub field_unread : (cards : List Card) {Y : Type 0} (Part : Y → Type 0) (part : Manifest → Y) → ((m : Manifest) → HasFields cards m → Part (part m))
+    → (result : Result Manifest Unread) (why : Unread) → IsErrAnd result (λ e. e ≡ why) → (why ≡ Form → (y : Y) → Part y → ⊥)
+    → MatchResult result (HasFields cards) (λ e. e ≡ Form → (m : Manifest) → HasFields cards m → ⊥)
+field_unread cards Part part has (Ok m) why is none = absurd is
+field_unread cards Part part has (Err e) why is none = λ form m fields. none (sym is ∙ form) (part m) (has m fields)

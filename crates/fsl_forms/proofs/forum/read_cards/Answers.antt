@@ -1,3 +1,4 @@
+use Rattle.std.proofs.Common.{sym}
 use Rattle.fsl_grammar.specs.Forms.{HasOne, HasAtMostOne, HasBody, date_form, hash_form, text_form, user_form}
 use Rattle.fsl_forms.specs.declared.forum.Forum.{Forum}
 use Rattle.fsl_forms.specs.Parts.{HasPlace}
@@ -34,3 +35,17 @@ pub returns-in_err-text : goal.returns-in_err-text
 returns-in_err-text c =
     part_unread (IsForum c.args.cards.now) (HasBody c.args.cards.now) (λ (f : Forum). f.text) (λ f h. h.text)
     c.from_residual-in_err-text.result _ c.from_residual-in_err-text.ensures.1 c.in_err-text.ensures
+
+pub returns : goal.returns
+returns c = record {
+  letters = sym c.if-not-has_forum_letters.ensures;
+  date = c.in_ok-date.ensures;
+  root = c.in_ok-place.ensures.root;
+  title = c.in_ok-place.ensures.title;
+  reply = c.in_ok-place.ensures.reply;
+  mime = c.in_ok-mime.ensures;
+  prior = c.in_ok-prior.ensures;
+  user = c.in_ok-user.ensures;
+  text = c.in_ok-text.ensures;
+  place = c.in_ok-place.ensures.together;
+}
