@@ -85,6 +85,43 @@ fn note_edit(
     note(alloc, changes, &after.path, How::Edited)
 }
 
+/// Notes how the file of a path changed, and leaves it behind where it is the first.
+fn pass(
+    alloc: Global,
+    changes: &mut List<Change>,
+    path: &Text,
+    how: How,
+    files: &mut Ahead,
+) -> Result<bool, Memory>
+    ensures noted { OnOk result (changes.new ≡ changes.old ++ record { path = path.now; how = how } ∷ []) }
+    ensures passed { files.new ≡ drop 1 files.old }
+    ensures more { IfOk result (λ more. more ≡ true) }
+{
+    files.advance();
+    note(alloc, changes, path, how)?;
+    Ok(true)
+}
+
+/// Notes a file that both have, where hash or permission differ, and leaves it behind in both.
+fn pass_both(
+    alloc: Global,
+    changes: &mut List<Change>,
+    before: &FileRow,
+    after: &FileRow,
+    old: &mut Ahead,
+    new: &mut Ahead,
+) -> Result<bool, Memory>
+    ensures noted { OnOk result (changes.new ≡ changes.old ++ edits before.now after.now) }
+    ensures old_passed { old.new ≡ drop 1 old.old }
+    ensures new_passed { new.new ≡ drop 1 new.old }
+    ensures more { IfOk result (λ more. more ≡ true) }
+{
+    old.advance();
+    new.advance();
+    note_edit(alloc, changes, before, after)?;
+    Ok(true)
+}
+
 /// Leaves the first path behind that is left, and notes how its file changed. The answer is whether there was one.
 fn note_first(
     alloc: Global,
@@ -101,32 +138,15 @@ fn note_first(
     ensures shorter { IfOk result (λ more. more ≡ true → length old.new + length new.new < length old.old + length new.old) }
 {
     match (old.first(), new.first()) {
-        (None, None) => return Ok(false),
-        (Some(before), None) => {
-            note(alloc, changes, &before.path, How::Deleted)?;
-            old.advance();
-        }
-        (None, Some(after)) => {
-            note(alloc, changes, &after.path, How::Added)?;
-            new.advance();
-        }
+        (None, None) => Ok(false),
+        (Some(before), None) => pass(alloc, changes, &before.path, How::Deleted, old),
+        (None, Some(after)) => pass(alloc, changes, &after.path, How::Added, new),
         (Some(before), Some(after)) => match before.path.cmp(&after.path) {
-            Ordering::Less => {
-                note(alloc, changes, &before.path, How::Deleted)?;
-                old.advance();
-            }
-            Ordering::Equal => {
-                note_edit(alloc, changes, before, after)?;
-                old.advance();
-                new.advance();
-            }
-            Ordering::Greater => {
-                note(alloc, changes, &after.path, How::Added)?;
-                new.advance();
-            }
+            Ordering::Less => pass(alloc, changes, &before.path, How::Deleted, old),
+            Ordering::Equal => pass_both(alloc, changes, before, after, old, new),
+            Ordering::Greater => pass(alloc, changes, &after.path, How::Added, new),
         },
     }
-    Ok(true)
 }
 
 /// The paths at which two lists of files differ, ascending, each with how. It takes time by the length of both.

@@ -6,6 +6,7 @@ ghost use Rattle.fsl_order.specs.Rows.{by_name, AreDistinct, ListsChanged};
 ghost use Rattle.fsl_files.specs.Conditions.{IsFilesFact};
 ghost use Rattle.fsl_files.specs.Files as table;
 ghost use Rattle.fsl_files.specs.Files.{files_row};
+ghost use Rattle.fsl_files.specs.Kept.{IsKept, facts_of};
 ghost use Rattle.fsl_files.specs.Touches.{is_followed, counted};
 
 use super::entry::{Entry, line_of};
@@ -76,6 +77,32 @@ impl Undo {
     }
 }
 
+/// Puts some check-ins into tables that have none, the last one first.
+fn fill<L: Ledger>(
+    alloc: Global,
+    entries: &mut Table<Name, Entry>,
+    deltas: &mut Table<Pair, ()>,
+    children: &mut Table<Pair, ()>,
+    facts: &[Fact],
+    steps: &mut Steps<L>,
+) -> Result<(), Memory>
+    requires entries { entries.old.entries ≡ [] }
+    requires deltas { deltas.old.entries ≡ [] }
+    requires children { children.old.entries ≡ [] }
+    requires distinct { AreDistinct (map (λ f. f.name) facts.now) }
+    requires fit { All IsFilesFact facts.now }
+    ensures facts { OnOk result (facts_of entries.new.entries ≡ by_name (λ f. f.name) facts.now) }
+    ensures kept { OnOk result (IsKept (record { facts = entries.new; deltas = deltas.new; children = children.new })) }
+{
+    let mut left = facts.len();
+    while left > 0 {
+        left -= 1;
+        let fact = facts[left].copied(alloc)?;
+        put_new(alloc, entries, deltas, children, line_of(fact), steps)?;
+    }
+    Ok(())
+}
+
 impl Files {
     /// The table without check-ins. Takes no memory.
     pub fn new(alloc: Global) -> Files
@@ -118,24 +145,26 @@ impl Files {
         let mut entries = Table::new(alloc);
         let mut deltas = Table::new(alloc);
         let mut children = Table::new(alloc);
-        let mut left = facts.len();
-        while left > 0 {
-            left -= 1;
-            let fact = facts[left].copied(alloc)?;
-            put_new(
-                alloc,
-                &mut entries,
-                &mut deltas,
-                &mut children,
-                line_of(fact),
-                &mut steps,
-            )?;
+        match fill(
+            alloc,
+            &mut entries,
+            &mut deltas,
+            &mut children,
+            facts,
+            &mut steps,
+        ) {
+            Ok(()) => Ok(Files {
+                facts: entries,
+                deltas,
+                children,
+            }),
+            Err(Memory) => {
+                drop(entries);
+                drop(deltas);
+                drop(children);
+                Err(Memory)
+            }
         }
-        Ok(Files {
-            facts: entries,
-            deltas,
-            children,
-        })
     }
 
     /// Adds a check-in whose name isn't there, which is moved. Its files rise by path, and where it has no baseline each has a hash.

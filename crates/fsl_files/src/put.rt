@@ -25,7 +25,7 @@ use std::alloc::Global;
 use std::sync::ledger::Ledger;
 
 /// What stands at a name before a check-in is put there: whether there is one, and the names of its baseline and primary parent.
-#[derive(Drop)]
+#[derive(Clone, Copy)]
 pub(crate) struct Before {
     pub(crate) is_there: bool,
     pub(crate) baseline: Option<Name>,
@@ -134,17 +134,24 @@ pub(crate) fn put_new<L: Ledger>(
         baseline: None,
         parent: None,
     };
-    put_line(
+    let mut facts_log = Log::new(alloc);
+    let mut deltas_log = Log::new(alloc);
+    let mut children_log = Log::new(alloc);
+    let put = put_line(
         facts,
         deltas,
         children,
-        &mut Log::new(alloc),
-        &mut Log::new(alloc),
-        &mut Log::new(alloc),
+        &mut facts_log,
+        &mut deltas_log,
+        &mut children_log,
         line,
         &was,
         steps,
-    )
+    );
+    drop(facts_log);
+    drop(deltas_log);
+    drop(children_log);
+    put
 }
 
 /// Puts a check-in, in the place of that of its name where there is one, and tells the names whose rows differ, ascending. After
@@ -172,17 +179,27 @@ pub(crate) fn put_either<L: Ledger>(
     ensures logged { value_at bytes_cmp line.0 facts.old.entries ≡ None → length facts_log.new + length deltas_log.new + length children_log.new ≤ length facts_log.old + length deltas_log.old + length children_log.old + 3 }
 {
     let was = stands(facts, line.0, steps);
-    let changed = changed_by(alloc, facts, deltas, children, &line, was.is_there, steps)?;
-    put_line(
-        facts,
-        deltas,
-        children,
-        facts_log,
-        deltas_log,
-        children_log,
-        line,
-        &was,
-        steps,
-    )?;
-    Ok(changed)
+    match changed_by(alloc, facts, deltas, children, &line, was.is_there, steps) {
+        Ok(changed) => match put_line(
+            facts,
+            deltas,
+            children,
+            facts_log,
+            deltas_log,
+            children_log,
+            line,
+            &was,
+            steps,
+        ) {
+            Ok(()) => Ok(changed),
+            Err(Memory) => {
+                drop(changed);
+                Err(Memory)
+            }
+        },
+        Err(Memory) => {
+            drop(line);
+            Err(Memory)
+        }
+    }
 }

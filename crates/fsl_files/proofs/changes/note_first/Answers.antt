@@ -1,4 +1,5 @@
 use Rattle.std.proofs.Common.{◌≡◌, ◌++◌, ◌∙◌, sym, ap, subst, drop, List}
+use Rattle.fsl_table.proofs.Outcomes.{always_ok, on_ok_map}
 use Rattle.fsl_files.specs.declared.FileRow.{FileRow}
 use Rattle.fsl_files.specs.Files.{differences}
 use Rattle.fsl_files.specs.Walks.{edits}
@@ -13,66 +14,76 @@ left_rises rows left e h = subst (Rise path) (sym e) (drop_rises rows h)
 pub returns-in-None-None-clause-ended : goal.returns-in-None-None-clause-ended
 returns-in-None-None-clause-ended c _ = (none_at c.args.old.now c.in-None-None.ensures, none_at c.args.new.now c.in-None-None.ensures')
 
-pub returns-in_ok-note-in-None-Some-clause-noted : goal.returns-in_ok-note-in-None-Some-clause-noted
-returns-in_ok-note-in-None-Some-clause-noted c =
+pub returns-in-None-Some-clause-noted : goal.returns-in-None-Some-clause-noted
+returns-in-None-Some-clause-noted c =
     let old = c.args.old.now in
     let new = c.args.new.now in
-    noted_step c.args.changes.now c.note.new.changes (added c.in-None-Some.after.now) (differences old c.advance.new.self) (differences old new) c.in_ok-note-in-None-Some.ensures
+    on_ok_map c.pass.result
+    (λ noted. noted_step c.args.changes.now c.pass.new.changes (added c.in-None-Some.after.now) (differences old c.pass.new.files) (differences old new) noted
     (added_alone old new c.requires.old_rises c.requires.new_rises c.in-None-Some.after.now c.in-None-Some.ensures c.in-None-Some.ensures'
-    ∙ ap (λ rows. added c.in-None-Some.after.now ++ differences old rows) (sym c.advance.ensures))
+    ∙ ap (λ rows. added c.in-None-Some.after.now ++ differences old rows) (sym c.pass.ensures.passed)))
+    c.pass.ensures.noted
 
-pub returns-in_ok-note-in-None-Some-clause-new_rises : goal.returns-in_ok-note-in-None-Some-clause-new_rises
-returns-in_ok-note-in-None-Some-clause-new_rises c = left_rises c.args.new.now c.advance.new.self c.advance.ensures c.requires.new_rises
+pub returns-in-None-Some-clause-new_rises : goal.returns-in-None-Some-clause-new_rises
+returns-in-None-Some-clause-new_rises c = always_ok c.pass.result (left_rises c.args.new.now c.pass.new.files c.pass.ensures.passed c.requires.new_rises)
 
-pub returns-in_ok-note-in-Some-None-clause-noted : goal.returns-in_ok-note-in-Some-None-clause-noted
-returns-in_ok-note-in-Some-None-clause-noted c =
+pub returns-in-Some-None-clause-noted : goal.returns-in-Some-None-clause-noted
+returns-in-Some-None-clause-noted c =
     let old = c.args.old.now in
     let new = c.args.new.now in
-    noted_step c.args.changes.now c.note-in-Some-None.new.changes (deleted c.in-Some-None.before.now) (differences c.advance-in-Some-None.new.self new) (differences old new) c.in_ok-note-in-Some-None.ensures
+    on_ok_map c.pass-in-Some-None.result
+    (λ noted. noted_step c.args.changes.now c.pass-in-Some-None.new.changes (deleted c.in-Some-None.before.now) (differences c.pass-in-Some-None.new.files new) (differences old new) noted
     (deleted_alone old new c.requires.old_rises c.requires.new_rises c.in-Some-None.before.now c.in-Some-None.ensures c.in-Some-None.ensures'
-    ∙ ap (λ rows. deleted c.in-Some-None.before.now ++ differences rows new) (sym c.advance-in-Some-None.ensures))
+    ∙ ap (λ rows. deleted c.in-Some-None.before.now ++ differences rows new) (sym c.pass-in-Some-None.ensures.passed)))
+    c.pass-in-Some-None.ensures.noted
 
-pub returns-in_ok-note-in-Some-None-clause-old_rises : goal.returns-in_ok-note-in-Some-None-clause-old_rises
-returns-in_ok-note-in-Some-None-clause-old_rises c = left_rises c.args.old.now c.advance-in-Some-None.new.self c.advance-in-Some-None.ensures c.requires.old_rises
+pub returns-in-Some-None-clause-old_rises : goal.returns-in-Some-None-clause-old_rises
+returns-in-Some-None-clause-old_rises c = always_ok c.pass-in-Some-None.result (left_rises c.args.old.now c.pass-in-Some-None.new.files c.pass-in-Some-None.ensures.passed c.requires.old_rises)
 
-pub returns-in_ok-note-in-Less-clause-noted : goal.returns-in_ok-note-in-Less-clause-noted
-returns-in_ok-note-in-Less-clause-noted c =
+pub returns-in-Less-clause-noted : goal.returns-in-Less-clause-noted
+returns-in-Less-clause-noted c =
     let old = c.args.old.now in
     let new = c.args.new.now in
     let a = c.in-Some-Some.before.now in
     let b = c.in-Some-Some.after.now in
-    noted_step c.args.changes.now c.note-in-Less.new.changes (deleted a) (differences c.advance-in-Less.new.self new) (differences old new) c.in_ok-note-in-Less.ensures
+    on_ok_map c.pass-in-Less.result
+    (λ noted. noted_step c.args.changes.now c.pass-in-Less.new.changes (deleted a) (differences c.pass-in-Less.new.files new) (differences old new) noted
     (deleted_before old new c.requires.old_rises c.requires.new_rises a b c.in-Some-Some.ensures c.in-Some-Some.ensures' (sym c.cmp.ensures ∙ c.in-Less.is)
-    ∙ ap (λ rows. deleted a ++ differences rows new) (sym c.advance-in-Less.ensures))
+    ∙ ap (λ rows. deleted a ++ differences rows new) (sym c.pass-in-Less.ensures.passed)))
+    c.pass-in-Less.ensures.noted
 
-pub returns-in_ok-note-in-Less-clause-old_rises : goal.returns-in_ok-note-in-Less-clause-old_rises
-returns-in_ok-note-in-Less-clause-old_rises c = left_rises c.args.old.now c.advance-in-Less.new.self c.advance-in-Less.ensures c.requires.old_rises
+pub returns-in-Less-clause-old_rises : goal.returns-in-Less-clause-old_rises
+returns-in-Less-clause-old_rises c = always_ok c.pass-in-Less.result (left_rises c.args.old.now c.pass-in-Less.new.files c.pass-in-Less.ensures.passed c.requires.old_rises)
 
-pub returns-in_ok-note_edit-in-Equal-clause-noted : goal.returns-in_ok-note_edit-in-Equal-clause-noted
-returns-in_ok-note_edit-in-Equal-clause-noted c =
+pub returns-in-Equal-clause-noted : goal.returns-in-Equal-clause-noted
+returns-in-Equal-clause-noted c =
     let old = c.args.old.now in
     let new = c.args.new.now in
     let a = c.in-Some-Some.before.now in
     let b = c.in-Some-Some.after.now in
-    noted_step c.args.changes.now c.note_edit.new.changes (edits a b) (differences c.advance-in-Equal.new.self c.advance-in-Equal-2.new.self) (differences old new) c.in_ok-note_edit-in-Equal.ensures
+    on_ok_map c.pass_both.result
+    (λ noted. noted_step c.args.changes.now c.pass_both.new.changes (edits a b) (differences c.pass_both.new.old c.pass_both.new.new) (differences old new) noted
     (edited_both old new c.requires.old_rises c.requires.new_rises a b c.in-Some-Some.ensures c.in-Some-Some.ensures' (sym c.cmp.ensures ∙ c.in-Equal.is)
-    ∙ (λ i. edits a b ++ differences (sym c.advance-in-Equal.ensures i) (sym c.advance-in-Equal-2.ensures i)))
+    ∙ (λ i. edits a b ++ differences (sym c.pass_both.ensures.old_passed i) (sym c.pass_both.ensures.new_passed i))))
+    c.pass_both.ensures.noted
 
-pub returns-in_ok-note_edit-in-Equal-clause-old_rises : goal.returns-in_ok-note_edit-in-Equal-clause-old_rises
-returns-in_ok-note_edit-in-Equal-clause-old_rises c = left_rises c.args.old.now c.advance-in-Equal.new.self c.advance-in-Equal.ensures c.requires.old_rises
+pub returns-in-Equal-clause-old_rises : goal.returns-in-Equal-clause-old_rises
+returns-in-Equal-clause-old_rises c = always_ok c.pass_both.result (left_rises c.args.old.now c.pass_both.new.old c.pass_both.ensures.old_passed c.requires.old_rises)
 
-pub returns-in_ok-note_edit-in-Equal-clause-new_rises : goal.returns-in_ok-note_edit-in-Equal-clause-new_rises
-returns-in_ok-note_edit-in-Equal-clause-new_rises c = left_rises c.args.new.now c.advance-in-Equal-2.new.self c.advance-in-Equal-2.ensures c.requires.new_rises
+pub returns-in-Equal-clause-new_rises : goal.returns-in-Equal-clause-new_rises
+returns-in-Equal-clause-new_rises c = always_ok c.pass_both.result (left_rises c.args.new.now c.pass_both.new.new c.pass_both.ensures.new_passed c.requires.new_rises)
 
-pub returns-in_ok-note-in-Greater-clause-noted : goal.returns-in_ok-note-in-Greater-clause-noted
-returns-in_ok-note-in-Greater-clause-noted c =
+pub returns-in-Greater-clause-noted : goal.returns-in-Greater-clause-noted
+returns-in-Greater-clause-noted c =
     let old = c.args.old.now in
     let new = c.args.new.now in
     let a = c.in-Some-Some.before.now in
     let b = c.in-Some-Some.after.now in
-    noted_step c.args.changes.now c.note-in-Greater.new.changes (added b) (differences old c.advance-in-Greater.new.self) (differences old new) c.in_ok-note-in-Greater.ensures
+    on_ok_map c.pass-in-Greater.result
+    (λ noted. noted_step c.args.changes.now c.pass-in-Greater.new.changes (added b) (differences old c.pass-in-Greater.new.files) (differences old new) noted
     (added_before old new c.requires.old_rises c.requires.new_rises a b c.in-Some-Some.ensures c.in-Some-Some.ensures' (sym c.cmp.ensures ∙ c.in-Greater.is)
-    ∙ ap (λ rows. added b ++ differences old rows) (sym c.advance-in-Greater.ensures))
+    ∙ ap (λ rows. added b ++ differences old rows) (sym c.pass-in-Greater.ensures.passed)))
+    c.pass-in-Greater.ensures.noted
 
-pub returns-in_ok-note-in-Greater-clause-new_rises : goal.returns-in_ok-note-in-Greater-clause-new_rises
-returns-in_ok-note-in-Greater-clause-new_rises c = left_rises c.args.new.now c.advance-in-Greater.new.self c.advance-in-Greater.ensures c.requires.new_rises
+pub returns-in-Greater-clause-new_rises : goal.returns-in-Greater-clause-new_rises
+returns-in-Greater-clause-new_rises c = always_ok c.pass-in-Greater.result (left_rises c.args.new.now c.pass-in-Greater.new.files c.pass-in-Greater.ensures.passed c.requires.new_rises)

@@ -1,7 +1,7 @@
 use Rattle.std.proofs.Common.{◌≡◌, ◌≤◌, drop, length}
 use Rattle.fsl_order.specs.Rows.{by_name}
 use Rattle.fsl_files.specs.Kept.{IsKept, facts_of}
-use Rattle.fsl_files.proofs.files.Files.build_counted.Given as goal
+use Rattle.fsl_files.proofs.files.fill.Given as goal
 
 -- those that are done are there
 abbrev pub invariant-loop-left : goal.invariant-loop-left

@@ -8,12 +8,12 @@ use Rattle.fsl_table.specs.Contents.{value_at, with_entry}
 use Rattle.fsl_table.proofs.Facts.{absent-entry, absent_before, facts_with}
 use Rattle.fsl_files.specs.Kept.{fact_of, facts_of, entry_of}
 use Rattle.fsl_files.proofs.Canonical.{kept_none}
-use Rattle.fsl_files.proofs.files.Files.build_counted.Goals as goal
+use Rattle.fsl_files.proofs.files.fill.Goals as goal
 
 pub loop-left-init : goal.loop-left-init
 loop-left-init g c = record {
-  done = ap facts_of c.new-entries.ensures ∙ ap (by_name (λ f. f.name)) (sym (drop-length c.args.facts.now));
-  kept = kept_none (record { facts = c.new-entries.result; deltas = c.new-deltas.result; children = c.new-children.result }) c.new-entries.ensures c.new-deltas.ensures c.new-children.ensures;
+  done = ap facts_of c.requires.entries ∙ ap (by_name (λ f. f.name)) (sym (drop-length c.args.facts.now));
+  kept = kept_none (record { facts = c.args.entries.now; deltas = c.args.deltas.now; children = c.args.children.now }) c.requires.entries c.requires.deltas c.requires.children;
   within = omega arith;
 }
 
