@@ -169,19 +169,26 @@ impl Pages {
         let mut entries = Table::new(alloc);
         let mut spots = Table::new(alloc);
         let mut targets = Table::new(alloc);
-        fill(
+        match fill(
             alloc,
             &mut entries,
             &mut spots,
             &mut targets,
             facts,
             &mut steps,
-        )?;
-        Ok(Pages {
-            facts: entries,
-            spots,
-            targets,
-        })
+        ) {
+            Ok(()) => Ok(Pages {
+                facts: entries,
+                spots,
+                targets,
+            }),
+            Err(Memory) => {
+                drop(entries);
+                drop(spots);
+                drop(targets);
+                Err(Memory)
+            }
+        }
     }
 
     /// Adds a fact whose name isn't there, which is moved. `Memory` is the only error, and the table then holds what it held. Of a
@@ -347,7 +354,9 @@ impl Pages {
             first: Group::note(id),
             second: None,
         });
-        match current(&self.spots, &race, &mut steps) {
+        let late = current(&self.spots, &race, &mut steps);
+        drop(race);
+        match late {
             None => None,
             Some(late) => Some(late.name()),
         }

@@ -127,7 +127,7 @@ pub(crate) fn put_fact<L: Ledger>(
     ensures cost { target_of name entry ≡ None → steps.new ≤ steps.old + 2 }
     ensures logged { target_of name entry ≡ None → length facts_log.new + length spots_log.new + length targets_log.new ≤ length facts_log.old + length spots_log.old + length targets_log.old + 2 }
 {
-    place(
+    match place(
         alloc,
         spots,
         targets,
@@ -136,8 +136,13 @@ pub(crate) fn put_fact<L: Ledger>(
         name,
         &entry,
         steps,
-    )?;
-    log::put(facts, facts_log, name, name, entry, steps)
+    ) {
+        Ok(()) => log::put(facts, facts_log, name, name, entry, steps),
+        Err(Memory) => {
+            drop(entry);
+            Err(Memory)
+        }
+    }
 }
 
 /// Takes the key of an attachment out, where it is one.
@@ -395,6 +400,26 @@ struct Known {
     leaders: BTreeSet<Name>,
 }
 
+/// Before the versions among which a name may be current, and before those where it may be once an entry is put to it.
+fn races_of<L: Ledger>(
+    alloc: Global,
+    facts: &Table<Name, Entry>,
+    name: Name,
+    entry: &Entry,
+    steps: &mut Steps<L>,
+) -> Result<(Option<Within<Group, Late>>, Option<Within<Group, Late>>), Memory>
+    ensures { IfOk result (λ races. races ≡ (race_at facts.now.entries name, race_in entry.now)) }
+{
+    let old_race = race_of(alloc, facts, name, steps)?;
+    match entry.race(alloc) {
+        Ok(race) => Ok((old_race, race)),
+        Err(Memory) => {
+            drop(old_race);
+            Err(Memory)
+        }
+    }
+}
+
 /// What is known of a name to which an entry is to be put.
 fn known_of<L: Ledger>(
     alloc: Global,
@@ -411,15 +436,20 @@ fn known_of<L: Ledger>(
     ensures leaders { IfOk result (λ known. (q : List ℕ) → has known.leaders.keys q ≡ (not (bytes_eq q name) && (is_placed q (top spots.now.entries known.race) || is_placed q (top spots.now.entries known.old_race)))) }
 {
     let row = row_of(alloc, facts, spots, name, steps)?;
-    let old_race = race_of(alloc, facts, name, steps)?;
-    let race = entry.race(alloc)?;
-    let leaders = leaders(alloc, spots, &old_race, &race, name, steps)?;
-    Ok(Known {
-        old_race,
-        race,
-        row,
-        leaders,
-    })
+    let (old_race, race) = races_of(alloc, facts, name, entry, steps)?;
+    match leaders(alloc, spots, &old_race, &race, name, steps) {
+        Ok(leaders) => Ok(Known {
+            old_race,
+            race,
+            row,
+            leaders,
+        }),
+        Err(Memory) => {
+            drop(old_race);
+            drop(race);
+            Err(Memory)
+        }
+    }
 }
 
 /// The names whose rows differ from those that are known.
@@ -466,7 +496,7 @@ fn replace<L: Ledger>(
     ensures undoes_spots { (before : Contents Spot Unit) → Undoes spot_cmp spots_log.old spots.old before → Undoes spot_cmp spots_log.new spots.new before }
     ensures undoes_targets { (before : Contents Target Unit) → Undoes target_cmp targets_log.old targets.old before → Undoes target_cmp targets_log.new targets.new before }
 {
-    take_out(
+    match take_out(
         alloc,
         facts,
         spots,
@@ -476,19 +506,24 @@ fn replace<L: Ledger>(
         targets_log,
         name,
         steps,
-    )?;
-    put_fact(
-        alloc,
-        facts,
-        spots,
-        targets,
-        facts_log,
-        spots_log,
-        targets_log,
-        name,
-        entry,
-        steps,
-    )
+    ) {
+        Ok(()) => put_fact(
+            alloc,
+            facts,
+            spots,
+            targets,
+            facts_log,
+            spots_log,
+            targets_log,
+            name,
+            entry,
+            steps,
+        ),
+        Err(Memory) => {
+            drop(entry);
+            Err(Memory)
+        }
+    }
 }
 
 /// Puts a fact, in the place of that of its name where there is one, and tells the names whose rows differ.
@@ -512,20 +547,34 @@ fn put_among<L: Ledger>(
     ensures undoes_spots { (before : Contents Spot Unit) → Undoes spot_cmp spots_log.old spots.old before → Undoes spot_cmp spots_log.new spots.new before }
     ensures undoes_targets { (before : Contents Target Unit) → Undoes target_cmp targets_log.old targets.old before → Undoes target_cmp targets_log.new targets.new before }
 {
-    let known = known_of(alloc, facts, spots, name, &entry, steps)?;
-    replace(
-        alloc,
-        facts,
-        spots,
-        targets,
-        facts_log,
-        spots_log,
-        targets_log,
-        name,
-        entry,
-        steps,
-    )?;
-    changed_since(alloc, facts, spots, name, &known, steps)
+    match known_of(alloc, facts, spots, name, &entry, steps) {
+        Ok(known) => match replace(
+            alloc,
+            facts,
+            spots,
+            targets,
+            facts_log,
+            spots_log,
+            targets_log,
+            name,
+            entry,
+            steps,
+        ) {
+            Ok(()) => {
+                let changed = changed_since(alloc, facts, spots, name, &known, steps);
+                drop(known);
+                changed
+            }
+            Err(Memory) => {
+                drop(known);
+                Err(Memory)
+            }
+        },
+        Err(Memory) => {
+            drop(entry);
+            Err(Memory)
+        }
+    }
 }
 
 /// The list of a name.

@@ -12,28 +12,28 @@ both_if : {X E : Type 0} {P Q S : X → Type 0} (r : Result X E) → ((x : X) �
 both_if (Ok x) f p q = f x p q
 both_if (Err e) f p q = tt
 
-pub returns-clause-changed : goal.returns-clause-changed
-returns-clause-changed g c =
+pub returns-in-Ok-replace-clause-changed : goal.returns-in-Ok-replace-clause-changed
+returns-in-Ok-replace-clause-changed g c =
     let es = c.args.facts.now.entries in
     let ss = c.args.spots.now.entries in
     let name = c.args.name in
     let entry = c.args.entry in
-    let known = c.in_ok-known.known in
+    let known = c.in-Ok.known in
     let old : Rows = record { facts = c.args.facts.now; spots = c.args.spots.now; targets = c.args.targets.now } in
     let new : Rows = record { facts = c.replace.new.facts; spots = c.replace.new.spots; targets = c.replace.new.targets } in
-    let kept = c.in_ok-replace.ensures.kept in
-    let is : new.facts.entries ≡ with_entry bytes_cmp name entry es = c.in_ok-replace.ensures.entries in
-    let before = c.in_ok-known.ensures.row ∙ row_told old c.requires.kept name (value_at bytes_cmp name es) in
+    let kept = c.in-Ok-replace.ensures.kept in
+    let is : new.facts.entries ≡ with_entry bytes_cmp name entry es = c.in-Ok-replace.ensures.entries in
+    let before = c.in-Ok.ensures.row ∙ row_told old c.requires.kept name (value_at bytes_cmp name es) in
     let after = row_told new kept name (value_at bytes_cmp name new.facts.entries) ∙ ap (λ fs. row_by (value_at bytes_cmp name fs) (leads fs name)) is in
-    both_if c.changed_since.result
+    both_if c.changed_since-changed.result
     (λ list told rising. among_changed es c.requires.kept.ordered name entry list (has known.leaders.keys)
     (λ q. not (bytes_eq q name) && (is_placed q (top new.spots.entries known.race) || is_placed q (top new.spots.entries known.old_race)))
     (not (same_row known.row (row_by (value_at bytes_cmp name new.facts.entries) (λ race. is_placed name (top new.spots.entries race))))) rising told
     (λ i. not (same_row (before i) (after i)))
-    (λ q. c.in_ok-known.ensures.leaders q
-    ∙ (λ i. not (bytes_eq q name) && (is_placed q (top ss (c.in_ok-known.ensures.race i)) || is_placed q (top ss (c.in_ok-known.ensures.old_race i))))
+    (λ q. c.in-Ok.ensures.leaders q
+    ∙ (λ i. not (bytes_eq q name) && (is_placed q (top ss (c.in-Ok.ensures.race i)) || is_placed q (top ss (c.in-Ok.ensures.old_race i))))
     ∙ (λ i. not (bytes_eq q name) && (leads_entry old c.requires.kept q entry i || leads_if old c.requires.kept q (value_at bytes_cmp name es) i)))
-    (λ q. (λ i. not (bytes_eq q name) && (is_placed q (top new.spots.entries (c.in_ok-known.ensures.race i)) || is_placed q (top new.spots.entries (c.in_ok-known.ensures.old_race i))))
+    (λ q. (λ i. not (bytes_eq q name) && (is_placed q (top new.spots.entries (c.in-Ok.ensures.race i)) || is_placed q (top new.spots.entries (c.in-Ok.ensures.old_race i))))
     ∙ (λ i. not (bytes_eq q name) && (leads_entry new kept q entry i || leads_if new kept q (value_at bytes_cmp name es) i))
     ∙ ap (λ fs. not (bytes_eq q name) && (leads fs q (race_in entry) || leads fs q (race_at es name))) is))
-    c.changed_since.ensures.names c.changed_since.ensures.rising
+    c.changed_since-changed.ensures.names c.changed_since-changed.ensures.rising
