@@ -43,6 +43,80 @@ fn node_for(alloc: Global, fact: &Fact) -> Result<Node, Memory>
     })
 }
 
+/// Puts the pair of a new name and of the one to which it belongs. What would take it out again isn't wanted.
+fn link_new<L: Ledger>(
+    alloc: Global,
+    pairs: &mut Table<Pair, ()>,
+    name: Name,
+    new: Option<Name>,
+    steps: &mut Steps<L>,
+) -> Result<(), Memory>
+    requires { IsStrictlySortedBy pair_cmp (keys_of pairs.old.entries) }
+    ensures { OnOk result ((first : List ℕ → Option (List ℕ)) → AreOf first pairs.old.entries → first name ≡ None → AreOf (λ x. cond (bytes_eq x name) new (first x)) pairs.new.entries) }
+{
+    let mut log = Log::new(alloc);
+    let linked = relink(pairs, &mut log, name, None, new, steps);
+    drop(log);
+    linked
+}
+
+/// Puts the end of the chain of a new name, where it is whole. What would take it out again isn't wanted.
+fn end_new<L: Ledger>(
+    alloc: Global,
+    ends: &mut Table<Name, Name>,
+    name: Name,
+    end: &Option<Name>,
+    steps: &mut Steps<L>,
+) -> Result<(), Memory>
+    requires { IsStrictlySortedBy bytes_cmp (keys_of ends.old.entries) }
+    ensures ordered { OnOk result (IsStrictlySortedBy bytes_cmp (keys_of ends.new.entries)) }
+    ensures ends { OnOk result ((x : List ℕ) → value_at bytes_cmp x ends.new.entries ≡ cond (bytes_eq x name) end.now (value_at bytes_cmp x ends.old.entries)) }
+{
+    let mut log = Log::new(alloc);
+    let set = set_end(ends, &mut log, name, end, steps);
+    drop(log);
+    set
+}
+
+/// Puts a new post beside its name.
+fn put_node<L: Ledger>(
+    posts: &mut Table<Name, Node>,
+    name: Name,
+    node: Node,
+    steps: &mut Steps<L>,
+) -> Result<(), Memory>
+    ensures { OnOk result (posts.new.entries ≡ with_entry bytes_cmp name node posts.old.entries) }
+{
+    if posts.put(name, node, steps).is_err() {
+        return Err(Memory);
+    }
+    Ok(())
+}
+
+/// Puts a new post whose chain has this end, and the pair of it and its thread.
+fn place_new<L: Ledger>(
+    alloc: Global,
+    posts: &mut Table<Name, Node>,
+    placed: &mut Table<Pair, ()>,
+    fact: &Fact,
+    end: Option<Name>,
+    steps: &mut Steps<L>,
+) -> Result<(), Memory>
+    requires { IsStrictlySortedBy pair_cmp (keys_of placed.old.entries) }
+    ensures posts { OnOk result (posts.new.entries ≡ with_entry bytes_cmp fact.now.name (node_of fact.now) posts.old.entries) }
+    ensures placed { OnOk result ((first : List ℕ → Option (List ℕ)) → AreOf first placed.old.entries → first fact.now.name ≡ None → AreOf (λ x. cond (bytes_eq x fact.now.name) (place_by end fact.now) (first x)) placed.new.entries) }
+{
+    let node = node_for(alloc, fact)?;
+    let place = node.place(fact.name, end);
+    match link_new(alloc, placed, fact.name, place, steps) {
+        Ok(()) => put_node(posts, fact.name, node, steps),
+        Err(Memory) => {
+            drop(node);
+            Err(Memory)
+        }
+    }
+}
+
 /// Puts a new post whose chain has this end.
 fn fill_one<L: Ledger>(
     alloc: Global,
@@ -63,22 +137,9 @@ fn fill_one<L: Ledger>(
     ensures ends { OnOk result ((x : List ℕ) → value_at bytes_cmp x ends.new.entries ≡ cond (bytes_eq x fact.now.name) end (value_at bytes_cmp x ends.old.entries)) }
     ensures placed { OnOk result ((first : List ℕ → Option (List ℕ)) → AreOf first placed.old.entries → first fact.now.name ≡ None → AreOf (λ x. cond (bytes_eq x fact.now.name) (place_by end fact.now) (first x)) placed.new.entries) }
 {
-    relink(
-        followers,
-        &mut Log::new(alloc),
-        fact.name,
-        None,
-        fact.next(),
-        steps,
-    )?;
-    set_end(ends, &mut Log::new(alloc), fact.name, &end, steps)?;
-    let node = node_for(alloc, fact)?;
-    let place = node.place(fact.name, end);
-    relink(placed, &mut Log::new(alloc), fact.name, None, place, steps)?;
-    match posts.put(fact.name, node, steps) {
-        Ok(_) => Ok(()),
-        Err(_) => Err(Memory),
-    }
+    link_new(alloc, followers, fact.name, fact.next(), steps)?;
+    end_new(alloc, ends, fact.name, &end, steps)?;
+    place_new(alloc, posts, placed, fact, end, steps)
 }
 
 /// Fills empty tables from posts.

@@ -1,14 +1,11 @@
-use Rattle.std.proofs.Common.{◌∙◌, cond, ap, subst}
+use Rattle.std.proofs.Common.{cond, subst}
 use Rattle.std.specs.Str.{bytes_eq}
-use Rattle.fsl_forum.specs.Held.{AreOf, fact_of}
-use Rattle.fsl_forum.specs.Kept.{place_by}
+use Rattle.fsl_forum.specs.Held.{AreOf}
+use Rattle.fsl_table.proofs.Outcomes.{always_ok}
 use Rattle.fsl_forum.proofs.build.fill_one.Goals as goal
 
-pub returns-in-Ok-clause-followers : goal.returns-in-Ok-clause-followers
-returns-in-Ok-clause-followers g c = λ first of_ none.
-    subst (λ n. AreOf (λ x. cond (bytes_eq x c.args.fact.now.name) n (first x)) c.relink.new.pairs.entries) c.next.ensures (c.in_ok-relink.ensures.pairs first of_ none)
-
-pub returns-in-Ok-clause-placed : goal.returns-in-Ok-clause-placed
-returns-in-Ok-clause-placed g c = λ first of_ none.
-    subst (λ n. AreOf (λ x. cond (bytes_eq x c.args.fact.now.name) n (first x)) c.relink-2.new.pairs.entries)
-    (c.place-place.ensures ∙ ap (λ n. place_by c.args.end (fact_of (c.args.fact.now.name, n))) c.in_ok-node.ensures) (c.in_ok-relink-2.ensures.pairs first of_ none)
+pub returns-clause-followers : goal.returns-clause-followers
+returns-clause-followers g c =
+    always_ok c.place_new.result
+    (λ first of_ none.
+    subst (λ n. AreOf (λ x. cond (bytes_eq x c.args.fact.now.name) n (first x)) c.link_new.new.pairs.entries) c.next.ensures (c.in_ok-link_new.ensures first of_ none))
