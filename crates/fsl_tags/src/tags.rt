@@ -115,7 +115,7 @@ impl Tags {
         let mut children = Table::new(alloc);
         let mut own = Table::new(alloc);
         let mut rows = Table::new(alloc);
-        fill(
+        match fill(
             alloc,
             given,
             &mut facts,
@@ -123,13 +123,21 @@ impl Tags {
             &mut own,
             &mut rows,
             &mut steps,
-        )?;
-        Ok(Tags {
-            facts,
-            children,
-            own,
-            rows,
-        })
+        ) {
+            Ok(()) => Ok(Tags {
+                facts,
+                children,
+                own,
+                rows,
+            }),
+            Err(Memory) => {
+                drop(facts);
+                drop(children);
+                drop(own);
+                drop(rows);
+                Err(Memory)
+            }
+        }
     }
 
     /// Adds a fact whose artifact isn't there. Where memory is wanting, the table holds what it held.
