@@ -23,7 +23,7 @@ use fsl_text::Memory;
 pub use laws::{held_are_named, shunned_are_not_held};
 
 /// What an announcement met.
-#[derive(Clone, Copy, PartialEq, Eq)]
+#[derive(Clone, Copy, PartialEq, Eq, Debug)]
 pub enum Known {
     /// The name is held.
     Held,
@@ -38,7 +38,7 @@ pub enum Known {
 }
 
 /// What a name is. Sizes are in bytes.
-#[derive(Clone, Copy, PartialEq, Eq)]
+#[derive(Clone, Copy, PartialEq, Eq, Debug)]
 pub enum BlobState {
     /// A held artifact that is given to others.
     Public { size: u64 },
@@ -51,7 +51,7 @@ pub enum BlobState {
 }
 
 /// What a prefix of digits finds.
-#[derive(Clone, Copy, PartialEq, Eq)]
+#[derive(Clone, Copy, PartialEq, Eq, Debug)]
 pub enum Found {
     /// No held name begins so.
     Nothing,
@@ -62,14 +62,14 @@ pub enum Found {
 }
 
 /// A held name, and the place of the record that added its artifact, counted from 1.
-#[derive(Clone, Copy, PartialEq, Eq)]
+#[derive(Clone, Copy, PartialEq, Eq, Debug)]
 pub struct Placed {
     pub place: u64,
     pub name: Name,
 }
 
 /// A held artifact, whose bytes are lent.
-#[derive(Clone, Copy)]
+#[derive(Clone, Copy, Debug)]
 pub struct Holding<'a> {
     pub name: Name,
     /// Whether it isn't given to others.
@@ -78,7 +78,7 @@ pub struct Holding<'a> {
 }
 
 /// Why a content wasn't given.
-#[derive(Clone, Copy, PartialEq, Eq)]
+#[derive(Clone, Copy, PartialEq, Eq, Debug)]
 pub enum BlobFault {
     /// The name isn't held.
     Absent,

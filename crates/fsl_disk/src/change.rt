@@ -1,7 +1,7 @@
 use fsl_text::Text;
 
 /// What a disk in memory keeps of a call that changed it, or that was to change it and stopped on the way.
-#[derive(Drop)]
+#[derive(Debug, Drop)]
 pub enum Change {
     /// These bytes were written from `at` on, by a call that was to write `range` bytes.
     Write { at: u64, bytes: Text, range: u64 },

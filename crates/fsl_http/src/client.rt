@@ -17,7 +17,7 @@ use itoa::Buffer;
 use std::alloc::Global;
 
 /// Why an exchange gave no body, in the order of the tests.
-#[derive(Clone, Copy, PartialEq, Eq)]
+#[derive(Clone, Copy, Debug, PartialEq, Eq)]
 pub enum ExchangeFault {
     /// A call of the dial failed.
     Link,

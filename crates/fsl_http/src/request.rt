@@ -22,7 +22,7 @@ pub enum Asked {
 }
 
 /// Why nothing is known of a request.
-#[derive(Clone, Copy, PartialEq, Eq)]
+#[derive(Clone, Copy, Debug, PartialEq, Eq)]
 pub enum HttpFault {
     /// A read failed.
     Link,

@@ -30,7 +30,7 @@ pub struct Config {
 
 /// Why bytes aren't the records of a group: what is wrong with the first record that doesn't read. Of several faults of
 /// a record it is the one that stands first in its bytes.
-#[derive(Clone, Copy, PartialEq, Eq)]
+#[derive(Clone, Copy, PartialEq, Eq, Debug)]
 pub enum RecordFault {
     /// A record runs past its group, or the group has no byte.
     Short,
