@@ -136,7 +136,8 @@ fn read_blob<'a>(
     let Some((length, bytes)) = split_length(bytes) else {
         return Err(RecordFault::Short);
     };
-    if length > MOST_BYTES {
+    let is_too_long = length > MOST_BYTES;
+    if is_too_long {
         return Err(RecordFault::Length { found: length });
     }
     let Some((content, rest)) = split_bytes(bytes, length as usize) else {

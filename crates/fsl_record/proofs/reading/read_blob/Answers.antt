@@ -20,8 +20,8 @@ returns-in_default-split_length-clause-fault c =
     let all : (i : ℕ) → get_or c.args.bytes.now i 0 < 256 = search rules in
     no_head c.in_ok-private.private c.args.bytes.now c.in_ok-private.bytes.now c.in_ok-private.ensures.private.layout all (omega (arith, c.in-Some.ensures.cases.2, c.in_default-split_length.ensures))
 
-pub returns-then-length-gt-MOST_BYTES-clause-fault : goal.returns-then-length-gt-MOST_BYTES-clause-fault
-returns-then-length-gt-MOST_BYTES-clause-fault c =
+pub returns-then-is_too_long-clause-fault : goal.returns-then-is_too_long-clause-fault
+returns-then-is_too_long-clause-fault c =
     let s = c.in-Some.ensures.cases in
     let name = split_is 20 c.in_ok-private.bytes.now c.in-Some.name.now c.in-Some.bytes.now s.0 s.1 s.2 in
     let size = c.in-Some-split_length.ensures in
