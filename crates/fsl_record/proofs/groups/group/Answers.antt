@@ -1,4 +1,4 @@
-use Rattle.std.proofs.Common.{◌≡◌, ◌<◌, [], List, ap, length, arith, sym, subst}
+use Rattle.std.proofs.Common.{◌≡◌, ◌<◌, List, ap, length, arith, sym, subst}
 use Rattle.std.proofs.lemmas.Bool.Decides.{nat_tests}
 use Rattle.std.proofs.lemmas.Result.{err_from_is_err_and}
 use Rattle.fsl_record.proofs.GroupLists.{more_fails, read_all}
