@@ -1,9 +1,6 @@
-use Rattle.std.proofs.Common.{◌≡◌, ℕ, ◌<◌, ◌≤◌, length, Result, Ok, Err, refl, sym, ap, subst, ◌∙◌, arith, length-append}
-use Rattle.std.specs.Prelude.{IsErrAnd, IfOk, IfErr, OnOk}
-use Rattle.fsl_http.specs.declared.request.HttpFault.{HttpFault}
+use Rattle.std.proofs.Common.{◌<◌, ◌≤◌, length, refl, sym, ap, subst, ◌∙◌, arith, length-append}
 use Rattle.fsl_http.specs.Limits.{most_head}
 use Rattle.fsl_http.specs.Heads.{Never, IsHeadReadTo}
-use Rattle.fsl_http.specs.Reading.{FailsBy}
 use Rattle.fsl_http.proofs.Broken.{breaks_after}
 use Rattle.fsl_http.proofs.Handed.{no_answer, no_success, same_fault, counted_fault}
 use Rattle.fsl_http.proofs.Headed.{head_start, head_whole, head_never, head_more, head_ended}
