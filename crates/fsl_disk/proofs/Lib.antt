@@ -1,5 +1,5 @@
 pub mod Moments
-pub mod Failing
+mod Failing
 pub mod Pieces
 mod Recording
 mod Places
