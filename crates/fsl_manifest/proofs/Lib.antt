@@ -4,3 +4,4 @@ pub mod FormsAgain
 pub mod ReadBack
 pub mod TypeLemmas
 pub mod Exact
+mod ItemLemmas
