@@ -1,16 +1,18 @@
 -- The number of a day from the year 0 is its day number from 1970, moved by 719528.
-use Rattle.std.proofs.Common.{◌≡◌, ℕ, zero, suc, ◌+◌, ◌-◌, ◌<◌, ◌≤◌, true, refl, sym, ap, subst, ◌∙◌, arith, ℤ, pos, negsuc, ◌+ℤ◌, ◌-ℤ◌, ◌≤ℤ◌, unsigned_abs, to_z, of_z, w16, w32, w64}
+use Rattle.std.proofs.Common.{◌≡◌, ℕ, zero, suc, ◌+◌, ◌-◌, ◌<◌, ◌≤◌, Bool, true, false, refl, sym, ap, subst, ◌∙◌, arith, ℤ, pos, negsuc, ◌+ℤ◌, ◌-ℤ◌, ◌≤ℤ◌, unsigned_abs, to_z, of_z, w8, w16, w32, w64}
 use Rattle.std.specs.Prelude.{◌&&◌, nat_le}
 use Rattle.std.proofs.lemmas.Int.{by_lt_z}
 use Rattle.std.proofs.lemmas.Bool.{and_from}
-use Rattle.jiff_core.specs.Calendar.{day_count, days_from_civil, IsCivilDate, IsEpochDay}
+use Rattle.jiff_core.specs.Calendar.{day_count, days_from_civil, IsCivilDate, IsDate, IsEpochDay}
 use Rattle.jiff_core.specs.Calendar.{days_of_months as their_days_of_months, days_in_month as their_days_in_month}
 use Rattle.jiff_core.proofs.SignedLemmas.{signed_arith, signed_casts}
 use Rattle.jiff_core.proofs.MarchLemmas.{day_count-early}
 use Rattle.jiff_core.proofs.CalendarLemmas.{day_count-day_of_year, day_count-lt_year, days_from_civil-day_count, day_count_bounds}
 use Rattle.fsl_date.specs.Calendar.{days_of_years, days_of_months, days_in_month, day_number}
 use Rattle.fsl_date.specs.Parts.{is_day}
-use Rattle.fsl_date.proofs.Conditions.{le_to}
+use Rattle.fsl_order.proofs.Booleans.{first_holds, second_holds}
+use Rattle.fsl_date.proofs.Conditions.{le_from, le_to}
+use Rattle.fsl_date.proofs.ReadAgain.{short_month}
 
 -- the days of the months of a year are the same
 pub days_of_months-same : (y n : ℕ) → their_days_of_months (pos y) n ≡ days_of_months y n
@@ -51,6 +53,32 @@ is_day-from y m d h =
     (le_to m 12 h.1.1))
     (le_to 1 d h.2.0))
     (le_to d (days_in_month y m) h.2.1)
+
+-- a day that the calendar has is a date of jiff, in its numbers of the machine
+date_of : (y m d : ℕ) → is_day y m d ≡ true → IsDate (to_z w16 y) (to_z w8 m) (to_z w8 d)
+date_of y m d h =
+    let h4 = first_holds _ (nat_le d (days_in_month y m)) h in
+    let h3 = first_holds _ (nat_le 1 d) h4 in
+    let h2 = first_holds _ (nat_le m 12) h3 in
+    let year : y ≤ 9999 = le_from y 9999 (first_holds _ (nat_le 1 m) h2) in
+    let from_january : 1 ≤ m = le_from 1 m (second_holds (nat_le y 9999) _ h2) in
+    let to_december : m ≤ 12 = le_from m 12 (second_holds _ (nat_le m 12) h3) in
+    let from_first : 1 ≤ d = le_from 1 d (second_holds _ (nat_le 1 d) h4) in
+    let to_last : d ≤ days_in_month y m = le_from d (days_in_month y m) (second_holds _ (nat_le d (days_in_month y m)) h) in
+    let short : d ≤ 31 = omega (arith, to_last, short_month y m) in
+    let ey : pos y ≡ to_z w16 y = omega (arith, signed_casts, year) in
+    let em : pos m ≡ to_z w8 m = omega (arith, signed_casts, to_december) in
+    let ed : pos d ≡ to_z w8 d = omega (arith, signed_casts, short) in
+    let date : IsDate (pos y) (pos m) (pos d) = ((omega (arith, signed_arith, year), omega (arith, signed_arith, year)), (omega (arith, signed_arith, from_january), omega (arith, signed_arith, to_december)), (omega (arith, signed_arith, from_first), omega (arith, signed_arith, to_last))) in
+    subst (λ t. IsDate (to_z w16 y) (to_z w8 m) t) ed (subst (λ t. IsDate (to_z w16 y) t (pos d)) em (subst (λ t. IsDate t (pos m) (pos d)) ey date))
+
+-- where jiff has no date, the calendar has no day
+pub no_day : (y m d : ℕ) → (IsDate (to_z w16 y) (to_z w8 m) (to_z w8 d) → ⊥) → is_day y m d ≡ false
+no_day y m d none = by (is_day y m d) refl
+  where
+    by : (t : Bool) → is_day y m d ≡ t → is_day y m d ≡ false
+    by true e = absurd (none (date_of y m d e))
+    by false e = e
 
 -- what the number of a date of jiff says of the day
 pub record IsNumbered (y m d : ℕ) (z : ℤ) : Type 0 where

@@ -94,7 +94,7 @@ if_at_most : (t : Bool) (m n limit : ℕ) → m ≤ limit → n ≤ limit → co
 if_at_most true m n limit h k = h
 if_at_most false m n limit h k = k
 
-short_month : (y m : ℕ) → days_in_month y m ≤ 31
+pub short_month : (y m : ℕ) → days_in_month y m ≤ 31
 short_month y m =
     if_at_most (eqb m 2) _ _ 31 (if_at_most _ 29 28 31 (omega arith) (omega arith)) (if_at_most _ 30 31 31 (omega arith) (omega arith))
 

@@ -1,7 +1,9 @@
-use Rattle.std.proofs.Common.{rules, ◌≡◌, arith, pos, refl}
+use Rattle.std.proofs.Common.{rules, ◌≡◌, ap, sym, ◌∙◌, arith, pos, refl}
+use Rattle.std.specs.Prelude.{is_some}
+use Rattle.std.proofs.lemmas.Bool.{false≢true}
 use Rattle.jiff_core.specs.Calendar.{days_from_civil}
 use Rattle.jiff_core.specs.Date.{IsYmd}
-use Rattle.fsl_date.proofs.Days.{numbered-by, IsNumbered, moved_day}
+use Rattle.fsl_date.proofs.Days.{numbered-by, no_day, IsNumbered, moved_day}
 use Rattle.fsl_date.proofs.calendar.Day.number.Goals as goal
 
 numbered : (c : goal.After-from) → IsNumbered c.args.self.year c.args.self.month c.args.self.day c.to_unix_epoch_day.result
@@ -25,3 +27,8 @@ pub returns-clause-bound : goal.returns-clause-bound
 returns-clause-bound c =
     let h = numbered c in
     rw (moved_day c.to_unix_epoch_day.result c.from.result _ c.to_unix_epoch_day.ensures.bound c.from.ensures h.number) (h.small)
+
+pub returns-in_err-date-clause-value : goal.returns-in_err-date-clause-value
+returns-in_err-date-clause-value c =
+    rw (no_day c.args.self.year c.args.self.month c.args.self.day (λ date.
+    false≢true (sym (ap is_some c.in_err-date.was) ∙ c.ok.ensures.variant ∙ c.new.ensures.succeeds.1 date))) c.from_residual.ensures
