@@ -1,2 +1,3 @@
 pub mod OneKind
 pub mod SomeArtifact
+mod PutBehind
