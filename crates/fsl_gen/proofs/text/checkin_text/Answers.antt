@@ -1,8 +1,0 @@
-use Rattle.std.proofs.Common.{ap}
-use Rattle.fsl_card.specs.Writing.{sealed_text}
-use Rattle.fsl_manifest.specs.Writing.{manifest_cards}
-use Rattle.fsl_gen.proofs.Rows.{written_as}
-use Rattle.fsl_gen.proofs.text.checkin_text.Goals as goal
-
-pub returns : goal.returns
-returns c = written_as c.write-text.result _ _ (ap (λ m. sealed_text (manifest_cards m)) c.in_ok-checkin.ensures.value) c.write-text.ensures.written
