@@ -1,14 +1,18 @@
 //! Where a change stands among those of its ticket.
-ghost use Rattle.std.specs.Prelude.{◌≡◌};
-ghost use Rattle.fsl_order.proofs.Orders.{dated_cmp-IsAntisymmetric};
+ghost use Rattle.std.specs.Prelude.{◌≡◌, refl};
+ghost use Rattle.std.specs.Cmp.{partial_order_from_total, partial_equiv_from_equiv, eq_by_cmp_equiv};
+ghost use Rattle.std.specs.Ordering.{eq_by_cmp, as_partial_cmp};
+ghost use Rattle.fsl_order.specs.Names.{dated_cmp};
+ghost use Rattle.fsl_order.proofs.Orders.{dated_cmp-IsTotalOrder, dated_cmp-IsAntisymmetric};
 
 use fsl_date::Moment;
 use fsl_name::Name;
 use fsl_table::Key;
+use std::cmp::Ordering;
 use std::marker::Model;
 
 /// A date and a name, ordered by date, and at one date by name. Contracts see it as their pair.
-#[derive(Clone, Copy, PartialEq, Eq, PartialOrd, Ord)]
+#[derive(Clone, Copy)]
 pub struct Place {
     date: Moment,
     name: Name,
@@ -37,6 +41,44 @@ impl Place {
         ensures { result ≡ self.now.1 }
     {
         self.name
+    }
+}
+
+impl PartialEq for Place {
+    ghost eq = { eq_by_cmp dated_cmp };
+
+    ghost laws = { partial_equiv_from_equiv (eq_by_cmp_equiv dated_cmp-IsTotalOrder) };
+
+    fn eq(&self, other: &Place) -> bool {
+        self.cmp(other).is_eq()
+    }
+}
+
+impl Eq for Place {
+    ghost laws = { eq_by_cmp_equiv dated_cmp-IsTotalOrder };
+}
+
+impl PartialOrd for Place {
+    ghost partial_cmp = { as_partial_cmp dated_cmp };
+
+    ghost laws = { partial_order_from_total dated_cmp-IsTotalOrder };
+
+    fn partial_cmp(&self, other: &Place) -> Option<Ordering> {
+        Some(self.cmp(other))
+    }
+}
+
+impl Ord for Place {
+    ghost cmp = { dated_cmp };
+
+    ghost total = { dated_cmp-IsTotalOrder };
+
+    ghost matches_partial_cmp = { λ x y. refl };
+
+    ghost matches_eq = { λ x y. refl };
+
+    fn cmp(&self, other: &Place) -> Ordering {
+        self.date.cmp(&other.date).then(self.name.cmp(&other.name))
     }
 }
 
