@@ -14,23 +14,25 @@ ghost use Rattle.fsl_forum.specs.declared.node.Node as node;
 ghost use Rattle.fsl_forum.specs.declared.Fact as made;
 ghost use Rattle.fsl_forum.specs.Held.{IsKept, AreOf, facts_of, node_of};
 ghost use Rattle.fsl_forum.specs.Reached.{IsStep};
+ghost use Rattle.fsl_forum.specs.Rows.{row_in};
 ghost use Rattle.fsl_forum.specs.Threads.{next as next_post, next_of, end as chain_end, threads_row};
 
 use super::Fact;
 use super::node::Node;
 use super::reached::{affected, end_above, end_for};
-use super::rows::{move_each, note_rows, relink};
+use super::rows::{Noted, move_each, note_rows, relink};
 use fsl_name::Name;
 use fsl_table::{Log, Pair, Table, log};
 use fsl_text::{List, Memory, Steps};
 use std::alloc::Global;
 use std::sync::ledger::Ledger;
 
-/// What is to be written for a post: the names whose ends are to be one, and that end.
+/// What is to be written for a post: the names whose ends are to be one, and that end; and the rows that these names have before.
 #[derive(Drop)]
 pub(crate) struct Plan {
     pub names: List<Name>,
     pub end: Option<Name>,
+    pub noted: Vec<Noted>,
 }
 
 /// Puts the end of the chain of a name, or takes it out where the chain is broken.
@@ -84,6 +86,7 @@ fn next_in<L: Ledger>(posts: &Table<Name, Node>, name: Name, steps: &mut Steps<L
 /// What is to be written where the post of a name has this next post from now on.
 fn planned<L: Ledger>(
     alloc: Global,
+    posts: &Table<Name, Node>,
     followers: &Table<Pair, ()>,
     ends: &Table<Name, Name>,
     name: Name,
@@ -93,11 +96,18 @@ fn planned<L: Ledger>(
     requires { IsStrictlySortedBy pair_cmp (keys_of followers.now.entries) }
     ensures step { IfOk result (λ plan. (facts : List made.Fact) → AreOf (next_of facts) followers.now.entries → ((x : List ℕ) → value_at bytes_cmp x ends.now.entries ≡ chain_end facts x) → IsStep facts name up.now plan.names plan.end) }
     ensures rising { IfOk result (λ plan. IsStrictlySortedBy bytes_cmp plan.names) }
+    ensures noted { IfOk result (λ plan. plan.noted.items ≡ map (λ x. record { name = x; row = row_in posts.now.entries ends.now.entries x }) plan.names) }
 {
     let near = end_above(ends, name, up, steps);
     let names = affected(alloc, followers, ends, name, &near, steps)?;
     let end = end_for(names.items(), up, near);
-    Ok(Plan { names, end })
+    match note_rows(alloc, posts, ends, names.items(), steps) {
+        Ok(noted) => Ok(Plan { names, end, noted }),
+        Err(Memory) => {
+            drop(names);
+            Err(Memory)
+        }
+    }
 }
 
 /// Puts the post, the pair of it and its next one, and the ends of the plan.
@@ -167,18 +177,39 @@ pub(crate) fn put<L: Ledger>(
     ensures undoes_ends { (before : Contents (List ℕ) (List ℕ)) → Undoes bytes_cmp ends_log.old ends.old before → Undoes bytes_cmp ends_log.new ends.new before }
     ensures undoes_placed { (before : Contents pair.Pair Unit) → Undoes pair_cmp placed_log.old placed.old before → Undoes pair_cmp placed_log.new placed.new before }
 {
-    let plan = planned(alloc, followers, ends, fact.name, &fact.next(), steps)?;
-    let noted = note_rows(alloc, posts, ends, plan.names.items(), steps)?;
-    write(
+    match planned(
+        alloc,
         posts,
         followers,
         ends,
-        posts_log,
-        followers_log,
-        ends_log,
-        fact,
-        &plan,
+        fact.name,
+        &fact.next(),
         steps,
-    )?;
-    move_each(alloc, posts, ends, placed, placed_log, &noted, steps)
+    ) {
+        Ok(plan) => match write(
+            posts,
+            followers,
+            ends,
+            posts_log,
+            followers_log,
+            ends_log,
+            fact,
+            &plan,
+            steps,
+        ) {
+            Ok(()) => {
+                let changed = move_each(alloc, posts, ends, placed, placed_log, &plan.noted, steps);
+                drop(plan);
+                changed
+            }
+            Err(Memory) => {
+                drop(plan);
+                Err(Memory)
+            }
+        },
+        Err(Memory) => {
+            drop(fact);
+            Err(Memory)
+        }
+    }
 }

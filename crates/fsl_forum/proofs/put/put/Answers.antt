@@ -12,47 +12,47 @@ use Rattle.fsl_forum.proofs.Noting.{noted_in, names-noted, all-noted}
 use Rattle.fsl_forum.proofs.Stepping.{next-is, row-is, thread-is, kept-put, changed-put}
 use Rattle.fsl_forum.proofs.put.put.Goals as goal
 
-pub move_each-requires-clause-rise : goal.move_each-requires-clause-rise
-move_each-requires-clause-rise g c =
+pub move_each-changed-requires-clause-rise : goal.move_each-changed-requires-clause-rise
+move_each-changed-requires-clause-rise g c =
     let es = c.args.posts.now.entries in
     let ends = c.args.ends.now.entries in
-    let names = c.in_ok-plan.plan.names in
-    let is : c.deref.result.now ≡ map (noted_in (row_in es ends)) names = c.deref.ensures.value ∙ c.in_ok-noted.ensures ∙ ap (map (noted_in (row_in es ends))) c.items.ensures in
-    subst (IsStrictlySortedBy bytes_cmp) (sym (ap (map (λ n. n.name)) is ∙ names-noted (row_in es ends) names)) c.in_ok-plan.ensures.rising
+    let names = c.in-Ok.plan.names in
+    let is : c.deref.result.now ≡ map (noted_in (row_in es ends)) names = c.deref.ensures.value ∙ c.in-Ok.ensures.noted in
+    subst (IsStrictlySortedBy bytes_cmp) (sym (ap (map (λ n. n.name)) is ∙ names-noted (row_in es ends) names)) c.in-Ok.ensures.rising
 
-pub returns-clause-kept : goal.returns-clause-kept
-returns-clause-kept g c =
+pub returns-in-Ok-write-clause-kept : goal.returns-in-Ok-write-clause-kept
+returns-in-Ok-write-clause-kept g c =
     let es = c.args.posts.now.entries in
     let ends = c.args.ends.now.entries in
-    let names = c.in_ok-plan.plan.names in
-    let is : c.deref.result.now ≡ map (noted_in (row_in es ends)) names = c.deref.ensures.value ∙ c.in_ok-noted.ensures ∙ ap (map (noted_in (row_in es ends))) c.items.ensures in
+    let names = c.in-Ok.plan.names in
+    let is : c.deref.result.now ≡ map (noted_in (row_in es ends)) names = c.deref.ensures.value ∙ c.in-Ok.ensures.noted in
     let old : Rows = record { posts = c.args.posts.now; followers = c.args.followers.now; ends = c.args.ends.now; placed = c.args.placed.now } in
-    let new : Rows = record { posts = c.write.new.posts; followers = c.write.new.followers; ends = c.write.new.ends; placed = c.move_each.new.placed } in
+    let new : Rows = record { posts = c.write.new.posts; followers = c.write.new.followers; ends = c.write.new.ends; placed = c.move_each-changed.new.placed } in
     let kept = c.requires.kept in
-    let step : IsStep (facts_of es) c.args.fact.name (next c.args.fact) names c.in_ok-plan.plan.end =
-    subst (λ up. IsStep (facts_of es) c.args.fact.name up names c.in_ok-plan.plan.end) c.next.ensures (c.in_ok-plan.ensures.step (facts_of es) kept.followers kept.ends) in
+    let step : IsStep (facts_of es) c.args.fact.name (next c.args.fact) names c.in-Ok.plan.end =
+    subst (λ up. IsStep (facts_of es) c.args.fact.name up names c.in-Ok.plan.end) c.next.ensures (c.in-Ok.ensures.step (facts_of es) kept.followers kept.ends) in
     let same : map (λ n. n.name) c.deref.result.now ≡ names = ap (map (λ n. n.name)) is ∙ names-noted (row_in es ends) names in
     let were : AllByRecursion (λ n. place (facts_of es) n.name ≡ place_of n.row) c.deref.result.now =
     subst (AllByRecursion (λ n. place (facts_of es) n.name ≡ place_of n.row)) (sym is)
     (all-noted (row_in es ends) (λ n. place (facts_of es) n.name ≡ place_of n.row) (λ x. sym (ap place_of (row-is es ends kept.ends x) ∙ thread-is (facts_of es) x)) names) in
-    on_ok_map c.move_each.result
-    (λ placed. kept-put old new c.args.fact names c.in_ok-plan.plan.end kept c.in_ok-write.ensures.posts step c.in_ok-write.ensures.ends
-    (c.in_ok-write.ensures.followers (next_of (facts_of es)) kept.followers (next-is es c.args.fact.name)) c.in_ok-write.ensures.ordered
+    on_ok_map c.move_each-changed.result
+    (λ placed. kept-put old new c.args.fact names c.in-Ok.plan.end kept c.in-Ok-write.ensures.posts step c.in-Ok-write.ensures.ends
+    (c.in-Ok-write.ensures.followers (next_of (facts_of es)) kept.followers (next-is es c.args.fact.name)) c.in-Ok-write.ensures.ordered
     (subst (λ l. AreOf (λ x. cond (has l x) (place_of (row_in new.posts.entries new.ends.entries x)) (place (facts_of es) x)) new.placed.entries) same (placed (place (facts_of es)) kept.placed were)))
-    c.move_each.ensures.placed
+    c.move_each-changed.ensures.placed
 
-pub returns-clause-changed : goal.returns-clause-changed
-returns-clause-changed g c =
+pub returns-in-Ok-write-clause-changed : goal.returns-in-Ok-write-clause-changed
+returns-in-Ok-write-clause-changed g c =
     let es = c.args.posts.now.entries in
     let ends = c.args.ends.now.entries in
-    let names = c.in_ok-plan.plan.names in
-    let is : c.deref.result.now ≡ map (noted_in (row_in es ends)) names = c.deref.ensures.value ∙ c.in_ok-noted.ensures ∙ ap (map (noted_in (row_in es ends))) c.items.ensures in
+    let names = c.in-Ok.plan.names in
+    let is : c.deref.result.now ≡ map (noted_in (row_in es ends)) names = c.deref.ensures.value ∙ c.in-Ok.ensures.noted in
     let old : Rows = record { posts = c.args.posts.now; followers = c.args.followers.now; ends = c.args.ends.now; placed = c.args.placed.now } in
-    let new : Rows = record { posts = c.write.new.posts; followers = c.write.new.followers; ends = c.write.new.ends; placed = c.move_each.new.placed } in
+    let new : Rows = record { posts = c.write.new.posts; followers = c.write.new.followers; ends = c.write.new.ends; placed = c.move_each-changed.new.placed } in
     let kept = c.requires.kept in
-    let step : IsStep (facts_of es) c.args.fact.name (next c.args.fact) names c.in_ok-plan.plan.end =
-    subst (λ up. IsStep (facts_of es) c.args.fact.name up names c.in_ok-plan.plan.end) c.next.ensures (c.in_ok-plan.ensures.step (facts_of es) kept.followers kept.ends) in
-    if_ok_map c.move_each.result
+    let step : IsStep (facts_of es) c.args.fact.name (next c.args.fact) names c.in-Ok.plan.end =
+    subst (λ up. IsStep (facts_of es) c.args.fact.name up names c.in-Ok.plan.end) c.next.ensures (c.in-Ok.ensures.step (facts_of es) kept.followers kept.ends) in
+    if_ok_map c.move_each-changed.result
     (λ changed e. subst (ListsChanged (threads_row (facts_of es)) (threads_row (facts_of new.posts.entries))) (sym (e ∙ ap (differing (row_in new.posts.entries new.ends.entries)) is))
-    (changed-put old new c.args.fact names c.in_ok-plan.plan.end kept c.in_ok-write.ensures.posts step c.in_ok-write.ensures.ends c.in_ok-plan.ensures.rising))
-    c.move_each.ensures.changed
+    (changed-put old new c.args.fact names c.in-Ok.plan.end kept c.in-Ok-write.ensures.posts step c.in-Ok-write.ensures.ends c.in-Ok.ensures.rising))
+    c.move_each-changed.ensures.changed
