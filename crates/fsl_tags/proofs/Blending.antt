@@ -1,10 +1,12 @@
 -- Two rows by rising tag made one that has the newer assertion of each tag.
-use Rattle.std.specs.Prelude.{◌≡◌, ℕ, List, [], ◌∷◌, ◌++◌, true, false, cond, if◌then◌else◌, Option, Some, None, map, filter, ◌⊎◌}
+use mir.Val.{bool_byte}
+use Rattle.std.specs.Prelude.{◌≡◌, ◌+◌, ◌<◌, Bool, ℕ, List, [], ◌∷◌, ◌++◌, true, false, cond, if◌then◌else◌, Option, Some, None, map, filter, ◌⊎◌}
 use Rattle.std.proofs.Common.{arith, ◌≤◌, ◌-◌, length, length-drop, take, drop, refl, sym, ap, ◌∙◌, subst, ⊎_elim}
 use Rattle.std.proofs.Math.Seq.{take-length}
 use Rattle.std.proofs.lemmas.List.{append-nil, append_assoc}
 use Rattle.std.proofs.lemmas.List.Elements.{filter-append}
-use Rattle.std.specs.Ordering.{is_lt, match_ordering}
+use Rattle.std.specs.Ordering.{is_ge, is_le, is_lt, match_ordering}
+use Rattle.std.specs.declared.cmp.Ordering.{Ordering}
 use Rattle.std.specs.declared.cmp.Ordering.TheVariants.{Less, Equal, Greater}
 use Rattle.std.specs.List.{AllByRecursion}
 use Rattle.std.specs.List.Sorted.{IsStrictlySortedBy}
@@ -161,6 +163,35 @@ module _ (first second row mid out : List Assertion) (near far : ℕ) (whole : r
 
   pub both_find : (tag : List ℕ) → of_tag out tag ≡ greater newer_cmp (of_tag first tag) (of_tag second tag)
   both_find tag = ap (λ l. of_tag l tag) both_are ∙ blend-finds second first tag up_second up_first
+
+-- ---- one step
+
+-- the assertion that comes next is put, and what has its tag is left behind
+module _ (first second row : List Assertion) (near far : ℕ) (x y : Assertion)
+    (one : drop near first ≡ x ∷ drop (near + 1) first) (other : drop far second ≡ y ∷ drop (far + 1) second) where
+  abbrev next : Ordering → List Assertion
+  next order = match_ordering order
+      (x ∷ between y (blend (drop (far + 1) second)) (drop (near + 1) first))
+      (newer x y ∷ blend (drop (far + 1) second) (drop (near + 1) first))
+      (y ∷ blend (drop (far + 1) second) (x ∷ drop (near + 1) first))
+
+  stays : (n : ℕ) → n + 0 ≡ n
+  stays n = omega arith
+
+  put-next : (order : Ordering) → match_ordering order x (newer x y) y ∷ blend (drop (far + bool_byte (is_ge order)) second) (drop (near + bool_byte (is_le order)) first) ≡ next order
+  put-next Less = λ i. x ∷ blend ((ap (λ n. drop n second) (stays far) ∙ other) i) (drop (near + 1) first)
+  put-next Equal = refl
+  put-next Greater = λ i. y ∷ blend (drop (far + 1) second) ((ap (λ n. drop n first) (stays near) ∙ one) i)
+
+  pub blend-step : (order : Ordering) → bytes_cmp x.tag y.tag ≡ order
+      → (row ++ match_ordering order x (newer x y) y ∷ []) ++ blend (drop (far + bool_byte (is_ge order)) second) (drop (near + bool_byte (is_le order)) first) ≡ row ++ blend (drop far second) (drop near first)
+  blend-step order e =
+      append_assoc row (match_ordering order x (newer x y) y ∷ []) (blend (drop (far + bool_byte (is_ge order)) second) (drop (near + bool_byte (is_le order)) first))
+      ∙ ap (λ l. row ++ l) (put-next order ∙ sym ((λ i. blend (other i) (one i)) ∙ ap next e))
+
+pub byte_within : (b : Bool) (n m : ℕ) → n < m → n + bool_byte b ≤ m
+byte_within true n m h = omega (arith, h)
+byte_within false n m h = omega (arith, h)
 
 -- ---- a group in two
 

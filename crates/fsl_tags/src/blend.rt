@@ -1,5 +1,6 @@
 //! Rows by rising tag, each with the newest assertion of each tag.
 ghost use Rattle.std.specs.Prelude.{◌≡◌, [], List, ℕ, IfOk, OnOk};
+ghost use Rattle.std.specs.Ordering.{match_ordering};
 ghost use Rattle.fsl_order.specs.Rows.{named};
 ghost use Rattle.fsl_tags.specs.Kept.{newer, newest_of};
 ghost use Rattle.fsl_tags.specs.Laid.{Rises};
@@ -23,6 +24,17 @@ fn newer<'a>(first: &'a Shared, second: &'a Shared) -> &'a Shared
     }
 }
 
+/// Of the next assertions of two rows, whose tags stand in this order, the one that comes next; of two of one tag the newer.
+fn next_of<'a>(order: Ordering, first: &'a Shared, second: &'a Shared) -> &'a Shared
+    ensures { result.now ≡ match_ordering order first.now (newer first.now second.now) second.now }
+{
+    match order {
+        Ordering::Less => first,
+        Ordering::Equal => newer(first, second),
+        Ordering::Greater => second,
+    }
+}
+
 /// Fills a row, which is empty, with the newer of two assertions for each tag.
 fn blend_into(row: &mut List<Shared>, first: &[Shared], second: &[Shared]) -> Result<(), Memory>
     requires empty { row.old ≡ [] }
@@ -34,12 +46,10 @@ fn blend_into(row: &mut List<Shared>, first: &[Shared], second: &[Shared]) -> Re
     let mut near = 0;
     let mut far = 0;
     while near < first.len() && far < second.len() {
-        let order = first[near].get().tag.cmp(&second[far].get().tag);
-        match order {
-            Ordering::Less => push(row, &first[near])?,
-            Ordering::Equal => push(row, newer(&first[near], &second[far]))?,
-            Ordering::Greater => push(row, &second[far])?,
-        }
+        let one = &first[near];
+        let other = &second[far];
+        let order = one.get().tag.cmp(&other.get().tag);
+        push(row, next_of(order, one, other))?;
         near += usize::from(order.is_le());
         far += usize::from(order.is_ge());
     }
