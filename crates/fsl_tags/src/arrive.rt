@@ -73,7 +73,7 @@ pub(crate) fn take_in<L: Ledger>(
     } = fact;
     let tags = share(alloc, tags)?;
     let mut noted = BTreeMap::new(alloc);
-    take_all(
+    match take_all(
         alloc,
         facts,
         children,
@@ -84,28 +84,41 @@ pub(crate) fn take_in<L: Ledger>(
         &mut noted,
         tags.items(),
         steps,
-    )?;
-    let (up, parent) = twice(parent);
-    set_node(
-        alloc,
-        facts,
-        facts_log,
-        children,
-        children_log,
-        own,
-        rows,
-        rows_log,
-        &mut noted,
-        name,
-        up,
-        Node {
-            checkin,
-            parent,
-            tags,
-        },
-        steps,
-    )?;
-    changed_names(alloc, noted, rows, steps)
+    ) {
+        Ok(()) => {
+            let (up, parent) = twice(parent);
+            match set_node(
+                alloc,
+                facts,
+                facts_log,
+                children,
+                children_log,
+                own,
+                rows,
+                rows_log,
+                &mut noted,
+                name,
+                up,
+                Node {
+                    checkin,
+                    parent,
+                    tags,
+                },
+                steps,
+            ) {
+                Ok(()) => changed_names(alloc, noted, rows, steps),
+                Err(Memory) => {
+                    drop(noted);
+                    Err(Memory)
+                }
+            }
+        }
+        Err(Memory) => {
+            drop(noted);
+            drop(tags);
+            Err(Memory)
+        }
+    }
 }
 
 /// Takes the parent of a node out, where it has one, and then puts the node with its own. An error leaves what the logs take back.

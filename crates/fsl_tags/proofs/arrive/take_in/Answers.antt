@@ -24,15 +24,13 @@ returns-in_err-tags g c =
 pub take_all-requires : goal.take_all-requires
 take_all-requires g c = record { right = c.requires.kept.right }
 
-pub returns-in_err-take_all : goal.returns-in_err-take_all
-returns-in_err-take_all g c =
-    let r = c.from_residual-in_err-take_all.result in
-    let is = c.from_residual-in_err-take_all.ensures.1 in
+pub returns-in-Err : goal.returns-in-Err
+returns-in-Err g c =
     let items = c.items.ensures ∙ c.in_ok-tags.ensures in
     let long : length c.items.result.now ≡ length c.args.fact.tags = ap length items in record {
-      facts = no_success r _ is _;
-      kept = no_success r _ is _;
-      changed = no_answer r _ is _;
+      facts = tt;
+      kept = tt;
+      changed = tt;
       undoes_facts = λ before u. u;
       undoes_children = λ before u. u;
       undoes_own = c.take_all.ensures.undoes_own;
@@ -46,20 +44,18 @@ returns-in_err-take_all g c =
 pub set_node-requires : goal.set_node-requires
 set_node-requires g c = record {
   parent = ap (λ p. p.0) c.twice-up.ensures ∙ sym (ap (λ p. p.1) c.twice-up.ensures);
-  right = c.in_ok-take_all.ensures.right;
+  right = c.in-Ok.ensures.right;
   before = inr (inl (no_parent c.args.fact c.args.facts.now.entries c.requires.fit));
 }
 
-pub returns-in_err-set_node : goal.returns-in_err-set_node
-returns-in_err-set_node g c =
-    let r = c.from_residual-in_err-set_node.result in
-    let is = c.from_residual-in_err-set_node.ensures.1 in
+pub returns-in-Err-set_node : goal.returns-in-Err-set_node
+returns-in-Err-set_node g c =
     let items = c.items.ensures ∙ c.in_ok-tags.ensures in
     let long : length c.items.result.now ≡ length c.args.fact.tags = ap length items in
     let lone = no_parent c.args.fact c.args.facts.now.entries c.requires.fit in record {
-      facts = no_success r _ is _;
-      kept = no_success r _ is _;
-      changed = no_answer r _ is _;
+      facts = tt;
+      kept = tt;
+      changed = tt;
       undoes_facts = c.set_node.ensures.undoes_facts;
       undoes_children = c.set_node.ensures.undoes_children;
       undoes_own = c.take_all.ensures.undoes_own;
@@ -72,15 +68,15 @@ returns-in_err-set_node g c =
           let logged = c.set_node.ensures.logged lone free in omega (arith, long, taken, logged));
     }
 
-pub returns : goal.returns
-returns g c =
+pub returns-in-Ok-set_node : goal.returns-in-Ok-set_node
+returns-in-Ok-set_node g c =
     let fact = c.args.fact in
     let old : Rows = record { facts = c.args.facts.now; children = c.args.children.now; own = c.args.own.now; rows = c.args.rows.now } in
     let new : Rows = record { facts = c.set_node.new.facts; children = c.set_node.new.children; own = c.take_all.new.own; rows = c.set_node.new.rows } in
     let parent = ap (λ p. p.1) c.twice-up.ensures in
-    let put = c.in_ok-set_node.ensures.facts in
+    let put = c.in-Ok-set_node.ensures.facts in
     let before = row_in c.args.rows.now.entries in
-    let noted = c.in_ok-set_node.ensures.noted before (c.in_ok-take_all.ensures.noted before (noted_none c.args.rows.now.entries c.new-noted.result.entries c.new-noted.ensures.empty)) in
+    let noted = c.in-Ok-set_node.ensures.noted before (c.in-Ok.ensures.noted before (noted_none c.args.rows.now.entries c.new-noted.result.entries c.new-noted.ensures.empty)) in
     let items = c.items.ensures ∙ c.in_ok-tags.ensures in
     let long : length c.items.result.now ≡ length fact.tags = ap length items in
     let none : length c.new-noted.result.entries ≡ 0 = ap length c.new-noted.ensures.empty in
@@ -88,10 +84,10 @@ returns g c =
       facts = always_ok c.changed_names.result (taken_facts fact c.twice-up.result.1 c.in_ok-tags.tags old new parent c.in_ok-tags.ensures c.requires.kept c.requires.fit put);
       kept =
           always_ok c.changed_names.result
-          (taken_kept fact c.twice-up.result.1 c.in_ok-tags.tags old new parent c.in_ok-tags.ensures c.requires.kept c.requires.fit put c.items.result.now c.items.ensures c.in_ok-take_all.ensures.own c.in_ok-set_node.ensures.right);
+          (taken_kept fact c.twice-up.result.1 c.in_ok-tags.tags old new parent c.in_ok-tags.ensures c.requires.kept c.requires.fit put c.items.result.now c.items.ensures c.in-Ok.ensures.own c.in-Ok-set_node.ensures.right);
       changed =
           if_ok_map c.changed_names.result
-          (λ list f. taken_lists fact c.twice-up.result.1 c.in_ok-tags.tags old new parent c.in_ok-tags.ensures c.requires.kept c.requires.fit put c.items.result.now c.items.ensures c.in_ok-take_all.ensures.own c.in_ok-set_node.ensures.right list (f before noted))
+          (λ list f. taken_lists fact c.twice-up.result.1 c.in_ok-tags.tags old new parent c.in_ok-tags.ensures c.requires.kept c.requires.fit put c.items.result.now c.items.ensures c.in-Ok.ensures.own c.in-Ok-set_node.ensures.right list (f before noted))
           c.changed_names.ensures.list;
       undoes_facts = c.set_node.ensures.undoes_facts;
       undoes_children = c.set_node.ensures.undoes_children;
