@@ -467,13 +467,15 @@ fn changed_since<L: Ledger>(
 {
     let row = row_of(alloc, facts, spots, name, steps)?;
     let after = leaders(alloc, spots, &known.old_race, &known.race, name, steps)?;
-    differing(
+    let names = differing(
         alloc,
         name,
         !is_same(known.row, row),
         &known.leaders,
         &after,
-    )
+    );
+    drop(after);
+    names
 }
 
 /// Puts a fact, in the place of that of its name where there is one. After `Memory` a part may be done; the logs have it.
