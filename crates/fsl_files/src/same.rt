@@ -1,13 +1,11 @@
 //! Whether the row of a name is the same with some check-ins as with others.
-ghost use Rattle.std.specs.Prelude.{ℕ, List, ◌≡◌, ◌&&◌, ◌||◌, ◌==◌, not, false, true, map, length, IfOk, OnOk, Some, is_some};
+ghost use Rattle.std.specs.Prelude.{ℕ, List, ◌≡◌, ◌&&◌, ◌||◌, ◌==◌, not, false, true, length, IfOk, OnOk, Some, is_some};
 ghost use Rattle.std.specs.Cmp.Lexicographic.{pointwise};
-ghost use Rattle.std.specs.List.Sorted.{IsStrictlySortedBy};
 ghost use Rattle.std.specs.Str.{bytes_eq};
 ghost use Rattle.fsl_order.specs.Names.{bytes_cmp, has};
 ghost use Rattle.fsl_table.specs.Contents.{value_at};
 ghost use Rattle.fsl_files.specs.Kept.{AreFit};
 ghost use Rattle.fsl_files.specs.At.{changes_at};
-ghost use Rattle.fsl_files.specs.Files.{differences as changes_between};
 ghost use Rattle.fsl_files.specs.Same.{is_change, is_row, is_same_changes, is_same_listing, is_same_row, how_code as code_of_how, perm_code as code_of_perm};
 ghost use Rattle.fsl_files.specs.Walks.{as_listing};
 
@@ -108,25 +106,6 @@ fn are_listings(old: Found, new: Found) -> bool
     }
 }
 
-/// Whether two lists of files differ in the ways in which two others do.
-fn are_same_differences(
-    alloc: Global,
-    old_parent: Overlay,
-    old: Overlay,
-    new_parent: Overlay,
-    new: Overlay,
-) -> Result<bool, Memory>
-    requires old_parent { IsStrictlySortedBy bytes_cmp (map (λ r. r.path) old_parent) }
-    requires old { IsStrictlySortedBy bytes_cmp (map (λ r. r.path) old) }
-    requires new_parent { IsStrictlySortedBy bytes_cmp (map (λ r. r.path) new_parent) }
-    requires new { IsStrictlySortedBy bytes_cmp (map (λ r. r.path) new) }
-    ensures { IfOk result (λ same. same ≡ pointwise is_change (changes_between old_parent.entry old.entry) (changes_between new_parent.entry new.entry)) }
-{
-    let new = differences(alloc, new_parent, new)?;
-    let old = differences(alloc, old_parent, old)?;
-    Ok(are_changes(old.items(), new.items()))
-}
-
 /// Whether the changes of a name against its primary parent are the same. Where they are defined with one of the two alone, nothing
 /// is read of the files.
 fn is_same_against<L: Ledger>(
@@ -143,9 +122,9 @@ fn is_same_against<L: Ledger>(
     match (find_both(old, name, steps), find_both(new, name, steps)) {
         (None, None) => Ok(true),
         (Some(old), Some(new)) => {
-            let (old_parent, old) = old;
-            let (new_parent, new) = new;
-            are_same_differences(alloc, old_parent, old, new_parent, new)
+            let old = differences(alloc, old.0, old.1)?;
+            let new = differences(alloc, new.0, new.1)?;
+            Ok(are_changes(old.items(), new.items()))
         }
         _ => Ok(false),
     }

@@ -1,17 +1,15 @@
 //! The names whose rows a check-in may change, and those whose rows it changes.
-ghost use Rattle.std.specs.Prelude.{ℕ, List, ◌≡◌, ◌+◌, ◌≤◌, ◌&&◌, ◌||◌, not, length, false, is_some, IfOk, OnOk};
+ghost use Rattle.std.specs.Prelude.{ℕ, List, ◌≡◌, ◌+◌, ◌≤◌, ◌||◌, length, false, is_some, IfOk, OnOk};
 ghost use Rattle.std.specs.List.{list_any};
 ghost use Rattle.std.specs.List.Sorted.{IsStrictlySortedBy};
 ghost use Rattle.std.specs.Map.{keys_of};
-ghost use Rattle.std.specs.Str.{bytes_eq};
 ghost use Rattle.fsl_order.specs.Names.{bytes_cmp, has};
 ghost use Rattle.fsl_order.specs.Rows.{ListsChanged};
 ghost use Rattle.fsl_table.specs.Contents.{value_at, with_entry};
 ghost use Rattle.fsl_table.specs.Exact.{pair_cmp};
 ghost use Rattle.fsl_table.specs.Pairs.{seconds};
 ghost use Rattle.fsl_files.specs.Files.{files_row};
-ghost use Rattle.fsl_files.specs.Kept.{AreFit, IsFit, IsKept, facts_of, is_touched};
-ghost use Rattle.fsl_files.specs.Same.{is_same_row};
+ghost use Rattle.fsl_files.specs.Kept.{IsFit, IsKept, facts_of, is_touched};
 
 use crate::entry::Entry;
 use crate::lookup::Lookup;
@@ -80,30 +78,6 @@ fn touched<L: Ledger>(
     listed(alloc, &names)
 }
 
-/// The name of a check-in and those of some others, where their rows differ once it is put, ascending.
-fn differing<L: Ledger>(
-    alloc: Global,
-    facts: &Table<Name, Entry>,
-    line: &(Name, Entry),
-    others: &[Name],
-    was_there: bool,
-    steps: &mut Steps<L>,
-) -> Result<List<Name>, Memory>
-    requires fit { AreFit facts.now.entries }
-    requires line_fit { IsFit line.now.1 }
-    requires there { was_there ≡ is_some (value_at bytes_cmp line.now.0 facts.now.entries) }
-    ensures names { IfOk result (λ list. (q : List ℕ) → has list q ≡ ((bytes_eq q line.now.0 || has others.now q) && not (is_same_row facts.now.entries (with_entry bytes_cmp line.now.0 line.now.1 facts.now.entries) q))) }
-    ensures rising { IfOk result (λ list. IsStrictlySortedBy bytes_cmp list) }
-    ensures cost { was_there ≡ false → length others.now ≡ 0 → steps.new ≡ steps.old }
-{
-    let old = Lookup::of(facts);
-    let new = Lookup::with(facts, line);
-    let mut names = BTreeSet::new(alloc);
-    note_own(alloc, &mut names, &old, &new, line.0, was_there, steps)?;
-    note_others(alloc, &mut names, &old, &new, others, steps)?;
-    listed(alloc, &names)
-}
-
 /// The names whose rows differ once a check-in is put, ascending.
 pub(crate) fn changed_by<L: Ledger>(
     alloc: Global,
@@ -120,8 +94,11 @@ pub(crate) fn changed_by<L: Ledger>(
     ensures changed { IfOk result (ListsChanged (files_row (facts_of facts.now.entries)) (files_row (facts_of (with_entry bytes_cmp line.now.0 line.now.1 facts.now.entries)))) }
     ensures cost { was_there ≡ false → length (seconds line.now.0 deltas.now.entries) ≡ 0 → length (seconds line.now.0 children.now.entries) ≡ 0 → steps.new ≤ steps.old + 2 }
 {
-    let others = touched(alloc, deltas, children, line.0, steps)?;
-    let names = differing(alloc, facts, line, others.items(), was_there, steps);
-    drop(others);
-    names
+    let list = touched(alloc, deltas, children, line.0, steps)?;
+    let old = Lookup::of(facts);
+    let new = Lookup::with(facts, line);
+    let mut names = BTreeSet::new(alloc);
+    note_own(alloc, &mut names, &old, &new, line.0, was_there, steps)?;
+    note_others(alloc, &mut names, &old, &new, list.items(), steps)?;
+    listed(alloc, &names)
 }
