@@ -6,7 +6,7 @@ ghost use Rattle.fsl_order.specs.TableState.{IsAsBefore};
 ghost use Rattle.fsl_links.specs.Links.{links_row, children as children_of, primary as primary_of};
 
 use super::Fact;
-use super::rows::{first_parent, is_there, put_all, put_either};
+use super::rows::{first_parent, is_there, put_either, put_fact};
 use fsl_name::Name;
 use fsl_rows::Named;
 use fsl_table::{Log, Pair, Table, log, pairs};
@@ -100,27 +100,25 @@ impl Links {
         ensures facts { IfOk result (λ t. t.facts ≡ by_name (λ f. f.name) facts.now) }
     {
         let mut steps: Steps<L> = Steps::new(blank);
-        Links::build_all(alloc, facts, &mut steps)
-    }
-
-    /// The same, on a counter that is there.
-    fn build_all<L: Ledger>(
-        alloc: Global,
-        facts: &[Fact],
-        steps: &mut Steps<L>,
-    ) -> Result<Links, Memory>
-        requires { AreDistinct (map (λ f. f.name) facts.now) }
-        ensures facts { IfOk result (λ t. t.facts ≡ by_name (λ f. f.name) facts.now) }
-    {
         let mut rows = Table::new(alloc);
         let mut children = Table::new(alloc);
-        match put_all(alloc, &mut rows, &mut children, facts, steps) {
-            Ok(()) => Ok(Links {
-                facts: rows,
-                children,
-            }),
-            Err(Memory) => Err(Memory),
+        let mut left = facts.len();
+        while left > 0 {
+            left -= 1;
+            let fact = facts[left].copied(alloc)?;
+            put_fact(
+                &mut rows,
+                &mut children,
+                &mut Log::new(alloc),
+                &mut Log::new(alloc),
+                fact,
+                &mut steps,
+            )?;
         }
+        Ok(Links {
+            facts: rows,
+            children,
+        })
     }
 
     /// Adds a check-in whose name isn't there. `Memory` is the only error, and the table then holds what it held.

@@ -1,9 +1,9 @@
 //! The rows of parentage: the parents of each check-in, and a pair for each parent and child.
-ghost use Rattle.std.specs.Prelude.{ℕ, List, [], map, ◌≡◌, ◌+◌, ◌*◌, ◌≤◌, length, OnOk, IfOk, None, Some, true, not, is_some, ◌||◌, ◌&&◌, option_and_then, slice_get};
+ghost use Rattle.std.specs.Prelude.{ℕ, List, ◌≡◌, ◌+◌, ◌*◌, ◌≤◌, length, OnOk, IfOk, None, Some, true, not, is_some, ◌||◌, ◌&&◌, option_and_then, slice_get};
 ghost use Rattle.std.specs.List.Sorted.{IsStrictlySortedBy};
 ghost use Rattle.std.specs.Map.{keys_of};
 ghost use Rattle.fsl_order.specs.Names.{bytes_cmp, has};
-ghost use Rattle.fsl_order.specs.Rows.{by_name, AreDistinct, ListsChanged};
+ghost use Rattle.fsl_order.specs.Rows.{ListsChanged};
 ghost use Rattle.fsl_table.specs.Exact.{pair_cmp};
 ghost use Rattle.fsl_table.specs.Contents.{Contents, with_entry, without_key, value_at};
 ghost use Rattle.fsl_table.specs.Pairs.{is_name, seconds};
@@ -14,7 +14,6 @@ ghost use Rattle.fsl_links.specs.Links.{links_row};
 
 use crate::Fact;
 use fsl_name::Name;
-use fsl_rows::Named;
 use fsl_table::names::{listed, note, note_all, note_others};
 use fsl_table::pairs::{link_each, second_after, unlink_each};
 use fsl_table::{Log, Pair, Table, log};
@@ -271,56 +270,6 @@ pub(crate) fn put_fact<L: Ledger>(
     let Fact { name, parents } = fact;
     link_each(children, children_log, name, parents.items(), steps)?;
     log::put(facts, facts_log, name, name, parents, steps)
-}
-
-/// Puts a copy of a new check-in. After `Memory` a part may be done.
-fn put_copy<L: Ledger>(
-    alloc: Global,
-    facts: &mut Table<Name, List<Name>>,
-    children: &mut Table<Pair, ()>,
-    fact: &Fact,
-    steps: &mut Steps<L>,
-) -> Result<(), Memory>
-    requires kept { IsKept (record { facts = facts.old; children = children.old }) }
-    requires absent { value_at bytes_cmp fact.now.name facts.old.entries ≡ None }
-    ensures entries { OnOk result (facts.new.entries ≡ with_entry bytes_cmp fact.now.name fact.now.parents facts.old.entries) }
-    ensures kept { OnOk result (IsKept (record { facts = facts.new; children = children.new })) }
-{
-    let Ok(copy) = fact.copied(alloc) else {
-        return Err(Memory);
-    };
-    put_fact(
-        facts,
-        children,
-        &mut Log::new(alloc),
-        &mut Log::new(alloc),
-        copy,
-        steps,
-    )
-}
-
-/// Puts copies of new check-ins, of which no two have one name, into tables without any. After `Memory` a part may be done.
-pub(crate) fn put_all<L: Ledger>(
-    alloc: Global,
-    facts: &mut Table<Name, List<Name>>,
-    children: &mut Table<Pair, ()>,
-    all: &[Fact],
-    steps: &mut Steps<L>,
-) -> Result<(), Memory>
-    requires no_facts { facts.old.entries ≡ [] }
-    requires no_children { children.old.entries ≡ [] }
-    requires distinct { AreDistinct (map (λ f. f.name) all.now) }
-    ensures facts { OnOk result (facts_of facts.new.entries ≡ by_name (λ f. f.name) all.now) }
-    ensures kept { OnOk result (IsKept (record { facts = facts.new; children = children.new })) }
-{
-    let mut left = all.len();
-    while left > 0 {
-        left -= 1;
-        let Ok(()) = put_copy(alloc, facts, children, &all[left], steps) else {
-            return Err(Memory);
-        };
-    }
-    Ok(())
 }
 
 /// Puts a check-in that isn't there, and tells the names whose rows differ.

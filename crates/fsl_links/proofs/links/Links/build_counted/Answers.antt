@@ -7,42 +7,42 @@ use Rattle.fsl_rows.proofs.Built.{distinct-drop, by_name-again}
 use Rattle.fsl_table.proofs.Facts.{absent-entry, absent_before, facts_with}
 use Rattle.fsl_links.specs.Kept.{fact_of, facts_of}
 use Rattle.fsl_links.proofs.Canonical.{kept_none}
-use Rattle.fsl_links.proofs.rows.put_all.Goals as goal
+use Rattle.fsl_links.proofs.links.Links.build_counted.Goals as goal
 
 pub loop-left-init : goal.loop-left-init
 loop-left-init g c = record {
-  done = ap facts_of c.requires.no_facts ∙ ap (by_name (λ f. f.name)) (sym (drop-length c.args.all.now));
-  kept = kept_none c.args.facts.now c.args.children.now c.requires.no_facts c.requires.no_children;
+  done = ap facts_of c.new-rows.ensures ∙ ap (by_name (λ f. f.name)) (sym (drop-length c.args.facts.now));
+  kept = kept_none c.new-rows.result c.new-children.result c.new-rows.ensures c.new-children.ensures;
   within = omega arith;
 }
 
-pub put_copy-requires-clause-absent : goal.put_copy-requires-clause-absent
-put_copy-requires-clause-absent g c =
-    let facts = c.args.all.now in
+pub put_fact-requires-clause-absent : goal.put_fact-requires-clause-absent
+put_fact-requires-clause-absent g c =
+    let facts = c.args.facts.now in
     let j = c.loop-left.left - 1 in
-    let r = c.index-all-left.result in
+    let r = c.index-facts-left.result in
     let rest = drop c.loop-left.left facts in
     let e : j + 1 ≡ c.loop-left.left = omega (arith, c.loop-left-test.true) in
     let less : j < length facts = omega (arith, c.loop-left-test.true, c.loop-left.invariant.within) in
-    let cut : drop j facts ≡ r ∷ rest = drop_more facts j r less ∙ (λ i. (sym c.index-all-left.is) i ∷ drop (e i) facts) in
+    let cut : drop j facts ≡ r ∷ rest = drop_more facts j r less ∙ (λ i. (sym c.index-facts-left.is) i ∷ drop (e i) facts) in
     let d : AreDistinct (map (λ f. f.name) (r ∷ rest)) = subst (λ l. AreDistinct (map (λ f. f.name) l)) cut (distinct-drop (λ f. f.name) j facts c.requires.distinct) in
-    absent-entry fact_of (λ f. f.name) (λ e. refl) c.loop-left.facts.entries r.name
-    (ap (λ l. has (map (λ f. f.name) l) r.name) c.loop-left.invariant.done ∙ absent_before (λ f. f.name) r rest d)
+    absent-entry fact_of (λ f. f.name) (λ e. refl) c.loop-left.rows.entries c.in_ok-fact.fact.name
+    ((λ i. has (map (λ f. f.name) (c.loop-left.invariant.done i)) (c.in_ok-fact.ensures i).name) ∙ absent_before (λ f. f.name) r rest d)
 
 pub loop-left-preserved : goal.loop-left-preserved
 loop-left-preserved g c =
-    let facts = c.args.all.now in
+    let facts = c.args.facts.now in
     let j = c.loop-left.left - 1 in
-    let r = c.index-all-left.result in
+    let r = c.index-facts-left.result in
     let rest = drop c.loop-left.left facts in
     let e : j + 1 ≡ c.loop-left.left = omega (arith, c.loop-left-test.true) in
     let less : j < length facts = omega (arith, c.loop-left-test.true, c.loop-left.invariant.within) in
-    let cut : drop j facts ≡ r ∷ rest = drop_more facts j r less ∙ (λ i. (sym c.index-all-left.is) i ∷ drop (e i) facts) in
+    let cut : drop j facts ≡ r ∷ rest = drop_more facts j r less ∙ (λ i. (sym c.index-facts-left.is) i ∷ drop (e i) facts) in
     let d : AreDistinct (map (λ f. f.name) (r ∷ rest)) = subst (λ l. AreDistinct (map (λ f. f.name) l)) cut (distinct-drop (λ f. f.name) j facts c.requires.distinct) in
     record {
-      done = ap facts_of c.in-Ok.ensures.entries
-          ∙ facts_with fact_of (λ f. f.name) (λ e. refl) _ _ c.loop-left.facts.entries c.loop-left.invariant.kept.ordered
-          ∙ ap (λ l. by_name (λ f. f.name) (r ∷ l)) c.loop-left.invariant.done ∙ by_name-again (λ f. f.name) r rest d ∙ ap (by_name (λ f. f.name)) (sym cut);
-      kept = c.in-Ok.ensures.kept;
+      done = ap facts_of c.in_ok-put_fact.ensures.entries
+          ∙ facts_with fact_of (λ f. f.name) (λ e. refl) _ _ c.loop-left.rows.entries c.loop-left.invariant.kept.ordered
+          ∙ (λ i. by_name (λ f. f.name) (c.in_ok-fact.ensures i ∷ c.loop-left.invariant.done i)) ∙ by_name-again (λ f. f.name) r rest d ∙ ap (by_name (λ f. f.name)) (sym cut);
+      kept = c.in_ok-put_fact.ensures.kept;
       within = omega (arith, c.loop-left.invariant.within);
     }

@@ -1,14 +1,14 @@
 use Rattle.std.proofs.Common.{◌≡◌, ◌≤◌, drop, length}
 use Rattle.fsl_order.specs.Rows.{by_name}
 use Rattle.fsl_links.specs.Kept.{IsKept, facts_of}
-use Rattle.fsl_links.proofs.rows.put_all.Given as goal
+use Rattle.fsl_links.proofs.links.Links.build_counted.Given as goal
 
 -- those that are done are there
 abbrev pub invariant-loop-left : goal.invariant-loop-left
 invariant-loop-left g l = record {
-  done : facts_of l.facts.entries ≡ by_name (λ f. f.name) (drop l.left l.all);
-  kept : IsKept (record { facts = l.facts; children = l.children });
-  within : l.left ≤ length l.all;
+  done : facts_of l.rows.entries ≡ by_name (λ f. f.name) (drop l.left l.facts);
+  kept : IsKept (record { facts = l.rows; children = l.children });
+  within : l.left ≤ length l.facts;
 }
 
 abbrev pub decreases-loop-left : goal.decreases-loop-left
