@@ -93,8 +93,8 @@ returns g c =
       pairs = always_ok c.set_leaf.result c.in_ok-link_each.ensures.pairs;
       leaves = on_ok_map c.set_leaf.result
           (λ set q. set q ∙ (λ i. if bytes_eq q c.args.name
-              then (c.neither-ended.ensures ∙ (λ j. not (c.in_ok-continued.ensures.is j || c.stands_in.ensures j))) i
-              else c.in_ok-end_leaves.ensures.leaves q i))
+          then (c.neither-ended.ensures ∙ (λ j. not (c.in_ok-continued.ensures.is j || c.stands_in.ensures j))) i
+          else c.in_ok-end_leaves.ensures.leaves q i))
           put.leaves;
       flips = on_ok_map c.set_leaf.result (λ set before all. set before (c.in_ok-end_leaves.ensures.flips before all)) put.flips;
       undoes_children = c.link_each.ensures.undoes;

@@ -22,6 +22,6 @@ returns-clause-changed g c =
     let fs = with_entry bytes_cmp row.name (entry row) es in
     if_ok_map c.one.result
     (λ list is. subst (ListsChanged (timeline_row (rows_of es)) (timeline_row (rows_of fs))) (sym is)
-        (lists_one es fs row.name (other_with es row.name (entry row)) true
-        (λ e. none_some (row_at es row.name) row (ap (option_map (λ e. row_of (row.name, e))) c.requires.absent) (e ∙ own_with es row.name (entry row)))))
+    (lists_one es fs row.name (other_with es row.name (entry row)) true
+    (λ e. none_some (row_at es row.name) row (ap (option_map (λ e. row_of (row.name, e))) c.requires.absent) (e ∙ own_with es row.name (entry row)))))
     c.one.ensures

@@ -21,5 +21,5 @@ returns-clause-changed g c =
     let fs = with_entry bytes_cmp row.name (entry row) es in
     if_ok_map c.one.result
     (λ list is. subst (ListsChanged (timeline_row (rows_of es)) (timeline_row (rows_of fs))) (sym is)
-        (lists_one es fs row.name (other_with es row.name (entry row)) (not c.stands-same.result) (own_other es row c.stands-same.result c.stands-same.ensures)))
+    (lists_one es fs row.name (other_with es row.name (entry row)) (not c.stands-same.result) (own_other es row c.stands-same.result c.stands-same.ensures)))
     c.one.ensures
