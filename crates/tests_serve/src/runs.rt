@@ -1,4 +1,4 @@
-//! Runs whose disk fails, what a crash leaves then, and a message too long for a transcript.
+//! Runs whose disk fails, and what a crash leaves then.
 use fossil::{Ran, one_outcome, run, some_outcome};
 use fsl_disk::{Disk, FileDisk, FuseDisk, MemoryDisk};
 use fsl_outside::{Dial, MemoryDial, MemorySink, MemorySource};
@@ -9,8 +9,6 @@ use std::test::Fail;
 const PUT: [&str; 2] = ["r", "put"];
 
 const CAT: [&str; 3] = ["r", "cat", "a999"];
-
-const INGEST: [&str; 2] = ["r", "ingest"];
 
 // A new repository's file.
 pub(crate) const NEW_FILE: &[u8] =
@@ -125,29 +123,5 @@ fn put_tells_a_disk_that_fails(rt: HostRuntime) -> Result<(), Fail> {
             "after {calls} calls"
         );
     }
-    Ok(())
-}
-
-/// The message of a file of 2^24 + 1 bytes, whose line has 55.
-fn large_message(alloc: Global) -> Result<Vec<u8>, AllocError> {
-    let line = b"file a9993e364706816aba3e25717850c26c9cd0d89d 16777217\n";
-    let mut message = line.as_slice().to_vec(alloc)?;
-    message.resize(16_777_272, 0)?;
-    Ok(message)
-}
-
-/// What an `ingest` of it ends with: the status, and whether this was printed.
-fn ingest_large(alloc: Global, wanted: &[u8]) -> Result<(u8, bool), AllocError> {
-    let message = large_message(alloc)?;
-    let none = FileDisk::none();
-    let (status, printed) = end(alloc, &INGEST, &message, none, &mut nobody(alloc))?;
-    Ok((status, printed.as_slice() == wanted))
-}
-
-// A content of a byte more than 2^24 is refused, before its name is looked at.
-#[test]
-fn ingest_refuses_a_file_that_is_too_large(rt: HostRuntime) -> Result<(), Fail> {
-    let want = b"refused: too large a9993e364706816aba3e25717850c26c9cd0d89d 16777217\n";
-    assert_eq!(rt; ingest_large(rt.alloc(), want)?, (3, true));
     Ok(())
 }
