@@ -1,4 +1,5 @@
 """What the measuring scripts share: inputs, the built program, and times and memory of one run."""
+import functools
 import hashlib
 import json
 import os
@@ -122,6 +123,15 @@ def measured(room, words, stdin=None, check=True):
     with open(told) as file:
         seconds, peak = json.load(file)
     return seconds, peak, printed
+
+
+@functools.cache
+def has_real_fossil():
+    """Whether the command `fossil` is the real one. README links our wrapper by that name, and it answers `version` without building."""
+    if not shutil.which('fossil'):
+        return False
+    _, printed = timed(['fossil', 'version'], check=False)
+    return printed.startswith(b'This is fossil version ')
 
 
 def row(what, seconds, beside, tool):
