@@ -44,7 +44,7 @@ use Rattle.fossil.specs.Synced.{Read, IsSyncOutcome, AreCommits, command_asks_pe
 use Rattle.fossil.specs.Syncing.{IsSyncDue, ComesTo, IsReady, HasMade, HasPulledFrom, command_by}
 use Rattle.fossil.proofs.InputLemmas.{some_bytes}
 use Rattle.fossil.proofs.FileLemmas.{both, agrees, readable}
-use Rattle.fossil.proofs.TakenLemmas.{Start, IsAt, same_at, longer_same, IsEndAt, goes_at, ends_at, partly_at, IsFailedAt, failed_at}
+use Rattle.fossil.proofs.TakenLemmas.{Start, IsAt, same_at, longer_same, IsEndAt, goes_at, ends_at, partly_at, other_commits, IsFailedAt, failed_at}
 use Rattle.fossil.proofs.SoundLemmas.{PullIsDue, pull_sound, local_keeps, HasOneMore, local_one, local_rounds, local_pull, local_end_at}
 use Rattle.fossil.proofs.PushLemmas.{PushIsDue, push_sound}
 use Rattle.fossil.proofs.SyncedLemmas.{IsLeftSo, made_all, holds, holds_either, none_grown}
@@ -84,7 +84,7 @@ module _ {D : Type 0} (login : Option (List ℕ × List ℕ)) (address : List �
       (λ rs e o pulled end. inr (mine.records, ready.loaded.stands.2, (ready.faults, e, subst (λ (t : State). IsPull user t rs e) ready.state pulled, end)))
       (λ rs commits so_far. (mine.records, ready.loaded.stands.2, (ready.faults, subst (λ (t : State). PullSoFar user t rs commits) ready.state so_far)))
       (λ rs body asks. (mine.records, ready.loaded.stands.2, (ready.faults, subst (λ (t : State). PullIsDue user t rs body) ready.state asks)))
-      (λ rs commits far off. off)
+      (λ rs commits far off. off) (λ rs commits due. inr due)
       rounds broken kept result is counted due in
       (rounds, broken, grows, (record { file = bytes; peer = held.0; rounds = rounds }, c.0, c.1))
 
@@ -96,7 +96,7 @@ module _ {D : Type 0} (login : Option (List ℕ × List ℕ)) (address : List �
       (λ rs e o pushed end. inr (mine.records, ready.loaded.stands.2, (ready.faults, e, subst (λ (t : State). IsPush user t rs e) ready.state pushed, end)))
       (λ rs commits so_far. (mine.records, ready.loaded.stands.2, (ready.faults, subst (λ (t : State). PushSoFar user t rs commits) ready.state so_far)))
       (λ rs body asks. (mine.records, ready.loaded.stands.2, (ready.faults, subst (λ (t : State). PushIsDue user t rs body) ready.state asks)))
-      (λ rs commits far off. off)
+      (λ rs commits far off. off) (λ rs commits due. inr due)
       rounds broken kept result is counted due in
       (rounds, broken, grows, (record { file = bytes; peer = held.0; rounds = rounds }, c.0, c.1))
 
@@ -105,6 +105,16 @@ module _ {D : Type 0} (login : Option (List ℕ × List ℕ)) (address : List �
   over_comes way.Push h = push_comes h.result h.made h.counted h.says
 
 -- ---- a pull from another repository
+
+nil_front : {X : Type 0} (a b : List X) → a ++ b ≡ [] → a ≡ []
+nil_front [] b e = refl
+nil_front (x ∷ a) b e = absurd (cc)
+
+-- where one more commit was due than were made, there is one
+some_due : (done due commits : List (List Record)) → HasOneMore done due → due ≢ done → Longer due commits → commits ≢ []
+some_due done due commits (more, split, few) others (rest, longer) none =
+    let due_none : due ≡ [] = nil_front due rest (sym longer ∙ none) in
+    others (due_none ∙ sym (nil_front done more (sym split ∙ due_none)))
 
 module _ {D P : Type 0} (path : List ℕ) (dial : LinkState) (file mid left : DiskState) (old new : Whole D) (ready : IsReady file mid old) (whole : IsWholeOn left new) (keeps : Keeps mid left)
     (file_reads : (held : List ℕ) → IsTrue file.is_model → file.contents ≡ Some held → file.images held) (left_reads : (held : List ℕ) → IsTrue left.is_model → left.contents ≡ Some held → left.images held)
@@ -243,20 +253,20 @@ module _ {D P : Type 0} (path : List ℕ) (dial : LinkState) (file mid left : Di
         (inl (holds left new at_first p.commits whole at)) kept_so (λ other. at.steady)
 
     -- the commit of a round failed, behind which the pull goes on or is at its end
-    lost : (w : Coming) (done due : List (List Record)) → HasOneMore done due → Longer due (commits_in w) → IsFailedAt at_first new.seen.state done due → IsKept due → Rose s.faults new.seen.state.faults → printed d ≡ with_text 4 disk_fault → Came
-    lost w done due one longer stands kept_so rose told =
+    lost : (w : Coming) (done due : List (List Record)) → HasOneMore done due → due ≢ done → Longer due (commits_in w) → IsFailedAt at_first new.seen.state done due → IsKept due → Rose s.faults new.seen.state.faults → printed d ≡ with_text 4 disk_fault → Came
+    lost w done due one others longer stands kept_so rose told =
         let failed = rose_file command peer peer_left dial dial file mid left old new ready whole keeps file_reads left_reads peer_bytes peer_told d rose in
-        by_text w (record { done = done; due = due }) (with_text 4 disk_fault) told (inr (inl (refl, inl failed, inl refl, refl))) (one, longer) refl
+        by_text w (record { done = done; due = due }) (with_text 4 disk_fault) told (inr (inl (refl, inl (failed, inr (some_due done due (commits_in w) one others longer)), refl))) (one, longer) refl
         (inr (refl, failed, holds_either left new at_first (record { done = done; due = due }) whole stands)) kept_so (λ other. absurd (other refl))
 
     lost_by : MayBegin s t → (u w : Names) → AreUnclustered t u → AreWants s w → (front : Gives) (last : Round Names (List WireCard)) (p : Point Names) → GoOn (LocalRound (now t) u) (pull_start s w) front p
-        → (step : Then Names) → LocalRound (now t) u p last step → HasOneMore p.commits (commits_of step) → IsFailedAt at_first new.seen.state p.commits (commits_of step)
+        → (step : Then Names) → LocalRound (now t) u p last step → HasOneMore p.commits (commits_of step) → commits_of step ≢ p.commits → IsFailedAt at_first new.seen.state p.commits (commits_of step)
         → IsKept (commits_of step) → Rose s.faults new.seen.state.faults → printed d ≡ with_text 4 disk_fault → Came
-    lost_by may u w are_u are_w front last p go (goes_on q) is one stands kept_so rose told =
-        lost all p.commits q.commits one (cut_longer may u w are_u are_w (front ++ last ∷ []) q (go_behind (LocalRound (now t) u) (pull_start s w) front p q last go is)) stands kept_so rose told
-    lost_by may u w are_u are_w front last p go (ends e) is one stands kept_so rose told =
+    lost_by may u w are_u are_w front last p go (goes_on q) is one others stands kept_so rose told =
+        lost all p.commits q.commits one others (cut_longer may u w are_u are_w (front ++ last ∷ []) q (go_behind (LocalRound (now t) u) (pull_start s w) front p q last go is)) stands kept_so rose told
+    lost_by may u w are_u are_w front last p go (ends e) is one others stands kept_so rose told =
         let it : Coming = (front ++ last ∷ [], e, local_pull s t (front ++ last ∷ []) e may (u, are_u, (w, are_w, end_behind (LocalRound (now t) u) (pull_start s w) front p e last go is))) in
-        lost it p.commits e.commits one (longer_same e.commits) stands kept_so rose told
+        lost it p.commits e.commits one others (longer_same e.commits) stands kept_so rose told
 
     failed : Rose s.faults new.seen.state.faults → IsLocalFailed s t new.seen.state IsKept → printed d ≡ with_text 4 disk_fault → Came
     failed rose (may, (u, w, are_u, are_w, (rounds, (off, kept_so)))) told =
@@ -264,7 +274,7 @@ module _ {D P : Type 0} (path : List ℕ) (dial : LinkState) (file mid left : Di
         let stood = goes_at (LocalRound (now t) u) (local_keeps (now t) u) at_first (pull_start s w) off.front p start off.go in
         let behind_it = local_keeps (now t) u at_first p off.last off.step stood.0 off.is_round in
         lost_by may u w are_u are_w off.front off.last p off.go off.step off.is_round (local_one (now t) u p off.last off.step off.is_round)
-        (failed_at at_first p off.step new.seen.state stood.0 behind_it off.is_due off.state) kept_so rose told
+        (other_commits at_first p off.step stood.0 behind_it off.is_due off.some) (failed_at at_first p off.step new.seen.state stood.0 behind_it off.is_due off.state) kept_so rose told
 
     ok : (pulled : Pulled) → IsLocalEnd s t new.seen.state None (Some pulled) → IsSyncDue (Ok pulled) d → Came
     ok pulled is due = whole_by None (Some pulled) is (λ n e p ended text. due_ok n new.seen.state e d p text pulled ended due)

@@ -28,7 +28,7 @@ use Rattle.fossil.specs.Run.{Agrees, disk_fault}
 use Rattle.fossil.specs.Served.{with_text, link_fault, no_memory}
 use Rattle.fossil.specs.Serving.{printed, IsDue}
 use Rattle.fossil.specs.Syncs.{synced, fault_printed, end_printed, with_commits, IsEndOutcome}
-use Rattle.fossil.specs.Synced.{Read, Objects, IsSyncOutcome, AreCommitsSoFar, AreCommits, IsDue as IsAsked, command_asks_peer, AreCommitsBefore, IsAnswer, Far, AreCutOff, AreMade, reached, IsWholeAtAnyMoment, IsPeerKept, SyncsBy, objects_of}
+use Rattle.fossil.specs.Synced.{Read, Objects, IsSyncOutcome, AreCommitsSoFar, AreCommits, IsDue as IsAsked, command_asks_peer, AreCommitsBefore, IsFileDue, IsAnswer, Far, AreCutOff, AreMade, reached, IsWholeAtAnyMoment, IsPeerKept, SyncsBy, objects_of}
 use Rattle.fossil.specs.Syncing.{IsSyncDue, IsReady}
 use Rattle.fossil.proofs.FileLemmas.{both, agrees}
 use Rattle.fossil.proofs.TakenLemmas.{IsTellable, Start, IsAt, same_at, IsEndAt}
@@ -187,6 +187,7 @@ module _ {D : Type 0} (command : Command) (peer peer_left : DiskState) (dial dia
         (so_far : (rounds : Rounds) (commits : List (List Record)) → k.SoFar rounds commits → AreCommitsSoFar command (read rounds) commits)
         (asked : (rounds : Rounds) (body : List ℕ) → IsDueK rounds body → IsAsked command (read rounds) body)
         (cut_off : (rounds : Rounds) (commits : List (List Record)) (far : Far) → (AreCommitsBefore command (read rounds) far.done × (far.due ≡ commits)) → AreCutOff command (read rounds) commits far)
+        (file_due : (rounds : Rounds) (commits : List (List Record)) → ((done : List (List Record)) × AreCommitsBefore command (read rounds) done × (commits ≢ done)) → IsFileDue command (read rounds) commits (both peer peer_left))
         (rounds : Rounds) (broken : List Connection)
         (kept : (commits : List (List Record)) → AreCommitsOf k.Is k.SoFar rounds commits → IsKeptAtAnyMoment (front old.seen.state) mid left commits) where
       abbrev pub Came : Type 0
@@ -232,7 +233,7 @@ module _ {D : Type 0} (command : Command) (peer peer_left : DiskState) (dial dia
           let c = sound.failed rounds new.seen.state is in (
             c.commits,
             synced_by rounds broken c.commits (all_but c.done c.commits) (with_text 4 disk_fault) told (inl (led_by c.commits c.are))
-                (inr (inl (none, inl (rose_file rose), inr (c.done, before_by c.done c.before, c.others), refl))) (inr (refl, none, cut_by c.done c.commits c.before))
+                (inr (inl (none, inl (rose_file rose, file_due rounds c.commits (c.done, before_by c.done c.before, c.others)), refl))) (inr (refl, none, cut_by c.done c.commits c.before))
                 (inr (refl, rose_file rose, holds_either left new at_start (all_but c.done c.commits) whole c.stands)) (moments_by c.commits (kept c.commits c.are)) peer_kept (λ other. absurd (other refl)) (λ other. same_count),
           )
 

@@ -23,11 +23,11 @@ use Rattle.fossil.specs.declared.commands.sync.Way.{Way}
 use Rattle.fossil.specs.declared.commands.sync.Way.TheVariants as way
 use Rattle.fossil.specs.Printed.{Printed}
 use Rattle.fossil.specs.Outcome.{Outcome, without_commit, printed_of, command_syncs, command_clones, command_meets}
-use Rattle.fossil.specs.Run.{Output, Agrees, IsTold}
+use Rattle.fossil.specs.Run.{File, Output, Agrees, IsTold}
 use Rattle.fossil.specs.Acts.{file_of, KeepsImages}
 use Rattle.fossil.specs.Served.{IsWrittenAs, all, front}
 use Rattle.fossil.specs.Serving.{printed}
-use Rattle.fossil.specs.Synced.{Read, Objects, IsSyncOutcome, AreCommitsSoFar, AreCommits, IsDue, IsCutOff, command_asks_peer, HasFailed, AreCommitsBefore, IsDiskDue, objects_of, IsAnswer, IsFaulted, Far, AreCutOff, AreMade, reached, StandsForAll, StandsAsFar, StandsOrWasLeft, IsFileLeft, IsWholeAtAnyMoment, IsDurable, IsPeerKept, IsUntouched, SyncsBy, HasSynced}
+use Rattle.fossil.specs.Synced.{Read, Objects, IsSyncOutcome, AreCommitsSoFar, AreCommits, IsDue, IsCutOff, command_asks_peer, AreCommitsBefore, IsFileDue, HasFailed, objects_of, IsAnswer, IsFaulted, Far, AreCutOff, AreMade, reached, StandsForAll, StandsAsFar, StandsOrWasLeft, IsFileLeft, IsWholeAtAnyMoment, IsDurable, IsPeerKept, IsUntouched, SyncsBy, HasSynced}
 use Rattle.fossil.specs.Syncing.{command_by}
 use Rattle.fossil.proofs.InputLemmas.{some_bytes}
 use Rattle.fossil.proofs.FileLemmas.{both, some_same, agreed, quiet_none}
@@ -154,7 +154,7 @@ ends o out status (front e cut) = zero_or o.status (o.status == 0) refl status e
 
 module _ (command : Command) (x : Objects) (broken : List Connection) (r : Read) (commits : List (List Record)) (P Q : Printed → Type 0) (turn : (o : Printed) → P o → Q o) where
   faulted_as : IsFaulted command r broken commits x P → IsFaulted command r broken commits x Q
-  faulted_as (inl (none, failed, due, tells)) = inl (none, failed, due, turn _ tells)
+  faulted_as (inl (none, failed, tells)) = inl (none, failed, turn _ tells)
   faulted_as (inr (inl (rose, cut, tells))) = inr (inl (rose, cut, turn _ tells))
   faulted_as (inr (inr (cut, tells))) = inr (inr (cut, turn _ tells))
 
@@ -241,25 +241,40 @@ abbrev pub with_peer : List ℕ → Read → Read
 with_peer bytes r = record { file = r.file; peer = bytes; rounds = r.rounds }
 
 -- nothing that is said of a command speaks of the peer's file
-pub record IsApart (command : Command) : Type 0 where
+pub record IsApart (command : Command) : Type 1 where
   pub alone : IsTrue (command_asks_peer command) → ⊥
   pub outcome : (bytes : List ℕ) (r : Read) (o : Outcome) → IsSyncOutcome command r o → IsSyncOutcome command (with_peer bytes r) o
   pub so_far : (bytes : List ℕ) (r : Read) (commits : List (List Record)) → AreCommitsSoFar command r commits → AreCommitsSoFar command (with_peer bytes r) commits
   pub due : (bytes : List ℕ) (r : Read) (body : List ℕ) → IsDue command r body → IsDue command (with_peer bytes r) body
   pub cut_off : (bytes : List ℕ) (r : Read) (commits : List (List Record)) (far : Far) → AreCutOff command r commits far → AreCutOff command (with_peer bytes r) commits far
+  pub file_due : (bytes : List ℕ) (r : Read) (commits : List (List Record)) (peer other : File) → IsFileDue command r commits peer → IsFileDue command (with_peer bytes r) commits other
 
 pub apart_by : (w : Way) (address : List ℕ) (login : Option (List ℕ × List ℕ)) → IsApart (command_by w address login)
-apart_by way.Pull address login = record { alone = λ asks. absurd (cc); outcome = λ bytes r o h. h; so_far = λ bytes r commits h. h; due = λ bytes r body h. h; cut_off = λ bytes r commits far h. h }
-apart_by way.Push address login = record { alone = λ asks. absurd (cc); outcome = λ bytes r o h. h; so_far = λ bytes r commits h. h; due = λ bytes r body h. h; cut_off = λ bytes r commits far h. h }
+apart_by way.Pull address login = record {
+  alone = λ asks. absurd (cc);
+  outcome = λ bytes r o h. h;
+  so_far = λ bytes r commits h. h;
+  due = λ bytes r body h. h;
+  cut_off = λ bytes r commits far h. h;
+  file_due = λ bytes r commits peer other h. h;
+}
+apart_by way.Push address login = record {
+  alone = λ asks. absurd (cc);
+  outcome = λ bytes r o h. h;
+  so_far = λ bytes r commits h. h;
+  due = λ bytes r body h. h;
+  cut_off = λ bytes r commits far h. h;
+  file_due = λ bytes r commits peer other h. h;
+}
 
 module _ (command : Command) (apart : IsApart command) (file peer other : DiskState × DiskState) (still : IsUntouched (file_of other)) (dial : LinkState × LinkState) (Tells : Printed → Type 0) where
   abbrev there : List ℕ
   there = (some_bytes (other.0).contents).0
 
   -- no disk but that of its own file fails
-  own_failed : HasFailed command (objects_of file peer dial) → HasFailed command (objects_of file other dial)
-  own_failed (inl rose) = inl rose
-  own_failed (inr (asks, rose)) = absurd (apart.alone asks)
+  own_failed : (r : Read) (commits : List (List Record)) → HasFailed command r commits (objects_of file peer dial) → HasFailed command (with_peer there r) commits (objects_of file other dial)
+  own_failed r commits (inl (rose, due)) = inl (rose, apart.file_due there r commits (file_of peer) (file_of other) due)
+  own_failed r commits (inr (asks, rose, none)) = absurd (apart.alone asks)
 
   own_cut : (r : Read) (BreaksOff : Breaks) (broken : List Connection) (more : ℕ) → IsCutOff command r BreaksOff broken more → IsCutOff command (with_peer there r) BreaksOff broken more
   own_cut r BreaksOff broken more h = record {
@@ -268,19 +283,12 @@ module _ (command : Command) (apart : IsApart command) (file peer other : DiskSt
     sent = sent_as BreaksOff broken (IsDue command r) (IsDue command (with_peer there r)) (apart.due there r) h.sent;
   }
 
-  own_before : (r : Read) (done : List (List Record)) → AreCommitsBefore command r done → AreCommitsBefore command (with_peer there r) done
-  own_before r done (first, last, split, so_far) = (first, last, split, apart.so_far there (record r { rounds = first }) done so_far)
-
-  own_due : (r : Read) (commits : List (List Record)) → IsDiskDue command r commits → IsDiskDue command (with_peer there r) commits
-  own_due r commits (inl none) = inl none
-  own_due r commits (inr (done, before, others)) = inr (done, own_before r done before, others)
-
   own_made : (r : Read) (status : ℕ) (broken : List Connection) (commits : List (List Record)) (far : Far) → AreMade command r status broken commits far → AreMade command (with_peer there r) status broken commits far
   own_made r status broken commits far (inl whole) = inl whole
   own_made r status broken commits far (inr (cut, none, off)) = inr (cut, none, apart.cut_off there r commits far off)
 
   own_faulted : (r : Read) (broken : List Connection) (commits : List (List Record)) → IsFaulted command r broken commits (objects_of file peer dial) Tells → IsFaulted command (with_peer there r) broken commits (objects_of file other dial) Tells
-  own_faulted r broken commits (inl (none, failed, due, tells)) = inl (none, own_failed failed, own_due r commits due, tells)
+  own_faulted r broken commits (inl (none, failed, tells)) = inl (none, own_failed r commits failed, tells)
   own_faulted r broken commits (inr (inl (rose, cut, tells))) = inr (inl (rose, own_cut r IsBrokenOff broken 1 cut, tells))
   own_faulted r broken commits (inr (inr (inl none, tells))) = inr (inr (inl none, tells))
   own_faulted r broken commits (inr (inr (inr cut, tells))) = inr (inr (inr (own_cut r IsLeft broken (length broken) cut), tells))

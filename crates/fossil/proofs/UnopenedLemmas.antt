@@ -28,7 +28,7 @@ use Rattle.fossil.specs.Acts.{KeepsContents, IsUnopened, IsWritten}
 use Rattle.fossil.specs.Served.{with_text, no_memory}
 use Rattle.fossil.specs.Serving.{printed}
 use Rattle.fossil.specs.Syncs.{with_commits, no_peer}
-use Rattle.fossil.specs.Synced.{Read, Objects, IsSyncOutcome, command_asks_peer, IsAnswer, is_cut, reached, StandsAsFar, StandsOrWasLeft, IsFileLeft, IsDurable, IsPeerKept, SyncsBy, HasSynced, objects_of}
+use Rattle.fossil.specs.Synced.{Read, Objects, IsSyncOutcome, command_asks_peer, IsFileDue, IsAnswer, is_cut, reached, StandsAsFar, StandsOrWasLeft, IsFileLeft, IsDurable, IsPeerKept, SyncsBy, HasSynced, objects_of}
 use Rattle.fossil.specs.Syncing.{IsUnopenedDue, IsNoPeerDue, ComesTo, IsReady, command_by}
 use Rattle.fossil.proofs.InputLemmas.{some_bytes}
 use Rattle.fossil.proofs.FileLemmas.{both, agrees, some_same, quiet_none}
@@ -44,7 +44,8 @@ ready_of file left r is whole between keeps = record { loaded = repo_opened file
 -- ---- the repository's file
 
 module _ (command : Command) (no_repository : (r : Read) (at : ℕ) → FailsAt r.file at → r.rounds ≡ [] → IsSyncOutcome command r (not_repository at)) (file left peer : DiskState) (dial : LinkState)
-    (peer_kept : IsTrue (command_asks_peer command) → IsPeerKept (both peer peer)) (spared : IsSpared file left) (harmless : IsModelled file → LeavesOnly file left (HeldOrSame file)) (d : Due) where
+    (due_first : (r : Read) → r.rounds ≡ [] → IsFileDue command r [] (both peer peer)) (peer_kept : IsTrue (command_asks_peer command) → IsPeerKept (both peer peer)) (spared : IsSpared file left)
+    (harmless : IsModelled file → LeavesOnly file left (HeldOrSame file)) (d : Due) where
   abbrev x : Objects
   x = objects_of (file, left) (peer, peer) (dial, dial)
 
@@ -121,7 +122,7 @@ module _ (command : Command) (no_repository : (r : Read) (at : ℕ) → FailsAt 
     disk : Rose file.faults left.faults → printed d ≡ with_text 4 disk_fault → Comes
     disk rose told =
         let bytes = some_bytes file.contents in
-        by_text bytes.0 (with_text 4 disk_fault) bytes.1 told (inr (inl (refl, inl rose, inl refl, refl)))
+        by_text bytes.0 (with_text 4 disk_fault) bytes.1 told (inr (inl (refl, inl (rose, due_first (read bytes.0) refl), refl)))
         (λ old held file_told left_told are known. spared_by bytes.0 4 spared file_told old are (known refl rose) held left_told) (images_by bytes.0 4 refl) (λ other. absurd (other refl))
 
     nowhere : (fault ≡ load_fault.Disk → ⊥) → (bytes : List ℕ) (at : ℕ) → Agrees file.contents bytes → FailsAt bytes at → printed d ≡ printed_of (not_repository at) → Comes
@@ -147,6 +148,11 @@ pub over_unopened : (w : Way) (address : List ℕ) (login : Option (List ℕ × 
 over_unopened way.Pull address login r at fails none = pull_unopened address login r at fails none
 over_unopened way.Push address login r at fails none = push_unopened address login r at fails none
 
+-- before the first round the file is to be loaded
+pub over_due : (w : Way) (address : List ℕ) (login : Option (List ℕ × List ℕ)) (peer : DiskState) (r : Read) → r.rounds ≡ [] → IsFileDue (command_by w address login) r [] (both peer peer)
+over_due way.Pull address login peer r none = inl none
+over_due way.Push address login peer r none = inl none
+
 -- neither of them reads a peer's file
 pub over_alone : (w : Way) (address : List ℕ) (login : Option (List ℕ × List ℕ)) (peer : DiskState) → IsTrue (command_asks_peer (command_by w address login)) → IsPeerKept (both peer peer)
 over_alone way.Pull address login peer asks = absurd (cc)
@@ -154,6 +160,10 @@ over_alone way.Push address login peer asks = absurd (cc)
 
 pub local_unopened : (path : List ℕ) (r : Read) (at : ℕ) → FailsAt r.file at → r.rounds ≡ [] → IsSyncOutcome (command_of.PullLocal path) r (not_repository at)
 local_unopened path r at fails none = (none, inl (at, fails, none, refl))
+
+-- and of a pull from a peer's file, before this is looked at
+pub local_due : (path : List ℕ) (peer : DiskState) (r : Read) → r.rounds ≡ [] → IsFileDue (command_of.PullLocal path) r [] (both peer peer)
+local_due path peer r none = inl (untouched peer)
 
 -- ---- the peer's file
 
@@ -194,7 +204,7 @@ module _ {D : Type 0} (path : List ℕ) (file mid : DiskState) (old : Whole D) (
     peer_disk : Rose peer.faults peer_left.faults → printed d ≡ with_text 4 disk_fault → Locals
     peer_disk rose told =
         let bytes = some_bytes peer.contents in
-        peer_by bytes.0 (with_text 4 disk_fault) bytes.1 told (inr (inl (refl, inr (refl, rose), inl refl, refl))) (inl rose) (λ other. absurd (other refl))
+        peer_by bytes.0 (with_text 4 disk_fault) bytes.1 told (inr (inl (refl, inr (refl, rose, refl), refl))) (inl rose) (λ other. absurd (other refl))
 
     peer_nowhere : (fault ≡ load_fault.Disk → ⊥) → (bytes : List ℕ) (at : ℕ) → Agrees peer.contents bytes → FailsAt bytes at → printed d ≡ no_peer at → Locals
     peer_nowhere other bytes at agree fails told =

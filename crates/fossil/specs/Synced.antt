@@ -89,30 +89,39 @@ pub record Objects : Type 1 where
 
 -- ---- the answer
 
+-- as a disk of which nothing was asked: its file is as it was, no moment passed, and no call failed
+pub record IsUntouched (file : File) : Type 0 where
+  pub quiet : Quiet file.before file.after
+  pub moment : file.after.moment ≡ file.before.moment
+  pub faults : file.after.faults ≡ file.before.faults
+
 -- a request is due behind the rounds, so many connections more are within the limit, and one that broke off took the request or a front of it
 pub record IsCutOff (command : Command) (r : Read) (BreaksOff : Breaks) (broken : List Connection) (more : ℕ) : Type 0 where
   pub due : (body : List ℕ) × IsDue command r body
   pub few : length r.rounds + more ≤ most_rounds
   pub sent : HasSent BreaksOff broken (IsDue command r)
 
--- a disk failed: that of the file, or of the peer's for a command that reads it
-abbrev pub HasFailed : Command → Objects → Type 0
-HasFailed command x =
-    Rose x.file.before.faults x.file.after.faults ⊎ (IsTrue (command_asks_peer command) × Rose x.peer.before.faults x.peer.after.faults)
-
 -- the rounds but the last all went on, and come to these commits
 abbrev pub AreCommitsBefore : Command → Read → List (List Record) → Type 0
 AreCommitsBefore command r done =
     (front : Rounds) × (last : Round (List ℕ) Exchanged) × (r.rounds ≡ front ++ last ∷ []) × AreCommitsSoFar command (record r { rounds = front }) done
 
--- a call of a disk was due: no round was read, and a file was to be loaded; or the last round has something to commit
-abbrev pub IsDiskDue : Command → Read → List (List Record) → Type 0
-IsDiskDue command r commits = (r.rounds ≡ []) ⊎ ((done : List (List Record)) × AreCommitsBefore command r done × (commits ≢ done))
+-- a call of the file's disk was due: no round was read, and it was to be loaded; or the last round has something to commit. The rounds of a pull from a
+-- peer's file aren't told: the file was to be loaded, and the peer's wasn't looked at; or there is something to commit
+abbrev pub IsFileDue : Command → Read → List (List Record) → File → Type 0
+IsFileDue (PullLocal path) r commits peer = IsUntouched peer ⊎ (commits ≢ [])
+IsFileDue command r commits peer = (r.rounds ≡ []) ⊎ ((done : List (List Record)) × AreCommitsBefore command r done × (commits ≢ done))
+
+-- a disk failed in a call that was due: that of the file; or that of the peer's, which a command that reads it loads before it commits anything
+abbrev pub HasFailed : Command → Read → List (List Record) → Objects → Type 0
+HasFailed command r commits x =
+    (Rose x.file.before.faults x.file.after.faults × IsFileDue command r commits x.peer)
+    ⊎ (IsTrue (command_asks_peer command) × Rose x.peer.before.faults x.peer.after.faults × (commits ≡ []))
 
 -- a fault has its status and its line, its object's count rose, and a call of it was due; want of memory has no cause
 abbrev pub IsFaulted : Command → Read → List Connection → List (List Record) → Objects → (Printed → Type 0) → Type 0
 IsFaulted command r broken commits x Tells =
-    ((broken ≡ []) × HasFailed command x × IsDiskDue command r commits × Tells (with_text 4 disk_fault))
+    ((broken ≡ []) × HasFailed command r commits x × Tells (with_text 4 disk_fault))
     ⊎ ((Rose x.dial.faults_before x.dial.faults_after × IsCutOff command r IsBrokenOff broken 1 × Tells (with_text 7 link_fault))
     ⊎ (((broken ≡ []) ⊎ IsCutOff command r IsLeft broken (length broken)) × Tells no_memory))
 
@@ -197,12 +206,6 @@ pub record IsPeerKept (peer : File) : Type 0 where
   pub harmless : IsModelled peer.before → LeavesOnly peer.before peer.after (HeldOrSame peer.before)
   pub unreadable : KeepsUnreadable peer.before peer.after
   pub keeps : Keeps peer.before peer.after
-
--- as a disk of which nothing was asked: its file is as it was, no moment passed, and no call failed
-pub record IsUntouched (file : File) : Type 0 where
-  pub quiet : Quiet file.before file.after
-  pub moment : file.after.moment ≡ file.before.moment
-  pub faults : file.after.faults ≡ file.before.faults
 
 -- ---- a run
 

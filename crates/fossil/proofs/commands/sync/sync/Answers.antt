@@ -4,7 +4,7 @@ use Rattle.fsl_pull.specs.declared.Login.{Login}
 use Rattle.fossil.specs.Syncing.{ComesTo, HasMade, command_by}
 use Rattle.fossil.proofs.RepoLemmas.{repo_unopened, unopened_counts}
 use Rattle.fossil.proofs.ComeLemmas.{over_comes}
-use Rattle.fossil.proofs.UnopenedLemmas.{ready_of, unopened_comes, over_unopened, over_alone}
+use Rattle.fossil.proofs.UnopenedLemmas.{ready_of, unopened_comes, over_unopened, over_due, over_alone}
 use Rattle.fossil.proofs.commands.sync.sync.Goals as goal
 
 pub returns-in-Ok : goal.returns-in-Ok
@@ -25,6 +25,6 @@ pub returns : goal.returns
 returns g c = λ address.
     let file = g.D.Disk.state c.args.disk in
     let left = g.D.Disk.state c.in-Err.disk in
-    unopened_comes (command_by c.args.way address c.args.login) (over_unopened c.args.way address c.args.login) file left file (g.N.Link.state c.args.dial.now) (over_alone c.args.way address c.args.login file)
+    unopened_comes (command_by c.args.way address c.args.login) (over_unopened c.args.way address c.args.login) file left file (g.N.Link.state c.args.dial.now) (over_due c.args.way address c.args.login file) (over_alone c.args.way address c.args.login file)
     c.in-Err.ensures.spared c.in-Err.ensures.harmless c.unopened.result c.in-Err.fault
     (repo_unopened file left c.in-Err.fault c.in-Err.ensures.fault c.in-Err.ensures.refused c.in-Err.ensures.any_moment c.in-Err.ensures.keeps) (unopened_counts file left c.in-Err.fault c.in-Err.ensures.fault) c.unopened.ensures
