@@ -35,12 +35,6 @@ alone config = record_of.Config config ∷ []
 some_is : (a b : Config) → Some a ≡ Some b → a ≡ b
 some_is a b e = cc
 
-first_is : (a b : Record) → a ∷ [] ≡ b ∷ [] → a ≡ b
-first_is a b e = cc
-
-config_is : (a b : Config) → record_of.Config a ≡ record_of.Config b → a ≡ b
-config_is a b e = cc
-
 -- one record is a Config, and that is the one that is found
 pub is_alone : (records : List Record) (found config : Config) → AreRecords records → length records ≡ 1 → (contents records).config ≡ Some found → found ≡ config → records ≡ alone config
 is_alone [] found config are one has same = absurd are
