@@ -256,7 +256,7 @@ module _ {D P : Type 0} (path : List ℕ) (dial : LinkState) (file mid left : Di
     lost : (w : Coming) (done due : List (List Record)) → HasOneMore done due → due ≢ done → Longer due (commits_in w) → IsFailedAt at_first new.seen.state done due → IsKept due → Rose s.faults new.seen.state.faults → printed d ≡ with_text 4 disk_fault → Came
     lost w done due one others longer stands kept_so rose told =
         let failed = rose_file command peer peer_left dial dial file mid left old new ready whole keeps file_reads left_reads peer_bytes peer_told d rose in
-        by_text w (record { done = done; due = due }) (with_text 4 disk_fault) told (inr (inl (refl, inl (failed, inr (some_due done due (commits_in w) one others longer)), refl))) (one, longer) refl
+        by_text w (record { done = done; due = due }) (with_text 4 disk_fault) told (inr (inl (refl, inl (failed, peer_steady, inr (some_due done due (commits_in w) one others longer)), refl))) (one, longer) refl
         (inr (refl, failed, holds_either left new at_first (record { done = done; due = due }) whole stands)) kept_so (λ other. absurd (other refl))
 
     lost_by : MayBegin s t → (u w : Names) → AreUnclustered t u → AreWants s w → (front : Gives) (last : Round Names (List WireCard)) (p : Point Names) → GoOn (LocalRound (now t) u) (pull_start s w) front p

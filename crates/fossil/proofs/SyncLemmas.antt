@@ -233,7 +233,7 @@ module _ {D : Type 0} (command : Command) (peer peer_left : DiskState) (dial dia
           let c = sound.failed rounds new.seen.state is in (
             c.commits,
             synced_by rounds broken c.commits (all_but c.done c.commits) (with_text 4 disk_fault) told (inl (led_by c.commits c.are))
-                (inr (inl (none, inl (rose_file rose, file_due rounds c.commits (c.done, before_by c.done c.before, c.others)), refl))) (inr (refl, none, cut_by c.done c.commits c.before))
+                (inr (inl (none, inl (rose_file rose, peer_steady, file_due rounds c.commits (c.done, before_by c.done c.before, c.others)), refl))) (inr (refl, none, cut_by c.done c.commits c.before))
                 (inr (refl, rose_file rose, holds_either left new at_start (all_but c.done c.commits) whole c.stands)) (moments_by c.commits (kept c.commits c.are)) peer_kept (λ other. absurd (other refl)) (λ other. same_count),
           )
 

@@ -193,7 +193,8 @@ module _ (command : Command) (x : Objects) (rounds : Rounds) (broken : List Conn
 
   durable_six : (old : List Record) (far : Far) (c : List ℕ) → StandsOrWasLeft x.file 0 old far c → StandsOrWasLeft x.file 6 old far c
   durable_six old far c (inl h) = inl (as_six old far c h)
-  durable_six old far c (inr (cut, none, image)) = absurd (cc)
+  durable_six old far c (inr (inl nine, none, image)) = absurd (cc)
+  durable_six old far c (inr (inr (four, rose), none, image)) = absurd (not_four four)
 
   cut_status : (n status : ℕ) → n ≡ 0 → status ≡ 6 → SyncsBy command x P n rounds broken r commits → SyncsBy command x Q status rounds broken r commits
   cut_status n status z six s =
@@ -273,8 +274,8 @@ module _ (command : Command) (apart : IsApart command) (file peer other : DiskSt
 
   -- no disk but that of its own file fails
   own_failed : (r : Read) (commits : List (List Record)) → HasFailed command r commits (objects_of file peer dial) → HasFailed command (with_peer there r) commits (objects_of file other dial)
-  own_failed r commits (inl (rose, due)) = inl (rose, apart.file_due there r commits (file_of peer) (file_of other) due)
-  own_failed r commits (inr (asks, rose, none)) = absurd (apart.alone asks)
+  own_failed r commits (inl (rose, alone, due)) = inl (rose, (λ asks. absurd (apart.alone asks)), apart.file_due there r commits (file_of peer) (file_of other) due)
+  own_failed r commits (inr (asks, rose, same, none)) = absurd (apart.alone asks)
 
   own_cut : (r : Read) (BreaksOff : Breaks) (broken : List Connection) (more : ℕ) → IsCutOff command r BreaksOff broken more → IsCutOff command (with_peer there r) BreaksOff broken more
   own_cut r BreaksOff broken more h = record {

@@ -28,7 +28,7 @@ use Rattle.fossil.specs.Acts.{KeepsContents, IsUnopened, IsWritten}
 use Rattle.fossil.specs.Served.{with_text, no_memory}
 use Rattle.fossil.specs.Serving.{printed}
 use Rattle.fossil.specs.Syncs.{with_commits, no_peer}
-use Rattle.fossil.specs.Synced.{Read, Objects, IsSyncOutcome, command_asks_peer, IsFileDue, IsAnswer, is_cut, reached, StandsAsFar, StandsOrWasLeft, IsFileLeft, IsDurable, IsPeerKept, SyncsBy, HasSynced, objects_of}
+use Rattle.fossil.specs.Synced.{Read, Objects, IsSyncOutcome, command_asks_peer, IsFileDue, IsAnswer, reached, StandsAsFar, MayBeUnloaded, StandsOrWasLeft, IsFileLeft, IsDurable, IsPeerKept, SyncsBy, HasSynced, objects_of}
 use Rattle.fossil.specs.Syncing.{IsUnopenedDue, IsNoPeerDue, ComesTo, IsReady, command_by}
 use Rattle.fossil.proofs.InputLemmas.{some_bytes}
 use Rattle.fossil.proofs.FileLemmas.{both, agrees, some_same, quiet_none}
@@ -98,13 +98,13 @@ module _ (command : Command) (no_repository : (r : Read) (at : ℕ) → FailsAt 
     contents_by other bytes status old held file_told left_told are known = as_old_so_far status old held (un.contents other bytes file_told old are held left_told)
 
     -- a crash leaves what it might have left before, or the same records
-    image_by : (bytes : List ℕ) (status : ℕ) → IsTrue (is_cut status) → file.contents ≡ Some bytes → (old : List Record) → IsFileOf bytes old → (c : List ℕ) → HeldOrSame file c
+    image_by : (bytes : List ℕ) (status : ℕ) → MayBeUnloaded (both file left) status → file.contents ≡ Some bytes → (old : List Record) → IsFileOf bytes old → (c : List ℕ) → HeldOrSame file c
         → StandsOrWasLeft (both file left) status old (made_all []) c
-    image_by bytes status cut told old are c (inl image) = inr (cut, refl, image)
-    image_by bytes status cut told old are c (inr (records, of, is)) = inl (as_old_so_far status old c (same_records bytes told records old of are c is))
+    image_by bytes status unloaded told old are c (inl image) = inr (unloaded, refl, image)
+    image_by bytes status unloaded told old are c (inr (records, of, is)) = inl (as_old_so_far status old c (same_records bytes told records old of are c is))
 
-    images_by : (bytes : List ℕ) (status : ℕ) → IsTrue (is_cut status) → IsDurable (both file left) bytes status (made_all [])
-    images_by bytes status cut modelled file_told old are c image = image_by bytes status cut file_told old are c ((harmless modelled).now c image)
+    images_by : (bytes : List ℕ) (status : ℕ) → MayBeUnloaded (both file left) status → IsDurable (both file left) bytes status (made_all [])
+    images_by bytes status unloaded modelled file_told old are c image = image_by bytes status unloaded file_told old are c ((harmless modelled).now c image)
 
     -- the contents stand for the same records; where its disk failed, by the disk model
     spared_by : (bytes : List ℕ) (status : ℕ) → IsSpared file left → file.contents ≡ Some bytes → (old : List Record) → IsFileOf bytes old → IsTrue file.is_model
@@ -117,13 +117,13 @@ module _ (command : Command) (no_repository : (r : Read) (at : ℕ) → FailsAt 
     memory : (fault ≡ load_fault.Disk → ⊥) → printed d ≡ no_memory → Comes
     memory other told =
         let bytes = some_bytes file.contents in
-        by_text bytes.0 no_memory bytes.1 told (inr (inr (inr (inl refl, refl)))) (contents_by other bytes.0 9) (images_by bytes.0 9 refl) (λ status. counts other)
+        by_text bytes.0 no_memory bytes.1 told (inr (inr (inr (inl refl, refl)))) (contents_by other bytes.0 9) (images_by bytes.0 9 (inl refl)) (λ status. counts other)
 
     disk : Rose file.faults left.faults → printed d ≡ with_text 4 disk_fault → Comes
     disk rose told =
         let bytes = some_bytes file.contents in
-        by_text bytes.0 (with_text 4 disk_fault) bytes.1 told (inr (inl (refl, inl (rose, due_first (read bytes.0) refl), refl)))
-        (λ old held file_told left_told are known. spared_by bytes.0 4 spared file_told old are (known refl rose) held left_told) (images_by bytes.0 4 refl) (λ other. absurd (other refl))
+        by_text bytes.0 (with_text 4 disk_fault) bytes.1 told (inr (inl (refl, inl (rose, (λ asks. refl), due_first (read bytes.0) refl), refl)))
+        (λ old held file_told left_told are known. spared_by bytes.0 4 spared file_told old are (known refl rose) held left_told) (images_by bytes.0 4 (inr (refl, rose))) (λ other. absurd (other refl))
 
     nowhere : (fault ≡ load_fault.Disk → ⊥) → (bytes : List ℕ) (at : ℕ) → Agrees file.contents bytes → FailsAt bytes at → printed d ≡ printed_of (not_repository at) → Comes
     nowhere other bytes at agree fails told =
@@ -204,7 +204,7 @@ module _ {D : Type 0} (path : List ℕ) (file mid : DiskState) (old : Whole D) (
     peer_disk : Rose peer.faults peer_left.faults → printed d ≡ with_text 4 disk_fault → Locals
     peer_disk rose told =
         let bytes = some_bytes peer.contents in
-        peer_by bytes.0 (with_text 4 disk_fault) bytes.1 told (inr (inl (refl, inr (refl, rose, refl), refl))) (inl rose) (λ other. absurd (other refl))
+        peer_by bytes.0 (with_text 4 disk_fault) bytes.1 told (inr (inl (refl, inr (refl, rose, ready.loaded.faults, refl), refl))) (inl rose) (λ other. absurd (other refl))
 
     peer_nowhere : (fault ≡ load_fault.Disk → ⊥) → (bytes : List ℕ) (at : ℕ) → Agrees peer.contents bytes → FailsAt bytes at → printed d ≡ no_peer at → Locals
     peer_nowhere other bytes at agree fails told =
@@ -249,7 +249,7 @@ idle_synced command file peer dial out status no_other no_other_peer written =
           contents = λ old held file_told left_told are known. as_old_so_far status old held (subst (λ (b : List ℕ). IsFileOf b old) (some_same (sym file_told ∙ left_told)) are);
           kept = λ told refused. quiet_none file;
           any_moment = λ modelled old are. started file (StandsForSome old (reached status (made_all []))) (no_other modelled.model) (λ c image. none_of_them old (reached status (made_all [])) c (are c image));
-          durable = λ modelled file_told old are c image. inr (subst (λ (n : ℕ). IsTrue (is_cut n)) (sym nine) refl, refl, image);
+          durable = λ modelled file_told old are c image. inr (inl nine, refl, image);
           keeps = record { tells = refl; model = refl };
           peer = λ asks. peer_idle peer no_other_peer;
           unasked = λ told refused. untouched peer;

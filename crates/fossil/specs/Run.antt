@@ -123,8 +123,8 @@ input_fault = codes "input fault" ++ 10 ∷ []
 abbrev pub out_of_memory : List ℕ
 out_of_memory = codes "out of memory" ++ 10 ∷ []
 
--- the file couldn't be read or written: while it was loaded or made, before the input was read, or while a commit was written. Of a command that reads no
--- input this says that its count rose at some time of the run
+-- the count of the file's disk rose, and a call of it was due: the input wasn't read, so that the file was to be loaded or made; or there is something to
+-- commit. A command that reads no input never reads it, so of that this says only that the count rose
 pub record IsDiskFault (command : Option Command) (input : Input) (file : File) (o : Outcome) : Type 0 where
   pub opened : IsTrue (opens command)
   pub rose : Rose file.before.faults file.after.faults

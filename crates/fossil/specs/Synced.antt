@@ -106,17 +106,19 @@ abbrev pub AreCommitsBefore : Command → Read → List (List Record) → Type 0
 AreCommitsBefore command r done =
     (front : Rounds) × (last : Round (List ℕ) Exchanged) × (r.rounds ≡ front ++ last ∷ []) × AreCommitsSoFar command (record r { rounds = front }) done
 
--- a call of the file's disk was due: no round was read, and it was to be loaded; or the last round has something to commit. The rounds of a pull from a
--- peer's file aren't told: the file was to be loaded, and the peer's wasn't looked at; or there is something to commit
+-- a call of the file's disk was due: no round was read, so that it was to be loaded; or the last round has something to commit. The rounds of a pull from a
+-- peer's file aren't told: the peer's is as one of which nothing was asked, which no body shows of every disk once it asked; or there is something to commit
 abbrev pub IsFileDue : Command → Read → List (List Record) → File → Type 0
 IsFileDue (PullLocal path) r commits peer = IsUntouched peer ⊎ (commits ≢ [])
 IsFileDue command r commits peer = (r.rounds ≡ []) ⊎ ((done : List (List Record)) × AreCommitsBefore command r done × (commits ≢ done))
 
--- a disk failed in a call that was due: that of the file; or that of the peer's, which a command that reads it loads before it commits anything
+-- the count of one disk rose, and not that of the other, and a call of it was due: that of the file; or that of the peer's, for a command that reads it,
+-- which is loaded before anything is committed
 abbrev pub HasFailed : Command → Read → List (List Record) → Objects → Type 0
 HasFailed command r commits x =
-    (Rose x.file.before.faults x.file.after.faults × IsFileDue command r commits x.peer)
-    ⊎ (IsTrue (command_asks_peer command) × Rose x.peer.before.faults x.peer.after.faults × (commits ≡ []))
+    (Rose x.file.before.faults x.file.after.faults × (IsTrue (command_asks_peer command) → x.peer.after.faults ≡ x.peer.before.faults)
+    × IsFileDue command r commits x.peer)
+    ⊎ (IsTrue (command_asks_peer command) × Rose x.peer.before.faults x.peer.after.faults × (x.file.after.faults ≡ x.file.before.faults) × (commits ≡ []))
 
 -- a fault has its status and its line, its object's count rose, and a call of it was due; want of memory has no cause
 abbrev pub IsFaulted : Command → Read → List Connection → List (List Record) → Objects → (Printed → Type 0) → Type 0
@@ -182,9 +184,14 @@ abbrev pub IsWholeAtAnyMoment : File → List (List Record) → Type 0
 IsWholeAtAnyMoment file commits =
     IsModelled file.before → (old : List Record) → AreImagesOf old file.before.images → LeavesOnly file.before file.after (StandsForSome old commits)
 
--- the bytes stand for the old records and the commits that were made; behind a cut with no commit they may be what a crash might have left before the run
+-- it may be that the file wasn't loaded: there was no memory, or its own disk failed
+abbrev pub MayBeUnloaded : File → ℕ → Type 0
+MayBeUnloaded file status = (status ≡ 9) ⊎ ((status ≡ 4) × Rose file.before.faults file.after.faults)
+
+-- the bytes stand for the old records and the commits that were made; with no commit, where the file may not have been loaded, they may be what a crash might
+-- have left before the run
 abbrev pub StandsOrWasLeft : File → ℕ → List Record → Far → List ℕ → Type 0
-StandsOrWasLeft file status old far c = StandsAsFar status old far c ⊎ (IsTrue (is_cut status) × (far.due ≡ []) × file.before.images c)
+StandsOrWasLeft file status old far c = StandsAsFar status old far c ⊎ (MayBeUnloaded file status × (far.due ≡ []) × file.before.images c)
 
 -- a crash after the run leaves such bytes, whatever one before it might have left
 abbrev pub IsDurable : File → List ℕ → ℕ → Far → Type 0
