@@ -1,6 +1,6 @@
 -- When a disk still belongs to a journal, and what a commit leaves.
-use Rattle.std.proofs.Common.{◌≡◌, ◌⊎◌, inl, inr, ℕ, ◌+◌, ◌-◌, ◌<◌, ◌≤◌, List, [], ◌∷◌, ◌++◌, length, take, drop, sym, ◌∙◌, ap, subst, arith, length-append, length-take-le, take-append-drop, IsTrue, Some, None}
-use Rattle.std.proofs.lemmas.List.{take_all, take-append-le, take-take, length-take}
+use Rattle.std.proofs.Common.{◌≡◌, ◌⊎◌, inl, inr, ℕ, ◌+◌, ◌-◌, ◌≤◌, List, [], ◌∷◌, ◌++◌, length, take, drop, sym, ◌∙◌, ap, subst, arith, length-append, length-take-le, take-append-drop, IsTrue, Some, None}
+use Rattle.std.proofs.lemmas.List.{take_all, take-append-le}
 use Rattle.fsl_disk.specs.Disk.{DiskState, IsModelled, Told, Keeps, Begins, Only, LeavesOnly}
 use Rattle.fsl_disk.proofs.Moments.{weaker, told_before, told_contents, modelled_before, started}
 use Rattle.fsl_record.specs.declared.Record.{Record}
@@ -120,10 +120,3 @@ pub belongs_append : (old new : Log) (entry : Record) (disk : DiskState) → Bel
 belongs_append old new entry disk belongs runs is =
     subst (λ (log : Log). Belongs log disk) (sym is)
     (same_committed old (old.records ++ entry ∷ []) disk belongs runs (omega (arith, belongs.counts, length-append old.records (entry ∷ []))) (take-append-le old.stable old.records (entry ∷ []) belongs.counts))
-
--- a record was taken back
-pub belongs_take_back : (old new : Log) (disk : DiskState) → Belongs old disk → old.stopped ≡ None → old.stable < length old.records → new ≡ record old { records = take (length old.records - 1) old.records } → Belongs new disk
-belongs_take_back old new disk belongs runs appended is =
-    let n = length old.records - 1 in
-    subst (λ (log : Log). Belongs log disk) (sym is)
-    (same_committed old (take n old.records) disk belongs runs (omega (arith, length-take n old.records, appended)) (take-take old.stable n old.records (omega (arith, appended))))

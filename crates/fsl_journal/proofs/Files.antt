@@ -20,10 +20,6 @@ groups_bytes groups = flat_map (λ records. 79 ∷ group_body records) groups
 abbrev pub records_in : List (List Record) → List Record
 records_in groups = flat_map (λ group. group) groups
 
-pub groups_are : (groups : List (List Record)) → flat_map group_bytes groups ≡ groups_bytes groups
-unfolding eight
-groups_are groups = refl
-
 pub record Laid (records : List Record) (place : ℕ) (file : List ℕ) : Type 0 where
   pub groups : List (List Record)
   pub gate : ℕ

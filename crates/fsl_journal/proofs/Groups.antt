@@ -39,10 +39,6 @@ pub records_push : (groups : List (List Record)) (k : List Record) → records_i
 records_push groups k =
     flat_map-append (λ (g : List Record). g) groups (k ∷ []) ∙ ap (λ (l : List Record). records_in groups ++ l) (append-nil k)
 
--- the body of a commit is that of a group, and a closed gate
-body_is : (new : List Record) → body_of (records_bytes new) ≡ group_body new ++ 67 ∷ []
-body_is new = λ i. group_body new ++ 67 ∷ []
-
 module _ (records new : List Record) (place : ℕ) (held : List ℕ) (is : IsLog records place held) (group : IsGroup new) (fit : AreRecords (records ++ new)) where
   log : Laid records place held
   log = laid records place held is
