@@ -28,9 +28,6 @@ none_first : {X : Type 0} (b : Bool) (x : X) (r : Option X) → cond b (Some x) 
 none_first true x r h = cc
 none_first false x r h = (refl, h)
 
-differs : (r s : Ordering) → r ≡ s → is_eq s ≡ false → r ≡ Equal → ⊥
-differs r s p h e = true≢false (ap is_eq (sym e ∙ p) ∙ h)
-
 Less-is : (r : Ordering) → is_lt r ≡ true → r ≡ Less
 Less-is Less h = refl
 Less-is Equal h = absurd (true≢false (sym h))

@@ -133,9 +133,6 @@ module _ {A B E Y : Type 0} (RA : A → A → Ordering) (RB : B → B → Orderi
       ] refl
       ∙ ap (λ b. here_at a q (cond b (Some e.1) (value_at bytes_cmp (name_in q) es))) (texts_ties (name_in q) e.0)
     where
-      rest : Option Y
-      rest = lookup (eq_by_cmp RB q) (pairs place (of_group a es))
-
       behind : Option Y → Option Y
       behind None = lookup (eq_by_cmp RB q) (pairs place (of_group a es))
       behind (Some y) = cond (is_eq (RA a (group y)) && is_eq (RB q (place y))) (Some y) (lookup (eq_by_cmp RB q) (pairs place (of_group a es)))

@@ -72,14 +72,6 @@ module _ {K : Type 0} {R : K → K → Ordering} (o : IsTotalOrder R) where
           | false ↦ λ h some. ap (λ l. insert_entry R l e.0 e.1) (weave-set_value k w es tree v some) ∙ insert_entry-swap o e.0 k e.1 w (weave R es tree) (untied' k e.0 h)
         ] refl some
 
-    none_at : (k j : K) (es : List (K × X)) → R k j ≡ Equal → lookup (is_at (R k)) es ≡ None → lookup (is_at (R j)) es ≡ None
-    none_at k j [] same none = refl
-    none_at k j (e ∷ es) same none =
-        let n = none_first (is_eq (R k e.0)) e.1 (lookup (is_at (R k)) es) none in
-        ap (λ r. cond (is_eq r) (Some e.1) (lookup (is_at (R j)) es)) (sym (o.congr k j e.0 same))
-        ∙ ap (λ b. cond b (Some e.1) (lookup (is_at (R j)) es)) n.0
-        ∙ none_at k j es same n.1
-
     pub weave-remove_waiting : (k : K) (es tree : List (K × X)) (v : X) → IsStrictlySortedBy R (keys_of tree) → IsApart R es tree → lookup (is_at (R k)) es ≡ Some v
         → weave R (remove_entry (is_at (R k)) es) tree ≡ remove_entry (is_at (R k)) (weave R es tree)
     weave-remove_waiting k [] tree v s apart some = cc

@@ -1,4 +1,4 @@
-use Rattle.std.proofs.Common.{◌≡◌, arith, Some, None}
+use Rattle.std.proofs.Common.{◌≡◌, arith, Some}
 use Rattle.std.specs.BTreeMap.{is_at}
 use Rattle.fsl_table.specs.Weave.{place}
 use Rattle.fsl_table.proofs.Places.{place_some}
