@@ -19,9 +19,6 @@ use Rattle.fsl_forum.specs.Reached.{IsReached, stands, end_above, AreAffected, I
 use Rattle.fsl_forum.proofs.ChainLaw.{end_by_next, first-at, stays-at, later}
 use Rattle.fsl_forum.proofs.Climbs.{next_ends, steps_end, circle_ends}
 
-apart : {P : Type 0} → true ≡ false → P
-apart e = absurd (true≢false e)
-
 -- ---- two lists of posts that differ at one name
 
 module _ (facts others : List Fact) (r : List ℕ) (same : (x : List ℕ) → bytes_eq x r ≡ false → post others x ≡ post facts x) where
