@@ -1,4 +1,3 @@
-mod Circle
 pub mod FactLemmas
 pub mod Turning
 pub mod Listing

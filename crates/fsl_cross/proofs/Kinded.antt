@@ -36,13 +36,6 @@ use Rattle.fsl_cross.proofs.Added.{given-absent}
 use Rattle.fsl_cross.proofs.PairsAdded.{any-added, pair-is}
 use Rattle.fsl_cross.proofs.Ids.{same-test, any-text, none-text, tickets-named, notes-named}
 
-some_is : {X : Type 0} {a b : X} → Some a ≡ Some b → a ≡ b
-some_is e = cc
-
-is_name-some : (o : Option (List ℕ)) (id : List ℕ) → is_name o id ≡ true → o ≡ Some id
-is_name-some None id e = cc
-is_name-some (Some p) id e = ap Some ((bytes_decides p id).0 e)
-
 -- ---- the names that belong to an id
 
 module _ (id_of : Item → Option (List ℕ)) where

@@ -1,4 +1,3 @@
-mod Circle
 pub mod ChainLaw
 pub mod Climbs
 pub mod Changing

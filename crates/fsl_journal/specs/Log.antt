@@ -1,5 +1,6 @@
 -- What clauses see of a journal, and of a file that it reads.
 use Rattle.std.specs.Prelude.{◌≡◌, ◌⊎◌, ℕ, ◌+◌, Option, None, List, ◌++◌, length, take, flat_map}
+use Rattle.fsl_disk.specs.Disk.{DiskState, IsModelled}
 use Rattle.fsl_record.specs.declared.Record.{Record}
 use Rattle.fsl_record.specs.Records.{AreRecords}
 use Rattle.fsl_journal.specs.File.{IsFileOf, group_bytes}
@@ -47,3 +48,7 @@ pub record IsBetween (low high records : List Record) : Type 0 where
 -- the bytes stand for such records
 abbrev pub StandsBetween : List Record → List Record → List ℕ → Type 0
 StandsBetween low high bytes = (records : List Record) × IsFileOf bytes records × IsBetween low high records
+
+-- what is so of each two lists between which the records of each image of a modelled disk stand
+abbrev pub WhereBetween : DiskState → (List Record → List Record → Type 0) → Type 0
+WhereBetween disk P = IsModelled disk → (low high : List Record) → ((c : List ℕ) → disk.images c → StandsBetween low high c) → P low high

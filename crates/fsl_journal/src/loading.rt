@@ -1,10 +1,9 @@
 //! Opens a journal: reads the file, and cuts what stands behind its closed gate.
-ghost use Rattle.std.specs.Prelude.{◌≡◌, ◌+◌, ◌<◌, ◌≤◌, ◌^◌, ℕ, List, length, take, None, Some, IsTrue, IfOk, OnOk, IfErr};
+ghost use Rattle.std.specs.Prelude.{◌≡◌, ◌+◌, ◌<◌, ◌≤◌, ◌^◌, ℕ, length, take, None, Some, IsTrue, IfOk, OnOk, IfErr};
 ghost use Rattle.fsl_order.specs.Causes.{HasCause};
 ghost use Rattle.fsl_disk.specs.Disk.{DiskState, IsModelled, Told, Keeps, Calls, CutShort, Quiet, Only, LeavesOnly};
 ghost use Rattle.fsl_journal.specs.File.{IsFileOf, FailsAt};
-ghost use Rattle.fsl_record.specs.declared.Record.{Record};
-ghost use Rattle.fsl_journal.specs.Log.{Log, IsBetween, StandsBetween, IsLoaded};
+ghost use Rattle.fsl_journal.specs.Log.{Log, IsBetween, StandsBetween, WhereBetween, IsLoaded};
 ghost use Rattle.fsl_journal.specs.Journal.{Belongs, OfBytes, LoadFailed, HeldOrSame, IsSpared};
 ghost use Rattle.fsl_journal.specs.Reading.{ReadFailed};
 ghost use Rattle.fsl_journal.specs.declared.LoadFault.TheVariants as load_fault;
@@ -66,16 +65,15 @@ impl Journal {
         ensures refused { Told (D.state disk.old) (λ held. (at : ℕ) → FailsAt held at → Quiet (D.state disk.old) (D.state disk.new)) }
 
         // Where each image stands for records between two lists, each does so at each moment, and so do the records.
-        ensures any_moment { IsModelled (D.state disk.old) → (low high : List Record) → ((c : List ℕ) → (D.state disk.old).images c → StandsBetween low high c)
-            → LeavesOnly (D.state disk.old) (D.state disk.new) (StandsBetween low high) }
+        ensures any_moment { WhereBetween (D.state disk.old) (λ low high. LeavesOnly (D.state disk.old) (D.state disk.new) (StandsBetween low high)) }
         // Whatever it holds, a crash at each moment leaves what one before the call might have left, or a file of the records that it stood for.
         ensures harmless { IsModelled (D.state disk.old) → LeavesOnly (D.state disk.old) (D.state disk.new) (HeldOrSame (D.state disk.old)) }
         ensures spared { IsSpared (D.state disk.old) (D.state disk.new) }
-        ensures between { IfOk result (λ loaded. IsModelled (D.state disk.old) → (low high : List Record) → ((c : List ℕ) → (D.state disk.old).images c → StandsBetween low high c) → IsBetween low high loaded.1) }
+        ensures between { IfOk result (λ loaded. WhereBetween (D.state disk.old) (λ low high. IsBetween low high loaded.1)) }
         // And each image then stands for exactly these records.
         ensures durable { IfOk result (λ loaded. IsModelled (D.state disk.old) → (c : List ℕ) → (D.state disk.new).images c → IsFileOf c loaded.1) }
         // It isn't `NotRepository` then.
-        ensures stays { IfErr result (λ fault. (at : ℕ) → fault ≡ load_fault.NotRepository at → IsModelled (D.state disk.old) → (low high : List Record) → ((c : List ℕ) → (D.state disk.old).images c → StandsBetween low high c) → ⊥) }
+        ensures stays { IfErr result (λ fault. (at : ℕ) → fault ≡ load_fault.NotRepository at → WhereBetween (D.state disk.old) (λ _ _. ⊥)) }
     {
         disk.sync()?;
         let file = read_all(alloc, disk)?;

@@ -1,11 +1,10 @@
 //! Opens a repository.
-ghost use Rattle.std.specs.Prelude.{◌≡◌, List, ℕ, length, IfOk, IfErr};
+ghost use Rattle.std.specs.Prelude.{◌≡◌, ℕ, length, IfOk, IfErr};
 ghost use Rattle.fsl_disk.specs.Disk.{DiskState, IsModelled, Told, Keeps, Quiet, LeavesOnly};
-ghost use Rattle.fsl_record.specs.declared.Record as record_of;
 ghost use Rattle.fsl_record.specs.Records.{AreRecords};
 ghost use Rattle.fsl_journal.specs.File.{IsFileOf, FailsAt};
 ghost use Rattle.fsl_journal.specs.Journal.{HeldOrSame, IsSpared};
-ghost use Rattle.fsl_journal.specs.Log.{IsBetween, StandsBetween};
+ghost use Rattle.fsl_journal.specs.Log.{IsBetween, StandsBetween, WhereBetween};
 ghost use Rattle.fsl_journal.specs.declared.LoadFault.TheVariants as load_fault;
 ghost use Rattle.fsl_repo.specs.Opening.{IsOpened, OpenFailed, AreDerived, disk_of};
 
@@ -47,13 +46,12 @@ impl<D: Disk> Repo<D> {
         ensures spared { IsSpared (D.state disk) (D.state (disk_of result)) }
 
         // Where each image stands for records between two lists, each does so at each moment, and so do the records.
-        ensures any_moment { IsModelled (D.state disk) → (low high : List record_of.Record) → ((c : List ℕ) → (D.state disk).images c → StandsBetween low high c)
-            → LeavesOnly (D.state disk) (D.state (disk_of result)) (StandsBetween low high) }
-        ensures between { IfOk result (λ repo. IsModelled (D.state disk) → (low high : List record_of.Record) → ((c : List ℕ) → (D.state disk).images c → StandsBetween low high c) → IsBetween low high repo.seen.state.records) }
+        ensures any_moment { WhereBetween (D.state disk) (λ low high. LeavesOnly (D.state disk) (D.state (disk_of result)) (StandsBetween low high)) }
+        ensures between { IfOk result (λ repo. WhereBetween (D.state disk) (λ low high. IsBetween low high repo.seen.state.records)) }
         // And each image then stands for exactly these records.
         ensures durable { IfOk result (λ repo. IsModelled (D.state disk) → (c : List ℕ) → (D.state repo.disk).images c → IsFileOf c repo.seen.state.records) }
         // It isn't `NotRepository` then.
-        ensures stays { IfErr result (λ failed. (at : ℕ) → failed.1 ≡ load_fault.NotRepository at → IsModelled (D.state disk) → (low high : List record_of.Record) → ((c : List ℕ) → (D.state disk).images c → StandsBetween low high c) → ⊥) }
+        ensures stays { IfErr result (λ failed. (at : ℕ) → failed.1 ≡ load_fault.NotRepository at → WhereBetween (D.state disk) (λ _ _. ⊥)) }
     {
         let (journal, records) = match Journal::load(alloc, &mut disk) {
             Ok(loaded) => loaded,

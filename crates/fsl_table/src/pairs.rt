@@ -1,11 +1,10 @@
 //! Pairs of a name and one that belongs to it: put, taken out, and walked by their first name.
-ghost use Rattle.std.specs.Prelude.{◌≡◌, ◌+◌, ◌≤◌, ◌&&◌, ◌||◌, not, is_some, length, option_and_then, None, OnOk, IfOk};
+ghost use Rattle.std.specs.Prelude.{◌≡◌, ◌+◌, ◌≤◌, ◌&&◌, ◌||◌, not, length, option_and_then, None, OnOk, IfOk};
 ghost use Rattle.std.specs.List.Sorted.{IsStrictlySortedBy};
 ghost use Rattle.std.specs.Map.{keys_of};
-ghost use Rattle.fsl_order.specs.Names.{has};
-ghost use Rattle.fsl_table.specs.Contents.{Contents, value_at, first_of, entries_after};
+ghost use Rattle.fsl_table.specs.Contents.{Contents, first_of, entries_after};
 ghost use Rattle.fsl_table.specs.Exact.{pair_cmp};
-ghost use Rattle.fsl_table.specs.Pairs.{is_name, second_of, seconds as seconds_of};
+ghost use Rattle.fsl_table.specs.Pairs.{is_linked, is_link, is_link_of, second_of, seconds as seconds_of};
 ghost use Rattle.fsl_table.specs.Undo.{Undoes};
 ghost use Rattle.fsl_table.specs.declared.key.Pair as pair;
 
@@ -72,7 +71,7 @@ pub fn link<L: Ledger>(
 ) -> Result<(), Memory>
     requires { IsStrictlySortedBy pair_cmp (keys_of pairs.old.entries) }
     ensures ordered { OnOk result (IsStrictlySortedBy pair_cmp (keys_of pairs.new.entries)) }
-    ensures pairs { OnOk result ((k : pair.Pair) → is_some (value_at pair_cmp k pairs.new.entries) ≡ ((is_name k.second second && is_name first k.first) || is_some (value_at pair_cmp k pairs.old.entries))) }
+    ensures pairs { OnOk result ((k : pair.Pair) → is_linked pairs.new.entries k ≡ (is_link second first k || is_linked pairs.old.entries k)) }
     ensures undoes { (before : Contents pair.Pair Unit) → Undoes pair_cmp log.old pairs.old before → Undoes pair_cmp log.new pairs.new before }
     ensures most { steps.new ≤ steps.old + 1 }
     ensures logged { length log.new ≤ length log.old + 1 }
@@ -103,7 +102,7 @@ pub fn unlink<L: Ledger>(
 ) -> Result<(), Memory>
     requires { IsStrictlySortedBy pair_cmp (keys_of pairs.old.entries) }
     ensures ordered { OnOk result (IsStrictlySortedBy pair_cmp (keys_of pairs.new.entries)) }
-    ensures pairs { OnOk result ((k : pair.Pair) → is_some (value_at pair_cmp k pairs.new.entries) ≡ (not (is_name k.second second && is_name first k.first) && is_some (value_at pair_cmp k pairs.old.entries))) }
+    ensures pairs { OnOk result ((k : pair.Pair) → is_linked pairs.new.entries k ≡ (not (is_link second first k) && is_linked pairs.old.entries k)) }
     ensures undoes { (before : Contents pair.Pair Unit) → Undoes pair_cmp log.old pairs.old before → Undoes pair_cmp log.new pairs.new before }
     ensures none { first ≡ None → steps.new ≡ steps.old }
     ensures none_logged { first ≡ None → length log.new ≡ length log.old }
@@ -130,7 +129,7 @@ pub fn link_each<L: Ledger>(
     firsts: &[Name],
     steps: &mut Steps<L>,
 ) -> Result<(), Memory>
-    ensures pairs { OnOk result ((k : pair.Pair) → is_some (value_at pair_cmp k pairs.new.entries) ≡ (is_some (value_at pair_cmp k pairs.old.entries) || (is_name k.second second && has firsts.now k.first))) }
+    ensures pairs { OnOk result ((k : pair.Pair) → is_linked pairs.new.entries k ≡ (is_linked pairs.old.entries k || is_link_of second firsts.now k)) }
     ensures ordered { OnOk result (IsStrictlySortedBy pair_cmp (keys_of pairs.old.entries) → IsStrictlySortedBy pair_cmp (keys_of pairs.new.entries)) }
     ensures undoes { (before : Contents pair.Pair Unit) → Undoes pair_cmp log.old pairs.old before → Undoes pair_cmp log.new pairs.new before }
     ensures most { steps.new ≤ steps.old + length firsts.now }
@@ -159,7 +158,7 @@ pub fn unlink_each<L: Ledger>(
     steps: &mut Steps<L>,
 ) -> Result<(), Memory>
     requires { IsStrictlySortedBy pair_cmp (keys_of pairs.old.entries) }
-    ensures pairs { OnOk result ((k : pair.Pair) → is_some (value_at pair_cmp k pairs.new.entries) ≡ (not (is_name k.second second && has firsts.now k.first) && is_some (value_at pair_cmp k pairs.old.entries))) }
+    ensures pairs { OnOk result ((k : pair.Pair) → is_linked pairs.new.entries k ≡ (not (is_link_of second firsts.now k) && is_linked pairs.old.entries k)) }
     ensures ordered { OnOk result (IsStrictlySortedBy pair_cmp (keys_of pairs.new.entries)) }
     ensures undoes { (before : Contents pair.Pair Unit) → Undoes pair_cmp log.old pairs.old before → Undoes pair_cmp log.new pairs.new before }
     ensures most { steps.new ≤ steps.old + length firsts.now }
