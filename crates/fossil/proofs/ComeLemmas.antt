@@ -22,7 +22,7 @@ use Rattle.fsl_pull.specs.Locals.{LocalRound, IsLocalPull}
 use Rattle.fsl_pull.specs.Kept.{IsKeptAtAnyMoment}
 use Rattle.fsl_pull.specs.Asking.{IsDialCounted}
 use Rattle.fsl_pull.specs.Turns.{commits_of}
-use Rattle.fsl_pull.specs.Calls.{Ended, a_pull, a_push, IsPulledOver, IsPushedOver, IsLocalEnd, MayBegin, IsLocalShort, IsLocalFailed, IsLocalAnswer}
+use Rattle.fsl_pull.specs.Calls.{Ended, a_pull, a_push, IsLocalEnd, MayBegin, IsLocalShort, IsLocalFailed, IsLocalAnswer}
 use Rattle.fsl_pull.proofs.EndsWell.{one_wants}
 use Rattle.fsl_pull.proofs.OneEnd.{one_unclustered}
 use Rattle.fsl_pull.proofs.LocalSync.{rest_of}
@@ -41,7 +41,7 @@ use Rattle.fossil.specs.Served.{with_text, no_memory}
 use Rattle.fossil.specs.Serving.{printed, IsDue}
 use Rattle.fossil.specs.Syncs.{fault_printed, end_printed, with_commits, IsEndOutcome, login_of}
 use Rattle.fossil.specs.Synced.{Read, IsSyncOutcome, AreCommits, command_asks_peer, IsAnswer, is_cut, Far, AreCutOff, reached, IsPeerKept, SyncsBy, objects_of}
-use Rattle.fossil.specs.Syncing.{IsSyncDue, ComesTo, IsReady, HasMade, HasPulledFrom, command_by}
+use Rattle.fossil.specs.Syncing.{IsSyncDue, ComesTo, IsReady, IsMadeOver, HasMade, HasPulledFrom, command_by}
 use Rattle.fossil.proofs.InputLemmas.{some_bytes}
 use Rattle.fossil.proofs.FileLemmas.{both, agrees, readable}
 use Rattle.fossil.proofs.TakenLemmas.{Start, IsAt, same_at, longer_same, IsEndAt, goes_at, ends_at, partly_at, other_commits, IsFailedAt, failed_at}
@@ -76,7 +76,7 @@ module _ {D : Type 0} (login : Option (List ℕ × List ℕ)) (address : List �
   begun : (w : Way) → IsAt begin mine []
   begun w = fresh (command_by w address login) peer peer dial dial_left file mid left old new ready whole keeps file_reads left_reads held.0 held.1 d
 
-  pull_comes : (result : Result Pulled PullFault) → IsPulledOver user dial dial_left mid left old.seen new.seen result → IsDialCounted dial dial_left result → IsSyncDue result d → Comes way.Pull
+  pull_comes : (result : Result Pulled PullFault) → IsMadeOver way.Pull user (dial, dial_left) (mid, left) old.seen new.seen result → IsDialCounted dial dial_left result → IsSyncDue result d → Comes way.Pull
   pull_comes result (rounds, broken, grows, (is, kept)) counted due =
       let c =
       came (command_of.Pull address login) peer peer dial dial_left file mid left old new ready whole keeps file_reads left_reads held.0 held.1 d (λ asks. absurd (cc)) (λ asks. absurd (cc))
@@ -88,7 +88,7 @@ module _ {D : Type 0} (login : Option (List ℕ × List ℕ)) (address : List �
       rounds broken kept result is counted due in
       (rounds, broken, grows, (record { file = bytes; peer = held.0; rounds = rounds }, c.0, c.1))
 
-  push_comes : (result : Result Pulled PullFault) → IsPushedOver user dial dial_left mid left old.seen new.seen result → IsDialCounted dial dial_left result → IsSyncDue result d → Comes way.Push
+  push_comes : (result : Result Pulled PullFault) → IsMadeOver way.Push user (dial, dial_left) (mid, left) old.seen new.seen result → IsDialCounted dial dial_left result → IsSyncDue result d → Comes way.Push
   push_comes result (rounds, broken, grows, (is, kept)) counted due =
       let c =
       came (command_of.Push address login) peer peer dial dial_left file mid left old new ready whole keeps file_reads left_reads held.0 held.1 d (λ asks. absurd (cc)) (λ asks. absurd (cc))

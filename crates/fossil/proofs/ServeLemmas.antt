@@ -17,7 +17,7 @@ use Rattle.fsl_repo.specs.Onward.{IsLaterOn}
 use Rattle.fsl_repo.specs.Opening.{IsOpened, OpenFailed}
 use Rattle.fsl_login.specs.declared.User.{User}
 use Rattle.fsl_serve.specs.declared.work.Work.{Work}
-use Rattle.fsl_serve.specs.Crews.{AllWorked}
+use Rattle.fsl_serve.specs.Crews.{AllWorked, AreAllCommitted}
 use Rattle.fossil.specs.declared.answers.due.Due.{Due}
 use Rattle.fossil.specs.Printed.{Printed}
 use Rattle.fossil.specs.Printed as printing
@@ -107,12 +107,13 @@ pub project_is : (records : List Record) (config : Config) → (contents records
 project_is records config is = sym (ap (λ (o : Option Config). option_map_or (λ c. c.project) o []) is)
 
 pub has_served : {D : Type 0} (tells : D → DiskState) (Worked : Workers) (users : List User) (requests : ℕ) (first last : Whole D) (works : List Work) (project : List ℕ) (n : ℕ)
-    → IsLaterOn (tells first.disk) (tells last.disk) first last → stored last.seen ≡ stored first.seen + n → IsWholeOn (tells last.disk) last → project ≡ project_of first.seen.state.records
+    → IsLaterOn (tells first.disk) (tells last.disk) first last → stored last.seen ≡ stored first.seen + n → IsWholeOn (tells last.disk) last → AreAllCommitted last.seen.state → project ≡ project_of first.seen.state.records
     → Worked users project requests works → HasServed tells Worked users requests first last (worked last.seen.state.stopped works n)
-has_served tells Worked users requests first last works project n later rise whole is so =
+has_served tells Worked users requests first last works project n later rise whole settled is so =
     record {
       later = later;
       whole = whole;
+      settled = settled;
       works = works;
       worked_so = subst (λ (p : List ℕ). Worked users p requests works) is so;
       says = ap (λ (m : ℕ). worked last.seen.state.stopped works m) (omega (arith, rise, later.seen.stored));

@@ -21,7 +21,7 @@ use Rattle.fsl_text.specs.Limits.{most_of_users}
 use Rattle.fsl_login.specs.declared.User.{User}
 use Rattle.fsl_login.specs.UserFiles.{IsUsersFile, IsFirstBadLine}
 use Rattle.fsl_serve.specs.declared.work.Work.{Work}
-use Rattle.fsl_serve.specs.Crews.{sessions_of}
+use Rattle.fsl_serve.specs.Crews.{sessions_of, AreAllCommitted}
 use Rattle.fossil.specs.Printed.{Printed}
 use Rattle.fossil.specs.Printed as printing
 use Rattle.fossil.specs.Outcome.{said, printed_of, not_repository}
@@ -132,11 +132,13 @@ pub data AreNoUsers (users : Input) (o : Printed) : Type 0 where
   unread : IsQuiet users → o ≡ no_memory → AreNoUsers users o
   bad : (bytes : List ℕ) (n : ℕ) → IsUsersRead users bytes → IsFirstBadLine bytes n → o ≡ bad_users n → AreNoUsers users o
 
--- from the loaded repository to the one that is left: its records go on, it is stopped only where its disk failed, and the workers served these users under its project
+-- from the loaded repository to the one that is left: its records go on, it is stopped only where its disk failed and else all is committed, and the workers
+-- served these users under its project
 pub record HasServed {D : Type 0} (tells : D → DiskState) (Worked : Workers) (users : List User) (requests : ℕ) (first last : Whole D)
     (o : Printed) : Type 0 where
   pub later : IsLaterOn (tells first.disk) (tells last.disk) first last
   pub whole : IsWholeOn (tells last.disk) last
+  pub settled : AreAllCommitted last.seen.state
   pub works : List Work
   pub worked_so : Worked users (project_of first.seen.state.records) requests works
   pub says : o ≡ worked last.seen.state.stopped works (blobs later.seen.more)

@@ -4,13 +4,14 @@ use Rattle.fsl_outside.specs.Connections.{LinkState}
 use Rattle.fsl_disk.specs.Disk.{DiskState}
 use Rattle.fsl_journal.specs.declared.LoadFault.{LoadFault}
 use Rattle.fsl_journal.specs.declared.LoadFault.TheVariants as load_fault
-use Rattle.fsl_repo.specs.Whole.{Seen, Whole, opened, IsWholeOn}
+use Rattle.fsl_repo.specs.Whole.{Seen, Whole, front, opened, IsWholeOn}
 use Rattle.fsl_pull.specs.declared.Login.{Login}
 use Rattle.fsl_pull.specs.declared.Pulled.{Pulled}
 use Rattle.fsl_pull.specs.declared.PullFault.{PullFault}
 use Rattle.fsl_pull.specs.declared.PullFault.TheVariants as fault
 use Rattle.fsl_pull.specs.Asking.{IsDialCounted}
-use Rattle.fsl_pull.specs.Calls.{IsPulledOver, IsPushedOver}
+use Rattle.fsl_pull.specs.Calls.{IsPullCall, IsPushCall, dialled}
+use Rattle.fsl_pull.specs.Kept.{IsKeptAtAnyMoment}
 use Rattle.fsl_pull.specs.LocalTurns.{IsPulledFrom}
 use Rattle.fsl_words.specs.declared.Command.{Command}
 use Rattle.fsl_words.specs.declared.Command.TheVariants as command_of
@@ -72,8 +73,10 @@ pub record IsReady {D : Type 0} (file left : DiskState) (r : Whole D) : Type 0 w
 
 -- one call of the client, by the way that artifacts go
 abbrev pub IsMadeOver : Way → Option Login → LinkState × LinkState → DiskState × DiskState → Seen → Seen → Result Pulled PullFault → Type 0
-IsMadeOver way.Pull login dial disk old new result = IsPulledOver login dial.0 dial.1 disk.0 disk.1 old new result
-IsMadeOver way.Push login dial disk old new result = IsPushedOver login dial.0 dial.1 disk.0 disk.1 old new result
+IsMadeOver way.Pull login dial disk old new result =
+    IsPullCall login old.state new.state (dialled dial.0 dial.1) (IsKeptAtAnyMoment (front old.state) disk.0 disk.1) result
+IsMadeOver way.Push login dial disk old new result =
+    IsPushCall login old.state new.state (dialled dial.0 dial.1) (IsKeptAtAnyMoment (front old.state) disk.0 disk.1) result
 
 -- a sync was made, and this is due
 pub record HasMade (w : Way) (login : Option Login) (dial : LinkState × LinkState) (disk : DiskState × DiskState) (old new : Seen) (due : Due) : Type 0 where

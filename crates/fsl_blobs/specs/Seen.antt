@@ -1,11 +1,14 @@
 -- What clauses see of the held artifacts, and what an announcement meets.
-use Rattle.std.specs.Prelude.{ℕ, List, nat_le, if◌then◌else◌}
+use Rattle.std.specs.Prelude.{◌≡◌, ℕ, List, [], ◌∷◌, ◌++◌, true, false, nat_le, if◌then◌else◌}
+use Rattle.std.specs.List.{list_any}
+use Rattle.std.specs.Str.{bytes_eq}
 use Rattle.std.specs.FinMap as map_of
 use Rattle.std.specs.FinSet as set
 use Rattle.std.specs.FinSet.{FinSet}
 use Rattle.fsl_order.specs.Names.{bytes_cmp}
 use Rattle.fsl_record.specs.declared.Record.{Record}
-use Rattle.fsl_blobs.specs.Fold.{Held, contents}
+use Rattle.fsl_blobs.specs.Fold.{Held, contents, held_from, held_as_from, size_in, walked}
+use Rattle.fsl_blobs.specs.Held.{still_new}
 use Rattle.fsl_blobs.specs.declared.Holding.{Holding}
 use Rattle.fsl_blobs.specs.declared.Known.{Known}
 use Rattle.fsl_blobs.specs.declared.Known.TheVariants as known
@@ -14,6 +17,18 @@ use Rattle.fsl_blobs.specs.declared.Known.TheVariants as known
 pub record Seen : Type 0 where
   pub records : List Record
   pub announced : FinSet bytes_cmp
+
+-- what a record more leaves: the announced names that it doesn't settle are still announced
+abbrev pub applied : Seen → Record → Seen
+applied b entry = record { records = b.records ++ entry ∷ []; announced = still_new (contents (b.records ++ entry ∷ [])) b.announced }
+
+-- each held name is among those from place 0 on
+abbrev pub ListsAllHeld : List Record → Type 0
+ListsAllHeld records = (name : List ℕ) → map_of.contains_key (contents records).held name ≡ true → list_any (λ p. bytes_eq p.1 name) (held_from records 0) ≡ true
+
+-- the first public names from a place on, by place, whose sizes, and so much for each, reach a sum
+abbrev pub public_front : List Record → ℕ → ℕ → ℕ → List (ℕ × List ℕ)
+public_front records from most each = walked most each (size_in (contents records).held) 0 (held_as_from false records from)
 
 -- what an announcement of the name meets: the first of these that is so
 abbrev pub known_of : Seen → List ℕ → Known

@@ -1,12 +1,10 @@
 //! What the held artifacts answer.
-ghost use Rattle.std.specs.Prelude.{◌≡◌, ◌↔◌, ℕ, List as Names, Some, None, IfOk, OnOk, map, true, false};
-ghost use Rattle.std.specs.List.{list_any};
-ghost use Rattle.std.specs.Str.{bytes_eq};
+ghost use Rattle.std.specs.Prelude.{◌≡◌, ◌↔◌, Some, None, IfOk, OnOk, map};
 ghost use Rattle.std.specs.Option.{option_map};
 ghost use Rattle.std.specs.FinMap as map_of;
-ghost use Rattle.fsl_blobs.specs.Fold.{contents, held_from, held_as_from, size_in, walked};
+ghost use Rattle.fsl_blobs.specs.Fold.{contents, held_from, held_as_from};
 ghost use Rattle.fsl_blobs.specs.Held.{state_of, matching, found};
-ghost use Rattle.fsl_blobs.specs.Seen.{held_as};
+ghost use Rattle.fsl_blobs.specs.Seen.{ListsAllHeld, held_as, public_front};
 ghost use Rattle.fsl_blobs.specs.declared.BlobFault.TheVariants.{Absent as AbsentFault};
 
 use crate::listing::{front_from, holdings, is_map, names_over, only_match, placed_from};
@@ -87,7 +85,7 @@ impl Blobs {
     pub fn held(&self, alloc: Global, from: u64) -> Result<List<Placed>, Memory>
         ensures names { IfOk result (λ names. map (λ p. (p.place, p.name)) names ≡ held_from self.now.records from) }
         // From 0 on each held name is among them.
-        ensures all { OnOk result (from ≡ 0 → (name : Names ℕ) → map_of.contains_key (contents self.now.records).held name ≡ true → list_any (λ p. bytes_eq p.1 name) (held_from self.now.records 0) ≡ true) }
+        ensures all { OnOk result (from ≡ 0 → ListsAllHeld self.now.records) }
     {
         is_map(&self.held);
         let mut names = placed_from(alloc, &self.order.public, from)?;
@@ -121,7 +119,7 @@ impl Blobs {
         most: u64,
         each: u64,
     ) -> Result<List<Placed>, Memory>
-        ensures { IfOk result (λ names. map (λ p. (p.place, p.name)) names ≡ walked most each (size_in (contents self.now.records).held) 0 (held_as_from false self.now.records from)) }
+        ensures { IfOk result (λ names. map (λ p. (p.place, p.name)) names ≡ public_front self.now.records from most each) }
     {
         is_map(&self.held);
         let names = front_from(alloc, &self.held, &self.order.public, from, most, each)?;

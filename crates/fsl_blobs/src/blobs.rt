@@ -1,10 +1,9 @@
 //! The held artifacts, and how records change them.
-ghost use Rattle.std.specs.Prelude.{◌≡◌, ◌++◌, ◌∷◌, [], IfOk, OnOk, OnErr, false, IsTrue};
+ghost use Rattle.std.specs.Prelude.{◌≡◌, ◌∷◌, [], IfOk, OnOk, OnErr, false, IsTrue};
 ghost use Rattle.std.specs.FinSet as set;
 ghost use Rattle.fsl_record.specs.Records.{AreRecords, is_config};
 ghost use Rattle.fsl_record.specs.declared.Record.TheVariants as record_of;
-ghost use Rattle.fsl_blobs.specs.Fold.{contents};
-ghost use Rattle.fsl_blobs.specs.Held.{still_new};
+ghost use Rattle.fsl_blobs.specs.Seen.{applied};
 
 use crate::changes::change;
 use crate::order::Order;
@@ -122,7 +121,7 @@ impl Blobs {
     /// on is no longer announced. For want of memory all stays as it was.
     pub fn apply(&mut self, entry: Record) -> Result<(), Memory>
         requires { is_config entry ≡ false }
-        ensures ok { OnOk result (self.new ≡ record { records = self.old.records ++ entry ∷ []; announced = still_new (contents (self.old.records ++ entry ∷ [])) self.old.announced }) }
+        ensures ok { OnOk result (self.new ≡ applied self.old entry) }
         ensures err { OnErr result (self.new ≡ self.old) }
     {
         self.records.reserve(1)?;

@@ -12,7 +12,7 @@ use Rattle.fsl_artifact.specs.declared.Artifact.TheVariants as kind
 use Rattle.fsl_artifact.specs.References.{members, references}
 use Rattle.fsl_files.specs.declared.Fact as files
 use Rattle.fsl_files.specs.Files.{files, known}
-use Rattle.fsl_files.specs.Touches.{counted}
+use Rattle.fsl_files.specs.Touches.{file_most}
 use Rattle.fsl_leaves.specs.declared.Fact as leaves
 use Rattle.fsl_cross.specs.declared.Item.{Item}
 use Rattle.fsl_cross.specs.Facts.{as_manifest, tag_cards, files_fact}
@@ -93,9 +93,6 @@ abbrev pub tags_most : Artifact → ℕ
 tags_most a = option_map_or (λ cards. 20 * (1 + length cards.1)) (tag_cards a) 0
 
 -- .. of that of files
-abbrev pub file_most : List files.Fact → files.Fact → ℕ
-file_most facts f = 10 * (1 + length f.files + counted facts f.parent + counted facts f.baseline)
-
 abbrev pub files_most : List files.Fact → Item → ℕ
 files_most facts item = option_map_or (file_most facts) (files_fact item) 0
 

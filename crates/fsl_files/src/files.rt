@@ -1,5 +1,5 @@
 //! The table of files.
-ghost use Rattle.std.specs.Prelude.{◌≡◌, ◌+◌, ◌*◌, ◌≤◌, ◌<◌, ◌∷◌, [], false, true, length, IfOk, OnOk, OnErr, All, map};
+ghost use Rattle.std.specs.Prelude.{◌≡◌, ◌+◌, ◌≤◌, ◌<◌, ◌∷◌, [], false, true, IfOk, OnOk, OnErr, All, map};
 ghost use Rattle.fsl_order.specs.TableState.{IsAsBefore};
 ghost use Rattle.fsl_order.specs.Names.{has};
 ghost use Rattle.fsl_order.specs.Rows.{by_name, AreDistinct, ListsChanged};
@@ -7,7 +7,7 @@ ghost use Rattle.fsl_files.specs.Conditions.{IsFilesFact};
 ghost use Rattle.fsl_files.specs.Files as table;
 ghost use Rattle.fsl_files.specs.Files.{files_row};
 ghost use Rattle.fsl_files.specs.Kept.{IsKept, facts_of};
-ghost use Rattle.fsl_files.specs.Touches.{is_followed, counted};
+ghost use Rattle.fsl_files.specs.Touches.{is_followed, file_most};
 
 use super::entry::{Entry, line_of};
 use super::found::{Found, find, find_both};
@@ -183,7 +183,7 @@ impl Files {
         ensures after { IfOk result (λ undo. undo.after ≡ self.new) }
         ensures changed { IfOk result (λ undo. ListsChanged (files_row self.old.facts) (files_row self.new.facts) undo.changed) }
         ensures err { OnErr result (IsAsBefore self.old self.new) }
-        ensures cost { is_followed self.old.facts fact.name ≡ false → steps.new ≤ steps.old + 10 * (1 + length fact.files + counted self.old.facts fact.parent + counted self.old.facts fact.baseline) }
+        ensures cost { is_followed self.old.facts fact.name ≡ false → steps.new ≤ steps.old + file_most self.old.facts fact }
     {
         self.put(alloc, fact, steps)
     }

@@ -1,5 +1,5 @@
 -- What clauses see of a journal, and of a file that it reads.
-use Rattle.std.specs.Prelude.{◌≡◌, ◌⊎◌, ℕ, ◌+◌, Option, None, List, ◌++◌, length, take, flat_map}
+use Rattle.std.specs.Prelude.{◌≡◌, ◌⊎◌, ℕ, ◌+◌, Option, None, List, [], ◌++◌, length, take, flat_map}
 use Rattle.fsl_disk.specs.Disk.{DiskState, IsModelled}
 use Rattle.fsl_record.specs.declared.Record.{Record}
 use Rattle.fsl_record.specs.Records.{AreRecords}
@@ -48,6 +48,10 @@ pub record IsBetween (low high records : List Record) : Type 0 where
 -- the bytes stand for such records
 abbrev pub StandsBetween : List Record → List Record → List ℕ → Type 0
 StandsBetween low high bytes = (records : List Record) × IsFileOf bytes records × IsBetween low high records
+
+-- what is so where each image of a modelled disk is empty
+abbrev pub WhereEmpty : DiskState → Type 0 → Type 0
+WhereEmpty disk P = IsModelled disk → ((c : List ℕ) → disk.images c → c ≡ []) → P
 
 -- what is so of each two lists between which the records of each image of a modelled disk stand
 abbrev pub WhereBetween : DiskState → (List Record → List Record → Type 0) → Type 0

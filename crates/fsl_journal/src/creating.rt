@@ -7,6 +7,7 @@ ghost use Rattle.fsl_record.specs.declared.Record.TheVariants as record_of;
 ghost use Rattle.fsl_journal.specs.Create.{new_file, IsShort};
 ghost use Rattle.fsl_journal.specs.File.{IsFileOf};
 ghost use Rattle.fsl_journal.specs.Journal.{NothingOr, CreateFailed, IsMade};
+ghost use Rattle.fsl_journal.specs.Log.{WhereEmpty};
 
 use crate::CreateFault;
 use crate::commit::write_group;
@@ -41,7 +42,7 @@ fn write_file<D: Disk>(disk: &mut D, config: &Config, bytes: &[u8]) -> Result<()
     requires fits { length bytes.now < 2 ^ 64 }
     ensures file { OnOk result (Told (D.state disk.old) (λ _. (held : List ℕ) × ((D.state disk.new).contents ≡ Some held) × IsFileOf held (record_of.Config config.now ∷ []))) }
     ensures durable { OnOk result (IsModelled (D.state disk.old) → (c : List ℕ) → (D.state disk.new).images c → IsFileOf c (record_of.Config config.now ∷ [])) }
-    ensures any_moment { IsModelled (D.state disk.old) → ((c : List ℕ) → (D.state disk.old).images c → c ≡ []) → LeavesOnly (D.state disk.old) (D.state disk.new) (NothingOr config.now) }
+    ensures any_moment { WhereEmpty (D.state disk.old) (LeavesOnly (D.state disk.old) (D.state disk.new) (NothingOr config.now)) }
     ensures keeps { Keeps (D.state disk.old) (D.state disk.new) }
     ensures cause { HasCause (D.state disk.old).faults (D.state disk.new).faults result }
 {
@@ -64,7 +65,7 @@ pub fn create<D: Disk>(alloc: Global, disk: &mut D, config: &Config) -> Result<(
     ensures keeps { Keeps (D.state disk.old) (D.state disk.new) }
 
     // Where each image is empty at its start, a crash leaves no repository, or the one with the Config alone; after Ok the latter.
-    ensures any_moment { IsModelled (D.state disk.old) → ((c : List ℕ) → (D.state disk.old).images c → c ≡ []) → LeavesOnly (D.state disk.old) (D.state disk.new) (NothingOr config.now) }
+    ensures any_moment { WhereEmpty (D.state disk.old) (LeavesOnly (D.state disk.old) (D.state disk.new) (NothingOr config.now)) }
     ensures durable { OnOk result (IsModelled (D.state disk.old) → (c : List ℕ) → (D.state disk.new).images c → IsFileOf c (record_of.Config config.now ∷ [])) }
 {
     let len = disk.len()?;

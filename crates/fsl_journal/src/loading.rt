@@ -1,5 +1,5 @@
 //! Opens a journal: reads the file, and cuts what stands behind its closed gate.
-ghost use Rattle.std.specs.Prelude.{◌≡◌, ◌+◌, ◌<◌, ◌≤◌, ◌^◌, ℕ, length, take, None, Some, IsTrue, IfOk, OnOk, IfErr};
+ghost use Rattle.std.specs.Prelude.{◌≡◌, ◌+◌, ◌<◌, ◌≤◌, ◌^◌, ℕ, List, length, take, None, Some, IsTrue, IfOk, OnOk, IfErr};
 ghost use Rattle.fsl_order.specs.Causes.{HasCause};
 ghost use Rattle.fsl_disk.specs.Disk.{DiskState, IsModelled, Told, Keeps, Calls, CutShort, Quiet, Only, LeavesOnly};
 ghost use Rattle.fsl_journal.specs.File.{IsFileOf, FailsAt};

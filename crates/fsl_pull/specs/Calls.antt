@@ -7,7 +7,7 @@ use Rattle.std.specs.Str.{bytes_eq}
 use Rattle.fsl_outside.specs.Connections.{Connection, LinkState, listed}
 use Rattle.fsl_disk.specs.Disk.{DiskState}
 use Rattle.fsl_repo.specs.Machine.{State, now}
-use Rattle.fsl_repo.specs.Whole.{Seen, front}
+use Rattle.fsl_repo.specs.Whole.{Whole, front}
 use Rattle.fsl_pull.specs.Kept.{IsKeptAtAnyMoment}
 use Rattle.fsl_pull.specs.declared.Login.{Login}
 use Rattle.fsl_pull.specs.declared.Pulled.{Pulled}
@@ -110,15 +110,17 @@ IsPullCall login old new d IsKept result = IsCall (a_pull login old) old new d I
 abbrev pub IsPushCall : Option Login → State → State → Dialled → (List (List Record) → Type 0) → Result Pulled PullFault → Type 0
 IsPushCall login old new d IsKept result = IsCall (a_push login old) old new d IsKept result
 
--- one call of `pull`, by its dial, its disk and its repository before and after
-abbrev pub IsPulledOver : Option Login → LinkState → LinkState → DiskState → DiskState → Seen → Seen → Result Pulled PullFault → Type 0
-IsPulledOver login d e before after old new result =
-    IsPullCall login old.state new.state (dialled d e) (IsKeptAtAnyMoment (front old.state) before after) result
+-- one call of `pull`, by what tells its dial, before and after, and its repository with what tells the disk
+abbrev pub IsPulledOver : {N D : Type 0} → Option Login → (N → LinkState) × N × N → (D → DiskState) × Whole D × Whole D → Result Pulled PullFault → Type 0
+IsPulledOver login dial repo result =
+    let kept = IsKeptAtAnyMoment (front repo.1.seen.state) (repo.0 repo.1.disk) (repo.0 repo.2.disk) in
+    IsPullCall login repo.1.seen.state repo.2.seen.state (dialled (dial.0 dial.1) (dial.0 dial.2)) kept result
 
 -- one call of `push`, by the same
-abbrev pub IsPushedOver : Option Login → LinkState → LinkState → DiskState → DiskState → Seen → Seen → Result Pulled PullFault → Type 0
-IsPushedOver login d e before after old new result =
-    IsPushCall login old.state new.state (dialled d e) (IsKeptAtAnyMoment (front old.state) before after) result
+abbrev pub IsPushedOver : {N D : Type 0} → Option Login → (N → LinkState) × N × N → (D → DiskState) × Whole D × Whole D → Result Pulled PullFault → Type 0
+IsPushedOver login dial repo result =
+    let kept = IsKeptAtAnyMoment (front repo.1.seen.state) (repo.0 repo.1.disk) (repo.0 repo.2.disk) in
+    IsPushCall login repo.1.seen.state repo.2.seen.state (dialled (dial.0 dial.1) (dial.0 dial.2)) kept result
 
 -- a whole pull from another repository
 abbrev pub IsLocalEnd : State → State → State → Option PullFault → Option Pulled → Type 0

@@ -139,8 +139,7 @@ pub fn pull<D: Disk, N: Dial, L: Ledger>(
     login: &Option<Login>,
     steps: &mut Steps<L>,
 ) -> Result<Pulled, PullFault>
-    ensures pulls { IsPulledOver login.now (N.state dial.old) (N.state dial.new)
-        (D.state repo.old.disk) (D.state repo.new.disk) repo.old.seen repo.new.seen result }
+    ensures pulls { IsPulledOver login.now (N.state, dial.old, dial.new) (D.state, repo.old, repo.new) result }
     ensures loaded { repo.new.seen.loaded ≡ repo.old.seen.loaded }
     ensures keeps { Keeps (D.state repo.old.disk) (D.state repo.new.disk) }
     ensures counts { IsDialCounted (N.state dial.old) (N.state dial.new) result }

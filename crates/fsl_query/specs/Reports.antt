@@ -26,7 +26,8 @@ use Rattle.fsl_blobs.specs.Fold.{Contents}
 use Rattle.fsl_blobs.specs.declared.Found.{Found}
 use Rattle.fsl_blobs.specs.declared.Found.TheVariants as found_as
 use Rattle.fsl_blobs.specs.Held.{matching, found}
-use Rattle.fsl_repo.specs.Machine.{AreItems, configured, wants}
+use Rattle.fsl_repo.specs.Machine.{AreItems, configured, now, wants}
+use Rattle.fsl_repo.specs.Whole.{Seen}
 use Rattle.fsl_words.specs.declared.Question.{Question}
 use Rattle.fsl_words.specs.declared.Question.TheVariants.{Cat, Timeline, Leaves, Tags, Tip, Files, Wiki, Ticket, Thread, Phantoms}
 use Rattle.fsl_query.specs.declared.Refused.{Refused}
@@ -124,6 +125,10 @@ report c items (Wiki title) = wiki_report (tables_now c items).pages title
 report c items (Ticket id) = let t = tables_now c items in ticket_report t.fields t.tickets t.pages id
 report c items (Thread name) = thread_report (tables_now c items).threads name
 report c items Phantoms = Ok (phantoms_report (wants c items))
+
+-- the report of a repository
+abbrev pub report_in : Seen → Question → Result (List ℕ) Refused
+report_in seen question = report (now seen.state) seen.items question
 
 -- the report by the items that the held artifacts are; of a content alone they don't matter
 abbrev pub IsReport : Contents → Question → Result (List ℕ) Refused → Type 0

@@ -5,7 +5,7 @@ ghost use Rattle.fsl_repo.specs.Machine.{now};
 ghost use Rattle.fsl_words.specs.declared.Question.TheVariants as question_of;
 ghost use Rattle.fsl_query.specs.declared.Refused.{Refused};
 ghost use Rattle.fsl_query.specs.declared.QueryFault.TheVariants as query_fault;
-ghost use Rattle.fsl_query.specs.Reports.{of_prefix, files_report, leaves_report, tables_now, report};
+ghost use Rattle.fsl_query.specs.Reports.{of_prefix, files_report, leaves_report, tables_now, report_in};
 ghost use Rattle.fsl_query.specs.Answers.{IsAnswer, IsReported};
 
 use crate::finding::{copied, found};
@@ -35,7 +35,7 @@ fn files_of<D: Disk>(alloc: Global, repo: &Repo<D>, prefix: &[u8]) -> Result<Tex
 
 /// The configured fields of a ticket, and its attachments.
 fn ticket_of<D: Disk>(alloc: Global, repo: &Repo<D>, id: Name) -> Result<Text, QueryFault>
-    ensures { IsAnswer (report (now repo.now.seen.state) repo.now.seen.items (question_of.Ticket id)) result }
+    ensures { IsAnswer (report_in repo.now.seen (question_of.Ticket id)) result }
 {
     let tables = repo.tables();
     ticket::report(
@@ -53,7 +53,7 @@ fn answer<D: Disk>(
     repo: &mut Repo<D>,
     question: &Question,
 ) -> Result<Text, QueryFault>
-    ensures answer { IsAnswer (report (now repo.old.seen.state) repo.old.seen.items question.now) result }
+    ensures answer { IsAnswer (report_in repo.old.seen question.now) result }
     ensures same { repo.new ≡ repo.old }
 {
     match question {
@@ -92,8 +92,8 @@ pub fn report<D: Disk>(
     repo: &mut Repo<D>,
     question: &Question,
 ) -> Result<Text, QueryFault>
-    ensures ok { IfOk result (λ text. report (now repo.old.seen.state) repo.old.seen.items question.now ≡ Ok text) }
-    ensures refused { (refused : Refused) → result ≡ Err (query_fault.Refused refused) → report (now repo.old.seen.state) repo.old.seen.items question.now ≡ Err refused }
+    ensures ok { IfOk result (λ text. report_in repo.old.seen question.now ≡ Ok text) }
+    ensures refused { (refused : Refused) → result ≡ Err (query_fault.Refused refused) → report_in repo.old.seen question.now ≡ Err refused }
     ensures means { IsReported (now repo.old.seen.state) question.now result }
     ensures same { repo.new ≡ repo.old }
 {

@@ -134,60 +134,69 @@ grows old event.Commit (answer.Cluster r) new p = absurd p
 grows old event.Commit (answer.Build r) new p = absurd p
 grows old event.Commit (answer.Commit r) new p = commit_grows old.stopped old r new p
 
--- ---- a commit alone stops
+-- ---- a commit alone stops, and a commit alone raises how many are committed
 
--- the disk's count doesn't fall; and what stopped stays so, or it stopped now and the count rose
+-- it is stopped as before, and as many records are committed
+abbrev Stays : State → State → Type 0
+Stays old due = (due.stopped ≡ old.stopped) × (due.committed ≡ old.committed)
+
+-- the disk's count doesn't fall; what stopped stays so, or it stopped now and the count rose; and as many are committed as before, or all that were there
 abbrev Stops : State → State → Type 0
-Stops old new = (old.faults ≤ new.faults) × ((new.stopped ≡ old.stopped) ⊎ ((old.stopped ≡ None) × Rose old.faults new.faults))
+Stops old new =
+    (old.faults ≤ new.faults) × ((new.stopped ≡ old.stopped) ⊎ ((old.stopped ≡ None) × Rose old.faults new.faults))
+    × ((new.committed ≡ old.committed) ⊎ (new.committed ≡ length old.records))
 
-stop_leaves : (old due new : State) → Leaves old due new → due.stopped ≡ old.stopped → Stops old new
-stop_leaves old due new l same = (l.faults, inl (ap (λ (s : State). s.stopped) l.state ∙ same))
+stop_leaves : (old due new : State) → Leaves old due new → Stays old due → Stops old new
+stop_leaves old due new l same = (l.faults, inl (ap (λ (s : State). s.stopped) l.state ∙ same.0), inl (ap (λ (s : State). s.committed) l.state ∙ same.1))
 
-stop_due : {A : Type 0} (old new : State) (IsDue : A → State → Type 0) (memory : A) (May : Type 0) (r : A) → ((due : State) → IsDue r due → due.stopped ≡ old.stopped) → IsDueOrMemory old IsDue memory May r new → Stops old new
+stop_due : {A : Type 0} (old new : State) (IsDue : A → State → Type 0) (memory : A) (May : Type 0) (r : A) → ((due : State) → IsDue r due → Stays old due) → IsDueOrMemory old IsDue memory May r new → Stops old new
 stop_due old new IsDue memory May r same (inl x) = stop_leaves old x.0 new x.2 (same x.0 x.1)
-stop_due old new IsDue memory May r same (inr y) = stop_leaves old old new y.2 refl
+stop_due old new IsDue memory May r same (inr y) = stop_leaves old old new y.2 (refl, refl)
 
-stop_equal : (s due due2 : State) → due ≡ due2 → due2.stopped ≡ s.stopped → due.stopped ≡ s.stopped
-stop_equal s due due2 is same = ap (λ (x : State). x.stopped) is ∙ same
+stop_equal : (s due due2 : State) → due ≡ due2 → Stays s due2 → Stays s due
+stop_equal s due due2 is same = (ap (λ (x : State). x.stopped) is ∙ same.0, ap (λ (x : State). x.committed) is ∙ same.1)
 
-arrived_stop : (s : State) (name bytes : List ℕ) (private : Bool) (r : Result Arrival ArriveFault) → (arrived s name bytes private r).stopped ≡ s.stopped
-arrived_stop s name bytes private (Ok arrival.Shunned) = refl
-arrived_stop s name bytes private (Ok arrival.Present) = refl
-arrived_stop s name bytes private (Ok arrival.Published) = refl
-arrived_stop s name bytes private (Ok arrival.Stored) = refl
-arrived_stop s name bytes private (Err e) = refl
+stop_same : (s due : State) → due ≡ s → Stays s due
+stop_same s due is = stop_equal s due s is (refl, refl)
 
-announced_stop : (s : State) (name : List ℕ) (k : Known) → (announced s name k).stopped ≡ s.stopped
-announced_stop s name known.Held = refl
-announced_stop s name known.Shunned = refl
-announced_stop s name known.Again = refl
-announced_stop s name known.Full = refl
-announced_stop s name known.New = refl
+arrived_stop : (s : State) (name bytes : List ℕ) (private : Bool) (r : Result Arrival ArriveFault) → Stays s (arrived s name bytes private r)
+arrived_stop s name bytes private (Ok arrival.Shunned) = (refl, refl)
+arrived_stop s name bytes private (Ok arrival.Present) = (refl, refl)
+arrived_stop s name bytes private (Ok arrival.Published) = (refl, refl)
+arrived_stop s name bytes private (Ok arrival.Stored) = (refl, refl)
+arrived_stop s name bytes private (Err e) = (refl, refl)
 
-shunned_stop : (s : State) (name : List ℕ) (r : Result Shunning ShunFault) → (shunned s name r).stopped ≡ s.stopped
-shunned_stop s name (Ok shunning.Already) = refl
-shunned_stop s name (Ok shunning.Removed) = refl
-shunned_stop s name (Ok shunning.Listed) = refl
-shunned_stop s name (Err e) = refl
+announced_stop : (s : State) (name : List ℕ) (k : Known) → Stays s (announced s name k)
+announced_stop s name known.Held = (refl, refl)
+announced_stop s name known.Shunned = (refl, refl)
+announced_stop s name known.Again = (refl, refl)
+announced_stop s name known.Full = (refl, refl)
+announced_stop s name known.New = (refl, refl)
+
+shunned_stop : (s : State) (name : List ℕ) (r : Result Shunning ShunFault) → Stays s (shunned s name r)
+shunned_stop s name (Ok shunning.Already) = (refl, refl)
+shunned_stop s name (Ok shunning.Removed) = (refl, refl)
+shunned_stop s name (Ok shunning.Listed) = (refl, refl)
+shunned_stop s name (Err e) = (refl, refl)
 
 module _ (s : State) (result : Result Clustering ArriveFault) (due : State) where
   of_stop : (few : Bool) (items : List Item)
-      → MatchBool few ((result ≡ Ok (clustering.Few (length (unclustered_names items)))) × (due ≡ s)) (IsClusterArrival s (due_cluster items) result due) → due.stopped ≡ s.stopped
-  of_stop true items p = ap (λ (x : State). x.stopped) p.1
+      → MatchBool few ((result ≡ Ok (clustering.Few (length (unclustered_names items)))) × (due ≡ s)) (IsClusterArrival s (due_cluster items) result due) → Stays s due
+  of_stop true items p = stop_same s due p.1
   of_stop false items p = stop_equal s due (arrived s (name_of (due_cluster items)) (due_cluster items) false p.0) p.3 (arrived_stop s (name_of (due_cluster items)) (due_cluster items) false p.0)
 
   clustering_stop : (stopped : Option ℕ)
       → MatchOption stopped ((items : List Item) × AreItems (now s).held items × IsClusteringOf s items result due)
-      (λ faults. (result ≡ Err (arrive_fault.Stopped faults)) × (due ≡ s)) → due.stopped ≡ s.stopped
+      (λ faults. (result ≡ Err (arrive_fault.Stopped faults)) × (due ≡ s)) → Stays s due
   clustering_stop None p = of_stop (nat_le (length (unclustered_names p.0)) 100) p.0 p.2
-  clustering_stop (Some faults) p = ap (λ (x : State). x.stopped) p.1
+  clustering_stop (Some faults) p = stop_same s due p.1
 
 commit_stop : (stopped : Option ℕ) (old : State) (r : Result ℕ CommitFault) (new : State) → old.stopped ≡ stopped → IsCommit stopped old r new → Stops old new
-commit_stop (Some faults) old r new is p = stop_leaves old old new p.1 refl
-commit_stop None old r new is (inl p) = (p.2.faults, inr (is, p.1))
+commit_stop (Some faults) old r new is p = stop_leaves old old new p.1 (refl, refl)
+commit_stop None old r new is (inl p) = (p.2.faults, inr (is, p.1), inl (ap (λ (s : State). s.committed) p.2.state))
 commit_stop None old r new is (inr p) =
     let same : new.faults ≡ old.faults = ap (λ (s : State). s.faults) p.1 in
-    (omega (arith, same), inl (ap (λ (s : State). s.stopped) p.1))
+    (omega (arith, same), inl (ap (λ (s : State). s.stopped) p.1), inr (ap (λ (s : State). s.committed) p.1))
 
 stopping : (old : State) (e : Event) (a : Answer) (new : State) → Step old e a new → Stops old new
 stopping old (event.Arrive name bytes private) (answer.Arrive r) new p =
@@ -225,7 +234,7 @@ stopping old (event.Build ask) (answer.Announce r) new p = absurd p
 stopping old (event.Build ask) (answer.Shun r) new p = absurd p
 stopping old (event.Build ask) (answer.Cluster r) new p = absurd p
 stopping old (event.Build ask) (answer.Build r) new p =
-    stop_due old new (λ r due. IsBuilt old ask r × (due ≡ old)) _ _ r (λ due is. stop_equal old due old is.1 refl) p
+    stop_due old new (λ r due. IsBuilt old ask r × (due ≡ old)) _ _ r (λ due is. stop_same old due is.1) p
 stopping old (event.Build ask) (answer.Commit r) new p = absurd p
 stopping old event.Commit (answer.Arrive r) new p = absurd p
 stopping old event.Commit (answer.Announce r) new p = absurd p
@@ -254,6 +263,13 @@ stays_go old e a new step some = by (stopping old e a new step).1
     by : (new.stopped ≡ old.stopped) ⊎ ((old.stopped ≡ None) × Rose old.faults new.faults) → new.stopped ≡ old.stopped
     by (inl same) = same
     by (inr rose) = absurd (none_of old.stopped rose.0 some)
+
+pub commits_go : (old : State) (e : Event) (a : Answer) (new : State) → Step old e a new → old.committed ≤ length old.records → old.committed ≤ new.committed
+commits_go old e a new step within = by (stopping old e a new step).2
+  where
+    by : (new.committed ≡ old.committed) ⊎ (new.committed ≡ length old.records) → old.committed ≤ new.committed
+    by (inl same) = omega (arith, same)
+    by (inr all) = omega (arith, within, all)
 
 -- ---- later
 
@@ -287,13 +303,15 @@ pub seen_never_falls : (a b : Seen) → IsLater a b → stored a ≤ stored b
 seen_never_falls a b p = omega (arith, p.stored)
 
 pub steps_go_on : StepsGoOn
-steps_go_on = record { grows = grows; later = later; same = same; through = through; never_falls = seen_never_falls; faults = faults_go; stops = stops_go; stays = stays_go }
+steps_go_on = record { grows = grows; later = later; same = same; through = through; never_falls = seen_never_falls; faults = faults_go; stops = stops_go; stays = stays_go; commits = commits_go }
 
 -- ---- repositories with their disks
 
 pub later_self : {D : Type 0} (d : DiskState) (a : Whole D) → IsLaterOn d d a a
 later_self d a = record {
   seen = same a.seen;
+  loaded = refl;
+  committed = omega arith;
   keeps = search;
   faults = omega arith;
   stops = λ runs some. absurd (none_of a.seen.state.stopped runs some);
@@ -321,6 +339,8 @@ module _ {D : Type 0} (d e f : DiskState) (a b c : Whole D) (p : IsLaterOn d e a
   pub later_through : IsLaterOn d f a c
   later_through = record {
     seen = through a.seen b.seen c.seen p.seen q.seen;
+    loaded = q.loaded ∙ p.loaded;
+    committed = omega (arith, p.committed, q.committed);
     keeps = keeps_on d e f p.keeps q.keeps;
     faults = omega (arith, p.faults, q.faults);
     stops = stops_through b.seen.state.stopped refl;
@@ -343,6 +363,8 @@ step_later d e a event answer b p =
     let faults : a.seen.state.faults ≤ b.seen.state.faults = faults_go a.seen.state event answer b.seen.state p.step in
     record {
       seen = later a.seen b.seen event answer within p.loaded p.step;
+      loaded = p.loaded;
+      committed = commits_go a.seen.state event answer b.seen.state p.step p.old_whole.seen.committed;
       keeps = p.keeps;
       faults = omega (arith, faults, p.old_whole.faults, p.new_whole.faults);
       stops = λ runs some. subst (λ (n : ℕ). Rose n e.faults) p.old_whole.faults (subst (λ (n : ℕ). Rose a.seen.state.faults n) p.new_whole.faults (stops_go a.seen.state event answer b.seen.state p.step runs some));

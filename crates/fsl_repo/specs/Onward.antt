@@ -41,10 +41,12 @@ pub record MayStep {D : Type 0} (before after : DiskState) (old : Whole D) (e : 
   pub keeps : Keeps before after
   pub disk : DiskStep e before after (log_of old) (new.disk ≡ old.disk)
 
--- a repository is later than another: its state is, its disk is of the same kind, and the disk's count of faults doesn't fall. It came to stop only where
--- that count rose; a stopped one stays stopped by the same count, and its disk stays as it is
+-- a repository is later than another: its state is, what was loaded and what was committed still is, its disk is of the same kind, and the disk's count of
+-- faults doesn't fall. It came to stop only where that count rose; a stopped one stays stopped by the same count, and its disk stays as it is
 pub record IsLaterOn {D : Type 0} (before after : DiskState) (old new : Whole D) : Type 0 where
   pub seen : IsLater old.seen new.seen
+  pub loaded : new.seen.loaded ≡ old.seen.loaded
+  pub committed : old.seen.state.committed ≤ new.seen.state.committed
   pub keeps : Keeps before after
   pub faults : before.faults ≤ after.faults
   pub stops : old.seen.state.stopped ≡ None → IsSome new.seen.state.stopped → Rose before.faults after.faults
@@ -61,6 +63,7 @@ pub record StepsGoOn : Type 0 where
   pub faults : (old : State) (e : Event) (a : Answer) (new : State) → Step old e a new → old.faults ≤ new.faults
   pub stops : (old : State) (e : Event) (a : Answer) (new : State) → Step old e a new → old.stopped ≡ None → IsSome new.stopped → Rose old.faults new.faults
   pub stays : (old : State) (e : Event) (a : Answer) (new : State) → Step old e a new → IsSome old.stopped → new.stopped ≡ old.stopped
+  pub commits : (old : State) (e : Event) (a : Answer) (new : State) → Step old e a new → old.committed ≤ length old.records → old.committed ≤ new.committed
 
 -- whether an answer is for want of memory
 abbrev pub arriving_wants : {A : Type 0} → Result A ArriveFault → Bool

@@ -8,6 +8,8 @@ use Rattle.fsl_repo.specs.declared.Arrival.{Arrival}
 use Rattle.fsl_repo.specs.declared.Arrival.TheVariants as arrival
 use Rattle.fsl_repo.specs.declared.ArriveFault.{ArriveFault}
 use Rattle.fsl_repo.specs.declared.ArriveFault.TheVariants as arrive_fault
+use Rattle.fsl_repo.specs.declared.Clustering.{Clustering}
+use Rattle.fsl_repo.specs.declared.Clustering.TheVariants as clustering
 
 -- the bytes as an item
 abbrev pub item_of : List ℕ → Bool → Artifact → Item
@@ -26,6 +28,12 @@ is_idle (Err (arrive_fault.Stopped faults)) = true
 is_idle (Err (arrive_fault.TooLarge size)) = true
 is_idle (Err (arrive_fault.NameWrong found)) = true
 is_idle _ = false
+
+-- whether a cluster is: there are few names, or its arrival or its fault is such an answer
+abbrev pub is_idle_cluster : Result Clustering ArriveFault → Bool
+is_idle_cluster (Ok (clustering.Few count)) = true
+is_idle_cluster (Ok (clustering.Arrived name arrival)) = is_idle (Ok arrival)
+is_idle_cluster (Err fault) = is_idle (Err fault)
 
 abbrev pub is_published : Result Arrival ArriveFault → Bool
 is_published (Ok arrival.Published) = true

@@ -5,7 +5,8 @@ ghost use Rattle.std.specs.FinSet as set;
 ghost use Rattle.fsl_name.specs.Name.{name_of};
 ghost use Rattle.fsl_record.specs.Records.{AreRecords, IsWritable, is_config};
 ghost use Rattle.fsl_blobs.specs.Fold.{contents, held_bytes};
-ghost use Rattle.fsl_blobs.specs.Held.{state_of, still_new};
+ghost use Rattle.fsl_blobs.specs.Held.{state_of};
+ghost use Rattle.fsl_blobs.specs.Seen.{applied};
 ghost use Rattle.fsl_blobs.specs.declared.BlobState.TheVariants.{Absent as AbsentName};
 ghost use Rattle.fsl_cluster.specs.Clusters as clusters;
 ghost use Rattle.fsl_cross.specs.Tables.{tables};
@@ -43,7 +44,7 @@ pub(crate) fn keep(journal: &mut Journal, blobs: &mut Blobs, entry: Record) -> R
     requires place { is_config entry ≡ false }
     requires fit { IsWritable entry }
     ensures journal { OnOk result (journal.new ≡ record journal.old { records = journal.old.records ++ entry ∷ [] }) }
-    ensures blobs { OnOk result (blobs.new ≡ record { records = blobs.old.records ++ entry ∷ []; announced = still_new (contents (blobs.old.records ++ entry ∷ [])) blobs.old.announced }) }
+    ensures blobs { OnOk result (blobs.new ≡ applied blobs.old entry) }
     ensures fit { OnOk result (AreRecords journal.new.records) }
     ensures journal_err { OnErr result (journal.new ≡ journal.old) }
     ensures blobs_err { OnErr result (blobs.new ≡ blobs.old) }

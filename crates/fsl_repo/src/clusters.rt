@@ -1,7 +1,8 @@
 //! Clusters.
-ghost use Rattle.std.specs.Prelude.{◌≡◌, take};
+ghost use Rattle.std.specs.Prelude.{◌≡◌, take, true};
 ghost use Rattle.fsl_cluster.specs.Clusters.{AreMembers};
 ghost use Rattle.fsl_repo.specs.Machine.{ClusterStep};
+ghost use Rattle.fsl_repo.specs.Touches.{is_idle_cluster};
 
 use crate::{ArriveFault, Clustering, Repo};
 use fsl_cluster::make_cluster;
@@ -36,6 +37,8 @@ impl<D: Disk> Repo<D> {
         ensures step { ClusterStep self.old.seen.state result self.new.seen.state }
         ensures loaded { self.new.seen.loaded ≡ self.old.seen.loaded }
         ensures disk { self.new.disk ≡ self.old.disk }
+        // An answer that only says what is known takes no touches.
+        ensures idle { is_idle_cluster result ≡ true → steps.new ≡ steps.old }
     {
         if let Some(faults) = self.journal.stopped() {
             return Err(ArriveFault::Stopped { faults });

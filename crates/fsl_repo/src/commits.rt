@@ -1,9 +1,9 @@
 //! Commits and announcements.
-ghost use Rattle.std.specs.Prelude.{◌≡◌, ◌⊎◌, List, ℕ, length, IsSome, None, Ok, OnOk};
+ghost use Rattle.std.specs.Prelude.{◌≡◌, ◌⊎◌, List, ℕ, length, IsSome, OnOk};
 ghost use Rattle.fsl_disk.specs.Disk.{DiskState, IsModelled, Keeps, LeavesOnly};
 ghost use Rattle.fsl_journal.specs.File.{IsFileOf};
 ghost use Rattle.fsl_journal.specs.Log.{BeforeOrAll};
-ghost use Rattle.fsl_repo.specs.Machine.{IsCommit, AnnounceStep};
+ghost use Rattle.fsl_repo.specs.Machine.{IsCommit, IsIdleCommit, AnnounceStep};
 ghost use Rattle.fsl_repo.specs.Whole.{log_of};
 
 use crate::Repo;
@@ -26,7 +26,7 @@ impl<D: Disk> Repo<D> {
         ensures keeps { Keeps (D.state self.old.disk) (D.state self.new.disk) }
         // With nothing to write it calls no device, and a stopped repository never does.
         ensures idle { IsSome self.old.seen.state.stopped ⊎ (self.old.seen.state.committed ≡ length self.old.seen.state.records) → self.new.disk ≡ self.old.disk }
-        ensures nothing { self.old.seen.state.stopped ≡ None → self.old.seen.state.committed ≡ length self.old.seen.state.records → result ≡ Ok (length self.old.seen.state.records) }
+        ensures nothing { IsIdleCommit self.old.seen.state result }
 
         // At each moment since its start each image stands for the committed records or for all.
         ensures any_moment { IsModelled (D.state self.old.disk) → LeavesOnly (D.state self.old.disk) (D.state self.new.disk) (BeforeOrAll (log_of self.old)) }

@@ -3,8 +3,7 @@ ghost use Rattle.std.specs.Prelude.{◌≡◌, ◌≤◌, ◌++◌, ◌∷◌, [
 ghost use Rattle.std.specs.FinSet as set;
 ghost use Rattle.fsl_record.specs.declared.Record.TheVariants as record_of;
 ghost use Rattle.fsl_record.specs.Records.{AreRecords, IsWritable, is_config};
-ghost use Rattle.fsl_blobs.specs.Fold.{contents};
-ghost use Rattle.fsl_blobs.specs.Held.{still_new};
+ghost use Rattle.fsl_blobs.specs.Seen.{applied};
 ghost use Rattle.fsl_repo.specs.Machine.{ShunStep};
 
 use crate::arriving::keep;
@@ -83,7 +82,7 @@ fn exchange(
     requires place { is_config entry ≡ false }
     requires fit { IsWritable entry }
     ensures journal { OnOk result (journal.new ≡ record journal.old { records = journal.old.records ++ entry ∷ [] }) }
-    ensures blobs { OnOk result (blobs.new ≡ record { records = blobs.old.records ++ entry ∷ []; announced = still_new (contents (blobs.old.records ++ entry ∷ [])) blobs.old.announced }) }
+    ensures blobs { OnOk result (blobs.new ≡ applied blobs.old entry) }
     ensures fit { OnOk result (AreRecords journal.new.records) }
     ensures tables { OnOk result (tables.new ≡ next) }
     ensures journal_err { OnErr result (journal.new ≡ journal.old) }

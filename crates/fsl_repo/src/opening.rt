@@ -1,5 +1,5 @@
 //! Opens a repository.
-ghost use Rattle.std.specs.Prelude.{◌≡◌, ℕ, length, IfOk, IfErr};
+ghost use Rattle.std.specs.Prelude.{◌≡◌, ℕ, List, length, IfOk, IfErr};
 ghost use Rattle.fsl_disk.specs.Disk.{DiskState, IsModelled, Told, Keeps, Quiet, LeavesOnly};
 ghost use Rattle.fsl_record.specs.Records.{AreRecords};
 ghost use Rattle.fsl_journal.specs.File.{IsFileOf, FailsAt};

@@ -7,3 +7,4 @@ pub mod Working
 pub mod Staffing
 pub mod Sent
 pub mod Moving
+pub mod Settling

@@ -36,6 +36,10 @@ AllMay (c ∷ cs) = May c.0 c.1 × AllMay cs
 abbrev pub Gains : Option (List Call) → Option (List Call) → (List Call → Type 0) → Type 0
 Gains before after P = (made : List Call) × IfSome before (λ calls. after ≡ Some (calls ++ made)) × AllMay made × P made
 
+-- some calls were told behind those before, which meet P
+abbrev pub Adds : List Call → List Call → (List Call → Type 0) → Type 0
+Adds before after P = (made : List Call) × (after ≡ before ++ made) × P made
+
 -- why no further event is made after an arrival, an announcement or a cluster with this answer
 abbrev pub halt_of : Answer → Option Halt
 halt_of (answer.Arrive (Err (arrive_fault.Stopped faults))) = Some halt.Stopped

@@ -1,7 +1,8 @@
 -- What the workers of all crews did.
-use Rattle.std.specs.Prelude.{◌≡◌, ℕ, ◌<◌, List, Option, length, map, slice_index_or, sum}
-use Rattle.fsl_outside.specs.Connections.{Connection, Standing}
+use Rattle.std.specs.Prelude.{◌≡◌, ℕ, ◌<◌, List, Option, None, length, map, slice_index_or, sum}
+use Rattle.fsl_outside.specs.Connections.{Connection, Standing, LinkState}
 use Rattle.fsl_login.specs.declared.User.{User}
+use Rattle.fsl_repo.specs.Machine.{State}
 use Rattle.fsl_serve.specs.declared.work.Work.{Work}
 use Rattle.fsl_serve.specs.Calls.{Call}
 use Rattle.fsl_serve.specs.Points.{Points}
@@ -17,6 +18,18 @@ AllWorked {X} present standing users project requests works xs ys =
 abbrev pub AllGated : {X : Type 0} → (X → Option Connection) → (X → Standing) → (X → Option Points) → List User → List ℕ → ℕ → List Work → List X → List X → Type 0
 AllGated {X} present standing passed users project requests works xs ys =
     (i : ℕ) (d : X) (w : Work) → i < length xs → (o : Option (List Call)) × (o' : Option (List Call)) × IsGated users project requests (present (slice_index_or xs i d)) (standing (slice_index_or xs i d)) (present (slice_index_or ys i d)) (standing (slice_index_or ys i d)) o o' (slice_index_or works i w) (passed (slice_index_or xs i d)) (passed (slice_index_or ys i d))
+
+-- both by the state of each door
+abbrev pub AreWorked : {X : Type 0} → (X → LinkState) → List User → List ℕ → ℕ → List Work → List X → List X → Type 0
+AreWorked {X} door users project requests works xs ys = AllWorked (λ x. (door x).present) (λ x. (door x).standing) users project requests works xs ys
+
+abbrev pub AreGated : {X : Type 0} → (X → LinkState) → (X → Option Points) → List User → List ℕ → ℕ → List Work → List X → List X → Type 0
+AreGated {X} door passed users project requests works xs ys =
+    AllGated (λ x. (door x).present) (λ x. (door x).standing) passed users project requests works xs ys
+
+-- where it isn't stopped, all its records are committed
+abbrev pub AreAllCommitted : State → Type 0
+AreAllCommitted state = state.stopped ≡ None → state.committed ≡ length state.records
 
 -- all their sessions
 abbrev pub sessions_of : List Work → ℕ

@@ -1,6 +1,8 @@
 -- The points that a session passes.
 use Rattle.std.specs.Prelude.{◌≡◌, ℕ, Bool, true, false, List, [], ◌∷◌, ◌++◌, map, Option, option_map, Result, Ok, Err}
 use Rattle.std.specs.List.{list_any}
+use Rattle.fsl_login.specs.declared.User.{User}
+use Rattle.fsl_outside.specs.Connections.{LinkState}
 use Rattle.fsl_outside.specs.declared.gate.Point.{Point}
 use Rattle.fsl_outside.specs.declared.gate.Point.TheVariants as point
 use Rattle.fsl_repo.specs.declared.Event.{Event}
@@ -9,7 +11,8 @@ use Rattle.fsl_serve.specs.declared.said.Halt.{Halt}
 use Rattle.fsl_serve.specs.declared.said.SessionEnd.{SessionEnd}
 use Rattle.fsl_serve.specs.declared.said.SessionEnd.TheVariants as end_as
 use Rattle.fsl_serve.specs.Session.{where_so}
-use Rattle.fsl_serve.specs.Calls.{Call, asked}
+use Rattle.fsl_serve.specs.Calls.{Call, Gains, asked}
+use Rattle.fsl_serve.specs.Sessions.{IsSession}
 
 -- points that were passed, each with the number of its session
 abbrev pub Points : Type 0
@@ -43,3 +46,14 @@ Passes before after number points = after ≡ option_map (λ ps. ps ++ map (λ p
 abbrev pub reached : {X : Type 0} → Result X Halt → List Call → List Point
 reached (Ok x) made = point.Arrived ∷ []
 reached (Err h) made = arrived made
+
+-- a session with these calls and this end, by what a link tells, before and after
+abbrev pub IsSessionOf : {K : Type 0} → List User → List ℕ → (K → LinkState) × K × K → SessionEnd → List Call → Type 0
+IsSessionOf users project link end made = IsSession users project (link.0 link.1).present (link.0 link.2).present made end
+
+-- a session with its calls and its points, by what a pass, a link and a gate tell, before and after
+abbrev pub HasSession : {P K G : Type 0} → List User → List ℕ → ℕ → (P → Option (List Call)) × P × P → (K → LinkState) × K × K →
+    (G → Option Points) × G × G → SessionEnd → Type 0
+HasSession users project number pass link gate end =
+    Gains (pass.0 pass.1) (pass.0 pass.2)
+    (λ made. IsSessionOf users project link end made × Passes (gate.0 gate.1) (gate.0 gate.2) number (points_of made end))

@@ -1,9 +1,10 @@
 -- What a worker did with the connections of its door.
 use Rattle.std.specs.Prelude.{◌≡◌, ⊤, ℕ, ◌<◌, ◌≤◌, true, false, List, [], ◌∷◌, ◌++◌, ◌+◌, length, map, Option, option_map, Some, IfSome}
-use Rattle.fsl_outside.specs.Connections.{Connection, Standing, listed, HasBegun}
+use Rattle.fsl_outside.specs.Connections.{Connection, Standing, LinkState, listed, HasBegun}
 use Rattle.fsl_outside.specs.Memory.{next}
 use Rattle.fsl_login.specs.declared.User.{User}
 use Rattle.fsl_serve.specs.declared.said.SessionEnd.{SessionEnd}
+use Rattle.fsl_serve.specs.declared.work.Crew.{Crew}
 use Rattle.fsl_serve.specs.declared.work.Work.{Work}
 use Rattle.fsl_serve.specs.Calls.{Call, Gains}
 use Rattle.fsl_serve.specs.Sessions.{IsSession}
@@ -56,3 +57,17 @@ points_from n (s ∷ more) = map (λ p. (n, p)) (points_of s.made s.end) ++ poin
 pub record IsGated (users : List User) (project : List ℕ) (requests : ℕ) (p : Option Connection) (s : Standing) (q : Option Connection) (t : Standing) (told told' : Option (List Call)) (work : Work) (before after : Option Points) : Type 0 where
   pub worked : IsWorked users project requests p s q t told told' work
   pub passed : after ≡ option_map (λ ps. ps ++ points_from 0 worked.served) before
+
+-- both by what doors, gates and a pass tell, and the crew and the pass before and after
+abbrev pub HasWorked : {A G P : Type 0} → List User → List ℕ → ℕ → (A → LinkState) × Crew A G × Crew A G → (P → Option (List Call)) × P × P → Work → Type 0
+HasWorked users project requests crew pass work =
+    let old = crew.0 crew.1.door in
+    let new = crew.0 crew.2.door in
+    IsWorked users project requests old.present old.standing new.present new.standing (pass.0 pass.1) (pass.0 pass.2) work
+
+abbrev pub HasPassed : {A G P : Type 0} → List User → List ℕ → ℕ → (A → LinkState) × (G → Option Points) × Crew A G × Crew A G →
+    (P → Option (List Call)) × P × P → Work → Type 0
+HasPassed users project requests crew pass work =
+    let old = crew.0 crew.2.door in
+    let new = crew.0 crew.3.door in
+    IsGated users project requests old.present old.standing new.present new.standing (pass.0 pass.1) (pass.0 pass.2) work (crew.1 crew.2.gate) (crew.1 crew.3.gate)

@@ -1,12 +1,11 @@
 //! Sessions of one user alone.
-ghost use Rattle.std.specs.Prelude.{◌≡◌, ◌≢◌, ◌++◌, List};
+ghost use Rattle.std.specs.Prelude.{◌≡◌, ◌≢◌};
 ghost use Rattle.fsl_order.specs.Causes.{Rose};
 ghost use Rattle.fsl_repo.specs.Onward.{MayStep};
-ghost use Rattle.fsl_turn.specs.Told.{Runs};
+ghost use Rattle.fsl_turn.specs.Told.{Went};
 ghost use Rattle.fsl_serve.specs.declared.said.SessionEnd.TheVariants as end_as;
-ghost use Rattle.fsl_serve.specs.Calls.{Call};
-ghost use Rattle.fsl_serve.specs.Points.{Passes, points_of};
-ghost use Rattle.fsl_serve.specs.Sessions.{IsSession};
+ghost use Rattle.fsl_serve.specs.Calls.{Adds};
+ghost use Rattle.fsl_serve.specs.Points.{IsSessionOf, Passes, points_of};
 
 use crate::said::SessionEnd;
 use crate::serving::session;
@@ -19,8 +18,8 @@ use fsl_turn::{Solo, SoloPass};
 use std::alloc::Global;
 use std::sync::Wait;
 
-/// A session of the form for one user, whose pass tells its calls: they lead from the machine before to the machine after, one after another.
-/// The gate and the connection are as [`session`] says, by these calls.
+/// A session of the form for one user, whose pass tells its calls. The gate and the connection are as [`session`] says, by these calls, and
+/// one after another they lead from the machine before to the machine after.
 pub fn session_alone<D: Disk, K: Link, G: Gate, R: Wait>(
     rt: &R,
     alloc: Global,
@@ -32,8 +31,9 @@ pub fn session_alone<D: Disk, K: Link, G: Gate, R: Wait>(
     gate: &mut G,
     number: u64,
 ) -> SessionEnd
-    ensures session { (made : List Call) × (pass.new.told.items ≡ pass.old.told.items ++ made) × IsSession users.now project ((K.state link.old).present) ((K.state link.new).present) made result × Runs (λ a e r b. MayStep (D.state a.disk) (D.state b.disk) a e r b) pass.old.machine made pass.new.machine }
-    ensures points { (made : List Call) × (pass.new.told.items ≡ pass.old.told.items ++ made) × Passes (G.passed gate.old) (G.passed gate.new) number (points_of made result) }
+    ensures session { Adds pass.old.told.items pass.new.told.items (IsSessionOf users.now project (K.state, link.old, link.new) result) }
+    ensures points { Adds pass.old.told.items pass.new.told.items (λ made. Passes (G.passed gate.old) (G.passed gate.new) number (points_of made result)) }
+    ensures steps { Went (λ a e r b. MayStep (D.state a.disk) (D.state b.disk) a e r b) pass.old.machine pass.old.told.items pass.new.machine pass.new.told.items }
     ensures cause { result ≡ end_as.Link → Rose ((K.state link.old).faults) ((K.state link.new).faults) }
     ensures same { result ≢ end_as.Link → (K.state link.new).faults ≡ (K.state link.old).faults }
     ensures stands { (K.state link.new).standing ≡ (K.state link.old).standing }

@@ -2,8 +2,8 @@
 ghost use Rattle.std.specs.Prelude.{◌≡◌, ◌<◌, ◌≤◌, ◌+◌, slice_index_or, vec_len, ℕ, Some, IfOk, IfErr};
 ghost use Rattle.fsl_repo.specs.Onward.{IsLaterOn};
 ghost use Rattle.fsl_repo.specs.Whole.{stored};
-ghost use Rattle.fsl_serve.specs.Workers.{IsGated};
-ghost use Rattle.fsl_serve.specs.Crews.{AllWorked, AllGated};
+ghost use Rattle.fsl_serve.specs.Workers.{HasPassed};
+ghost use Rattle.fsl_serve.specs.Crews.{AreWorked, AreGated, AreAllCommitted};
 
 use crate::staff::{dismissed, staffed};
 use crate::work::{Crew, Work, worker};
@@ -11,8 +11,8 @@ use fsl_disk::Disk;
 use fsl_login::Users;
 use fsl_name::Name;
 use fsl_outside::{Door, Gate};
-use fsl_repo::Repo;
-use fsl_turn::{Locked, Origin, Turns};
+use fsl_repo::{Event, Repo};
+use fsl_turn::{Locked, Origin, Turns, step_uncounted};
 use std::alloc::Global;
 use std::marker::Brand;
 use std::sync::Wait;
@@ -37,7 +37,7 @@ fn run_one<T: Turns<Repo<D>>, D: Disk, A: Door, G: Gate, R: Wait>(
     requests: u64,
 )
     ensures grown { T.grows job.old.pass job.new.pass }
-    ensures worked { IsGated users.now project requests ((A.state job.old.crew.door).present) ((A.state job.old.crew.door).standing) ((A.state job.new.crew.door).present) ((A.state job.new.crew.door).standing) (T.calls job.old.pass) (T.calls job.new.pass) job.new.work (G.passed job.old.crew.gate) (G.passed job.new.crew.gate) }
+    ensures worked { HasPassed users.now project requests (A.state, G.passed, job.old.crew, job.new.crew) (T.calls, job.old.pass, job.new.pass) job.new.work }
 {
     job.work = worker(
         turns,
@@ -71,7 +71,7 @@ where
     T::Pass: Send,
     requires { 0 < vec_len jobs.old }
     ensures len { vec_len jobs.new ≡ vec_len jobs.old }
-    ensures each { (i : ℕ) (d : _) → i < vec_len jobs.old → let before = slice_index_or jobs.old.items i d in let after = slice_index_or jobs.new.items i d in IsGated users.now project requests ((A.state before.crew.door).present) ((A.state before.crew.door).standing) ((A.state after.crew.door).present) ((A.state after.crew.door).standing) (T.calls before.pass) (T.calls after.pass) after.work (G.passed before.crew.gate) (G.passed after.crew.gate) × T.grows before.pass after.pass }
+    ensures each { (i : ℕ) (d : _) → i < vec_len jobs.old → let before = slice_index_or jobs.old.items i d in let after = slice_index_or jobs.new.items i d in HasPassed users.now project requests (A.state, G.passed, before.crew, after.crew) (T.calls, before.pass, after.pass) after.work × T.grows before.pass after.pass }
 {
     let threads = jobs.len();
     for_each_mut(
@@ -80,14 +80,24 @@ where
         threads,
         &|_, job: &mut Job<A, G, T::Pass>|
             ensures grown { T.grows job.old.pass job.new.pass }
-            ensures worked { IsGated users.entry.now project requests ((A.state job.old.crew.door).present) ((A.state job.old.crew.door).standing) ((A.state job.new.crew.door).present) ((A.state job.new.crew.door).standing) (T.calls job.old.pass) (T.calls job.new.pass) job.new.work (G.passed job.old.crew.gate) (G.passed job.new.crew.gate) }
+            ensures worked { HasPassed users.entry.now project requests (A.state, G.passed, job.old.crew, job.new.crew) (T.calls, job.old.pass, job.new.pass) job.new.work }
         { run_one(turns, rt, alloc, users, project, job, requests) },
     );
 }
 
+/// Commits what a session added that no commit followed: want of memory cut that session off, and no other one came behind it. A
+/// repository that its disk stops says so itself.
+fn settle<D: Disk>(repo: &mut Repo<D>)
+    ensures later { IsLaterOn (D.state repo.old.disk) (D.state repo.new.disk) repo.old repo.new }
+    ensures stored { stored repo.new.seen ≡ stored repo.old.seen }
+    ensures settled { AreAllCommitted repo.new.seen.state }
+{
+    step_uncounted(repo, &Event::Commit);
+}
+
 /// What the crews left: the repository, the crews in their order, what each did, and how many artifacts were stored.
 pub struct Served<D: Disk, A, G> {
-    /// The repository, later than the one that came.
+    /// The repository, later than the one that came. All its records are committed, unless it is stopped.
     pub repo: Repo<D>,
     /// The crews, in their order.
     pub crews: Vec<Crew<A, G>>,
@@ -110,8 +120,10 @@ pub fn serve_crews<D: Disk + Send, A: Door + Send, G: Gate + Send, R: Threads + 
     requires crews { (0 < vec_len crews) × (vec_len crews ≤ 16) }
     ensures later { IfOk result (λ s. IsLaterOn (D.state repo.disk) (D.state s.repo.disk) repo s.repo) }
     ensures stored { IfOk result (λ s. stored s.repo.seen ≡ stored repo.seen + s.stored) }
-    ensures worked { IfOk result (λ s. AllWorked (λ c. (A.state c.door).present) (λ c. (A.state c.door).standing) users.now project requests s.works.items crews.items s.crews.items) }
-    ensures gates { IfOk result (λ s. AllGated (λ c. (A.state c.door).present) (λ c. (A.state c.door).standing) (λ c. G.passed c.gate) users.now project requests s.works.items crews.items s.crews.items) }
+    // What is counted as stored is committed, unless the disk failed.
+    ensures settled { IfOk result (λ s. AreAllCommitted s.repo.seen.state) }
+    ensures worked { IfOk result (λ s. AreWorked (λ c. A.state c.door) users.now project requests s.works.items crews.items s.crews.items) }
+    ensures gates { IfOk result (λ s. AreGated (λ c. A.state c.door) (λ c. G.passed c.gate) users.now project requests s.works.items crews.items s.crews.items) }
     ensures refused { IfErr result (λ r. (r.0 ≡ repo) × (r.1.items ≡ crews.items)) }
 {
     let blank = Blank::new(crews.len() as u64);
@@ -141,8 +153,10 @@ fn serve_locked<
     requires crews { (0 < vec_len crews) × (vec_len crews ≤ 16) }
     ensures later { IfOk result (λ s. IsLaterOn (D.state repo.disk) (D.state s.repo.disk) repo s.repo) }
     ensures stored { IfOk result (λ s. stored s.repo.seen ≡ stored repo.seen + s.stored) }
-    ensures worked { IfOk result (λ s. AllWorked (λ c. (A.state c.door).present) (λ c. (A.state c.door).standing) users.now project requests s.works.items crews.items s.crews.items) }
-    ensures gates { IfOk result (λ s. AllGated (λ c. (A.state c.door).present) (λ c. (A.state c.door).standing) (λ c. G.passed c.gate) users.now project requests s.works.items crews.items s.crews.items) }
+    // What is counted as stored is committed, unless the disk failed.
+    ensures settled { IfOk result (λ s. AreAllCommitted s.repo.seen.state) }
+    ensures worked { IfOk result (λ s. AreWorked (λ c. A.state c.door) users.now project requests s.works.items crews.items s.crews.items) }
+    ensures gates { IfOk result (λ s. AreGated (λ c. A.state c.door) (λ c. G.passed c.gate) users.now project requests s.works.items crews.items s.crews.items) }
     ensures refused { IfErr result (λ r. (r.0 ≡ repo) × (r.1.items ≡ crews.items)) }
 {
     let count = crews.len() as u64;
@@ -163,7 +177,8 @@ fn serve_locked<
     let mut jobs = staffed(jobs, &mut crews, &mut passes);
     run_all(&locked, rt, alloc, users, project, &mut jobs, requests);
     let works = dismissed(jobs, &mut crews, &mut passes, works);
-    let (repo, stored) = locked.finish(passes);
+    let (mut repo, stored) = locked.finish(passes);
+    settle(&mut repo);
     Ok(Served {
         repo,
         crews,

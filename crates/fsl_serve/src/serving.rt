@@ -8,8 +8,8 @@ ghost use Rattle.fsl_login.specs.declared.User.{User};
 ghost use Rattle.fsl_login.specs.Logins.{granted};
 ghost use Rattle.fsl_serve.specs.declared.said.SessionEnd.TheVariants as end_as;
 ghost use Rattle.fsl_serve.specs.Calls.{Gains};
-ghost use Rattle.fsl_serve.specs.Sessions.{IsReplied, IsSession, sent_of, IsJudged};
-ghost use Rattle.fsl_serve.specs.Points.{Passes, arrived, points_of};
+ghost use Rattle.fsl_serve.specs.Sessions.{IsReplied, sent_of, IsJudged};
+ghost use Rattle.fsl_serve.specs.Points.{Passes, HasSession, arrived};
 
 use crate::bodies::{login_failed, not_allowed, unread};
 use crate::events::run;
@@ -104,7 +104,7 @@ pub fn session<T: Turns<Repo<D>>, D: Disk, K: Link, G: Gate, R: Wait>(
     number: u64,
 ) -> SessionEnd
     ensures grown { T.grows pass.old pass.new }
-    ensures session { Gains (T.calls pass.old) (T.calls pass.new) (λ made. IsSession users.now project ((K.state link.old).present) ((K.state link.new).present) made result × Passes (G.passed gate.old) (G.passed gate.new) number (points_of made result)) }
+    ensures session { HasSession users.now project number (T.calls, pass.old, pass.new) (K.state, link.old, link.new) (G.passed, gate.old, gate.new) result }
     ensures cause { result ≡ end_as.Link → Rose ((K.state link.old).faults) ((K.state link.new).faults) }
     ensures same { result ≢ end_as.Link → (K.state link.new).faults ≡ (K.state link.old).faults }
     ensures stands { (K.state link.new).standing ≡ (K.state link.old).standing }

@@ -1,5 +1,5 @@
 //! Workers.
-ghost use Rattle.fsl_serve.specs.Workers.{IsWorked, IsGated};
+ghost use Rattle.fsl_serve.specs.Workers.{HasWorked, HasPassed};
 
 use crate::serving::session;
 use fsl_disk::Disk;
@@ -42,8 +42,8 @@ pub fn worker<T: Turns<Repo<D>>, D: Disk, A: Door, G: Gate, R: Wait>(
     requests: u64,
 ) -> Work
     ensures grown { T.grows pass.old pass.new }
-    ensures worked { IsWorked users.now project requests ((A.state crew.old.door).present) ((A.state crew.old.door).standing) ((A.state crew.new.door).present) ((A.state crew.new.door).standing) (T.calls pass.old) (T.calls pass.new) result }
-    ensures gate { IsGated users.now project requests ((A.state crew.old.door).present) ((A.state crew.old.door).standing) ((A.state crew.new.door).present) ((A.state crew.new.door).standing) (T.calls pass.old) (T.calls pass.new) result (G.passed crew.old.gate) (G.passed crew.new.gate) }
+    ensures worked { HasWorked users.now project requests (A.state, crew.old, crew.new) (T.calls, pass.old, pass.new) result }
+    ensures gate { HasPassed users.now project requests (A.state, G.passed, crew.old, crew.new) (T.calls, pass.old, pass.new) result }
 {
     for number in 0..requests {
         match crew.door.accept() {

@@ -6,9 +6,9 @@ ghost use Rattle.fsl_files.specs.Conditions.{IsFilesFact};
 ghost use Rattle.fsl_cross.specs.Tables.{IsItem, files_facts, without};
 ghost use Rattle.fsl_cross.specs.Mixed.{IsIn};
 ghost use Rattle.fsl_cross.specs.Trails.{Led};
-ghost use Rattle.fsl_files.specs.Touches.{is_followed};
+ghost use Rattle.fsl_files.specs.Touches.{is_followed, file_most};
 ghost use Rattle.fsl_cross.specs.Facts.{as_manifest};
-ghost use Rattle.fsl_cross.specs.Touches.{file_most, files_most};
+ghost use Rattle.fsl_cross.specs.Touches.{files_most};
 
 use crate::facts::files::fact_of;
 use crate::held::Held;

@@ -7,6 +7,7 @@ use Rattle.fsl_repo.specs.contracts.Answer.{the_row as answer_row}
 use Rattle.fsl_repo.specs.contracts.repo.Repo.{the_row as repo_row}
 use Rattle.fsl_turn.proofs.locked.Locked.TheSendSync as locked
 use Rattle.fsl_serve.proofs.Sent.{repo_sent}
+use Rattle.fsl_serve.proofs.Settling.{through_first}
 use Rattle.fsl_serve.proofs.Staffing.{all_worked, all_gated}
 use Rattle.fsl_serve.proofs.crews.serve_locked.Goals as goal
 
@@ -29,6 +30,10 @@ finish-repo-requires g c =
     let n : length js ≡ length c.args.crews.items = sym (length-map js (λ j. j.crew)) ∙ ap length c.staffed-jobs.ensures.crews in
     let m : length c.dismissed-works.new.passes.items ≡ length ks = ap length c.dismissed-works.ensures.passes ∙ length-map ks (λ j. j.pass) in
     omega (arith, n, m, c.requires.parts)
+
+pub returns-clause-later : goal.returns-clause-later
+returns-clause-later g c =
+    through_first g.D.Disk.state _ c.args.repo _ _ c.requires.first c.finish-repo.ensures.later c.settle.ensures.later
 
 pub returns-clause-worked : goal.returns-clause-worked
 returns-clause-worked g c =

@@ -19,7 +19,7 @@ returns-in-Ok g c =
     let works = c.in-Ok.worked.works.items in
     workers_ran g.D.Disk.state _ (left_of c.finished.result.state) c.args.crews.items c.finished.result.crews.items _ _ repo last c.args.users.now c.args.requests _
     (ap left_of c.finished.ensures.state)
-    (has_served g.D.Disk.state _ c.args.users.now c.args.requests repo last works _ c.in-Ok.worked.stored c.in-Ok.ensures.later c.in-Ok.ensures.stored c.finished.ensures.whole
+    (has_served g.D.Disk.state _ c.args.users.now c.args.requests repo last works _ c.in-Ok.worked.stored c.in-Ok.ensures.later c.in-Ok.ensures.stored c.finished.ensures.whole c.in-Ok.ensures.settled
     (project_is repo.seen.state.records c.config.result.now c.config.ensures)
     (subst (λ v. CrewsWorked g.A.Link.state g.G.Gate.passed c.args.crews.items v.items c.args.users.now c.config.result.now.project c.args.requests works) (sym c.finished.ensures.crews) (c.in-Ok.ensures.worked, c.in-Ok.ensures.gates)))
     c.finished.ensures.said
