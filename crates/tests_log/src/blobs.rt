@@ -31,13 +31,14 @@ fn blob(alloc: Global, private: bool, bytes: &[u8]) -> Result<Record, Memory>
     })
 }
 
-/// A private artifact and its publication, one more, and one that is shunned.
+/// A private artifact and its publication, one more, one that stays private, and a name that is shunned.
 fn fill(alloc: Global, blobs: &mut Blobs) -> Result<(), Memory> {
     blobs.apply(blob(alloc, true, b"abc")?)?;
     blobs.apply(Record::Publish {
         name: Name::of(b"abc"),
     })?;
     blobs.apply(blob(alloc, false, b"2939")?)?;
+    blobs.apply(blob(alloc, true, b"secret")?)?;
     blobs.apply(Record::Shun {
         name: Name::of(b""),
     })
@@ -67,16 +68,17 @@ fn finds_names(rt: HostRuntime) -> Result<(), Memory> {
     Ok(())
 }
 
-/// How many artifacts are held from the fourth record on, and how many in all.
-fn counts(alloc: Global, blobs: &Blobs) -> Result<(usize, usize), Memory> {
+/// How many artifacts are held from the third record on, how many as private ones, and how many in all.
+fn counts(alloc: Global, blobs: &Blobs) -> Result<(usize, usize, usize), Memory> {
     let later = blobs.held(alloc, 3)?.items().len();
-    Ok((later, blobs.holdings(alloc)?.len()))
+    let private = blobs.privates(alloc)?.items().len();
+    Ok((later, private, blobs.holdings(alloc)?.len()))
 }
 
 #[test]
 fn lends_artifacts(rt: HostRuntime) -> Result<(), Memory> {
     let blobs = filled(rt.alloc())?;
-    assert!(rt; counts(rt.alloc(), &blobs) == Ok((1, 2)));
+    assert!(rt; counts(rt.alloc(), &blobs) == Ok((2, 1, 3)));
     Ok(())
 }
 
