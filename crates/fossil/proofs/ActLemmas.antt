@@ -1,8 +1,8 @@
 -- What the commands did that load the file.
-use Rattle.std.proofs.Common.{◌≡◌, ◌⊎◌, inl, inr, ℕ, List, [], Some, Result, Ok, Err, IsTrue, refl, sym, subst, arith}
+use Rattle.std.proofs.Common.{◌≡◌, ◌⊎◌, inl, inr, ℕ, List, [], Some, Result, Ok, Err, IsTrue, refl, sym, ap, subst, arith}
 use Rattle.fsl_order.specs.Causes.{Rose}
 use Rattle.fsl_record.specs.declared.Record.{Record}
-use Rattle.fsl_disk.specs.Disk.{DiskState}
+use Rattle.fsl_disk.specs.Disk.{DiskState, IsModelled}
 use Rattle.fsl_outside.specs.Streams.{SourceState}
 use Rattle.fsl_journal.specs.File.{IsFileOf}
 use Rattle.fsl_journal.specs.declared.LoadFault.{LoadFault}
@@ -10,15 +10,15 @@ use Rattle.fsl_journal.specs.declared.LoadFault.TheVariants as load_fault
 use Rattle.fsl_words.specs.declared.Command.{Command}
 use Rattle.fsl_words.specs.declared.Command.TheVariants as command_of
 use Rattle.fsl_words.specs.declared.Question.{Question}
-use Rattle.std.specs.Prelude.{Option}
+use Rattle.std.specs.Prelude.{Option, is_some}
 use Rattle.fossil.specs.declared.answers.fault.Fault.{Fault}
 use Rattle.fossil.specs.declared.answers.fault.Fault.TheVariants as fault_is
 use Rattle.fossil.specs.Printed.{Printed}
 use Rattle.fossil.specs.Outcome.{Outcome, printed_of, not_repository, IsSaidOutcome}
-use Rattle.fossil.specs.Run.{Input, Agrees, reads, IsInputFault}
+use Rattle.fossil.specs.Run.{Input, Agrees, reads, IsInputFault, IsFileLeft}
 use Rattle.fossil.specs.Acts.{ActsBy, HasActed, Touches, IsUnopened, IsNotLoadedAnswer, IsUnread, KeepsContents, KeepsImages}
 use Rattle.fossil.proofs.InputLemmas.{some_bytes}
-use Rattle.fossil.proofs.FileLemmas.{both, Loads, agrees, left_failed, loaded_left, loaded_touches}
+use Rattle.fossil.proofs.FileLemmas.{both, Loads, stands, agrees, none_committed, loaded_left, loaded_touches}
 use Rattle.fossil.proofs.SomeOutcome.{some_said_outcome}
 
 pub put_loads : Loads (Some command_of.Put)
@@ -64,9 +64,9 @@ module _ (command : Option Command) (loads : Loads command) (input : Input) (fil
     spared = λ nine begun. absurd (loads.begun begun);
   }
 
-  pub disk_by : Rose file.faults left.faults → (input.after ≡ input.before) ⊎ (o.commits ≡ [] → ⊥) → ((held : List ℕ) → IsTrue left.is_model → left.contents ≡ Some held → left.images held)
+  pub disk_by : Rose file.faults left.faults → (input.after ≡ input.before) ⊎ (o.commits ≡ [] → ⊥) → IsFileLeft command (both file left) 4 bytes o
       → ActsBy command input (both file left) (Err fault_is.Disk) read bytes o
-  disk_by rose moment reads = record {
+  disk_by rose moment contents = record {
     input_told = input_told;
     file_told = file_told;
     outcome = outcome;
@@ -74,7 +74,7 @@ module _ (command : Option Command) (loads : Loads command) (input : Input) (fil
     plain = tt;
     cause = record { opened = loads.opened; rose = rose; moment = moment };
     end = λ z. absurd (cc);
-    contents = left_failed command file left bytes o touches.keeps reads touches.any_moment;
+    contents = contents;
     touches = touches;
     durable = λ last. absurd (cc);
     spared = λ nine begun. absurd (loads.begun begun);
@@ -139,8 +139,14 @@ module _ (command : Option Command) (loads : Loads command) (source : SourceStat
     memory_acted : (fault ≡ load_fault.Disk → ⊥) → Acted (Err fault_is.Memory)
     memory_acted other = (read.0, held.0, outcome.0, memory_by command loads input file left read.0 held.0 outcome.0 read.1 held.1 outcome.1 touches (un.contents other))
 
+    -- the file stands for what it stood for
+    contents : IsFileLeft command (both file left) 4 held.0 outcome.0
+    contents old bytes file_told left_told are known =
+        let modelled : IsModelled file = record { tells = ap is_some file_told; model = (known refl).0 } in
+        none_committed old outcome.0.commits bytes (stands old bytes (un.modelled modelled held.0 file_told old (loads.old old held.0 are) bytes left_told))
+
     disk_acted : Rose file.faults left.faults → Acted (Err fault_is.Disk)
-    disk_acted rose = (read.0, held.0, outcome.0, disk_by command loads input file left read.0 held.0 outcome.0 read.1 held.1 outcome.1 touches rose (inl refl) file_reads)
+    disk_acted rose = (read.0, held.0, outcome.0, disk_by command loads input file left read.0 held.0 outcome.0 read.1 held.1 outcome.1 touches rose (inl refl) contents)
 
   pub not_loaded_acted : (fault : LoadFault) (result : Result Printed Fault) → IsUnopened file left fault → IsNotLoadedAnswer fault result → Acted result
   not_loaded_acted load_fault.Disk result un is = subst Acted (sym is) (disk_acted load_fault.Disk un un.cause)

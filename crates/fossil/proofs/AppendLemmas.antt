@@ -1,6 +1,7 @@
 -- What a command did that appends to the file in one commit, once the file was loaded.
 use Rattle.std.proofs.Common.{◌≡◌, ◌≢◌, ◌⊎◌, inl, inr, ⊎_elim, ℕ, ◌<◌, ◌≤◌, List, [], ◌∷◌, ◌++◌, length, take, Option, Some, Ok, Err, IsTrue, refl, sym, ap, subst, ◌∙◌, arith, length-append}
 use Rattle.std.specs.Io.KnownBytes.{IsAtEnd}
+use Rattle.std.specs.Prelude.{is_some}
 use Rattle.std.proofs.lemmas.List.{append-nil, take_at}
 use Rattle.fsl_order.specs.Causes.{Rose}
 use Rattle.fsl_record.specs.declared.Record.{Record}
@@ -136,7 +137,11 @@ module _ (command : Option Command) (loads : Loads command) (input : Input) (fil
         run.read,
         bytes,
         outcome,
-        disk_by command loads input file left run.read bytes outcome run.told file_told is_outcome touches (subst (λ (n : ℕ). Rose n left.faults) opened.faults rose) (inr (has_commit due)) reads,
+        disk_by command loads input file left run.read bytes outcome run.told file_told is_outcome touches (subst (λ (n : ℕ). Rose n left.faults) opened.faults rose) (inr (has_commit due))
+            (λ old held told left_told are known.
+            let modelled : IsModelled file = record { tells = ap is_some told; model = (known refl).0 } in
+            some_stand old held (old_is bytes old told (loads.old old bytes are))
+            ((moments (modelled_after file mid opened.keeps modelled)).now held (reads held (commit_keeps.model ∙ opened.keeps.model ∙ (known refl).0) left_told))),
       )
 
       module _ (contents : Told left (λ held. IsFileOf held after.journal.records)) (durable : IsModelled mid → (c : List ℕ) → left.images c → IsFileOf c after.journal.records) where

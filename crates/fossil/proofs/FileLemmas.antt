@@ -120,11 +120,11 @@ module _ (command : Option Command) (file left : DiskState) (bytes : List ℕ) (
       (λ old held file_told left_told are. old_stands (begins command) old held (subst (λ (b : List ℕ). AreOld command old b) (some_same (sym file_told ∙ sym same ∙ left_told)) are))
 
   -- a disk that failed holds what an image may hold
-  pub left_failed : Keeps file left → ((held : List ℕ) → IsTrue left.is_model → left.contents ≡ Some held → left.images held) → IsWholeAtAnyMoment command (both file left) o → IsFileLeft command (both file left) 4 bytes o
-  left_failed keeps reads moments old held file_told left_told are known =
+  pub left_failed : IsTrue (begins command) → Keeps file left → ((held : List ℕ) → IsTrue left.is_model → left.contents ≡ Some held → left.images held) → IsWholeAtAnyMoment command (both file left) o → IsFileLeft command (both file left) 4 bytes o
+  left_failed begun keeps reads moments old held file_told left_told are known =
       let k = known refl in
       let modelled : IsModelled file = record { tells = ap is_some file_told; model = k.0 } in
-      (moments modelled old k.1).now held (reads held (keeps.model ∙ k.0) left_told)
+      (moments modelled old (k.1 begun)).now held (reads held (keeps.model ∙ k.0) left_told)
 
   -- moments of the old records
   pub whole_of_old : (IsModelled file → (old : List Record) → AreImages command old file.images → LeavesOnly file left (StandsFor old)) → IsWholeAtAnyMoment command (both file left) o

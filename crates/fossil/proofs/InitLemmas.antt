@@ -188,5 +188,5 @@ module _ (config : Config) (source : SourceState) (file left : DiskState) (keeps
         bytes.0,
         outcome bytes.0,
         fault_acted bytes.0 bytes.1 fault_is.Disk (λ e. cc) (record { opened = refl; rose = rose; moment = inl refl })
-            (left_failed command file left bytes.0 (outcome bytes.0) keeps reads (touches bytes.0 bytes.1).any_moment) (λ nine begun. absurd (cc)),
+            (left_failed command file left bytes.0 (outcome bytes.0) refl keeps reads (touches bytes.0 bytes.1).any_moment) (λ nine begun. absurd (cc)),
       )

@@ -1,5 +1,5 @@
 -- What a file stands for after it was loaded, or wasn't.
-use Rattle.std.proofs.Common.{◌≡◌, ◌≢◌, ℕ, List, [], ◌∷◌, ◌++◌, length, take, refl, sym, ap, subst, ◌∙◌, arith, length-append}
+use Rattle.std.proofs.Common.{◌≡◌, ◌≢◌, inl, inr, ℕ, List, [], ◌∷◌, ◌++◌, length, take, refl, sym, ap, subst, ◌∙◌, arith, length-append}
 use Rattle.std.proofs.lemmas.List.{append-nil, take_all}
 use Rattle.fsl_record.specs.declared.Record.{Record}
 use Rattle.fsl_record.specs.Records.{AreRecords}
@@ -7,7 +7,7 @@ use Rattle.fsl_disk.specs.Disk.{DiskState, IsModelled, Keeps, LeavesOnly}
 use Rattle.fsl_disk.proofs.Moments.{weaker}
 use Rattle.fsl_journal.specs.File.{IsFileOf}
 use Rattle.fsl_journal.specs.Log.{Log, IsLoaded, IsBetween, StandsBetween, committed}
-use Rattle.fsl_journal.specs.Journal.{Belongs, OfBytes, LoadFailed}
+use Rattle.fsl_journal.specs.Journal.{Belongs, OfBytes, LoadFailed, IsSpared}
 use Rattle.fsl_journal.specs.declared.LoadFault.{LoadFault}
 use Rattle.fsl_journal.specs.declared.LoadFault.TheVariants as load_fault
 use Rattle.fsl_journal.proofs.Unique.{one_file}
@@ -68,7 +68,7 @@ module _ (file left : DiskState) (log : Log) (records : List Record) (loaded : I
 
   -- there was no memory for its artifacts
   pub not_folded : KeepsUnreadable file left → KeepsBetween file left → Keeps file left → IsUnopened file left load_fault.Memory
-  not_folded unreadable between keeps = record { cause = tt; contents = λ other. contents_kept; unreadable = unreadable; any_moment = images_kept file left between; keeps = keeps }
+  not_folded unreadable between keeps = record { cause = tt; contents = λ other. contents_kept; modelled = λ model. contents_kept; unreadable = unreadable; any_moment = images_kept file left between; keeps = keeps }
 
 -- ---- a file that wasn't
 
@@ -76,13 +76,20 @@ pub same_contents : (file left : DiskState) → left.contents ≡ file.contents 
 same_contents file left same bytes told old are held left_told =
     subst (λ (b : List ℕ). IsFileOf b old) (some_same (sym told ∙ sym same ∙ left_told)) are
 
+-- whatever the answer, as far as the disk model tells
+pub spared_contents : (file left : DiskState) → IsSpared file left → IsModelled file → KeepsContents file left
+spared_contents file left (inl same) model = same_contents file left same
+spared_contents file left (inr kept) model = λ bytes told old are held left_told.
+    let same : kept.0 ≡ old = one_file bytes kept.0 old (subst (λ (b : List ℕ). IsFileOf b kept.0) (kept.1.1 bytes told) kept.1.2) are in
+    subst (λ (rs : List Record). IsFileOf held rs) same (kept.2 model held left_told)
+
 -- why it wasn't, and the contents where no call of the disk failed
 is_why : (file left : DiskState) (fault : LoadFault) → LoadFailed fault file left → IsNotLoaded fault file left × (fault ≢ load_fault.Disk → KeepsContents file left)
 is_why file left load_fault.Disk failed = (failed, λ other. absurd (other refl))
 is_why file left (load_fault.NotRepository at) failed = (failed.2, λ other. same_contents file left failed.0.contents)
 is_why file left load_fault.Memory failed = (tt, λ other. same_contents file left failed.0.contents)
 
-pub unopened : (file left : DiskState) (fault : LoadFault) → LoadFailed fault file left → KeepsUnreadable file left → KeepsBetween file left → Keeps file left → IsUnopened file left fault
-unopened file left fault failed unreadable between keeps =
+pub unopened : (file left : DiskState) (fault : LoadFault) → LoadFailed fault file left → IsSpared file left → KeepsUnreadable file left → KeepsBetween file left → Keeps file left → IsUnopened file left fault
+unopened file left fault failed spared unreadable between keeps =
     let why = is_why file left fault failed in
-    record { cause = why.0; contents = why.1; unreadable = unreadable; any_moment = images_kept file left between; keeps = keeps }
+    record { cause = why.0; contents = why.1; modelled = spared_contents file left spared; unreadable = unreadable; any_moment = images_kept file left between; keeps = keeps }

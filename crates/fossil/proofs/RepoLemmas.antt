@@ -3,14 +3,14 @@ use Rattle.std.proofs.Common.{◌≡◌, ◌⊎◌, inl, inr, ◌≢◌, ℕ, �
 use Rattle.fsl_record.specs.declared.Record.{Record}
 use Rattle.fsl_disk.specs.Disk.{DiskState, Told, Keeps}
 use Rattle.fsl_journal.specs.File.{IsFileOf}
-use Rattle.fsl_journal.specs.Journal.{OfBytes}
+use Rattle.fsl_journal.specs.Journal.{OfBytes, IsSpared}
 use Rattle.fsl_journal.specs.declared.LoadFault.{LoadFault}
 use Rattle.fsl_journal.specs.declared.LoadFault.TheVariants as load_fault
 use Rattle.fsl_journal.proofs.Unique.{one_file}
 use Rattle.fsl_repo.specs.Whole.{Whole, log_of, IsWholeOn}
 use Rattle.fsl_repo.specs.Opening as opening
 use Rattle.fossil.specs.Acts.{loaded_of, KeepsContents, KeepsUnreadable, IsOpened, IsNotLoaded, IsUnopened}
-use Rattle.fossil.proofs.LoadLemmas.{KeepsBetween, opened, images_kept, same_contents}
+use Rattle.fossil.proofs.LoadLemmas.{KeepsBetween, opened, images_kept, same_contents, spared_contents}
 
 pub repo_opened : {D : Type 0} (file left : DiskState) (r : Whole D) → opening.IsOpened file left r → IsWholeOn left r → KeepsBetween file left → Keeps file left → IsOpened file left (loaded_of r)
 repo_opened file left r is whole between keeps =
@@ -36,10 +36,10 @@ why file left load_fault.Disk failed = (failed, λ other. absurd (other refl))
 why file left (load_fault.NotRepository at) failed = (failed.2, λ other. same_contents file left failed.0.contents)
 why file left load_fault.Memory failed = (tt, λ other. cut_contents file left failed.contents)
 
-pub repo_unopened : (file left : DiskState) (fault : LoadFault) → opening.OpenFailed fault file left → KeepsUnreadable file left → KeepsBetween file left → Keeps file left → IsUnopened file left fault
-repo_unopened file left fault failed unreadable between keeps =
+pub repo_unopened : (file left : DiskState) (fault : LoadFault) → opening.OpenFailed fault file left → IsSpared file left → KeepsUnreadable file left → KeepsBetween file left → Keeps file left → IsUnopened file left fault
+repo_unopened file left fault failed spared unreadable between keeps =
     let is = why file left fault failed in
-    record { cause = is.0; contents = is.1; unreadable = unreadable; any_moment = images_kept file left between; keeps = keeps }
+    record { cause = is.0; contents = is.1; modelled = spared_contents file left spared; unreadable = unreadable; any_moment = images_kept file left between; keeps = keeps }
 
 -- no call of its disk failed, but for that with which the opening ended
 pub unopened_counts : (file left : DiskState) (fault : LoadFault) → opening.OpenFailed fault file left → (fault ≡ load_fault.Disk → ⊥) → left.faults ≡ file.faults

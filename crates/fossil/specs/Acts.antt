@@ -111,6 +111,8 @@ IsNotLoaded load_fault.Memory file left = ⊤
 pub record IsUnopened (file left : DiskState) (fault : LoadFault) : Type 0 where
   pub cause : IsNotLoaded fault file left
   pub contents : fault ≢ load_fault.Disk → KeepsContents file left
+  -- even where the disk failed
+  pub modelled : IsModelled file → KeepsContents file left
   pub unreadable : KeepsUnreadable file left
   pub any_moment : KeepsImages file left
   pub keeps : Keeps file left

@@ -183,9 +183,9 @@ IsLeft status old commits bytes =
     MatchBool (is_done status) (StandsForAll old commits bytes)
     (MatchBool (status == 4) (StandsForSome old commits bytes) (StandsFor old bytes))
 
--- a disk that failed tells what it holds by the disk model alone, where each image stood for the old records
+-- a disk that failed tells what it holds by the disk model alone, and where the file was to be made, by what each image stood for
 abbrev pub IsKnown : Option Command → ℕ → List Record → DiskState → Type 0
-IsKnown command status old file = status ≡ 4 → IsTrue file.is_model × AreImages command old file.images
+IsKnown command status old file = status ≡ 4 → IsTrue file.is_model × (IsTrue (begins command) → AreImages command old file.images)
 
 -- the contents after the run, where they are told, stand for what the status says
 abbrev pub IsFileLeft : Option Command → File → ℕ → List ℕ → Outcome → Type 0

@@ -1,7 +1,7 @@
 -- What one record does to what the code keeps.
 use Rattle.std.proofs.Common.{◌≡◌, ℕ, ◌+◌, Bool, true, false, cond, List, [], ◌∷◌, ◌++◌, length, Option, Some, None, refl, sym, ap, ◌∙◌, subst, not}
 use Rattle.std.specs.Prelude.{◌||◌, ◌&&◌, if◌then◌else◌, is_some, IfSome}
-use Rattle.std.specs.Option.{option_map, option_map_or}
+use Rattle.std.specs.Option.{option_map, option_map_or, option_or}
 use Rattle.std.specs.Cmp.{eq_by_cmp_equiv, tied_itself}
 use Rattle.std.specs.Cmp.Lexicographic.{texts_ties}
 use Rattle.std.specs.Str.{bytes_eq}
@@ -365,6 +365,29 @@ module _ (records : List Record) (found : Config) (es : List (List ℕ × HeldAr
       places = publish-placed;
       shunned = λ q. kept.shunned q ∙ ap (λ (s : FinSet bytes_cmp). set.contains s q) (sym (ap (λ (c : Contents). c.shunned) (contents_push records publish) ∙ publish-shunned (contents records) name));
       new = still_means (contents (with_one publish)) announced announced (publish-still name);
+    }
+
+  -- ---- another Config changes nothing
+
+  module _ (other : Config) where
+    abbrev config : Record
+    config = record_of.Config other
+
+    config-still : IsStill (contents (with_one config)) announced announced
+    config-still =
+        subst (λ (c : Contents). IsStill c announced announced) (sym (contents_push records config))
+        (still_same (contents records) (after (contents records) config) announced kept.new (λ q. refl))
+
+    pub announced-config : set.from_list {R = bytes_cmp} announced ≡ still_new (contents (with_one config)) (set.from_list announced)
+    announced-config = still_new-from (contents (with_one config)) announced announced config-still
+
+    pub kept-config : IsKept (with_one config) found es shuns announced
+    kept-config = record {
+      config = ap (λ (c : Contents). c.config) (contents_push records config) ∙ ap (λ (o : Option Config). option_or o (Some other)) kept.config;
+      held = λ q. kept.held q ∙ ap (λ (c : Contents). map_of.get c.held q) (sym (contents_push records config));
+      places = λ q. placed_still records config q (held_at es q) (kept.held q) (kept.places q);
+      shunned = λ q. kept.shunned q ∙ ap (λ (c : Contents). set.contains c.shunned q) (sym (contents_push records config));
+      new = still_means (contents (with_one config)) announced announced config-still;
     }
 
   -- ---- a name is shunned

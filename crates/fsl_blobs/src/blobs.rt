@@ -117,10 +117,9 @@ impl Blobs {
         })
     }
 
-    /// Reads one record more, which is no Config. Its bytes are moved. An announced name that is held or shunned from now
-    /// on is no longer announced. For want of memory all stays as it was.
+    /// Reads one record more. Its bytes are moved. An announced name that is held or shunned from now on is no longer
+    /// announced, and another Config changes nothing. For want of memory all stays as it was.
     pub fn apply(&mut self, entry: Record) -> Result<(), Memory>
-        requires { is_config entry ≡ false }
         ensures ok { OnOk result (self.new ≡ applied self.old entry) }
         ensures err { OnErr result (self.new ≡ self.old) }
     {

@@ -4,7 +4,6 @@ ghost use Rattle.std.specs.Option.{option_map};
 ghost use Rattle.std.specs.FinSet as set;
 ghost use Rattle.fsl_record.specs.declared.Config as config_of;
 ghost use Rattle.fsl_record.specs.declared.Record as record_of;
-ghost use Rattle.fsl_record.specs.Records.{is_config};
 ghost use Rattle.fsl_blobs.specs.Fold.{contents};
 ghost use Rattle.fsl_blobs.specs.Held.{still_new};
 ghost use Rattle.fsl_blobs.specs.Kept.{is_same, is_kept, held_at, stands, published, name_in, names_in, added, revealed, gone, IsKept, StaysOrdered};
@@ -91,8 +90,8 @@ fn shun(
     Ok(())
 }
 
-/// Reads a record, which is no Config and comes at this place, counted from 1. A name that is held or shunned isn't
-/// announced.
+/// Reads a record, which comes behind the first Config at this place, counted from 1. Another Config changes nothing. A
+/// name that is held or shunned isn't announced.
 pub(crate) fn change(
     held: &mut BTreeMap<Name, HeldArtifact>,
     shunned: &mut BTreeSet<Name>,
@@ -101,7 +100,6 @@ pub(crate) fn change(
     place: u64,
     entry: Record,
 ) -> Result<(), Memory>
-    requires { is_config entry ≡ false }
     ensures kept { OnOk result ((records : List record_of.Record) (found : config_of.Config) → IsKept records found held.old.entries shunned.old.keys announced.old.keys → place ≡ length records + 1 → IsKept (records ++ entry ∷ []) found held.new.entries shunned.new.keys announced.new.keys) }
     ensures announced { OnOk result ((records : List record_of.Record) (found : config_of.Config) → IsKept records found held.old.entries shunned.old.keys announced.old.keys → set.from_list announced.new.keys ≡ still_new (contents (records ++ entry ∷ [])) (set.from_list announced.old.keys)) }
     // Whatever the answer.
@@ -111,7 +109,7 @@ pub(crate) fn change(
     ensures announced_err { OnErr result (announced.new.keys ≡ announced.old.keys) }
 {
     match entry {
-        Record::Config(_) => unreachable!(),
+        Record::Config(_) => Ok(()),
         Record::Blob {
             private,
             name,

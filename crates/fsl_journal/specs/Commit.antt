@@ -1,7 +1,8 @@
 -- What a crash leaves while a group is written behind a closed gate and the gate is opened.
-use Rattle.std.specs.Prelude.{◌≡◌, ◌⊎◌, ℕ, ◌+◌, List, [], ◌∷◌, ◌++◌, length, take, IsTrue}
+use Rattle.std.specs.Prelude.{◌≡◌, ◌⊎◌, ℕ, ◌+◌, List, [], ◌∷◌, ◌++◌, length, take, Some, IsTrue}
 use Rattle.std.specs.Int.{to_be_bytes, w64}
 use Rattle.fsl_disk.specs.Disk.{DiskState, Told, Begins}
+use Rattle.fsl_journal.specs.File.{open_gate}
 
 -- a number in 8 bytes, the greatest first
 unfoldable pub eight : ℕ → List ℕ
@@ -14,6 +15,10 @@ body_of bytes = eight (length bytes) ++ bytes ++ 0x43 ∷ []
 -- the contents with the byte at the place changed, and a body behind it
 abbrev pub gated : List ℕ → ℕ → ℕ → List ℕ → List ℕ
 gated held place gate body = take place held ++ gate ∷ body
+
+-- what a commit of bytes at this place makes of the contents: an open gate in place of the closed one, and the body behind it
+abbrev pub IsGrouped : ℕ → List ℕ → DiskState → DiskState → Type 0
+IsGrouped place bytes before after = Told before (λ held. after.contents ≡ Some (gated held place open_gate (body_of bytes)))
 
 -- what was held and anything behind it; or the body whole behind its gate, whatever the gate's byte
 abbrev pub HeldOrGated : List ℕ → ℕ → List ℕ → List ℕ → Type 0

@@ -1,10 +1,12 @@
 -- When a disk belongs to a journal, and what the answers of its calls say.
-use Rattle.std.specs.Prelude.{◌≡◌, ◌⊎◌, ℕ, ◌+◌, ◌≤◌, ◌<◌, None, Some, List, [], ◌∷◌, length, IsTrue}
+use Rattle.std.specs.Prelude.{◌≡◌, ◌≢◌, ◌⊎◌, ℕ, ◌+◌, ◌≤◌, ◌<◌, None, Some, List, [], ◌∷◌, length, drop, IsTrue}
 use Rattle.fsl_disk.specs.Disk.{DiskState, IsModelled, Told, Begins, Quiet}
 use Rattle.fsl_order.specs.Causes.{Rose}
 use Rattle.fsl_record.specs.declared.Config.{Config}
 use Rattle.fsl_record.specs.declared.Record.{Record}
 use Rattle.fsl_record.specs.declared.Record.TheVariants as record_of
+use Rattle.fsl_record.specs.Records.{records_bytes}
+use Rattle.fsl_journal.specs.Commit.{IsGrouped}
 use Rattle.fsl_journal.specs.File.{IsFileOf, FailsAt}
 use Rattle.fsl_journal.specs.Log.{Log, committed, BeforeOrAll, IsLog, IsNoFile}
 use Rattle.fsl_journal.specs.declared.CommitFault.{CommitFault}
@@ -32,6 +34,10 @@ pub record Committed (answer : ℕ) (old new : Log) (before after : DiskState) :
   pub stable : new.stable ≡ length old.records
   pub goes_on : new.stopped ≡ None
   pub faults : after.faults ≡ before.faults
+
+-- what a commit makes of the contents, where there is something to commit: one group with the bytes of the appended records
+abbrev pub IsWritten : Log → DiskState → DiskState → Type 0
+IsWritten log before after = log.stable ≢ length log.records → IsGrouped log.place (records_bytes (drop log.stable log.records)) before after
 
 -- a commit that answers a fault: it was stopped, or the disk's count rose and now it is
 abbrev pub CommitFailed : CommitFault → Log → Log → DiskState → DiskState → Type 0

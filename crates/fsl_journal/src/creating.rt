@@ -4,7 +4,7 @@ ghost use Rattle.fsl_order.specs.Causes.{HasCause};
 ghost use Rattle.fsl_disk.specs.Disk.{DiskState, IsModelled, Told, Keeps, Quiet, Only, LeavesOnly};
 ghost use Rattle.fsl_record.specs.Records.{AreFields, record_bytes, IsFit};
 ghost use Rattle.fsl_record.specs.declared.Record.TheVariants as record_of;
-ghost use Rattle.fsl_journal.specs.Create.{new_file, IsShort};
+ghost use Rattle.fsl_journal.specs.Create.{new_file, IsShort, config_file};
 ghost use Rattle.fsl_journal.specs.File.{IsFileOf};
 ghost use Rattle.fsl_journal.specs.Journal.{NothingOr, CreateFailed, IsMade};
 ghost use Rattle.fsl_journal.specs.Log.{WhereEmpty};
@@ -42,6 +42,7 @@ fn write_file<D: Disk>(disk: &mut D, config: &Config, bytes: &[u8]) -> Result<()
     requires fits { length bytes.now < 2 ^ 64 }
     ensures file { OnOk result (Told (D.state disk.old) (λ _. (held : List ℕ) × ((D.state disk.new).contents ≡ Some held) × IsFileOf held (record_of.Config config.now ∷ []))) }
     ensures durable { OnOk result (IsModelled (D.state disk.old) → (c : List ℕ) → (D.state disk.new).images c → IsFileOf c (record_of.Config config.now ∷ [])) }
+    ensures written { OnOk result (Told (D.state disk.old) (λ _. (D.state disk.new).contents ≡ Some (config_file config.now))) }
     ensures any_moment { WhereEmpty (D.state disk.old) (LeavesOnly (D.state disk.old) (D.state disk.new) (NothingOr config.now)) }
     ensures keeps { Keeps (D.state disk.old) (D.state disk.new) }
     ensures cause { HasCause (D.state disk.old).faults (D.state disk.new).faults result }
@@ -67,6 +68,8 @@ pub fn create<D: Disk>(alloc: Global, disk: &mut D, config: &Config) -> Result<(
     // Where each image is empty at its start, a crash leaves no repository, or the one with the Config alone; after Ok the latter.
     ensures any_moment { WhereEmpty (D.state disk.old) (LeavesOnly (D.state disk.old) (D.state disk.new) (NothingOr config.now)) }
     ensures durable { OnOk result (IsModelled (D.state disk.old) → (c : List ℕ) → (D.state disk.new).images c → IsFileOf c (record_of.Config config.now ∷ [])) }
+    // Byte for byte.
+    ensures written { OnOk result (Told (D.state disk.old) (λ _. (D.state disk.new).contents ≡ Some (config_file config.now))) }
 {
     let len = disk.len()?;
     if len != 0 {

@@ -3,7 +3,7 @@ ghost use Rattle.std.specs.Prelude.{◌≡◌, ◌⊎◌, IsSome, ◌++◌, ◌�
 ghost use Rattle.fsl_disk.specs.Disk.{IsModelled, Keeps, LeavesOnly};
 ghost use Rattle.fsl_record.specs.Records.{AreRecords, IsWritable, is_config};
 ghost use Rattle.fsl_journal.specs.File.{IsFileOf};
-ghost use Rattle.fsl_journal.specs.Journal.{Belongs, Committed, CommitFailed};
+ghost use Rattle.fsl_journal.specs.Journal.{Belongs, Committed, CommitFailed, IsWritten};
 ghost use Rattle.fsl_journal.specs.Log.{Log, BeforeOrAll};
 
 use crate::CommitFault;
@@ -146,6 +146,8 @@ impl Journal {
         ensures any_moment { IsModelled (D.state disk.old) → LeavesOnly (D.state disk.old) (D.state disk.new) (BeforeOrAll self.old) }
         // After Ok each stands for all.
         ensures durable { OnOk result (IsModelled (D.state disk.old) → (c : List ℕ) → (D.state disk.new).images c → IsFileOf c self.old.records) }
+        // The appended records are one group, byte for byte, with a new closed gate behind it.
+        ensures written { OnOk result (IsWritten self.old (D.state disk.old) (D.state disk.new)) }
     {
         if let Some(faults) = self.stopped {
             return Err(CommitFault::Stopped { faults });

@@ -1,12 +1,12 @@
 //! A door over memory, which fails at the calls that lists name.
-ghost use Rattle.std.specs.Prelude.{◌≡◌, ◌<◌, length, min, map, Contains, IsErr, IsNone, IsSome, IfSome, IfOk, OnErr};
+ghost use Rattle.std.specs.Prelude.{◌≡◌, ◌<◌, ◌≤◌, length, min, map, Contains, IsErr, IsNone, IsSome, IfSome, IfOk, OnErr};
 ghost use Rattle.std.specs.Io.{ReadsAtMost, WritesAtMost};
 ghost use Rattle.fsl_order.specs.Causes.{HasCause};
 ghost use Rattle.fsl_outside.specs.Memory.{next};
 ghost use Rattle.fsl_outside.specs.Connections.{LinkReads, LinkWrites};
 ghost use Rattle.fsl_outside.specs.declared.link.Accepted.TheVariants as accepted;
 ghost use Rattle.fsl_outside.specs.Accepts.{AcceptLists, AcceptCounts};
-ghost use Rattle.fsl_outside.specs.Lines.{none_yet, IsOneCall, SentBy};
+ghost use Rattle.fsl_outside.specs.Lines.{none_yet, line_count, IsOneCall, SentBy};
 ghost use Rattle.fsl_outside.specs.Dials.{door_state, door_standing, DoorGives};
 
 use super::lines::Connections;
@@ -84,6 +84,7 @@ impl MemoryDoor {
     fn take_next(&mut self) -> Result<Accepted, Failed>
         ensures only { self.new ≡ record self.old { lines = self.new.lines } }
         ensures gives { IfOk result (DoorGives self.old self.new.lines) }
+        ensures shut { OnErr result (line_count self.old.lines < length self.old.connections) }
         ensures err { OnErr result (self.new.lines ≡ self.old.lines) }
     {
         let at = self.lines.count();
@@ -159,6 +160,8 @@ impl Door for MemoryDoor {
         ensures fails { self.new.accept_fails ≡ self.old.accept_fails }
         ensures connections { self.new.connections ≡ self.old.connections }
         ensures told { Contains self.old.accept_fails (next self.old.accepts) → IsErr result }
+        // Behind the last connection it fails only where it is to, and else is closed.
+        ensures shut { IsErr result → length self.old.connections ≤ line_count self.old.lines → Contains self.old.accept_fails (next self.old.accepts) }
     {
         self.accepts = self.accepts.saturating_add(1);
         if self.accept_fails.contains(&self.accepts) {

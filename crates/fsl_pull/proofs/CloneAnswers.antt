@@ -189,6 +189,9 @@ module _ (k : CloneOf) (IsKept : List (List Record) → Type 0) (l0 l l2 : LinkS
     pub differs : (at : ℕ) → k.MayDiffer → Call (Err (fault.NotRepository at))
     differs at may = told_first (Err (fault.NotRepository at)) (may, refl, unmade)
 
+    pub forestalled : (len : ℕ) → k.MayDiffer → 0 < len → k.Leaves [] → Call (Err (fault.NotEmpty len))
+    forestalled len may some left = told_first (Err (fault.NotEmpty len)) (inr (record { may = may; some = some; whole = refl; unmade = unmade; left = left }))
+
   pub no_round : (result : Result Pulled PullFault) → l2 ≡ l0 → IsKept [] → IsCloneAnswer k (dialled l0 l2) faults IsKept result [] [] → Call result
   no_round result same kept answer = (
     [],
@@ -304,7 +307,9 @@ module _ (k : CloneOf) (Length : ℕ → Type 0) (Leaves : List (List Record) �
         },
       )
   answer_on IsKept IsKeptToo d faults (Err (fault.NotRepository at)) rounds broken on kept_on (may, none, h) = (may_on may, none, unmade_on rounds h)
-  answer_on IsKept IsKeptToo d faults (Err (fault.NotEmpty len)) rounds broken on kept_on h = end_on (Some (fault.NotEmpty len)) None rounds broken on h
+  answer_on IsKept IsKeptToo d faults (Err (fault.NotEmpty len)) rounds broken on kept_on (inl h) = inl (end_on (Some (fault.NotEmpty len)) None rounds broken on h)
+  answer_on IsKept IsKeptToo d faults (Err (fault.NotEmpty len)) rounds broken on kept_on (inr h) =
+      inr (record { may = may_on h.may; some = h.some; whole = h.whole; unmade = unmade_on rounds h.unmade; left = on [] h.left })
   answer_on IsKept IsKeptToo d faults (Err (fault.Project found)) rounds broken on kept_on h = end_on (Some (fault.Project found)) None rounds broken on h
   answer_on IsKept IsKeptToo d faults (Err (fault.Stopped count)) rounds broken on kept_on h = end_on (Some (fault.Stopped count)) None rounds broken on h
   answer_on IsKept IsKeptToo d faults (Err (fault.Peer why)) rounds broken on kept_on h = end_on (Some (fault.Peer why)) None rounds broken on h

@@ -12,11 +12,13 @@ use Rattle.fsl_record.specs.declared.Record.TheVariants as record_of
 use Rattle.fsl_record.specs.Records.{AreRecords}
 use Rattle.fsl_journal.specs.File.{IsFileOf, FailsAt, header}
 use Rattle.fsl_journal.specs.Log.{IsNoFile, StandsBetween}
-use Rattle.fsl_journal.specs.Journal.{OfBytes, IsMade, NothingOr}
+use Rattle.fsl_journal.specs.Journal.{OfBytes, IsMade, CreateFailed, NothingOr}
 use Rattle.fsl_journal.proofs.Unique.{one_file}
 use Rattle.fsl_journal.proofs.Failing.{no_file}
 use Rattle.fsl_wire.specs.declared.WireCard.{WireCard}
 use Rattle.fsl_blobs.specs.Fold.{contents}
+use Rattle.fsl_journal.specs.declared.CreateFault.{CreateFault}
+use Rattle.fsl_journal.specs.declared.CreateFault.TheVariants as create_fault
 use Rattle.fsl_journal.specs.declared.LoadFault.{LoadFault}
 use Rattle.fsl_journal.specs.declared.LoadFault.TheVariants as load_fault
 use Rattle.fsl_repo.specs.Opening.{IsOpened, IsCutAtMost, OpenFailed}
@@ -25,7 +27,7 @@ use Rattle.fsl_pull.specs.CloneCalls.{IsEmptied, NoneOr}
 use Rattle.fsl_pull.specs.declared.PullFault.{PullFault}
 use Rattle.fsl_pull.specs.declared.PullFault.TheVariants as fault
 use Rattle.fsl_pull.specs.Clones.{project_in, config_of}
-use Rattle.fsl_pull.specs.CloneTurns.{IsOnly, opening_fault, IsMadeBy, IsUnopened, IsLeftBy, IsUnmadeBy, IsBegunBy, IsUnbegun, made_disk}
+use Rattle.fsl_pull.specs.CloneTurns.{IsOnly, opening_fault, making_fault, IsMadeBy, IsUnopened, IsLeftBy, IsUnmadeBy, IsBegunBy, IsUnbegun, made_disk}
 
 -- ---- a Config alone
 
@@ -169,6 +171,12 @@ module _ (config : Config) (before mid after : DiskState) (made : IsMade config 
 pub not_empty : (before : DiskState) (len : ℕ) → Told before (λ held. held ≡ []) → 0 < len → Told before (λ held. len ≡ length held) → before.contents ≡ None
 not_empty before len empty some is = untold before.contents (λ held told. omega (arith, some, is held told, ap length (empty held told)))
 
+-- the file wasn't made
+pub uncreated : (config : Config) (before after : DiskState) → Told before (λ held. held ≡ []) → (why : CreateFault) → CreateFailed why before after → IsUnmadeBy config before after (making_fault why)
+uncreated config before after empty (create_fault.NotEmpty len) h = (h.0.faults, not_empty before len empty h.1 h.2, h.1, h.3)
+uncreated config before after empty create_fault.Disk h = h
+uncreated config before after empty create_fault.Memory h = inl (record { faults = h.0.faults; left = h.2 })
+
 -- a making that is followed by an opening
 pub both_moments : (config : Config) (before mid after : DiskState) → (IsModelled before → ((c : List ℕ) → before.images c → c ≡ []) → LeavesOnly before mid (NothingOr config)) → (IsModelled before → (c : List ℕ) → mid.images c → IsFileOf c (alone config)) → Keeps before mid
     → (IsModelled mid → ((c : List ℕ) → mid.images c → IsFileOf c (alone config)) → LeavesOnly mid after (λ c. IsFileOf c (alone config))) → IsEmptied before → LeavesOnly before after (NoneOr (alone config))
@@ -208,7 +216,7 @@ module _ {D : Type 0} (disk : D → DiskState) (server : List ℕ) (fields : Lis
   unbegun_why after fault.Disk h = (project, pushes, h)
   unbegun_why after fault.Memory h = (project, pushes, h)
   unbegun_why after (fault.NotRepository place) h = (project, pushes, h)
-  unbegun_why after (fault.NotEmpty len) h = absurd h
+  unbegun_why after (fault.NotEmpty len) h = (project, pushes, h)
   unbegun_why after (fault.Project found) h = absurd h
   unbegun_why after (fault.Stopped faults) h = absurd h
   unbegun_why after fault.Link h = absurd h

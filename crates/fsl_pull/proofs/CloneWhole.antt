@@ -35,7 +35,7 @@ use Rattle.fsl_pull.specs.CloneTurns.{clone_bytes, IsUnreplied, IsMadeBy, IsUnma
 use Rattle.fsl_pull.proofs.OneEnd.{read_one}
 use Rattle.fsl_pull.proofs.DialCounts.{counts_on}
 use Rattle.fsl_pull.proofs.DialLemmas.{all_of, cut_off, idle, none_joined}
-use Rattle.fsl_pull.proofs.CloneAnswers.{cut, left_off, refused, in_part, unmade_by_disk, differs, no_round, unless_on, unless_all, call_on}
+use Rattle.fsl_pull.proofs.CloneAnswers.{cut, left_off, refused, in_part, unmade_by_disk, differs, forestalled, no_round, unless_on, unless_all, call_on}
 use Rattle.fsl_pull.proofs.CloneTurnLemmas.{cloned_longer}
 use Rattle.fsl_pull.proofs.CloneMaking.{empty_is_none, itself_quiet}
 
@@ -176,7 +176,8 @@ module _ {D : Type 0} (disk : D → DiskState) (server : List ℕ) (fields : Lis
           left.left (λ emptied. inl (moments emptied)) kept_so
       unmade_answer (fault.NotRepository place) keeps (same, none) =
           differs (The x) (Kept x) l0 l0 l1 (disk x).faults first exchange unmade kept_so place (none_told (disk before) (disk x) keeps none)
-      unmade_answer (fault.NotEmpty len) keeps h = absurd h
+      unmade_answer (fault.NotEmpty len) keeps (same, none, some, quiet) =
+          forestalled (The x) (Kept x) l0 l0 l1 (disk x).faults first exchange unmade kept_so len (none_told (disk before) (disk x) keeps none) some quiet
       unmade_answer (fault.Project found) keeps h = absurd h
       unmade_answer (fault.Stopped faults) keeps h = absurd h
       unmade_answer fault.Link keeps h = absurd h
@@ -206,7 +207,7 @@ module _ {D : Type 0} (disk : D → DiskState) (server : List ℕ) (fields : Lis
     unbegun x fault.Disk keeps moments (project, pushes, h) = unmade_answer x project pushes (moments project pushes) fault.Disk keeps h
     unbegun x fault.Memory keeps moments (project, pushes, h) = unmade_answer x project pushes (moments project pushes) fault.Memory keeps h
     unbegun x (fault.NotRepository place) keeps moments (project, pushes, h) = unmade_answer x project pushes (moments project pushes) (fault.NotRepository place) keeps h
-    unbegun x (fault.NotEmpty len) keeps moments (project, pushes, h) = absurd h
+    unbegun x (fault.NotEmpty len) keeps moments (project, pushes, h) = unmade_answer x project pushes (moments project pushes) (fault.NotEmpty len) keeps h
     unbegun x (fault.Project found) keeps moments (project, pushes, h) = absurd h
     unbegun x (fault.Stopped faults) keeps moments (project, pushes, h) = absurd h
     unbegun x fault.Link keeps moments (project, pushes, h) = absurd h
@@ -257,7 +258,7 @@ unmade_same config before after fault.Disk h = tt
 unmade_same config before after fault.Memory (inl left) = left.faults
 unmade_same config before after fault.Memory (inr left) = left.faults
 unmade_same config before after (fault.NotRepository place) h = h.0
-unmade_same config before after (fault.NotEmpty len) h = absurd h
+unmade_same config before after (fault.NotEmpty len) h = h.0
 unmade_same config before after (fault.Project found) h = absurd h
 unmade_same config before after (fault.Stopped faults) h = absurd h
 unmade_same config before after fault.Link h = absurd h
@@ -272,7 +273,7 @@ unbegun_same disk server fields reply before after (fault.Peer why) (is, none, s
 unbegun_same disk server fields reply before after fault.Disk (project, pushes, h) = unmade_same (config_of project server fields) (disk before) (disk after) fault.Disk h
 unbegun_same disk server fields reply before after fault.Memory (project, pushes, h) = unmade_same (config_of project server fields) (disk before) (disk after) fault.Memory h
 unbegun_same disk server fields reply before after (fault.NotRepository place) (project, pushes, h) = unmade_same (config_of project server fields) (disk before) (disk after) (fault.NotRepository place) h
-unbegun_same disk server fields reply before after (fault.NotEmpty len) (project, pushes, h) = absurd h
+unbegun_same disk server fields reply before after (fault.NotEmpty len) (project, pushes, h) = unmade_same (config_of project server fields) (disk before) (disk after) (fault.NotEmpty len) h
 unbegun_same disk server fields reply before after (fault.Project found) (project, pushes, h) = absurd h
 unbegun_same disk server fields reply before after (fault.Stopped faults) (project, pushes, h) = absurd h
 unbegun_same disk server fields reply before after fault.Link (project, pushes, h) = absurd h
@@ -323,7 +324,7 @@ module _ {D : Type 0} (disk : D → DiskState) (server : List ℕ) (fields : Lis
       let end : End = not_empty_end n len in
       let is_end : IsClone server fields login len n none end =
       subst (λ (b : Bool). MatchBool b (IsSync (CloneRound server fields login) (clone_start n) none end) ((none ≡ []) × (end ≡ not_empty_end n len))) (sym some) (refl, refl) in
-      no_round (clone_onto server fields login (disk d0) (disk d1)) (IsKeptSince disk d0 d1) l0 l0 l0 (disk d1).faults (Err (fault.NotEmpty len)) refl quiet (
+      no_round (clone_onto server fields login (disk d0) (disk d1)) (IsKeptSince disk d0 d1) l0 l0 l0 (disk d1).faults (Err (fault.NotEmpty len)) refl quiet (inl (
         refl,
         (
           len,
@@ -336,7 +337,7 @@ module _ {D : Type 0} (disk : D → DiskState) (server : List ℕ) (fields : Lis
             quiet,
           ),
         ),
-      )
+      ))
 
   -- it has none, and the clone goes on over the disk as it is now
   module _ (only_now : (c : List ℕ) → IsTrue (disk d0).is_model → (disk d0).since (disk d0).moment c → (disk d0).images c) (quiet : Quiet (disk d0) (disk d1)) (same : (disk d1).faults ≡ (disk d0).faults) where

@@ -158,7 +158,15 @@ pub record IsCommitLost (k : CloneOf) (rounds : Rounds) : Type 0 where
 abbrev pub IsCloneFailed : CloneOf → Rounds → Type 0
 IsCloneFailed k rounds = (rounds ≡ []) ⊎ (IsUnmade k rounds ⊎ IsCommitLost k rounds)
 
--- what a clone answers: its end; a fault of the dial, whose count rose, within the limit of rounds; a fault of the disk, whose count rose; want of memory, behind some rounds or in the midst of the last; or that the file that it made reads back as another
+-- the file, which was empty before the first round, had bytes when it was to be made, and stays as it is
+pub record IsForestalled (k : CloneOf) (len : ℕ) (rounds : Rounds) (broken : List Connection) : Type 0 where
+  pub may : k.MayDiffer
+  pub some : 0 < len
+  pub whole : broken ≡ []
+  pub unmade : IsUnmade k rounds
+  pub left : k.Leaves []
+
+-- what a clone answers: its end; a fault of the dial, whose count rose, within the limit of rounds; a fault of the disk, whose count rose; want of memory, behind some rounds or in the midst of the last; that the file that it made reads back as another; or that another program wrote the file meanwhile
 abbrev pub IsCloneAnswer : CloneOf → Dialled → ℕ → (List (List Record) → Type 0) → Result Pulled PullFault → Rounds → List Connection → Type 0
 IsCloneAnswer k d faults IsKept (Ok pulled) rounds broken = IsCloneEnd k None (Some pulled) rounds broken
 IsCloneAnswer k d faults IsKept (Err fault.Link) rounds broken = Rose d.faults_before d.faults_after × IsCloneLeftOff k IsBrokenOff 1 rounds broken
@@ -166,6 +174,7 @@ IsCloneAnswer k d faults IsKept (Err fault.Disk) rounds broken = Rose k.faults f
 IsCloneAnswer k d faults IsKept (Err fault.Memory) rounds broken =
     IsCloneLeftOff k IsLeft (length broken) rounds broken ⊎ ((broken ≡ []) × IsCloneBroken k IsKept rounds)
 IsCloneAnswer k d faults IsKept (Err (fault.NotRepository at)) rounds broken = k.MayDiffer × (broken ≡ []) × IsUnmade k rounds
+IsCloneAnswer k d faults IsKept (Err (fault.NotEmpty len)) rounds broken = IsCloneEnd k (Some (fault.NotEmpty len)) None rounds broken ⊎ IsForestalled k len rounds broken
 IsCloneAnswer k d faults IsKept (Err why) rounds broken = IsCloneEnd k (Some why) None rounds broken
 
 -- of an answer other than `Disk` this holds

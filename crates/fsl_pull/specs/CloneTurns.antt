@@ -1,12 +1,14 @@
 -- What the code says of the parts of a clone.
-use Rattle.std.specs.Prelude.{◌≡◌, ◌≢◌, ℕ, ◌≤◌, ◌==◌, ◌⊎◌, true, List, [], ◌∷◌, take, Option, Some, None, Result, Ok, Err, if◌then◌else◌}
+use Rattle.std.specs.Prelude.{◌≡◌, ◌≢◌, ℕ, ◌<◌, ◌≤◌, ◌==◌, ◌⊎◌, true, List, [], ◌∷◌, take, Option, Some, None, Result, Ok, Err, if◌then◌else◌}
 use Rattle.fsl_order.specs.Causes.{Rose}
-use Rattle.fsl_disk.specs.Disk.{DiskState, IsModelled, LeavesOnly, Told}
+use Rattle.fsl_disk.specs.Disk.{DiskState, IsModelled, LeavesOnly, Quiet, Told}
 use Rattle.fsl_outside.specs.Connections.{LinkState}
 use Rattle.fsl_record.specs.declared.Config.{Config}
 use Rattle.fsl_record.specs.declared.Record.{Record}
 use Rattle.fsl_record.specs.declared.Record.TheVariants as record_of
 use Rattle.fsl_journal.specs.File.{IsFileOf}
+use Rattle.fsl_journal.specs.declared.CreateFault.{CreateFault}
+use Rattle.fsl_journal.specs.declared.CreateFault.TheVariants as create_fault
 use Rattle.fsl_journal.specs.declared.LoadFault.{LoadFault}
 use Rattle.fsl_journal.specs.declared.LoadFault.TheVariants as load_fault
 use Rattle.fsl_wire.specs.declared.WireCard.{WireCard}
@@ -99,6 +101,12 @@ opening_fault load_fault.Disk = fault.Disk
 opening_fault (load_fault.NotRepository at) = fault.NotRepository at
 opening_fault load_fault.Memory = fault.Memory
 
+-- why a file wasn't made
+abbrev pub making_fault : CreateFault → PullFault
+making_fault (create_fault.NotEmpty len) = fault.NotEmpty len
+making_fault create_fault.Disk = fault.Disk
+making_fault create_fault.Memory = fault.Memory
+
 -- a file of this Config alone wasn't opened: the disk failed; there was no memory, and it stays such a file; or it reads as another, which one that is told doesn't
 abbrev pub IsUnopened : Config → DiskState → DiskState → PullFault → Type 0
 IsUnopened config before after fault.Disk = Rose before.faults after.faults
@@ -112,11 +120,12 @@ pub record IsLeftBy (before after : DiskState) (commits : List (List Record)) : 
   pub faults : after.faults ≡ before.faults
   pub left : IsLeftAs before after commits
 
--- it wasn't: the disk failed; there was no memory, before the file was made or behind that; or a file that isn't told reads back as another
+-- it wasn't: the disk failed; there was no memory, before the file was made or behind that; or a file that isn't told reads back as another, or has bytes after all and stays as it is
 abbrev pub IsUnmadeBy : Config → DiskState → DiskState → PullFault → Type 0
 IsUnmadeBy config before after fault.Disk = Rose before.faults after.faults
 IsUnmadeBy config before after fault.Memory = IsLeftBy before after [] ⊎ IsLeftBy before after ((record_of.Config config ∷ []) ∷ [])
 IsUnmadeBy config before after (fault.NotRepository at) = (after.faults ≡ before.faults) × (before.contents ≡ None)
+IsUnmadeBy config before after (fault.NotEmpty len) = (after.faults ≡ before.faults) × (before.contents ≡ None) × (0 < len) × Quiet before after
 IsUnmadeBy config before after why = ⊥
 
 -- the disk that comes back

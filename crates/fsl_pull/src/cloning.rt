@@ -11,7 +11,7 @@ ghost use Rattle.fsl_pull.specs.Replies.{codes_of, sequel_of, sequel_in};
 ghost use Rattle.fsl_pull.specs.Clones.{project_of, project_in, first_record};
 ghost use Rattle.fsl_pull.specs.Asking.{IsAsked, IsDialCounted};
 ghost use Rattle.fsl_pull.specs.CloneCalls.{IsEmptied, NoneOr, UnlessDisk, IsClonedOver};
-ghost use Rattle.fsl_pull.specs.CloneTurns.{clone_bytes, IsUnreplied, place_by, IsCloneTaken, IsCloneTurned, IsOnly, opening_fault, IsMadeBy, IsUnopened, IsUnmadeBy, made_disk, IsBegunBy, IsUnbegun, IsClonedOn, IsClosedOn};
+ghost use Rattle.fsl_pull.specs.CloneTurns.{clone_bytes, IsUnreplied, place_by, IsCloneTaken, IsCloneTurned, IsOnly, opening_fault, making_fault, IsMadeBy, IsUnopened, IsUnmadeBy, made_disk, IsBegunBy, IsUnbegun, IsClonedOn, IsClosedOn};
 
 use crate::asking::{Unasked, ask};
 use crate::committing::commit;
@@ -186,6 +186,17 @@ fn opening_fault(fault: LoadFault) -> PullFault
     }
 }
 
+/// Why a file wasn't made. One that was empty and has bytes now was written by another program meanwhile.
+fn making_fault(fault: CreateFault) -> PullFault
+    ensures { result ≡ making_fault fault }
+{
+    match fault {
+        CreateFault::NotEmpty { len } => PullFault::NotEmpty { len },
+        CreateFault::Disk => PullFault::Disk,
+        CreateFault::Memory => PullFault::Memory,
+    }
+}
+
 /// Opens the repository that was made on a disk.
 fn opened_made<D: Disk>(alloc: Global, disk: D, config: &Config) -> Result<Repo<D>, (D, PullFault)>
     ensures opened { IfOk result (λ repo. IsMadeBy config.now (D.state disk).faults repo.seen) }
@@ -202,7 +213,8 @@ fn opened_made<D: Disk>(alloc: Global, disk: D, config: &Config) -> Result<Repo<
 
 /// Makes the file of a repository on an empty disk, and opens it. On a fault the disk comes back.
 ///
-/// Errors: `Disk`; `Memory`; `NotRepository` where the file reads back as another, which one that is told never does.
+/// Errors: `Disk`; `Memory`; `NotEmpty` where the file has bytes, which stay, and `NotRepository` where it reads back as
+/// another: one that is told does neither.
 fn made<D: Disk>(alloc: Global, disk: D, config: &Config) -> Result<Repo<D>, (D, PullFault)>
     requires fields { AreFields config.now.fields }
     requires empty { Told (D.state disk) (λ held. held ≡ []) }
@@ -214,10 +226,7 @@ fn made<D: Disk>(alloc: Global, disk: D, config: &Config) -> Result<Repo<D>, (D,
     let mut disk = disk;
     match create(alloc, &mut disk, config) {
         Ok(()) => opened_made(alloc, disk, config),
-        // It was empty, and tells nothing.
-        Err(CreateFault::NotEmpty { .. }) => Err((disk, PullFault::NotRepository { at: 0 })),
-        Err(CreateFault::Disk) => Err((disk, PullFault::Disk)),
-        Err(CreateFault::Memory) => Err((disk, PullFault::Memory)),
+        Err(fault) => Err((disk, making_fault(fault))),
     }
 }
 
@@ -441,7 +450,8 @@ fn clone_onto<D: Disk, N: Dial, L: Ledger>(
 /// says. The files of a reply arrive as public, and one commit follows. It is at its end with the first reply that says 0.
 /// `stored` counts the artifacts stored.
 ///
-/// Errors: `NotEmpty` with the disk's length where it isn't 0, before any round; `Link` where a call of the dial failed,
+/// Errors: `NotEmpty` with the disk's length where it isn't 0, before any round, or, where another program wrote it
+/// meanwhile, behind the first; `Link` where a call of the dial failed,
 /// and `Disk` where one of the disk did; `Peer`, `TooLarge` and `Full` by the first thing that is wrong with a reply:
 /// `NoPush` where the first has no push card with two codes, `Sequence` with a number that doesn't go on, `NoSequence`
 /// behind all cards where there is no number; `Rounds` after 100,000 rounds; `NotRepository` where the file that was made

@@ -19,6 +19,7 @@ returns-in_err-len g c =
       keeps = c.len.ensures.call.keeps;
       any_moment = λ modelled. look_moments c.args.config.now s0 s1 quiet modelled (λ f left. g.met.D.Disk.only_now c.args.disk.now f modelled.model left);
       durable = no_success r _ is _;
+      written = no_success r _ is _;
     }
 
 pub returns-then-len-ne0 : goal.returns-then-len-ne0
@@ -32,6 +33,7 @@ returns-then-len-ne0 g c =
       keeps = c.len.ensures.call.keeps;
       any_moment = λ modelled. look_moments c.args.config.now s0 s1 quiet modelled (λ f left. g.met.D.Disk.only_now c.args.disk.now f modelled.model left);
       durable = tt;
+      written = tt;
     }
 
 pub write_config-requires : goal.write_config-requires
@@ -50,6 +52,7 @@ returns-in_err-write_config g c =
       keeps = c.len.ensures.call.keeps;
       any_moment = λ modelled. look_moments c.args.config.now s0 s1 quiet modelled (λ f left. g.met.D.Disk.only_now c.args.disk.now f modelled.model left);
       durable = no_success r _ is _;
+      written = no_success r _ is _;
     }
 
 pub returns-in_err-write_file : goal.returns-in_err-write_file
@@ -66,6 +69,7 @@ returns-in_err-write_file g c =
       keeps = keeps_on s0 s1 s2 c.len.ensures.call.keeps c.write_file.ensures.keeps;
       any_moment = λ modelled empty. file_moments c.args.config.now s0 s1 s2 quiet modelled (λ f left. g.met.D.Disk.only_now c.args.disk.now f modelled.model left) empty c.write_file.ensures.any_moment;
       durable = no_success r _ is _;
+      written = no_success r _ is _;
     }
 
 pub returns : goal.returns
@@ -83,5 +87,6 @@ returns g c =
       untouched = λ held told. inl (nil_from_length held (omega (arith, c.in_ok-len.ensures.answer.1 held told)));
       keeps = keeps_on s0 s1 s2 c.len.ensures.call.keeps c.write_file.ensures.keeps;
       any_moment = λ modelled empty. file_moments c.args.config.now s0 s1 s2 quiet modelled (λ f left. g.met.D.Disk.only_now c.args.disk.now f modelled.model left) empty c.write_file.ensures.any_moment;
+      written = λ held told. c.in_ok-write_file.ensures.written held (c.len.ensures.contents ∙ told);
       durable = λ modelled. c.in_ok-write_file.ensures.durable (modelled_after s0 s1 c.len.ensures.call.keeps modelled);
     }

@@ -1,4 +1,4 @@
-use Rattle.std.proofs.Common.{refl, ◌∙◌, arith}
+use Rattle.std.proofs.Common.{◌≡◌, Some, refl, subst, ◌∙◌, arith}
 use Rattle.std.proofs.lemmas.Result.{on_ok_weaker}
 use Rattle.fsl_disk.proofs.Moments.{keeps_on, told_contents, weaker}
 use Rattle.fsl_journal.specs.Commit.{body_of, gated}
@@ -18,6 +18,7 @@ returns-in_err-write_header g c =
     let failed = c.in_err-write_header.ensures.cause in record {
       file = no_success r _ is _;
       durable = no_success r _ is _;
+      written = no_success r _ is _;
       any_moment = λ modelled empty.
           weaker _ _ IsShort (NothingOr c.args.config.now) (short_nothing c.args.config.now) (c.write_header.ensures.any_moment modelled.model empty);
       keeps = c.write_header.ensures.keeps;
@@ -45,6 +46,9 @@ returns g c =
           let told = told_contents _ modelled in
           opened_stands config bytes body c.requires.fit c.requires.bytes c.requires.fits refl f
           (durable (c.write_header.ensures.keeps.model ∙ modelled.model) new_file (c.in_ok-write_header.ensures.contents told.0 told.1) f left)) c.write_group.ensures.durable;
+      written = on_ok_weaker r (λ wrote held told.
+          subst (λ b. (g.D.Disk.state c.write_group.new.disk).contents ≡ Some (gated new_file 15 79 (body_of b))) c.requires.bytes
+          (wrote new_file (c.in_ok-write_header.ensures.contents held told))) c.write_group.ensures.contents;
       any_moment = λ modelled empty.
           let told = told_contents _ modelled in
           let first = weaker _ _ IsShort (NothingOr config) (short_nothing config) (c.write_header.ensures.any_moment modelled.model empty) in

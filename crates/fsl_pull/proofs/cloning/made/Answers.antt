@@ -1,10 +1,9 @@
-use Rattle.std.proofs.Common.{ℕ, inl, subst}
+use Rattle.std.proofs.Common.{ℕ, sym, subst}
 use Rattle.std.specs.Prelude.{IfOk}
 use Rattle.fsl_disk.proofs.Moments.{keeps_on, modelled_after}
-use Rattle.fsl_journal.specs.Journal.{CreateFailed}
-use Rattle.fsl_journal.specs.declared.CreateFault.TheVariants as create_fault
-use Rattle.fsl_pull.specs.CloneTurns.{IsMadeBy, made_disk}
-use Rattle.fsl_pull.proofs.CloneMaking.{unmade_by, both_moments, not_empty}
+use Rattle.fsl_pull.specs.declared.PullFault.{PullFault}
+use Rattle.fsl_pull.specs.CloneTurns.{IsMadeBy, IsUnmadeBy, made_disk}
+use Rattle.fsl_pull.proofs.CloneMaking.{unmade_by, both_moments, uncreated}
 use Rattle.fsl_pull.proofs.cloning.made.Goals as goal
 
 pub returns-in-Ok-clause-made : goal.returns-in-Ok-clause-made
@@ -26,12 +25,8 @@ pub returns-in-Ok-clause-keeps : goal.returns-in-Ok-clause-keeps
 returns-in-Ok-clause-keeps g c =
     keeps_on (g.D.Disk.state c.args.disk) (g.D.Disk.state c.create.new.disk) (g.D.Disk.state (made_disk c.opened_made.result)) c.create.ensures.keeps c.opened_made.ensures.keeps
 
-pub returns-in-Err-NotEmpty-clause-fault : goal.returns-in-Err-NotEmpty-clause-fault
-returns-in-Err-NotEmpty-clause-fault g c =
-    let h : CreateFailed (create_fault.NotEmpty c.in-Err-NotEmpty.field-0-0) (g.D.Disk.state c.args.disk) (g.D.Disk.state c.create.new.disk) = rw c.in-Err-NotEmpty.field-0-is at c.in-Err-NotEmpty.ensures.fault in
-    (h.0.faults, not_empty (g.D.Disk.state c.args.disk) c.in-Err-NotEmpty.field-0-0 c.requires.empty h.1 h.2)
-
-pub returns-in-Err-Memory-clause-fault : goal.returns-in-Err-Memory-clause-fault
-returns-in-Err-Memory-clause-fault g c =
-    let h : CreateFailed create_fault.Memory (g.D.Disk.state c.args.disk) (g.D.Disk.state c.create.new.disk) = rw c.in-Err-Memory.field-0-is at c.in-Err-Memory.ensures.fault in
-    inl (record { faults = h.0.faults; left = h.2 })
+pub returns-in-Err-clause-fault : goal.returns-in-Err-clause-fault
+returns-in-Err-clause-fault g c =
+    let s0 = g.D.Disk.state c.args.disk in
+    let s1 = g.D.Disk.state c.create.new.disk in
+    subst (λ (why : PullFault). IsUnmadeBy c.args.config.now s0 s1 why) (sym c.making_fault.ensures) (uncreated c.args.config.now s0 s1 c.requires.empty c.in-Err.fault c.in-Err.ensures.fault)

@@ -31,4 +31,4 @@ returns-in-Err g c = λ disk ready path dial.
     let peer = g.P.Disk.state c.args.peer in
     let peer_left = g.P.Disk.state c.in-Err.peer in
     no_peer_comes path file mid old ready peer peer_left dial (λ held model told. g.met.D.Disk.reads_as_image disk held model told) (λ held model told. g.met.D.Disk.reads_as_image old.disk held model told) c.in-Err.ensures.spared c.in-Err.ensures.harmless c.unopened_peer.result c.in-Err.fault
-    (repo_unopened peer peer_left c.in-Err.fault c.in-Err.ensures.fault c.in-Err.ensures.refused c.in-Err.ensures.any_moment c.in-Err.ensures.keeps) (unopened_counts peer peer_left c.in-Err.fault c.in-Err.ensures.fault) c.unopened_peer.ensures
+    (repo_unopened peer peer_left c.in-Err.fault c.in-Err.ensures.fault c.in-Err.ensures.spared c.in-Err.ensures.refused c.in-Err.ensures.any_moment c.in-Err.ensures.keeps) (unopened_counts peer peer_left c.in-Err.fault c.in-Err.ensures.fault) c.unopened_peer.ensures

@@ -19,4 +19,4 @@ returns-in-Err g c =
     let left = g.D.Disk.state c.in-Err.disk in
     not_loaded_acted (Some command_of.Put) put_loads (g.S.Source.state c.args.input.now) file left
     (λ held model told. g.met.D.Disk.reads_as_image c.in-Err.disk held model told) c.in-Err.fault c.not_loaded.result
-    (repo_unopened file left c.in-Err.fault c.in-Err.ensures.fault c.in-Err.ensures.refused c.in-Err.ensures.any_moment c.in-Err.ensures.keeps) c.not_loaded.ensures
+    (repo_unopened file left c.in-Err.fault c.in-Err.ensures.fault c.in-Err.ensures.spared c.in-Err.ensures.refused c.in-Err.ensures.any_moment c.in-Err.ensures.keeps) c.not_loaded.ensures

@@ -5,7 +5,7 @@ use Rattle.fossil.proofs.reading.load.load.Goals as goal
 
 pub returns-in-Err-clause-err : goal.returns-in-Err-clause-err
 returns-in-Err-clause-err g c =
-    unopened (g.D.Disk.state c.args.disk.now) (g.D.Disk.state c.load.new.disk) c.in-Err.fault c.in-Err.ensures.fault c.in-Err.ensures.refused c.in-Err.ensures.any_moment c.in-Err.ensures.keeps
+    unopened (g.D.Disk.state c.args.disk.now) (g.D.Disk.state c.load.new.disk) c.in-Err.fault c.in-Err.ensures.fault c.in-Err.ensures.spared c.in-Err.ensures.refused c.in-Err.ensures.any_moment c.in-Err.ensures.keeps
 
 pub returns-in-Ok-fold-clause-ok : goal.returns-in-Ok-fold-clause-ok
 returns-in-Ok-fold-clause-ok g c =

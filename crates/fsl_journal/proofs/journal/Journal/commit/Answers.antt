@@ -2,10 +2,10 @@ use Rattle.std.proofs.Common.{◌≡◌, ℕ, ◌<◌, ◌^◌, List, length, So
 use Rattle.std.proofs.lemmas.List.{drop_all}
 use Rattle.fsl_disk.specs.Disk.{IsModelled, LeavesOnly}
 use Rattle.fsl_record.specs.Records.{records_bytes}
-use Rattle.fsl_journal.specs.Commit.{body_of}
+use Rattle.fsl_journal.specs.Commit.{body_of, IsGrouped}
 use Rattle.fsl_journal.specs.File.{IsFileOf}
 use Rattle.fsl_journal.specs.Inside.{records_of, log_of}
-use Rattle.fsl_journal.specs.Journal.{Belongs}
+use Rattle.fsl_journal.specs.Journal.{Belongs, IsWritten}
 use Rattle.fsl_journal.specs.Log.{Log, BeforeOrAll}
 use Rattle.fsl_journal.proofs.Belonging.{belongs_ends, commit_moments, belongs_stopped, belongs_committed, all_durable, same_moments, settled_durable}
 use Rattle.fsl_journal.proofs.Gate.{length-body}
@@ -24,6 +24,7 @@ returns-in-Some g c =
       idle = λ idle. refl;
       any_moment = same_moments c.args.self.now (g.D.Disk.state c.args.disk.now) c.requires (λ model f left. g.met.D.Disk.only_now c.args.disk.now f model left);
       durable = tt;
+      written = tt;
     }
 
 pub returns-then-self-count : goal.returns-then-self-count
@@ -39,6 +40,7 @@ returns-then-self-count g c =
       nothing = λ _ _. ap Ok c.count-count.ensures;
       idle = λ idle. refl;
       any_moment = same_moments c.args.self.now s0 c.requires (λ model f left. g.met.D.Disk.only_now c.args.disk.now f model left);
+      written = λ other. absurd (other all);
       durable = settled_durable c.args.self.now s0 c.requires runs all;
     }
 
@@ -84,6 +86,9 @@ returns-in-Ok g c =
       durable =
           subst (λ (log : Log). IsModelled s0 → (f : List ℕ) → s1.images f → IsFileOf f log.records) c.self.view_is
           (all_durable (log_of j) s0 (body_of bytes) belongs c.in_default.is c.self.invariant.fit group is s1 c.in-Ok.ensures.durable);
+      written =
+          subst (λ (log : Log). IsWritten log s0 s1) c.self.view_is
+          (λ _. subst (λ (b : List ℕ). IsGrouped (log_of j).place b s0 s1) (c.bytes-bytes.ensures ∙ c.self.invariant.pending) c.in-Ok.ensures.contents);
     }
 
 pub returns-in-Err : goal.returns-in-Err
@@ -109,6 +114,7 @@ returns-in-Err g c =
           subst (λ (log : Log). IsModelled s0 → LeavesOnly s0 s1 (BeforeOrAll log)) c.self.view_is
           (commit_moments (log_of j) s0 (body_of bytes) belongs c.in_default.is c.self.invariant.fit group is s1 c.in-Err.ensures.any_moment);
       durable = tt;
+      written = tt;
     }
 
 pub invariant_of-self-in-Err : goal.invariant_of-self-in-Err
