@@ -33,7 +33,7 @@ said_of o d out status (inr e) p = inr (subst (λ (x : Printed). IsWrittenAs x o
 
 -- ---- the stages
 
-module _ {D X : Type 0} (tells : D → DiskState) (Worked : Workers) (left : Left D) (crews crews_left : List X) (out : Output) (status : ℕ) where
+module _ {D X : Type 0} (tells : D → DiskState) (Worked : Workers D) (left : Left D) (crews crews_left : List X) (out : Output) (status : ℕ) where
   -- there was no memory for the workers
   pub nobody_works : (first : Whole D) (users : List User) (requests : ℕ) → left ≡ Loaded first → crews_left ≡ crews → IsWrittenAs no_memory out status
       → Says (λ o. ServesLoaded tells Worked first left crews crews_left users requests o) out status
@@ -106,15 +106,15 @@ within_of xs present standing users project requests works ys all few i w l =
 pub project_is : (records : List Record) (config : Config) → (contents records).config ≡ Some config → config.project ≡ project_of records
 project_is records config is = sym (ap (λ (o : Option Config). option_map_or (λ c. c.project) o []) is)
 
-pub has_served : {D : Type 0} (tells : D → DiskState) (Worked : Workers) (users : List User) (requests : ℕ) (first last : Whole D) (works : List Work) (project : List ℕ) (n : ℕ)
+pub has_served : {D : Type 0} (tells : D → DiskState) (Worked : Workers D) (users : List User) (requests : ℕ) (first last : Whole D) (works : List Work) (project : List ℕ) (n : ℕ)
     → IsLaterOn (tells first.disk) (tells last.disk) first last → stored last.seen ≡ stored first.seen + n → IsWholeOn (tells last.disk) last → AreAllCommitted last.seen.state → project ≡ project_of first.seen.state.records
-    → Worked users project requests works → HasServed tells Worked users requests first last (worked last.seen.state.stopped works n)
+    → Worked users project requests works first last → HasServed tells Worked users requests first last (worked last.seen.state.stopped works n)
 has_served tells Worked users requests first last works project n later rise whole settled is so =
     record {
       later = later;
       whole = whole;
       settled = settled;
       works = works;
-      worked_so = subst (λ (p : List ℕ). Worked users p requests works) is so;
+      worked_so = subst (λ (p : List ℕ). Worked users p requests works first last) is so;
       says = ap (λ (m : ℕ). worked last.seen.state.stopped works m) (omega (arith, rise, later.seen.stored));
     }

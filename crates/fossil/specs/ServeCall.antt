@@ -7,13 +7,15 @@ use Rattle.fsl_repo.specs.Whole.{Whole}
 use Rattle.fsl_login.specs.declared.User.{User}
 use Rattle.fsl_serve.specs.declared.work.Crew.{Crew}
 use Rattle.fsl_serve.specs.Points.{Points}
+use Rattle.fsl_serve.specs.declared.work.Work.{Work}
 use Rattle.fsl_serve.specs.Crews.{AllWorked, AllGated}
+use Rattle.fsl_serve.specs.Ordered.{IsOneHistory}
 use Rattle.fossil.specs.declared.commands.serving.State.{State}
 use Rattle.fossil.specs.declared.commands.serving.State.TheVariants as state
 use Rattle.fossil.specs.declared.commands.serving.Served.{Served}
 use Rattle.fossil.specs.Acts.{input_of, output_of}
 use Rattle.fossil.specs.RunCall.{states}
-use Rattle.fossil.specs.Served.{Left, Loaded, Unloaded, Workers, ServesLoaded, ServesDisk, Serves, Ends, Says}
+use Rattle.fossil.specs.Served.{Left, Loaded, Unloaded, ServesLoaded, ServesDisk, Serves, Ends, Says}
 
 abbrev pub left_of : {D : Type 0} → State D → Left D
 left_of (state.Loaded repo) = Loaded repo
@@ -24,11 +26,12 @@ abbrev pub disk_left : {D : Type 0} → State D → D
 disk_left (state.Loaded repo) = repo.disk
 disk_left (state.Unloaded disk) = disk
 
--- one worker for each crew, and each crew as its worker left it, its gate too
-abbrev pub CrewsWorked : {A G : Type 0} → (A → LinkState) → (G → Option Points) → List (Crew A G) → List (Crew A G) → Workers
-CrewsWorked door passed before after users project requests works =
-    AllWorked (λ c. (door c.door).present) (λ c. (door c.door).standing) users project requests works before after
-    × AllGated (λ c. (door c.door).present) (λ c. (door c.door).standing) (λ c. passed c.gate) users project requests works before after
+-- one worker for each crew, and each crew as its worker left it, its gate too; and the steps of all sessions make one history of the repository
+pub record CrewsWorked {D A G : Type 0} (tells : D → DiskState) (door : A → LinkState) (passed : G → Option Points) (before after : List (Crew A G))
+    (users : List User) (project : List ℕ) (requests : ℕ) (works : List Work) (first last : Whole D) : Type 0 where
+  pub worked : AllWorked (λ c. (door c.door).present) (λ c. (door c.door).standing) users project requests works before after
+  pub gates : AllGated (λ c. (door c.door).present) (λ c. (door c.door).standing) (λ c. passed c.gate) users project requests works before after
+  pub history : IsOneHistory tells (λ c. door c.door) (λ c. passed c.gate) users project requests works before after first last
 
 -- The words, or how many connections each worker is to take; the users, or what tells their file, before and after; the output before and after; the disk;
 -- what the doors and the gates tell, and the crews; and the answer.
@@ -37,26 +40,26 @@ CrewsWorked door passed before after users project requests works =
 abbrev pub IsLoadedServed : {K D A G : Type 0} → ℕ → List User → (K → SinkState) × K × K → (D → DiskState) × Whole D →
     (A → LinkState) × (G → Option Points) × List (Crew A G) → Served D A G → Type 0
 IsLoadedServed requests users out repo crews answer =
-    Says (λ o. ServesLoaded repo.0 (CrewsWorked crews.0 crews.1 crews.2 answer.crews.items) repo.1 (left_of answer.state) crews.2
+    Says (λ o. ServesLoaded repo.0 (CrewsWorked repo.0 crews.0 crews.1 crews.2 answer.crews.items) repo.1 (left_of answer.state) crews.2
     answer.crews.items users requests o) (output_of (states out)) answer.status
 
 -- a disk was served to these users
 abbrev pub IsDiskServed : {K D A G : Type 0} → ℕ → List User → (K → SinkState) × K × K → (D → DiskState) × D →
     (A → LinkState) × (G → Option Points) × List (Crew A G) → Served D A G → Type 0
 IsDiskServed requests users out disk crews answer =
-    Says (λ o. ServesDisk disk.0 (CrewsWorked crews.0 crews.1 crews.2 answer.crews.items) disk.1 (left_of answer.state) crews.2
+    Says (λ o. ServesDisk disk.0 (CrewsWorked disk.0 crews.0 crews.1 crews.2 answer.crews.items) disk.1 (left_of answer.state) crews.2
     answer.crews.items users requests o) (output_of (states out)) answer.status
 
 -- a disk was served to the users of a file
 abbrev pub IsFileServed : {S K D A G : Type 0} → ℕ → (S → SourceState) × S × S → (K → SinkState) × K × K → (D → DiskState) × D →
     (A → LinkState) × (G → Option Points) × List (Crew A G) → Served D A G → Type 0
 IsFileServed requests users out disk crews answer =
-    Says (λ o. Serves disk.0 (CrewsWorked crews.0 crews.1 crews.2 answer.crews.items) (input_of (states users)) disk.1 (left_of answer.state) crews.2
+    Says (λ o. Serves disk.0 (CrewsWorked disk.0 crews.0 crews.1 crews.2 answer.crews.items) (input_of (states users)) disk.1 (left_of answer.state) crews.2
     answer.crews.items requests o) (output_of (states out)) answer.status
 
 -- the same by the words
 abbrev pub IsServe : {S K D A G : Type 0} → List (List ℕ) → (S → SourceState) × S × S → (K → SinkState) × K × K → (D → DiskState) × D →
     (A → LinkState) × (G → Option Points) × List (Crew A G) → Served D A G → Type 0
 IsServe words users out disk crews answer =
-    Says (λ o. Ends disk.0 (CrewsWorked crews.0 crews.1 crews.2 answer.crews.items) words (input_of (states users)) disk.1 (left_of answer.state) crews.2
+    Says (λ o. Ends disk.0 (CrewsWorked disk.0 crews.0 crews.1 crews.2 answer.crews.items) words (input_of (states users)) disk.1 (left_of answer.state) crews.2
     answer.crews.items o) (output_of (states out)) answer.status

@@ -122,9 +122,9 @@ worked stopped works stored =
 
 -- ---- the cases
 
--- what workers do, by their users, their project, the connections for each, and what each did
-abbrev pub Workers : Type 1
-Workers = List User → List ℕ → ℕ → List Work → Type 0
+-- what workers do, by their users, their project, the connections for each, what each did, and the repository before and after
+abbrev pub Workers : Type 0 → Type 1
+Workers D = List User → List ℕ → ℕ → List Work → Whole D → Whole D → Type 0
 
 -- why there are no users, and what is due then: a read failed, there was no memory, or the file has a bad line
 pub data AreNoUsers (users : Input) (o : Printed) : Type 0 where
@@ -134,24 +134,24 @@ pub data AreNoUsers (users : Input) (o : Printed) : Type 0 where
 
 -- from the loaded repository to the one that is left: its records go on, it is stopped only where its disk failed and else all is committed, and the workers
 -- served these users under its project
-pub record HasServed {D : Type 0} (tells : D → DiskState) (Worked : Workers) (users : List User) (requests : ℕ) (first last : Whole D)
+pub record HasServed {D : Type 0} (tells : D → DiskState) (Worked : Workers D) (users : List User) (requests : ℕ) (first last : Whole D)
     (o : Printed) : Type 0 where
   pub later : IsLaterOn (tells first.disk) (tells last.disk) first last
   pub whole : IsWholeOn (tells last.disk) last
   pub settled : AreAllCommitted last.seen.state
   pub works : List Work
-  pub worked_so : Worked users (project_of first.seen.state.records) requests works
+  pub worked_so : Worked users (project_of first.seen.state.records) requests works first last
   pub says : o ≡ worked last.seen.state.stopped works (blobs later.seen.more)
 
 -- what became of a loaded repository, and what is due then: there was no memory for the workers, or they ran
-pub data ServesLoaded {D X : Type 0} (tells : D → DiskState) (Worked : Workers) (first : Whole D) (left : Left D) (crews crews_left : List X)
+pub data ServesLoaded {D X : Type 0} (tells : D → DiskState) (Worked : Workers D) (first : Whole D) (left : Left D) (crews crews_left : List X)
     (users : List User) (requests : ℕ) (o : Printed) : Type 0 where
   unstaffed : left ≡ Loaded first → crews_left ≡ crews → o ≡ no_memory → ServesLoaded tells Worked first left crews crews_left users requests o
   served : (last : Whole D) → left ≡ Loaded last → HasServed tells Worked users requests first last o →
       ServesLoaded tells Worked first left crews crews_left users requests o
 
 -- what became of a disk, and what is due then: it wasn't loaded, or it was, and the repository was served
-pub data ServesDisk {D X : Type 0} (tells : D → DiskState) (Worked : Workers) (disk : D) (left : Left D) (crews crews_left : List X)
+pub data ServesDisk {D X : Type 0} (tells : D → DiskState) (Worked : Workers D) (disk : D) (left : Left D) (crews crews_left : List X)
     (users : List User) (requests : ℕ) (o : Printed) : Type 0 where
   unloaded : (rest : D) (fault : LoadFault) → left ≡ Unloaded rest → crews_left ≡ crews → OpenFailed fault (tells disk) (tells rest) →
       IsSafe (tells disk) (tells rest)
@@ -160,14 +160,14 @@ pub data ServesDisk {D X : Type 0} (tells : D → DiskState) (Worked : Workers) 
       → ServesLoaded tells Worked first left crews crews_left users requests o → ServesDisk tells Worked disk left crews crews_left users requests o
 
 -- the same with the users: there are none, and disk and crews are untouched; or there are, and the disk was served to them
-pub data Serves {D X : Type 0} (tells : D → DiskState) (Worked : Workers) (users : Input) (disk : D) (left : Left D) (crews crews_left : List X)
+pub data Serves {D X : Type 0} (tells : D → DiskState) (Worked : Workers D) (users : Input) (disk : D) (left : Left D) (crews crews_left : List X)
     (requests : ℕ) (o : Printed) : Type 0 where
   no_users : AreNoUsers users o → left ≡ Unloaded disk → crews_left ≡ crews → Serves tells Worked users disk left crews crews_left requests o
   to_users : (these : List User) → IsUsers users these → ServesDisk tells Worked disk left crews crews_left these requests o →
       Serves tells Worked users disk left crews crews_left requests o
 
 -- the same with the words: they are no serve, and nothing is touched; or they are
-pub data Ends {D X : Type 0} (tells : D → DiskState) (Worked : Workers) (words : List (List ℕ)) (users : Input) (disk : D) (left : Left D)
+pub data Ends {D X : Type 0} (tells : D → DiskState) (Worked : Workers D) (words : List (List ℕ)) (users : Input) (disk : D) (left : Left D)
     (crews crews_left : List X) (o : Printed) : Type 0 where
   no_serve : serving_in words ≡ None → users.after ≡ users.before → left ≡ Unloaded disk → crews_left ≡ crews → o ≡ printing.usage
       → Ends tells Worked words users disk left crews crews_left o

@@ -8,3 +8,4 @@ pub mod Staffing
 pub mod Sent
 pub mod Moving
 pub mod Settling
+pub mod Ordering

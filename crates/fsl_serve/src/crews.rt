@@ -1,22 +1,24 @@
 //! Workers in threads.
-ghost use Rattle.std.specs.Prelude.{◌≡◌, ◌<◌, ◌≤◌, ◌+◌, slice_index_or, vec_len, ℕ, Some, IfOk, IfErr};
+ghost use Rattle.std.specs.Prelude.{◌≡◌, ◌<◌, ◌≤◌, ◌+◌, [], ◌∷◌, map, slice_index_or, vec_len, ℕ, Some, IfOk, IfErr, IfSome};
 ghost use Rattle.fsl_repo.specs.Onward.{IsLaterOn};
 ghost use Rattle.fsl_repo.specs.Whole.{stored};
 ghost use Rattle.fsl_serve.specs.Workers.{HasPassed};
+ghost use Rattle.fsl_repo.specs.declared.Event.TheVariants as event;
 ghost use Rattle.fsl_serve.specs.Crews.{AreWorked, AreGated, AreAllCommitted};
+ghost use Rattle.fsl_serve.specs.Ordered.{IsOneHistory, steps_by};
 
 use crate::staff::{dismissed, staffed};
 use crate::work::{Crew, Work, worker};
 use fsl_disk::Disk;
+use fsl_history::{Chronicle, Housed, Ticketed};
 use fsl_login::Users;
 use fsl_name::Name;
 use fsl_outside::{Door, Gate};
 use fsl_repo::{Event, Repo};
-use fsl_turn::{Locked, Origin, Turns, step_uncounted};
+use fsl_turn::{Turns, step_uncounted};
 use std::alloc::Global;
 use std::marker::Brand;
 use std::sync::Wait;
-use std::sync::ledger::Blank;
 use std::thread::{Threads, for_each_mut};
 
 /// A worker's crew and pass, and what it did.
@@ -91,6 +93,7 @@ fn settle<D: Disk>(repo: &mut Repo<D>)
     ensures later { IsLaterOn (D.state repo.old.disk) (D.state repo.new.disk) repo.old repo.new }
     ensures stored { stored repo.new.seen ≡ stored repo.old.seen }
     ensures settled { AreAllCommitted repo.new.seen.state }
+    ensures step { (a : _) × steps_by D.state repo.old event.Commit a repo.new }
 {
     step_uncounted(repo, &Event::Commit);
 }
@@ -107,7 +110,7 @@ pub struct Served<D: Disk, A, G> {
     pub stored: u64,
 }
 
-/// Runs a worker for each crew over the repository, under one lock. All comes back as it was where memory ran out.
+/// Runs a worker for each crew over the repository, by turns that make one history. All comes back as it was where memory ran out.
 pub fn serve_crews<D: Disk + Send, A: Door + Send, G: Gate + Send, R: Threads + Wait + Sync>(
     rt: &R,
     alloc: Global,
@@ -124,15 +127,20 @@ pub fn serve_crews<D: Disk + Send, A: Door + Send, G: Gate + Send, R: Threads + 
     ensures settled { IfOk result (λ s. AreAllCommitted s.repo.seen.state) }
     ensures worked { IfOk result (λ s. AreWorked (λ c. A.state c.door) users.now project requests s.works.items crews.items s.crews.items) }
     ensures gates { IfOk result (λ s. AreGated (λ c. A.state c.door) (λ c. G.passed c.gate) users.now project requests s.works.items crews.items s.crews.items) }
+    ensures history { IfOk result (λ s. IsOneHistory D.state (λ c. A.state c.door) (λ c. G.passed c.gate) users.now project requests s.works.items crews.items s.crews.items repo s.repo) }
     ensures refused { IfErr result (λ r. (r.0 ≡ repo) × (r.1.items ≡ crews.items)) }
 {
-    let blank = Blank::new(crews.len() as u64);
-    serve_locked::<Brand, D, A, G, R>(rt, alloc, users, project, repo, crews, requests, blank)
+    match Housed::new(alloc, repo) {
+        Ok(housed) => serve_housed::<Brand, D, A, G, R>(
+            rt, alloc, users, project, housed, crews, requests,
+        ),
+        Err(repo) => Err((repo, crews)),
+    }
 }
 
-/// The same, with the ledger of the shares.
-fn serve_locked<
-    L: Origin<Repo<D>> + Send + Sync,
+/// The same, where the history has a name.
+fn serve_housed<
+    B: Chronicle<Repo<D>> + Send + Sync,
     D: Disk + Send,
     A: Door + Send,
     G: Gate + Send,
@@ -142,42 +150,42 @@ fn serve_locked<
     alloc: Global,
     users: &Users,
     project: Name,
-    repo: Repo<D>,
+    housed: Housed<Repo<D>>,
     mut crews: Vec<Crew<A, G>>,
     requests: u64,
-    blank: Blank,
 ) -> Result<Served<D, A, G>, (Repo<D>, Vec<Crew<A, G>>)>
-    requires name { blank.name ≡ L.name }
-    requires parts { (blank.parts ≡ L.parts) × (vec_len crews ≡ L.parts) }
-    requires first { L.first ≡ Some repo }
+    requires table { housed.table.shared.table_id ≡ B.table }
+    requires passes { vec_len crews ≡ B.passes }
+    requires first { (f : _) × (B.first ≡ Some f) × (map (λ b. b.0) housed.table.shared.key.items ≡ f ∷ []) }
     requires crews { (0 < vec_len crews) × (vec_len crews ≤ 16) }
-    ensures later { IfOk result (λ s. IsLaterOn (D.state repo.disk) (D.state s.repo.disk) repo s.repo) }
-    ensures stored { IfOk result (λ s. stored s.repo.seen ≡ stored repo.seen + s.stored) }
-    // What is counted as stored is committed, unless the disk failed.
+    ensures later { IfOk result (λ s. IfSome B.first (λ f. IsLaterOn (D.state f.disk) (D.state s.repo.disk) f s.repo)) }
+    ensures stored { IfOk result (λ s. IfSome B.first (λ f. stored s.repo.seen ≡ stored f.seen + s.stored)) }
     ensures settled { IfOk result (λ s. AreAllCommitted s.repo.seen.state) }
     ensures worked { IfOk result (λ s. AreWorked (λ c. A.state c.door) users.now project requests s.works.items crews.items s.crews.items) }
     ensures gates { IfOk result (λ s. AreGated (λ c. A.state c.door) (λ c. G.passed c.gate) users.now project requests s.works.items crews.items s.crews.items) }
-    ensures refused { IfErr result (λ r. (r.0 ≡ repo) × (r.1.items ≡ crews.items)) }
+    ensures history { IfOk result (λ s. IfSome B.first (λ f. IsOneHistory D.state (λ c. A.state c.door) (λ c. G.passed c.gate) users.now project requests s.works.items crews.items s.crews.items f s.repo)) }
+    ensures refused { IfErr result (λ r. (B.first ≡ Some r.0) × (r.1.items ≡ crews.items)) }
 {
     let count = crews.len() as u64;
     let Ok(jobs) = Vec::with_capacity(alloc, crews.len()) else {
-        return Err((repo, crews));
+        return Err((housed.into_machine(), crews));
     };
     let Ok(works) = Vec::with_capacity(alloc, crews.len()) else {
         jobs.destroy_empty();
-        return Err((repo, crews));
+        return Err((housed.into_machine(), crews));
     };
-    let (locked, mut passes) = match Locked::<Repo<D>, L>::make(alloc, repo, count, blank) {
+    let (ticketed, mut passes) = match Ticketed::<Repo<D>, B>::make(alloc, housed, count) {
         Ok(made) => made,
         Err(repo) => {
             jobs.destroy_empty();
+            works.destroy_empty();
             return Err((repo, crews));
         }
     };
     let mut jobs = staffed(jobs, &mut crews, &mut passes);
-    run_all(&locked, rt, alloc, users, project, &mut jobs, requests);
+    run_all(&ticketed, rt, alloc, users, project, &mut jobs, requests);
     let works = dismissed(jobs, &mut crews, &mut passes, works);
-    let (mut repo, stored) = locked.finish(passes);
+    let (mut repo, stored) = ticketed.finish(passes);
     settle(&mut repo);
     Ok(Served {
         repo,

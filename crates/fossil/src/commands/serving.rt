@@ -194,7 +194,7 @@ fn serve_file<
     }
 }
 
-/// Serves the repository of a disk to as many connections a worker as the words say, one worker for each crew, under one lock. Two
+/// Serves the repository of a disk to as many connections a worker as the words say, one worker for each crew, by turns. Two
 /// lines are printed, `sessions N` with how many connections were served and `stored M` with how many artifacts were stored.
 ///
 /// The words are read first, then the users file to its end or past 2^20 bytes, then the repository is loaded, then the workers

@@ -10,3 +10,6 @@ returns-clause-stored g c = commit_stores_none _ _ _ _ _ c.step_uncounted.ensure
 
 pub returns-clause-settled : goal.returns-clause-settled
 returns-clause-settled g c = commit_settles _ _ _ _ _ c.step_uncounted.ensures
+
+pub returns-clause-step : goal.returns-clause-step
+returns-clause-step g c = (_, c.step_uncounted.ensures)

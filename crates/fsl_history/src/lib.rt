@@ -1,0 +1,19 @@
+//! Turns on one machine, with the history that they make.
+//!
+//! [`Ticketed`] keeps a machine in a slot behind two words: the number of turns made, and the number of tickets drawn. A pass draws a
+//! ticket, waits until that many turns were made, and makes the next. All turns are entries of one history: contracts speak of it, and
+//! no value of it is made.
+#![tactic(auto)]
+
+mod bell;
+mod chronicle;
+mod housed;
+mod rule;
+mod steps;
+mod ticketed;
+mod view;
+
+pub use chronicle::Chronicle;
+pub use housed::Housed;
+pub use ticketed::{TicketPass, Ticketed};
+pub use view::{Stage, Tale, View};
