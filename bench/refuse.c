@@ -10,6 +10,7 @@
 #include <stdatomic.h>
 #include <stdlib.h>
 #include <string.h>
+#include <sys/file.h>
 #include <sys/mman.h>
 #include <sys/socket.h>
 #include <sys/stat.h>
@@ -81,6 +82,7 @@ CALL(int, fsync, -1, "fsync", (int file), (file))
 CALL(int, fdatasync, -1, "fsync", (int file), (file))
 CALL(int, ftruncate, -1, "ftruncate", (int file, off_t size), (file, size))
 CALL(int, ftruncate64, -1, "ftruncate", (int file, off64_t size), (file, size))
+CALL(int, flock, -1, "flock", (int file, int how), (file, how))
 CALL(int, fstat, -1, "fstat", (int file, struct stat *into), (file, into))
 CALL(int, fstat64, -1, "fstat", (int file, struct stat64 *into), (file, into))
 CALL(int, socket, -1, "socket", (int domain, int type, int protocol), (domain, type, protocol))

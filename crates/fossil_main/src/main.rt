@@ -2,6 +2,7 @@
 #![tactic(auto)]
 
 mod crews;
+mod lock;
 mod open;
 mod sockets;
 
@@ -9,7 +10,7 @@ use fossil::{NO_MEMORY, run};
 use fsl_disk::FileDisk;
 use fsl_outside::{StdSink, StdSource, TcpDial};
 use fsl_words::{Command, WordsFault, read};
-use open::{dial, listen, open, open_peer, open_users};
+use open::{Disks, dial, listen, open, open_served, open_users};
 use sockets::serve_at;
 use std::alloc::Global;
 use std::env::Args;
@@ -38,16 +39,8 @@ fn over_dial(
 ) -> u8 {
     let mut input = StdSource::new(rt.stdin());
     let mut out = StdSink::new(io::writer(rt));
-    run(
-        rt.alloc(),
-        words,
-        &mut input,
-        &mut out,
-        open(rt, words, command),
-        open_peer(rt, words, command),
-        dial,
-    )
-    .status
+    let Disks { own, peer } = open(rt, words, command);
+    run(rt.alloc(), words, &mut input, &mut out, own, peer, dial).status
 }
 
 /// Runs words outside the grammar, which get no input, no file and no dial.
@@ -100,7 +93,7 @@ fn main(rt: HostRuntime) -> ExitCode {
                     rt.alloc(),
                     words,
                     &mut open_users(&rt, words),
-                    open(&rt, words, &parsed.command),
+                    open_served(&rt, words, &parsed.command),
                     listen(&rt, words),
                     *workers,
                     &mut StdSink::new(io::writer(&rt)),

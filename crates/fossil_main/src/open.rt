@@ -1,21 +1,62 @@
 //! Opens what the words name.
+use crate::lock::{Opened, alone, beside_readers};
 use fsl_disk::FileDisk;
 use fsl_outside::{StdSource, TcpDial};
 use fsl_words::Command;
 use std::alloc::{AllocError, Global};
 use std::fs::{File, OpenOptions};
+use std::io;
+use std::io::ErrorKind;
 use std::net::TcpListener;
 
-/// The disk of a command: that of the file that the first word names, which is made for `init` and `clone` alone where
-/// it is missing. Each call of the disk fails where the file can't be opened, and for `ingest` and `gen`, which open none.
-pub fn open(rt: &HostRuntime, words: &[String], command: &Command) -> FileDisk {
+/// What standard error says where a file system has no locks.
+const UNGUARDED: &str =
+    "fossil: this file system has no locks, so nothing keeps another process from the file meanwhile";
+
+/// The disks of a command: that of its file, and that of the peer's file.
+pub struct Disks {
+    pub own: FileDisk,
+    pub peer: FileDisk,
+}
+
+/// The disks of the files that a command opens.
+pub fn open(rt: &HostRuntime, words: &[String], command: &Command) -> Disks {
+    let Opened {
+        disk: own,
+        is_unguarded: is_own_unguarded,
+    } = open_own(rt, words, command);
+    let Opened {
+        disk: peer,
+        is_unguarded: is_peer_unguarded,
+    } = open_peer(rt, words, command);
+    tell_unguarded(rt, is_own_unguarded || is_peer_unguarded);
+    Disks { own, peer }
+}
+
+/// The disk of the file that a serve opens.
+pub fn open_served(rt: &HostRuntime, words: &[String], command: &Command) -> FileDisk {
+    let Opened { disk, is_unguarded } = open_own(rt, words, command);
+    tell_unguarded(rt, is_unguarded);
+    disk
+}
+
+/// Says once on standard error, where a file is open without a lock, that nothing keeps other processes from it. What can't be said isn't.
+fn tell_unguarded(rt: &HostRuntime, is_unguarded: bool) {
+    if is_unguarded {
+        drop(eprintln!(rt; "{UNGUARDED}"));
+    }
+}
+
+/// The file that the first word names, which is made for `init` and `clone` alone where it is missing. The disk's calls fail where the
+/// file can't be opened or another process holds it, and for `ingest` and `gen`, which open none.
+fn open_own(rt: &HostRuntime, words: &[String], command: &Command) -> Opened {
     let Some(path) = words.first() else {
-        return FileDisk::none();
+        return Opened::none();
     };
     let mut options = OpenOptions::new();
     options.read(true).write(true);
     match command {
-        Command::Ingest | Command::Gen { .. } => return FileDisk::none(),
+        Command::Ingest | Command::Gen { .. } => return Opened::none(),
         Command::Init { .. } | Command::Clone { .. } => {
             options.create(true);
         }
@@ -28,20 +69,40 @@ pub fn open(rt: &HostRuntime, words: &[String], command: &Command) -> FileDisk {
         | Command::PullLocal { .. } => {}
     }
     match options.open(rt, path.as_str()) {
-        Ok(file) => FileDisk::over(file),
-        Err(_) => FileDisk::none(),
+        Ok(file) => alone(file),
+        Err(_) => Opened::none(),
     }
 }
 
-/// The disk of the peer's file, which the third word of a `pull-local` names, and which is read alone. Each call of it fails where
-/// the file can't be opened, and for every other command.
-pub fn open_peer(rt: &HostRuntime, words: &[String], command: &Command) -> FileDisk {
+/// The peer's file, which the third word of a `pull-local` names: for writing where that is allowed, since a load cuts what stands behind
+/// the closed gate, and else for reading alone. The disk's calls fail where the file can't be opened, where another process holds it or
+/// this one does as its own, and for every other command.
+fn open_peer(rt: &HostRuntime, words: &[String], command: &Command) -> Opened {
     let (Command::PullLocal { .. }, Some(path)) = (command, words.get(2)) else {
-        return FileDisk::none();
+        return Opened::none();
     };
-    match File::open(rt, path.as_str()) {
-        Ok(file) => FileDisk::over(file),
-        Err(_) => FileDisk::none(),
+    let mut options = OpenOptions::new();
+    options.read(true).write(true);
+    match options.open(rt, path.as_str()) {
+        Ok(file) => alone(file),
+        Err(fault) if is_read_only(fault) => open_to_read(rt, path.as_str()),
+        Err(_) => Opened::none(),
+    }
+}
+
+/// Whether a call to open a file for writing failed since nobody, or not this user, may write to it.
+fn is_read_only(fault: io::Error) -> bool {
+    matches!(
+        fault.kind(),
+        ErrorKind::PermissionDenied | ErrorKind::ReadOnlyFilesystem
+    )
+}
+
+/// A file that is only read.
+fn open_to_read(rt: &HostRuntime, path: &str) -> Opened {
+    match File::open(rt, path) {
+        Ok(file) => beside_readers(file),
+        Err(_) => Opened::none(),
     }
 }
 
