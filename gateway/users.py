@@ -1,0 +1,65 @@
+"""The users file and logins: docs/FORMATS.md, Users, logins and replies."""
+import hashlib
+import hmac
+from typing import NamedTuple
+
+LONGEST_FILE = 1 << 20
+
+
+class UsersFault(Exception):
+    """The users file can't be read. Its text is what is wrong."""
+
+
+class User(NamedTuple):
+    """A line of the users file."""
+    letters: bytes
+    secret: bytes
+
+
+def sha1(data: bytes | memoryview) -> bytes:
+    """The 40 digits of the SHA-1 of bytes."""
+    return hashlib.sha1(data).hexdigest().encode()
+
+
+def users_in(text: bytes) -> dict[bytes, User]:
+    """The users of a file's bytes, or UsersFault with the number of its first bad line."""
+    users: dict[bytes, User] = {}
+    end = 0
+    for number, line in enumerate(text.split(b'\n'), 1):
+        end += len(line) + 1
+        words = line.replace(b'\t', b' ').replace(b'\r', b' ').split(b' ')
+        words = [word for word in words if word]
+        if min(end, len(text)) > LONGEST_FILE:
+            raise UsersFault(f'line {number} reaches past {LONGEST_FILE} bytes')
+        if not words or words[0].startswith(b'#'):
+            continue
+        if len(words) != 3 or words[0] in users:
+            raise UsersFault(f'line {number}')
+        users[words[0]] = User(words[1], words[2])
+    return users
+
+
+def users_of(path: str) -> dict[bytes, User]:
+    """The users of a file; UsersFault where it can't be read."""
+    try:
+        with open(path, 'rb') as file:
+            return users_in(file.read(LONGEST_FILE + 2))
+    except OSError as error:
+        raise UsersFault(str(error)) from None
+
+
+def secret_of(project: str, user: str, password: str) -> str:
+    """The secret that Fossil's client signs with: the SHA-1 of the project's code, the user and the password, with slashes between."""
+    return sha1(f'{project}/{user}/{password}'.encode()).decode()
+
+
+def is_signed(user: User, nonce: bytes, signature: bytes, tail: memoryview) -> bool:
+    """Whether a login holds over what stands behind its line."""
+    is_for_tail = hmac.compare_digest(nonce, sha1(tail))
+    return hmac.compare_digest(signature, sha1(nonce + user.secret)) and is_for_tail
+
+
+def signed(name: bytes, secret: bytes, message: bytes) -> bytes:
+    """A message behind the login card of a user, whose name is escaped."""
+    nonce = sha1(message)
+    return b'login %s %s %s\n' % (name, nonce, sha1(nonce + secret)) + message

@@ -1,0 +1,224 @@
+"""HTTP on both sides: one request and one reply for each connection (docs/FORMATS.md, HTTP)."""
+import http.client
+import socket
+import struct
+import time
+import zlib
+from dataclasses import dataclass
+
+from cards import MESSAGE, unpacked
+
+HEAD, FIELDS = 16_384, 64
+SECONDS = 60
+PACKED, PLAIN, DEBUG = 'application/x-fossil', 'application/x-fossil-uncompressed', 'application/x-fossil-debug'
+PHRASES = {200: 'OK', 400: 'Bad Request', 405: 'Method Not Allowed', 411: 'Length Required', 413: 'Payload Too Large', 415: 'Unsupported Media Type',
+           500: 'Internal Server Error', 502: 'Bad Gateway', 503: 'Service Unavailable'}
+
+
+class Fault(Exception):
+    """A request that is answered by a status alone."""
+
+    def __init__(self, status: int):
+        super().__init__(status)
+        self.status = status
+
+
+class Broken(Exception):
+    """A connection that ended or was too slow."""
+
+
+class BadBody(Exception):
+    """A body that isn't in the form that its type says."""
+
+
+class NoServer(Exception):
+    """Our server isn't there, or what it answered isn't a reply. Its text says which, and `status` is what the client gets."""
+
+    def __init__(self, why: str, status: int = 502):
+        super().__init__(why)
+        self.status = status
+
+
+@dataclass(slots=True)
+class Request:
+    """A request of a client: its media type and its message, unpacked."""
+    kind: str
+    body: bytes
+
+
+class Link:
+    """A connection that has so many seconds, and one more for each 2^20 bytes that moved."""
+
+    def __init__(self, connection: socket.socket):
+        self.connection, self.end = connection, time.monotonic() + SECONDS
+
+    def wait(self) -> None:
+        """Lets the next call on the connection take what time is left."""
+        left = self.end - time.monotonic()
+        if left <= 0:
+            raise Broken('too slow')
+        self.connection.settimeout(left)
+
+    def receive(self, count: int) -> bytes:
+        """At least one byte and at most so many."""
+        self.wait()
+        try:
+            data = self.connection.recv(min(count, 1 << 18))
+        except OSError as error:
+            raise Broken(str(error)) from None
+        if not data:
+            raise Broken('ended early')
+        self.end += len(data) / (1 << 20)
+        return data
+
+    def send(self, data: bytes) -> None:
+        """Sends all bytes."""
+        view = memoryview(data)
+        while view:
+            self.wait()
+            try:
+                sent = self.connection.send(view[:1 << 18])
+            except OSError as error:
+                raise Broken(str(error)) from None
+            view = view[sent:]
+            self.end += sent / (1 << 20)
+
+    def again(self) -> None:
+        """Gives the full time once more, as behind the server's answer."""
+        self.end = time.monotonic() + SECONDS
+
+
+def head_of(link: Link) -> tuple[bytes, bytes]:
+    """The bytes up to the empty line, and those that came behind it."""
+    data = b''
+    while (end := data.find(b'\r\n\r\n')) < 0:
+        if len(data) >= HEAD:
+            raise Fault(400)
+        data += link.receive(HEAD)
+    if end > HEAD:
+        raise Fault(400)
+    return data[:end], data[end + 4:]
+
+
+def fields_of(head: bytes) -> dict[str, list[str]]:
+    """The fields of a POST's head, by their names in small letters."""
+    lines = head.decode('latin-1').split('\r\n')
+    words = lines[0].split(' ')
+    if len(words) != 3 or words[2] not in ('HTTP/1.0', 'HTTP/1.1') or len(lines) - 1 > FIELDS:
+        raise Fault(400)
+    if words[0] != 'POST':
+        raise Fault(405)
+    fields: dict[str, list[str]] = {}
+    for line in lines[1:]:
+        name, colon, value = line.partition(':')
+        if not colon or not name or name.strip() != name:
+            raise Fault(400)
+        fields.setdefault(name.lower(), []).append(value.strip(' \t'))
+    return fields
+
+
+def kind_of(fields: dict[str, list[str]]) -> str:
+    """The media type, which is one of three."""
+    kind = fields.get('content-type', [''])[0].partition(';')[0].strip(' \t').lower()
+    if kind not in (PACKED, PLAIN, DEBUG):
+        raise Fault(415)
+    return kind
+
+
+def length_of(fields: dict[str, list[str]]) -> int:
+    """The length of the body."""
+    lengths = fields.get('content-length', [])
+    if 'transfer-encoding' in fields or len(lengths) > 1:
+        raise Fault(400)
+    if not lengths:
+        raise Fault(411)
+    if not (lengths[0].isascii() and lengths[0].isdigit() and len(lengths[0]) < 19):
+        raise Fault(400)
+    if int(lengths[0]) > MESSAGE:
+        raise Fault(413)
+    return int(lengths[0])
+
+
+def body_of(link: Link, fields: dict[str, list[str]], first: bytes) -> bytes:
+    """The body, of which some bytes came with the head."""
+    length = length_of(fields)
+    if fields.get('expect', [''])[0].lower() == '100-continue':
+        link.send(b'HTTP/1.1 100 Continue\r\n\r\n')
+    body = bytearray(first[:length])
+    while len(body) < length:
+        body += link.receive(length - len(body))
+    return bytes(body)
+
+
+def is_packed(body: bytes) -> bool:
+    """Whether a header of zlib stands behind 4 bytes. Fossil's client sends plain bodies under the type of packed ones where it is told not to
+    compress; none of its cards has these two bytes there."""
+    return body[4:5] == b'x' and int.from_bytes(body[4:6], 'big') % 31 == 0
+
+
+def message_of(kind: str, body: bytes) -> bytes:
+    """The message of a body: as it is, or behind 4 bytes of its length and packed."""
+    if kind != PACKED or not is_packed(body):
+        return body
+    size, = struct.unpack('>I', body[:4])
+    if size > MESSAGE:
+        raise BadBody(f'the body has {size} bytes when it is unpacked')
+    try:
+        return unpacked(memoryview(body)[4:], size)
+    except ValueError:
+        raise BadBody(f"the body doesn't unpack to {size} bytes") from None
+
+
+def packed(kind: str, message: bytes) -> bytes:
+    """The body of a message."""
+    return struct.pack('>I', len(message)) + zlib.compress(message, 3) if kind == PACKED else message
+
+
+def reply(kind: str, message: bytes) -> bytes:
+    """The bytes of a reply that brings a message."""
+    body = packed(kind, message)
+    head = f'HTTP/1.1 200 OK\r\nContent-Type: {kind}\r\nContent-Length: {len(body)}\r\nConnection: close\r\n\r\n'
+    return head.encode() + body
+
+
+def status_alone(status: int) -> bytes:
+    """The bytes of a reply that has a status and nothing else."""
+    allow = 'Allow: POST\r\n' if status == 405 else ''
+    return f'HTTP/1.1 {status} {PHRASES[status]}\r\n{allow}Content-Length: 0\r\nConnection: close\r\n\r\n'.encode()
+
+
+def length_in(response: http.client.HTTPResponse) -> int:
+    """The length that the server announces."""
+    length = response.getheader('Content-Length', '')
+    if not (length.isascii() and length.isdigit() and len(length) < 19) or int(length) > MESSAGE:
+        raise NoServer(f'the server announces {length[:20]!r} bytes')
+    return int(length)
+
+
+def whole(response: http.client.HTTPResponse, length: int, end: float) -> bytes:
+    """So many bytes of a reply, before the end of its time."""
+    body = bytearray()
+    while len(body) < length:
+        if time.monotonic() > end:
+            raise NoServer('the server is too slow')
+        data = response.read1(min(length - len(body), 1 << 18))
+        if not data:
+            raise NoServer('the reply of the server ended early')
+        body += data
+        end += len(data) / (1 << 20)
+    return bytes(body)
+
+
+def asked(server: tuple[str, int], message: bytes) -> bytes:
+    """The reply of our server to a message. Raises NoServer where there is none, with its own status where that is 500 or 503."""
+    link = http.client.HTTPConnection(*server, timeout=SECONDS)
+    try:
+        link.request('POST', '/xfer', message, {'Content-Type': PLAIN, 'Connection': 'close'})
+        response = link.getresponse()
+        if response.status != 200:
+            raise NoServer(f'the server answers {response.status}', response.status if response.status in (500, 503) else 502)
+        return whole(response, length_in(response), time.monotonic() + SECONDS)
+    except (OSError, http.client.HTTPException) as error:
+        raise NoServer(f'no server at {server[0]}:{server[1]}: {error!r}') from None
+    finally:
+        link.close()
