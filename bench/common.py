@@ -127,7 +127,7 @@ def measured(room, words, stdin=None, check=True):
 
 @functools.cache
 def has_real_fossil():
-    """Whether the command `fossil` is the real one. README links our wrapper by that name, and it answers `version` without building."""
+    """Whether the command `fossil` is the real one. Our wrapper may have that name too, and it answers `version` without building."""
     if not shutil.which('fossil'):
         return False
     _, printed = timed(['fossil', 'version'], check=False)
