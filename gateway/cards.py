@@ -6,7 +6,7 @@ from dataclasses import dataclass, field
 from typing import Callable
 
 from deltas import DeltaFault, apply
-from users import User, is_signed, sha1, signed
+from users import User, is_signed, login_of, sha1
 
 MESSAGE = 1 << 27
 ARTIFACT = 1 << 24
@@ -22,6 +22,8 @@ KNOWN = {b'push', b'pull', b'clone', b'clone_seqno', b'igot', b'gimme', b'privat
 # cards that it doesn't know
 DROPPED = {b'reqconfig', b'config', b'uvigot', b'uvgimme', b'uvfile'}
 NO_CONFIGURATION, NO_UNVERSIONED = b"configuration isn't kept here", b"unversioned files aren't kept here"
+# Fossil's own answer to a client that asks for private artifacts and may not have them
+NO_PRIVATE = b'error not\\sauthorized\\sto\\ssync\\sprivate\\scontent\n'
 
 
 class Refused(Exception):
@@ -65,6 +67,7 @@ class Message:
     wants_private: bool = False
     is_clone: bool = False
     announced: dict[bytes, int] = field(default_factory=dict)
+    unasked: int = 0
     notes: set[bytes] = field(default_factory=set)
     counts: dict[bytes, int] = field(default_factory=dict)
 
@@ -189,6 +192,10 @@ class Reader:
     def take_known(self, words: list[bytes]) -> None:
         """A card that our server reads as it is."""
         message, operator = self.message, words[0]
+        if operator == b'gimme' and len(words) == 2 and LONG_NAME.match(words[1]):
+            # (a client asks so for what an artifact of ours names: nothing is held under it, so nothing would come)
+            message.unasked += 1
+            return
         if operator in (b'igot', b'gimme') and len(words) > 1:
             self.name(words[1])
             if operator == b'igot' and len(message.announced) < ANNOUNCED:
@@ -298,7 +305,7 @@ class Maker:
         return content
 
 
-def translated(message: Message, bases: dict[bytes, bytes], deadline: float) -> bytes:
+def translated(message: Message, bases: dict[bytes, bytes], deadline: float) -> bytearray:
     """The message as our server reads it, without a login. Raises Refused for a file that can't be made, or where it gets too long."""
     maker, out = Maker(message, bases, deadline), bytearray()
     for part in message.parts:
@@ -310,14 +317,17 @@ def translated(message: Message, bases: dict[bytes, bytes], deadline: float) -> 
         # (a login card takes its room too)
         if len(out) > MESSAGE - 4096:
             raise Refused(f'the message is longer than {MESSAGE} bytes when it is unpacked: try a lower setting max-upload')
-    return bytes(out)
+    return out
 
 
-def with_login(message: Message, text: bytes, users: dict[bytes, User]) -> bytes:
-    """A text under the login of a message, or as it is where there is none."""
-    if message.user is None:
-        return text
-    return signed(escaped(message.user), users[message.user].secret, text)
+def login_for(message: Message, text: bytes | bytearray, users: dict[bytes, User]) -> bytes:
+    """The login of a message's user for another text, or nothing where there is none."""
+    return b'' if message.user is None else login_of(escaped(message.user), users[message.user].secret, text)
+
+
+def may_have_private(message: Message, users: dict[bytes, User]) -> bool:
+    """Whether the sender of a message may have private artifacts: what `nobody` may is for every message."""
+    return any(name in users and b'x' in users[name].letters for name in (message.user, b'nobody'))
 
 
 def asked_for(message: Message, names: list[bytes]) -> bytes:

@@ -16,7 +16,7 @@ class User(NamedTuple):
     secret: bytes
 
 
-def sha1(data: bytes | memoryview) -> bytes:
+def sha1(data: bytes | bytearray | memoryview) -> bytes:
     """The 40 digits of the SHA-1 of bytes."""
     return hashlib.sha1(data).hexdigest().encode()
 
@@ -59,7 +59,7 @@ def is_signed(user: User, nonce: bytes, signature: bytes, tail: memoryview) -> b
     return hmac.compare_digest(signature, sha1(nonce + user.secret)) and is_for_tail
 
 
-def signed(name: bytes, secret: bytes, message: bytes) -> bytes:
-    """A message behind the login card of a user, whose name is escaped."""
+def login_of(name: bytes, secret: bytes, message: bytes | bytearray) -> bytes:
+    """The login card of a user, whose name is escaped, for a message that comes behind it."""
     nonce = sha1(message)
-    return b'login %s %s %s\n' % (name, nonce, sha1(nonce + secret)) + message
+    return b'login %s %s %s\n' % (name, nonce, sha1(nonce + secret))

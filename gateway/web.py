@@ -209,11 +209,12 @@ def whole(response: http.client.HTTPResponse, length: int, end: float) -> bytes:
     return bytes(body)
 
 
-def asked(server: tuple[str, int], message: bytes) -> bytes:
-    """The reply of our server to a message. Raises NoServer where there is none, with its own status where that is 500 or 503."""
-    link = http.client.HTTPConnection(*server, timeout=SECONDS)
+def asked(server: tuple[str, int], *pieces: bytes | bytearray) -> bytes:
+    """The reply of our server to a message of these pieces. Raises NoServer where there is none, with its own status where that is 500 or 503."""
+    size = sum(map(len, pieces))
+    link = http.client.HTTPConnection(*server, timeout=SECONDS + size / (1 << 20))
     try:
-        link.request('POST', '/xfer', message, {'Content-Type': PLAIN, 'Connection': 'close'})
+        link.request('POST', '/xfer', pieces, {'Content-Type': PLAIN, 'Content-Length': str(size), 'Connection': 'close'})
         response = link.getresponse()
         if response.status != 200:
             raise NoServer(f'the server answers {response.status}', response.status if response.status in (500, 503) else 502)

@@ -12,6 +12,9 @@ from urllib.parse import quote
 
 TOP = os.path.dirname(os.path.dirname(os.path.abspath(__file__)))
 ARTIFACT, MESSAGE = 1 << 24, 1 << 27
+LONGEST_LOGIN = 1 << 20
+# the milliseconds from the beginning of the year 0 to the end of the year 9999
+LAST_MOMENT = 3_652_425 * 86_400_000
 SIGNALS = signal.SIGTERM, signal.SIGHUP, signal.SIGINT
 told: list[int] = []
 
@@ -113,19 +116,31 @@ class Records:
         self.name()
         return project, [bytes(self.take(self.number(1))).decode('ascii') for _ in range(self.number(2))]
 
+    def bounded(self, count: int, bound: int) -> int:
+        """The next number of so many bytes, which is below a bound."""
+        number = self.number(count)
+        if number >= bound:
+            raise Stop(f'this is no repository: {number} where a record has at most {bound - 1}')
+        return number
+
     def blob(self, has_receipt: bool) -> tuple[bool, str, memoryview]:
-        """Whether an artifact is private, its name and its bytes; a receipt says when and by whom it came."""
-        is_private, name = self.number(1) == 1, self.name()
+        """Whether an artifact is private, its name and its bytes; a receipt, which says when and by whom it came, is passed over."""
+        is_private, name = self.bounded(1, 2) == 1, self.name()
         if has_receipt:
-            self.take(8)
-            self.take(self.number(4))
-        return is_private, name, self.take(self.number(8))
+            self.bounded(8, LAST_MOMENT)
+            self.take(self.bounded(4, LONGEST_LOGIN + 1))
+        return is_private, name, self.take(self.bounded(8, ARTIFACT + 1))
+
+
+def kinds_of(data: memoryview) -> bytes:
+    """The letters of the records that a file may have behind its Config, by the version that its header tells."""
+    if bytes(data[:13]) != b'fossil-blobs-' or bytes(data[14:15]) != b'\n':
+        raise Stop('this is no repository')
+    return b'BPS' if data[13:14] == b'1' else b'BRPSU'
 
 
 def groups_of(data: memoryview) -> Iterator[memoryview]:
     """The records of each open group, up to the first closed gate."""
-    if bytes(data[:15]) != b'fossil-blobs-1\n':
-        raise Stop('this is no repository')
     at = 15
     while bytes(data[at:at + 1]) == b'O':
         size = int.from_bytes(data[at + 1:at + 9], 'big')
@@ -150,13 +165,12 @@ def fold(found: Repository, kind: bytes, records: Records) -> None:
         found.shunned.add(name)
     elif kind == b'U':
         found.shunned.discard(name)
-    elif kind != b'P':
-        raise Stop(f'this is no repository: a record of kind {kind!r}')
 
 
 def repository_in(data: memoryview) -> Repository:
     """What the bytes of a file stand for."""
     found = None
+    kinds = kinds_of(data)
     for body in groups_of(data):
         records = Records(body)
         while records.at < len(body):
@@ -165,6 +179,8 @@ def repository_in(data: memoryview) -> Repository:
                 found = Repository(*records.config(), {}, set())
             elif found is None:
                 raise Stop('this is no repository: it begins without its codes')
+            elif kind not in kinds:
+                raise Stop(f'this is no repository: a record of kind {kind!r}')
             else:
                 fold(found, kind, records)
     if found is None:

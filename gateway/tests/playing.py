@@ -28,6 +28,27 @@ def sha1(data):
     return hashlib.sha1(data).hexdigest()
 
 
+def sealed(lines):
+    """An artifact of cards, behind which its Z card comes."""
+    return lines + b'Z ' + hashlib.md5(lines).hexdigest().encode() + b'\n'
+
+
+def post(date, user, text, title='', thread='', answers='', edits=''):
+    """A forum post, which no command of Fossil makes: a thread's first one has a title, each other one a thread and the post that it answers."""
+    lines = [('D', date), ('G', thread), ('H', title.replace(' ', '\\s')), ('I', answers), ('N', 'text/x-markdown'), ('P', edits), ('U', user)]
+    return sealed(''.join(f'{letter} {word}\n' for letter, word in lines if word).encode() + b'W %d\n%s\n' % (len(text), text))
+
+
+def thread_of_posts():
+    """A thread, as Fossil writes it: its first post, a reply, an edit of either, the second of which takes the text away, and a reply to that."""
+    first = post('2024-03-04T05:06:07.089', 'ann', b'first\ntext \xc3\xa4', title='a thread')
+    reply = post('2024-03-04T05:06:08', 'bob', b'a reply', thread=sha1(first), answers=sha1(first))
+    edit = post('2024-03-04T05:06:09', 'ann', b'edited', title='a better title', thread=sha1(first), edits=sha1(first))
+    empty = post('2024-03-04T05:06:10', 'bob', b'', thread=sha1(first), answers=sha1(first), edits=sha1(reply))
+    last = post('2024-03-04T05:06:11.500', 'eve', b'again', thread=sha1(first), answers=sha1(empty))
+    return [first, reply, edit, empty, last]
+
+
 def program():
     """The built program, or None: a test never builds one, since that may take an hour."""
     for path in (os.environ.get('FOSSIL_PROGRAM'), os.path.join(TOP, 'crates', 'fossil_main', 'out', 'fossil_main')):
@@ -177,6 +198,12 @@ class Room:
                 out.write(content)
         self.fossil('addremove', folder=folder)
         return self.fossil('commit', '--no-warnings', '--no-prompt', '-m', text, *words, folder=folder, given=b'y\n')
+
+    def put(self, folder, contents):
+        """Puts artifacts as they are into the repository of a check-out, which Fossil then reads anew."""
+        for content in contents:
+            self.fossil('test-content-put', self.write('artifact', content), folder=folder)
+        self.fossil('rebuild', folder=folder)
 
     def artifacts(self, repository, *words):
         """The artifacts of a repository of Fossil by their names, as Fossil itself writes them out."""
