@@ -7,6 +7,7 @@ use Rattle.fsl_outside.specs.Streams.{SourceState}
 use Rattle.fsl_journal.specs.File.{IsFileOf}
 use Rattle.fsl_journal.specs.declared.LoadFault.{LoadFault}
 use Rattle.fsl_journal.specs.declared.LoadFault.TheVariants as load_fault
+use Rattle.fsl_repo.specs.Whole.{is_modelled}
 use Rattle.fsl_words.specs.declared.Command.{Command}
 use Rattle.fsl_words.specs.declared.Command.TheVariants as command_of
 use Rattle.fsl_words.specs.declared.Question.{Question}
@@ -15,25 +16,25 @@ use Rattle.fossil.specs.declared.answers.fault.Fault.{Fault}
 use Rattle.fossil.specs.declared.answers.fault.Fault.TheVariants as fault_is
 use Rattle.fossil.specs.Printed.{Printed}
 use Rattle.fossil.specs.Outcome.{Outcome, printed_of, not_repository, IsSaidOutcome}
-use Rattle.fossil.specs.Run.{Input, Agrees, reads, IsInputFault, IsFileLeft}
+use Rattle.fossil.specs.Run.{Input, Agrees, reads, IsInputFault, IsDamaged, IsFileLeft}
 use Rattle.fossil.specs.Acts.{ActsBy, HasActed, Touches, IsUnopened, IsNotLoadedAnswer, IsUnread, KeepsContents, KeepsImages}
 use Rattle.fossil.proofs.InputLemmas.{some_bytes}
 use Rattle.fossil.proofs.FileLemmas.{both, Loads, stands, agrees, none_committed, loaded_left, loaded_touches}
 use Rattle.fossil.proofs.SomeOutcome.{some_said_outcome}
 
 pub put_loads : Loads (Some command_of.Put)
-put_loads = record { opened = refl; begun = λ begun. cc; old = λ old bytes are. are; refused = λ bytes refused. refused; fails = λ read bytes at fails. inl (at, fails, refl); alone = refl }
+put_loads = record { opened = refl; begun = λ begun. cc; old = λ old bytes are. are; refused = λ bytes refused. refused; fails = λ honest read bytes at fails. inl (at, fails, refl); alone = refl }
 
 pub shun_loads : (name : List ℕ) → Loads (Some (command_of.Shun name))
-shun_loads name = record { opened = refl; begun = λ begun. cc; old = λ old bytes are. are; refused = λ bytes refused. refused; fails = λ read bytes at fails. inl (at, fails, refl); alone = refl }
+shun_loads name = record { opened = refl; begun = λ begun. cc; old = λ old bytes are. are; refused = λ bytes refused. refused; fails = λ honest read bytes at fails. inl (at, fails, refl); alone = refl }
 
 pub ask_loads : (question : Question) → Loads (Some (command_of.Ask question))
-ask_loads question = record { opened = refl; begun = λ begun. cc; old = λ old bytes are. are; refused = λ bytes refused. refused; fails = λ read bytes at fails. inl (at, fails, refl); alone = refl }
+ask_loads question = record { opened = refl; begun = λ begun. cc; old = λ old bytes are. are; refused = λ bytes refused. refused; fails = λ honest read bytes at fails. inl (at, fails, refl); alone = refl }
 
 -- ---- faults, by what was read
 
 module _ (command : Option Command) (loads : Loads command) (input : Input) (file left : DiskState) (read bytes : List ℕ) (o : Outcome)
-    (input_told : Agrees input.before.left read) (file_told : Agrees file.contents bytes) (outcome : IsSaidOutcome command read bytes o) (touches : Touches command (both file left) bytes o) where
+    (input_told : Agrees input.before.left read) (file_told : Agrees file.contents bytes) (outcome : IsSaidOutcome (is_modelled file) command read bytes o) (touches : Touches command (both file left) bytes o) where
   pub memory_by : KeepsContents file left → ActsBy command input (both file left) (Err fault_is.Memory) read bytes o
   memory_by contents = record {
     input_told = input_told;
@@ -80,6 +81,23 @@ module _ (command : Option Command) (loads : Loads command) (input : Input) (fil
     spared = λ nine begun. absurd (loads.begun begun);
   }
 
+  -- a content is damaged
+  pub damaged_by : (name found : List ℕ) → IsDamaged (is_modelled file) command bytes name found → left.faults ≡ file.faults → KeepsContents file left
+      → ActsBy command input (both file left) (Err (fault_is.Damaged name found)) read bytes o
+  damaged_by name found damaged faults contents = record {
+    input_told = input_told;
+    file_told = file_told;
+    outcome = outcome;
+    answer = tt;
+    plain = tt;
+    cause = (damaged, faults);
+    end = λ z. absurd (cc);
+    contents = loaded_left command loads file left bytes o 12 (λ done. absurd (cc)) contents;
+    touches = touches;
+    durable = λ last. absurd (cc);
+    spared = λ nine begun. absurd (loads.begun begun);
+  }
+
   -- the place at which the file fails is told
   nowhere_by : (at : ℕ) → o ≡ not_repository at → KeepsContents file left → KeepsImages file left → ActsBy command input (both file left) (Ok (printed_of (not_repository at))) read bytes o
   nowhere_by at is contents images = record {
@@ -101,6 +119,7 @@ module _ (command : Option Command) (loads : Loads command) (input : Input) (fil
       → ActsBy command input (both file left) (Err fault) read bytes o
   unread_by fault_is.Disk un reads_it records is contents = absurd un
   unread_by fault_is.Input un reads_it records is contents = input_by (record { read = reads_it; rose = un; file = λ opened. (records, is) }) contents
+  unread_by (fault_is.Damaged name found) un reads_it records is contents = absurd un
   unread_by fault_is.Memory un reads_it records is contents = memory_by contents
 
 -- ---- a file that isn't loaded
@@ -119,7 +138,7 @@ module _ (command : Option Command) (loads : Loads command) (source : SourceStat
         read.0,
         un.cause.0,
         o,
-        nowhere_by command loads input file left read.0 un.cause.0 o read.1 (agrees file.contents un.cause.0 un.cause.1) (loads.fails read.0 un.cause.0 at un.cause.2)
+        nowhere_by command loads input file left read.0 un.cause.0 o read.1 (agrees file.contents un.cause.0 un.cause.1) (loads.fails (is_modelled file) read.0 un.cause.0 at un.cause.2)
             (loaded_touches command loads file left un.cause.0 o un.unreadable un.any_moment un.keeps) at refl (un.contents (λ e. cc)) un.any_moment,
       )
 
@@ -130,8 +149,8 @@ module _ (command : Option Command) (loads : Loads command) (source : SourceStat
     held : (bytes : List ℕ) × Agrees file.contents bytes
     held = some_bytes file.contents
 
-    outcome : (o : Outcome) × IsSaidOutcome command read.0 held.0 o
-    outcome = some_said_outcome command read.0 held.0 loads.alone
+    outcome : (o : Outcome) × IsSaidOutcome (is_modelled file) command read.0 held.0 o
+    outcome = some_said_outcome (is_modelled file) command read.0 held.0 loads.alone
 
     touches : Touches command (both file left) held.0 outcome.0
     touches = loaded_touches command loads file left held.0 outcome.0 un.unreadable un.any_moment un.keeps

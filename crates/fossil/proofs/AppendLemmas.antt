@@ -1,5 +1,5 @@
 -- What a command did that appends to the file in one commit, once the file was loaded.
-use Rattle.std.proofs.Common.{◌≡◌, ◌≢◌, ◌⊎◌, inl, inr, ⊎_elim, ℕ, ◌<◌, ◌≤◌, List, [], ◌∷◌, ◌++◌, length, take, Option, Some, Ok, Err, IsTrue, refl, sym, ap, subst, ◌∙◌, arith, length-append}
+use Rattle.std.proofs.Common.{◌≡◌, ◌≢◌, ◌⊎◌, inl, inr, ⊎_elim, ℕ, ◌<◌, ◌≤◌, List, [], ◌∷◌, ◌++◌, length, take, Option, Some, Ok, Err, IsTrue, refl, sym, ap, subst, ◌∙◌, arith, length-append, Bool, true}
 use Rattle.std.specs.Io.KnownBytes.{IsAtEnd}
 use Rattle.std.specs.Prelude.{is_some}
 use Rattle.std.proofs.lemmas.List.{append-nil, take_at}
@@ -15,6 +15,7 @@ use Rattle.fossil.specs.declared.answers.fault.Fault.{Fault}
 use Rattle.fossil.specs.declared.answers.fault.Fault.TheVariants as fault_is
 use Rattle.fossil.specs.declared.reading.load.Loaded.{Loaded}
 use Rattle.fossil.specs.Printed.{Printed}
+use Rattle.fsl_repo.specs.Whole.{is_modelled}
 use Rattle.fossil.specs.Outcome.{Outcome, with_commit, one_commit, IsSaidOutcome}
 use Rattle.fossil.specs.Run.{Input, Agrees, AreImages, StandsFor, StandsForAll, StandsForSome, IsLeft, IsWholeAtAnyMoment, reads}
 use Rattle.fossil.specs.Acts.{HasActed, Touches, IsOpened, IsUnread, KeepsUnreadable}
@@ -36,7 +37,7 @@ pub record IsAppended (command : Option Command) (input : Input) (bytes : List �
   pub read : List ℕ
   pub appended : List Record
   pub told : Agrees input.before.left read
-  pub outcome : IsFileOf bytes before.journal.records → IsSaidOutcome command read bytes (with_commit answer appended)
+  pub outcome : IsFileOf bytes before.journal.records → (honest : Bool) → IsSaidOutcome honest command read bytes (with_commit answer appended)
   pub plain : IsPlain answer appended
   pub records : after.journal.records ≡ before.journal.records ++ appended
   pub stable : after.journal.stable ≡ before.journal.stable
@@ -60,7 +61,7 @@ module _ (command : Option Command) (loads : Loads command) (input : Input) (fil
   pub unread_acted : (fault : Fault) → IsUnread fault input → IsTrue (reads command) → HasActed command input (both file mid) (Err fault)
   unread_acted fault un reads_it =
       let read = some_bytes input.before.left in
-      let o = some_said_outcome command read.0 bytes loads.alone in (
+      let o = some_said_outcome (is_modelled file) command read.0 bytes loads.alone in (
         read.0,
         bytes,
         o.0,
@@ -72,7 +73,7 @@ module _ (command : Option Command) (loads : Loads command) (input : Input) (fil
   pub memory_acted : HasActed command input (both file mid) (Err fault_is.Memory)
   memory_acted =
       let read = some_bytes input.before.left in
-      let o = some_said_outcome command read.0 bytes loads.alone in (
+      let o = some_said_outcome (is_modelled file) command read.0 bytes loads.alone in (
         read.0,
         bytes,
         o.0,
@@ -84,8 +85,8 @@ module _ (command : Option Command) (loads : Loads command) (input : Input) (fil
     abbrev outcome : Outcome
     outcome = with_commit answer run.appended
 
-    is_outcome : IsSaidOutcome command run.read bytes outcome
-    is_outcome = run.outcome opened.stands.2
+    is_outcome : IsSaidOutcome (is_modelled file) command run.read bytes outcome
+    is_outcome = run.outcome opened.stands.2 (is_modelled file)
 
     small : answer.status ≤ 3
     small = ⊎_elim (λ z. omega (arith, z)) (λ three. let t = three.0 in omega (arith, t)) run.plain

@@ -34,8 +34,8 @@ refused_with refusal = Err refusal
 -- ---- one arrival
 
 -- the answer is that of the state, which is then the one that is due
-pub is_arrival : (s new : State) (name bytes : List ℕ) (private : Bool) (r : Told) → ArriveStep s name bytes private r new → (r ≡ Err arrive_fault.Memory → ⊥)
-    → IsArrival s name bytes private r × (new ≡ record (arrived s name bytes private r) { faults = new.faults })
+pub is_arrival : (s new : State) (name bytes : List ℕ) (private : Bool) (r : Told) → ArriveStep s name None bytes private r new → (r ≡ Err arrive_fault.Memory → ⊥)
+    → IsArrival s name bytes private r × (new ≡ record (arrived s name None bytes private r) { faults = new.faults })
 is_arrival s new name bytes private r (inl due) other = (due.1.0, due.2.state ∙ ap (λ (d : State). record d { faults = new.faults }) due.1.1)
 is_arrival s new name bytes private r (inr want) other = absurd (other want.0)
 
@@ -67,13 +67,13 @@ by_parts n size found c private false true false (Some a) r is h = cc
 pub never_stopped : (s : State) (name bytes : List ℕ) (private : Bool) (n : ℕ) → s.stopped ≡ None → IsArrival s name bytes private (Err (arrive_fault.Stopped n)) → ⊥
 never_stopped s name bytes private n runs is =
     let c = contents s.records in
-    by_parts n (length bytes) (name_of bytes) (after c (record_of.Blob private name bytes)) private (nat_lt (2 ^ 24) (length bytes)) (bytes_eq (name_of bytes) name) (set.contains c.shunned name) (map_of.get c.held name)
+    by_parts n (length bytes) (name_of bytes) (after c (record_of.Blob private name None bytes)) private (nat_lt (2 ^ 24) (length bytes)) (bytes_eq (name_of bytes) name) (set.contains c.shunned name) (map_of.get c.held name)
     (Err (arrive_fault.Stopped n)) refl (subst (λ (o : Option ℕ). ArrivalBy o s.records name bytes private (Err (arrive_fault.Stopped n))) runs is)
 
 -- of a repository that runs, no fault is that of one that is stopped
-pub not_stopped : (s new : State) (f : Sent) (fault : ArriveFault) → s.stopped ≡ None → ArriveStep s f.name f.bytes f.private (Err fault) new → (n : ℕ) → fault ≡ arrive_fault.Stopped n → ⊥
+pub not_stopped : (s new : State) (f : Sent) (fault : ArriveFault) → s.stopped ≡ None → ArriveStep s f.name None f.bytes f.private (Err fault) new → (n : ℕ) → fault ≡ arrive_fault.Stopped n → ⊥
 not_stopped s new f fault runs step n same =
-    let stopped : ArriveStep s f.name f.bytes f.private (Err (arrive_fault.Stopped n)) new = subst (λ (x : ArriveFault). ArriveStep s f.name f.bytes f.private (Err x) new) same step in
+    let stopped : ArriveStep s f.name None f.bytes f.private (Err (arrive_fault.Stopped n)) new = subst (λ (x : ArriveFault). ArriveStep s f.name None f.bytes f.private (Err x) new) same step in
     never_stopped s f.name f.bytes f.private n runs (is_arrival s new f.name f.bytes f.private (Err (arrive_fault.Stopped n)) stopped (λ e. cc)).0
 
 -- ---- two states that answer alike
@@ -89,24 +89,24 @@ arrives_alike a b name bytes private r alike is =
     subst (λ (o : Option ℕ). ArrivalBy o b.records name bytes private r) (alike.runs ∙ sym alike.also)
     (subst (λ (rs : List Record). ArrivalBy a.stopped rs name bytes private r) alike.records is)
 
-arrived_alike : (a b : State) (name bytes : List ℕ) (private : Bool) (r : Told) → AreAlike a b → AreAlike (arrived a name bytes private r) (arrived b name bytes private r)
+arrived_alike : (a b : State) (name bytes : List ℕ) (private : Bool) (r : Told) → AreAlike a b → AreAlike (arrived a name None bytes private r) (arrived b name None bytes private r)
 arrived_alike a b name bytes private (Ok arrival.Shunned) alike = alike
 arrived_alike a b name bytes private (Ok arrival.Present) alike = alike
 arrived_alike a b name bytes private (Ok arrival.Published) alike =
     record { records = ap (λ (rs : List Record). rs ++ record_of.Publish name ∷ []) alike.records; runs = alike.runs; also = alike.also }
 arrived_alike a b name bytes private (Ok arrival.Stored) alike =
-    record { records = ap (λ (rs : List Record). rs ++ record_of.Blob private name bytes ∷ []) alike.records; runs = alike.runs; also = alike.also }
+    record { records = ap (λ (rs : List Record). rs ++ record_of.Blob private name None bytes ∷ []) alike.records; runs = alike.runs; also = alike.also }
 arrived_alike a b name bytes private (Err fault) alike = alike
 
 -- what an arrival appends
-more_of : (s : State) (name bytes : List ℕ) (private : Bool) (r : Told) → (more : List Record) × ((arrived s name bytes private r).records ≡ s.records ++ more)
+more_of : (s : State) (name bytes : List ℕ) (private : Bool) (r : Told) → (more : List Record) × ((arrived s name None bytes private r).records ≡ s.records ++ more)
 more_of s name bytes private (Ok arrival.Shunned) = ([], sym (append-nil s.records))
 more_of s name bytes private (Ok arrival.Present) = ([], sym (append-nil s.records))
 more_of s name bytes private (Ok arrival.Published) = (record_of.Publish name ∷ [], refl)
-more_of s name bytes private (Ok arrival.Stored) = (record_of.Blob private name bytes ∷ [], refl)
+more_of s name bytes private (Ok arrival.Stored) = (record_of.Blob private name None bytes ∷ [], refl)
 more_of s name bytes private (Err fault) = ([], sym (append-nil s.records))
 
-committed_same : (s : State) (name bytes : List ℕ) (private : Bool) (r : Told) → (arrived s name bytes private r).committed ≡ s.committed
+committed_same : (s : State) (name bytes : List ℕ) (private : Bool) (r : Told) → (arrived s name None bytes private r).committed ≡ s.committed
 committed_same s name bytes private (Ok arrival.Shunned) = refl
 committed_same s name bytes private (Ok arrival.Present) = refl
 committed_same s name bytes private (Ok arrival.Published) = refl
@@ -137,7 +137,7 @@ none_left start t all left so_far none = so_far (Ok t) (subst (λ (fs : List Sen
 -- files were taken, and these are left of all
 pub record AreTaken (old : State) (all left : List Sent) (s : State) (lines : List ℕ) : Type 0 where
   pub taken : Taken
-  pub goes_on : GoesOn (none_taken (opened old.records 0)) all taken left
+  pub goes_on : GoesOn (none_taken (opened old.records 0 true)) all taken left
   pub alike : AreAlike s taken.state
   pub printed : lines ≡ taken.text
   pub committed : s.committed ≡ old.committed
@@ -146,7 +146,7 @@ pub record AreTaken (old : State) (all left : List Sent) (s : State) (lines : Li
 
 pub before_all : (old : State) (all : List Sent) (lines : List ℕ) → old.stopped ≡ None → lines ≡ [] → AreTaken old all all old lines
 before_all old all lines runs none = record {
-  taken = none_taken (opened old.records 0);
+  taken = none_taken (opened old.records 0 true);
   goes_on = λ result h. h;
   alike = record { records = refl; runs = runs; also = refl };
   printed = none;
@@ -156,15 +156,15 @@ before_all old all lines runs none = record {
 }
 
 module _ (old s new : State) (all left rest : List Sent) (lines : List ℕ) (f : Sent) (are : AreTaken old all left s lines) (split : left ≡ f ∷ rest) where
-  taken_more : (a : Arrival) (next : List ℕ) → ArriveStep s f.name f.bytes f.private (Ok a) new → next ≡ lines ++ name_line (arrival_word a) f.name → AreTaken old all rest new next
+  taken_more : (a : Arrival) (next : List ℕ) → ArriveStep s f.name None f.bytes f.private (Ok a) new → next ≡ lines ++ name_line (arrival_word a) f.name → AreTaken old all rest new next
   taken_more a next step grown =
       let is = is_arrival s new f.name f.bytes f.private (Ok a) step (λ e. cc) in
       let both = arrived_alike s are.taken.state f.name f.bytes f.private (Ok a) are.alike in
       let more = more_of s f.name f.bytes f.private (Ok a) in
-      let records : new.records ≡ (arrived s f.name f.bytes f.private (Ok a)).records = ap (λ (x : State). x.records) is.1 in
+      let records : new.records ≡ (arrived s f.name None f.bytes f.private (Ok a)).records = ap (λ (x : State). x.records) is.1 in
       record {
         taken = and_taken are.taken f (Ok a);
-        goes_on = one_more (none_taken (opened old.records 0)) are.taken all left rest f a are.goes_on split (arrives_alike s are.taken.state f.name f.bytes f.private (Ok a) are.alike is.0);
+        goes_on = one_more (none_taken (opened old.records 0 true)) are.taken all left rest f a are.goes_on split (arrives_alike s are.taken.state f.name f.bytes f.private (Ok a) are.alike is.0);
         alike = record { records = records ∙ both.records; runs = ap (λ (x : State). x.stopped) is.1 ∙ both.runs; also = both.also };
         printed = grown ∙ ap (λ (t : List ℕ). t ++ name_line (arrival_word a) f.name) are.printed;
         committed = ap (λ (x : State). x.committed) is.1 ∙ committed_same s f.name f.bytes f.private (Ok a) ∙ are.committed;
@@ -172,10 +172,10 @@ module _ (old s new : State) (all left rest : List Sent) (lines : List ℕ) (f :
         records = records ∙ more.1 ∙ ap (λ (rs : List Record). rs ++ more.0) are.records ∙ append_assoc old.records are.more more.0;
       }
 
-  taken_refused : (fault : ArriveFault) (refusal : Printed) → ArriveStep s f.name f.bytes f.private (Err fault) new → refusal_of f.name (Err fault) ≡ Some refusal → Arrive (none_taken (opened old.records 0)) all (Err refusal)
+  taken_refused : (fault : ArriveFault) (refusal : Printed) → ArriveStep s f.name None f.bytes f.private (Err fault) new → refusal_of f.name (Err fault) ≡ Some refusal → Arrive (none_taken (opened old.records 0 true)) all (Err refusal)
   taken_refused fault refusal step refuses =
       let other : failed fault ≡ Err arrive_fault.Memory → ⊥ = (λ e. let same : refusal_of f.name (Err arrive_fault.Memory) ≡ Some refusal = subst (λ (r : Told). refusal_of f.name r ≡ Some refusal) e refuses in cc) in
-      refused_here (none_taken (opened old.records 0)) are.taken all left rest f fault refusal are.goes_on split
+      refused_here (none_taken (opened old.records 0 true)) are.taken all left rest f fault refusal are.goes_on split
       (arrives_alike s are.taken.state f.name f.bytes f.private (Err fault) are.alike (is_arrival s new f.name f.bytes f.private (Err fault) step other).0) refuses
 
   -- the file came to this: it is taken too, or it refuses all
@@ -183,13 +183,13 @@ module _ (old s new : State) (all left rest : List Sent) (lines : List ℕ) (f :
     pub one_taken : r ≡ None → AreTaken old all rest new next
     one_taken none = let h : HasCome f (s, new) (lines, next) None = subst (HasCome f (s, new) (lines, next)) none come in taken_more h.0 next h.1 h.2
 
-    pub one_refused : (refusal : Printed) → r ≡ Some refusal → Arrive (none_taken (opened old.records 0)) all (Err refusal)
+    pub one_refused : (refusal : Printed) → r ≡ Some refusal → Arrive (none_taken (opened old.records 0 true)) all (Err refusal)
     one_refused refusal some = let h : HasCome f (s, new) (lines, next) (Some refusal) = subst (HasCome f (s, new) (lines, next)) some come in taken_refused h.0 refusal h.1 h.2
 
 pub all_taken : (old s : State) (all left : List Sent) (lines : List ℕ) → AreTaken old all left s lines → left ≡ [] → AreAllTaken all old s lines
 all_taken old s all left lines are none = record {
   taken = are.taken;
-  arrive = none_left (none_taken (opened old.records 0)) are.taken all left are.goes_on none;
+  arrive = none_left (none_taken (opened old.records 0 true)) are.taken all left are.goes_on none;
   printed = are.printed;
   records =
       are.records

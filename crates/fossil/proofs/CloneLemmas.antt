@@ -39,6 +39,7 @@ due_text (Err (fault.TooLarge name size)) d due = due
 due_text (Err (fault.Full name)) d due = due
 due_text (Err (fault.Missing name)) d due = due
 due_text (Err fault.Rounds) d due = due
+due_text (Err (fault.Damaged name found)) d due = due
 due_text (Err fault.Memory) d due = inl due
 
 module _ {D : Type 0} (disk : D → DiskState) (server : List ℕ) (fields : List (List ℕ)) (before after : D) (dial : LinkState × LinkState) where
@@ -60,6 +61,7 @@ module _ {D : Type 0} (disk : D → DiskState) (server : List ℕ) (fields : Lis
   told_so P Q turn (Err (fault.Full name)) h = either P Q turn (result_printed (Err (fault.Full name))) h
   told_so P Q turn (Err (fault.Missing name)) h = either P Q turn (result_printed (Err (fault.Missing name))) h
   told_so P Q turn (Err fault.Rounds) h = either P Q turn (result_printed (Err fault.Rounds)) h
+  told_so P Q turn (Err (fault.Damaged name found)) h = either P Q turn (result_printed (Err (fault.Damaged name found))) h
   told_so P Q turn (Err fault.Memory) h = either P Q turn (result_printed (Err fault.Memory)) h
 
   -- what is due was printed

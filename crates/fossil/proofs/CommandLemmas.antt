@@ -4,6 +4,7 @@ use Rattle.std.specs.Prelude.{◌^◌, nat_lt, MatchBool}
 use Rattle.std.specs.Io.KnownBytes.{IsAtEnd}
 use Rattle.fsl_text.specs.declared.memory.Memory.{Memory}
 use Rattle.fsl_disk.specs.Disk.{DiskState}
+use Rattle.fsl_repo.specs.Whole.{is_modelled}
 use Rattle.fsl_words.specs.declared.Command.{Command}
 use Rattle.fsl_words.specs.declared.Command.TheVariants as command_of
 use Rattle.fossil.specs.declared.answers.fault.Fault.{Fault}
@@ -27,6 +28,7 @@ use Rattle.fossil.proofs.PrintedLemmas.{written}
 no_zero : (fault : Fault) → fault_status fault ≡ 0 → ⊥
 no_zero fault_is.Disk z = cc
 no_zero fault_is.Input z = cc
+no_zero (fault_is.Damaged name found) z = cc
 no_zero fault_is.Memory z = cc
 
 -- a line whose status stays
@@ -39,7 +41,7 @@ module _ (command : Option Command) (input : Input) (file : DiskState) (no_other
   Acted result = HasActed command input (both file file) result
 
   -- nothing was done but the outcome, which commits nothing
-  pub idle_acted : (IsTrue (opens command) → ⊥) → (read : List ℕ) (o : Outcome) → Agrees input.before.left read → IsSaidOutcome command read (some_bytes file.contents).0 o → o.status ≤ 3
+  pub idle_acted : (IsTrue (opens command) → ⊥) → (read : List ℕ) (o : Outcome) → Agrees input.before.left read → IsSaidOutcome (is_modelled file) command read (some_bytes file.contents).0 o → o.status ≤ 3
       → (o.status ≡ 0 → IsTrue (reads command) → IsAtEnd input.after.left) → o.commits ≡ [] → Acted (Ok (printed_of o))
   idle_acted closed read o told is small end none =
       let bytes = some_bytes file.contents in (
@@ -66,7 +68,7 @@ module _ (command : Option Command) (input : Input) (file : DiskState) (no_other
   idle_fault plain fault other cause =
       let read = some_bytes input.before.left in
       let bytes = some_bytes file.contents in
-      let o = some_said_outcome command read.0 bytes.0 plain in (
+      let o = some_said_outcome (is_modelled file) command read.0 bytes.0 plain in (
         read.0,
         bytes.0,
         o.0,
@@ -91,25 +93,26 @@ module _ (command : Option Command) (input : Input) (file : DiskState) (no_other
   pub idle_unread : meets command ≡ false → (fault : Fault) → IsUnread fault input → IsTrue (reads command) → (IsTrue (opens command) → ⊥) → Acted (Err fault)
   idle_unread plain fault_is.Disk un reads_it closed = absurd un
   idle_unread plain fault_is.Input un reads_it closed = idle_fault plain fault_is.Input (λ e. cc) (λ bytes o. record { read = reads_it; rose = un; file = λ opened. absurd (closed opened) })
+  idle_unread plain (fault_is.Damaged name found) un reads_it closed = absurd un
   idle_unread plain fault_is.Memory un reads_it closed = idle_memory plain
 
 -- what opens no file and comes to the usage
-usage_of : (command : Option Command) → (IsTrue (opens command) → ⊥) → ((read bytes : List ℕ) → IsSaidOutcome command read bytes usage) → (input : Input) (file : DiskState)
+usage_of : (command : Option Command) → (IsTrue (opens command) → ⊥) → ((honest : Bool) (read bytes : List ℕ) → IsSaidOutcome honest command read bytes usage) → (input : Input) (file : DiskState)
     → (IsTrue file.is_model → (c : List ℕ) → file.since file.moment c → file.images c) → (out : Output) (status : ℕ) → status ≡ 1 → IsSaid out usage.text → HasRun command input out (both file file) status
 usage_of command closed is input file no_other out status one said =
     let read = some_bytes input.before.left in
-    written command input (both file file) (Ok (printed_of usage)) out status (idle_acted command input file no_other closed read.0 usage read.1 (is read.0 (some_bytes file.contents).0) (omega arith) (λ z. absurd (cc)) refl)
+    written command input (both file file) (Ok (printed_of usage)) out status (idle_acted command input file no_other closed read.0 usage read.1 (is (is_modelled file) read.0 (some_bytes file.contents).0) (omega arith) (λ z. absurd (cc)) refl)
     (said_told (printed_of usage) status out one refl said)
 
 -- words that are no command
 pub usage_run : (input : Input) (file : DiskState) → (IsTrue file.is_model → (c : List ℕ) → file.since file.moment c → file.images c) → (out : Output) (status : ℕ) → status ≡ 1 → IsSaid out usage.text
     → HasRun None input out (both file file) status
-usage_run = usage_of None (λ opened. cc) (λ read bytes. refl)
+usage_run = usage_of None (λ opened. cc) (λ honest read bytes. refl)
 
 -- a serve, which is no command of a run
 pub serve_run : (address users : List ℕ) (workers requests : ℕ) (input : Input) (file : DiskState) → (IsTrue file.is_model → (c : List ℕ) → file.since file.moment c → file.images c)
     → (out : Output) (status : ℕ) → status ≡ 1 → IsSaid out usage.text → HasRun (Some (command_of.Serve address users workers requests)) input out (both file file) status
-serve_run address users workers requests = usage_of (Some (command_of.Serve address users workers requests)) (λ opened. cc) (λ read bytes. refl)
+serve_run address users workers requests = usage_of (Some (command_of.Serve address users workers requests)) (λ opened. cc) (λ honest read bytes. refl)
 
 -- ---- ingest
 

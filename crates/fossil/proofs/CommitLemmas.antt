@@ -1,12 +1,12 @@
--- What the file stands for behind what was appended, and where nothing is to be committed.
-use Rattle.std.proofs.Common.{◌≡◌, ℕ, List, [], ◌∷◌, ◌++◌, length, take, None, refl, sym, subst, ◌∙◌, arith, append_assoc}
-use Rattle.std.proofs.lemmas.List.{append-nil, take_all}
+-- What the file stands for where nothing is to be committed.
+use Rattle.std.proofs.Common.{◌≡◌, ℕ, List, length, take, None, subst, ◌∙◌, arith}
+use Rattle.std.proofs.lemmas.List.{take_all}
 use Rattle.fsl_record.specs.declared.Record.{Record}
 use Rattle.fsl_disk.specs.Disk.{DiskState, IsModelled, Told}
 use Rattle.fsl_journal.specs.File.{IsFileOf}
 use Rattle.fsl_journal.specs.Log.{Log, committed}
 use Rattle.fsl_journal.specs.Journal.{Belongs}
-use Rattle.fsl_journal.proofs.Belonging.{belongs_append, stands_committed}
+use Rattle.fsl_journal.proofs.Belonging.{stands_committed}
 
 -- with nothing to commit the committed records are all
 committed_all : (log : Log) → log.stable ≡ length log.records → committed log ≡ log.records
@@ -17,15 +17,3 @@ idle_contents log disk belongs runs all held told = subst (λ (rs : List Record)
 
 pub idle_durable : (log : Log) (disk : DiskState) → Belongs log disk → log.stopped ≡ None → log.stable ≡ length log.records → IsModelled disk → (c : List ℕ) → disk.images c → IsFileOf c log.records
 idle_durable log disk belongs runs all modelled c image = subst (λ (rs : List Record). IsFileOf c rs) (committed_all log all) (stands_committed log disk belongs runs modelled c image)
-
--- records are appended one after another
-belongs_more : (more : List Record) (log : Log) (disk : DiskState) → Belongs log disk → log.stopped ≡ None → Belongs (record log { records = log.records ++ more }) disk
-belongs_more [] log disk belongs runs = subst (λ (rs : List Record). Belongs (record log { records = rs }) disk) (sym (append-nil log.records)) belongs
-belongs_more (r ∷ more) log disk belongs runs =
-    let one = belongs_append log (record log { records = log.records ++ r ∷ [] }) r disk belongs runs refl in
-    subst (λ (rs : List Record). Belongs (record log { records = rs }) disk) (append_assoc log.records (r ∷ []) more)
-    (belongs_more more (record log { records = log.records ++ r ∷ [] }) disk one runs)
-
--- and the journal still belongs to the disk
-pub appended_belongs : (appended : List Record) (before after : Log) (disk : DiskState) → after ≡ record before { records = before.records ++ appended } → Belongs before disk → before.stopped ≡ None → Belongs after disk
-appended_belongs appended before after disk is belongs runs = subst (λ (j : Log). Belongs j disk) (sym is) (belongs_more appended before disk belongs runs)

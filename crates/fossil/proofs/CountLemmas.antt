@@ -1,13 +1,12 @@
 -- What a sync comes to doesn't depend on the count of faults that its repository's disk had.
 use Rattle.std.proofs.Common.{◌≡◌, inl, inr, ℕ, Bool, true, false, List, [], ◌∷◌, Option, Some, None, Result, Ok, Err, refl, sym, ap, subst, ◌∙◌}
-use Rattle.std.specs.Prelude.{◌==◌, if◌then◌else◌, MatchBool, MatchOption}
+use Rattle.std.specs.Prelude.{if◌then◌else◌, MatchBool, MatchOption}
 use Rattle.std.specs.List.{list_all}
 use Rattle.std.specs.Str.{bytes_eq}
 use Rattle.fsl_order.specs.Names.{has}
 use Rattle.fsl_record.specs.declared.Record.{Record}
 use Rattle.fsl_wire.specs.declared.WireCard.{WireCard}
 use Rattle.fsl_wire.specs.declared.WireCard.TheVariants as cards
-use Rattle.fsl_blobs.specs.Fold.{Contents}
 use Rattle.fsl_repo.specs.declared.Arrival.{Arrival}
 use Rattle.fsl_repo.specs.declared.Arrival.TheVariants as arrival
 use Rattle.fsl_repo.specs.declared.ArriveFault.{ArriveFault}
@@ -20,11 +19,10 @@ use Rattle.fsl_pull.specs.declared.PeerFault.TheVariants as peer
 use Rattle.fsl_pull.specs.declared.PullFault.{PullFault}
 use Rattle.fsl_pull.specs.declared.PullFault.TheVariants as fault
 use Rattle.fsl_pull.specs.Rounds.{Round, Point, End, Then, goes_on, ends, Course, GoOn, EndsIn, IsSync}
-use Rattle.fsl_pull.specs.Replies.{announced_in, sequel_in}
+use Rattle.fsl_pull.specs.Replies.{announced_in}
 use Rattle.fsl_pull.specs.Arrivals.{Taken, Takes, AreWants, stopped_by, is_onward}
 use Rattle.fsl_pull.specs.Pulls.{next_names, is_end, missing, missing_fault, behind, ended, uncommitted, unread, pull_then, IsPullReply, PullRound, pull_start, IsPull}
 use Rattle.fsl_pull.specs.Pushes.{Sending, files_to_send, asked_here, sent_on, push_ended, quiet_then, push_then, push_uncommitted, IsPushReply, PushRound, push_start, IsPush}
-use Rattle.fsl_pull.specs.Clones.{Cloning, first_record, begun_with, project_in, clone_then, IsCloned, IsBegun, IsCloneReply, CloneRound, clone_start, not_empty_end, IsClone}
 use Rattle.fsl_pull.specs.Locals.{local_then, LocalRound, AreLocalRounds, IsLocalPull, project_code, other_project_end}
 use Rattle.fsl_pull.proofs.TakesLemmas.{FileTaken}
 
@@ -50,7 +48,7 @@ Told = Result Arrival ArriveFault
 
 -- ---- cards
 
-arrived_so : (n : ℕ) (s : State) (name bytes : List ℕ) (a : Arrival) → arrived (counted n s) name bytes false (Ok a) ≡ counted n (arrived s name bytes false (Ok a))
+arrived_so : (n : ℕ) (s : State) (name bytes : List ℕ) (a : Arrival) → arrived (counted n s) name None bytes false (Ok a) ≡ counted n (arrived s name None bytes false (Ok a))
 arrived_so n s name bytes arrival.Shunned = refl
 arrived_so n s name bytes arrival.Present = refl
 arrived_so n s name bytes arrival.Published = refl
@@ -60,7 +58,7 @@ file_so : (n : ℕ) (s : State) (name bytes : List ℕ) (due : Option ℕ) (rest
     → FileTaken s name bytes due rest t answer → FileTaken (counted n s) name bytes due rest (taken_so n t) answer
 file_so n s name bytes due rest t (Ok a) others h = (
   taken_so n h.0,
-  subst (λ (x : State). Takes x due rest (taken_so n h.0)) (sym (arrived_so n s name bytes a)) (others (arrived s name bytes false (Ok a)) h.0 h.1),
+  subst (λ (x : State). Takes x due rest (taken_so n h.0)) (sym (arrived_so n s name bytes a)) (others (arrived s name None bytes false (Ok a)) h.0 h.1),
   ap (taken_so n) h.2,
 )
 file_so n s name bytes due rest t (Err why) others h = ap (taken_so n) h
@@ -134,8 +132,8 @@ pull_so : (login : Option Login) → IsUncounted (PullRound login)
 pull_so login n p r step h = (h.0, (h.1.0, h.1.1, pull_read_so n p h.1.0 step h.1.2))
 
 -- a repository that was just opened, whatever the count
-pub pull_counted : (login : Option Login) (records : List Record) (m n : ℕ) (rounds : List (Round (List ℕ) Exchanged)) (e : End) → IsPull login (opened records m) rounds e → IsPull login (opened records n) rounds (end_so n e)
-pull_counted login records m n rounds e h = (h.0, h.1, sync_so (PullRound login) (pull_so login) n (pull_start (opened records m) h.0) rounds e h.2)
+pub pull_counted : (login : Option Login) (honest : Bool) (records : List Record) (m n : ℕ) (rounds : List (Round (List ℕ) Exchanged)) (e : End) → IsPull login (opened records m honest) rounds e → IsPull login (opened records n honest) rounds (end_so n e)
+pull_counted login honest records m n rounds e h = (h.0, h.1, sync_so (PullRound login) (pull_so login) n (pull_start (opened records m honest) h.0) rounds e h.2)
 
 -- ---- a push
 
@@ -163,10 +161,10 @@ push_read_so n p files (Ok reply) step h = (taken_so n h.0, takes_so n p.state N
 push_read_so n p files (Err why) step h = ap (then_so n) h
 
 push_so : (login : Option Login) → IsUncounted (PushRound login)
-push_so login n p r step h = (h.0, h.1, h.2, (h.3.0, h.3.1, push_read_so n p (files_to_send (now p.state) p.memory) h.3.0 step h.3.2))
+push_so login n p r step h = (h.0, h.1, record { files = h.2.files; read = h.2.read; bytes = h.2.bytes }, (h.3.0, h.3.1, push_read_so n p (files_to_send (now p.state) p.memory) h.3.0 step h.3.2))
 
-pub push_counted : (login : Option Login) (records : List Record) (m n : ℕ) (rounds : List (Round (List ℕ) Exchanged)) (e : End) → IsPush login (opened records m) rounds e → IsPush login (opened records n) rounds (end_so n e)
-push_counted login records m n rounds e h = sync_so (PushRound login) (push_so login) n (push_start (opened records m)) rounds e h
+pub push_counted : (login : Option Login) (honest : Bool) (records : List Record) (m n : ℕ) (rounds : List (Round (List ℕ) Exchanged)) (e : End) → IsPush login (opened records m honest) rounds e → IsPush login (opened records n honest) rounds (end_so n e)
+push_counted login honest records m n rounds e h = sync_so (PushRound login) (push_so login) n (push_start (opened records m honest)) rounds e h
 
 -- ---- a pull from another repository
 
@@ -179,66 +177,18 @@ given_so : (n : ℕ) (p : Point Names) (reply : List WireCard) (t : Taken) (o : 
 given_so n p reply t None step h = (h.0, h.1, ap (then_so n) h.2 ∙ sym (local_then_so n p reply t h.0))
 given_so n p reply t (Some why) step h = ap (then_so n) h
 
-local_so : (there : Contents) (unclustered : Names) → IsUncounted (LocalRound there unclustered)
-local_so there unclustered n p r step h = (h.0, h.1, (taken_so n h.2.0, takes_so n p.state None r.reply h.2.0 h.2.1, given_so n p r.reply h.2.0 (h.2.0).fault step h.2.2))
+local_so : (peer : State) (unclustered : Names) → IsUncounted (LocalRound peer unclustered)
+local_so peer unclustered n p r step h = (h.0, h.1, (taken_so n h.2.0, takes_so n p.state None r.reply h.2.0 h.2.1, given_so n p r.reply h.2.0 (h.2.0).fault step h.2.2))
 
 abbrev Given : Type 0
 Given = List (Round Names (List WireCard))
 
-local_by : (records there : List Record) (m n k l : ℕ) (rounds : Given) (e : End) (b : Bool)
-    → MatchBool b (AreLocalRounds (opened records m) (opened there k) rounds e) ((rounds ≡ []) × (e ≡ other_project_end (opened records m) (project_code (now (opened there k)))))
-    → MatchBool b (AreLocalRounds (opened records n) (opened there l) rounds (end_so n e)) ((rounds ≡ []) × (end_so n e ≡ other_project_end (opened records n) (project_code (now (opened there l)))))
-local_by records there m n k l rounds e true h = (h.0, h.1, (h.2.0, h.2.1, ends_so (LocalRound (now (opened there k)) h.0) (local_so (now (opened there k)) h.0) n (pull_start (opened records m) h.2.0) rounds e h.2.2))
-local_by records there m n k l rounds e false h = (h.0, ap (end_so n) h.1)
+local_by : (honest kind : Bool) (records there : List Record) (m n k l : ℕ) (rounds : Given) (e : End) (b : Bool)
+    → MatchBool b (AreLocalRounds (opened records m honest) (opened there k kind) rounds e) ((rounds ≡ []) × (e ≡ other_project_end (opened records m honest) (project_code (now (opened there k kind)))))
+    → MatchBool b (AreLocalRounds (opened records n honest) (opened there l kind) rounds (end_so n e)) ((rounds ≡ []) × (end_so n e ≡ other_project_end (opened records n honest) (project_code (now (opened there l kind)))))
+local_by honest kind records there m n k l rounds e true h = (h.0, h.1, (h.2.0, h.2.1, ends_so (LocalRound (opened there k kind) h.0) (local_so (opened there k kind) h.0) n (pull_start (opened records m honest) h.2.0) rounds e h.2.2))
+local_by honest kind records there m n k l rounds e false h = (h.0, ap (end_so n) h.1)
 
-pub local_counted : (records there : List Record) (m n k l : ℕ) (rounds : Given) (e : End) → IsLocalPull (opened records m) (opened there k) rounds e → IsLocalPull (opened records n) (opened there l) rounds (end_so n e)
-local_counted records there m n k l rounds e h =
-    local_by records there m n k l rounds e (bytes_eq (project_code (now (opened records m))) (project_code (now (opened there k)))) h
-
--- ---- a clone
-
-next_so : (n : ℕ) (p : Point Cloning) (t : Taken) (next : ℕ) (last : Bool)
-    → (if last then ends (ended (point_so n p) (taken_so n t) None) else goes_on (behind (point_so n p) (taken_so n t) (record { begun = true; from = next })))
-    ≡ then_so n (if last then ends (ended p t None) else goes_on (behind p t (record { begun = true; from = next })))
-next_so n p t next true = refl
-next_so n p t next false = refl
-
-clone_then_so : (n : ℕ) (p : Point Cloning) (t : Taken) (o : Option ℕ) → clone_then (point_so n p) (taken_so n t) o ≡ then_so n (clone_then p t o)
-clone_then_so n p t None = refl
-clone_then_so n p t (Some next) = next_so n p t next (next == 0)
-
-cloned_by : (n : ℕ) (p : Point Cloning) (reply : List WireCard) (t : Taken) (o : Option PullFault) (step : Then Cloning) → MatchOption o (step ≡ clone_then p t (sequel_in reply)) (λ why. step ≡ ends (uncommitted p t why))
-    → MatchOption o (then_so n step ≡ clone_then (point_so n p) (taken_so n t) (sequel_in reply)) (λ why. then_so n step ≡ ends (uncommitted (point_so n p) (taken_so n t) why))
-cloned_by n p reply t None step h = ap (then_so n) h ∙ sym (clone_then_so n p t (sequel_in reply))
-cloned_by n p reply t (Some why) step h = ap (then_so n) h
-
-cloned_so : (n : ℕ) (p : Point Cloning) (reply : List WireCard) (step : Then Cloning) → IsCloned p reply step → IsCloned (point_so n p) reply (then_so n step)
-cloned_so n p reply step h = (taken_so n h.0, takes_so n p.state (Some p.memory.from) reply h.0 h.1, cloned_by n p reply h.0 (h.0).fault step h.2)
-
-module _ (server : List ℕ) (fields : List (List ℕ)) where
-  begun_by : (n : ℕ) (p : Point Cloning) (reply : List WireCard) (o : Option (List ℕ)) (step : Then Cloning)
-      → MatchOption o (step ≡ ends (unread p peer.NoPush)) (λ project. IsCloned (begun_with p (first_record project server fields)) reply step)
-      → MatchOption o (then_so n step ≡ ends (unread (point_so n p) peer.NoPush)) (λ project. IsCloned (begun_with (point_so n p) (first_record project server fields)) reply (then_so n step))
-  begun_by n p reply None step h = ap (then_so n) h
-  begun_by n p reply (Some project) step h = cloned_so n (begun_with p (first_record project server fields)) reply step h
-
-  reply_by : (n : ℕ) (p : Point Cloning) (reply : List WireCard) (step : Then Cloning) (begun : Bool) → MatchBool begun (IsCloned p reply step) (IsBegun server fields p reply step)
-      → MatchBool begun (IsCloned (point_so n p) reply (then_so n step)) (IsBegun server fields (point_so n p) reply (then_so n step))
-  reply_by n p reply step true h = cloned_so n p reply step h
-  reply_by n p reply step false h = begun_by n p reply (project_in reply) step h
-
-  clone_read_so : (n : ℕ) (p : Point Cloning) (read : Result (List WireCard) PeerFault) (step : Then Cloning) → IsCloneReply server fields p read step → IsCloneReply server fields (point_so n p) read (then_so n step)
-  clone_read_so n p (Ok reply) step h = reply_by n p reply step p.memory.begun h
-  clone_read_so n p (Err why) step h = ap (then_so n) h
-
-  clone_so : (login : Option Login) → IsUncounted (CloneRound server fields login)
-  clone_so login n p r step h = (h.0, (h.1.0, h.1.1, clone_read_so n p h.1.0 step h.1.2))
-
-  clone_by : (login : Option Login) (len m n : ℕ) (rounds : List (Round (List ℕ) Exchanged)) (e : End) (empty : Bool)
-      → MatchBool empty (IsSync (CloneRound server fields login) (clone_start m) rounds e) ((rounds ≡ []) × (e ≡ not_empty_end m len))
-      → MatchBool empty (IsSync (CloneRound server fields login) (clone_start n) rounds (end_so n e)) ((rounds ≡ []) × (end_so n e ≡ not_empty_end n len))
-  clone_by login len m n rounds e true h = sync_so (CloneRound server fields login) (clone_so login) n (clone_start m) rounds e h
-  clone_by login len m n rounds e false h = (h.0, ap (end_so n) h.1)
-
-  pub clone_counted : (login : Option Login) (len m n : ℕ) (rounds : List (Round (List ℕ) Exchanged)) (e : End) → IsClone server fields login len m rounds e → IsClone server fields login len n rounds (end_so n e)
-  clone_counted login len m n rounds e h = clone_by login len m n rounds e (len == 0) h
+pub local_counted : (honest kind : Bool) (records there : List Record) (m n k l : ℕ) (rounds : Given) (e : End) → IsLocalPull (opened records m honest) (opened there k kind) rounds e → IsLocalPull (opened records n honest) (opened there l kind) rounds (end_so n e)
+local_counted honest kind records there m n k l rounds e h =
+    local_by honest kind records there m n k l rounds e (bytes_eq (project_code (now (opened records m honest))) (project_code (now (opened there k kind)))) h

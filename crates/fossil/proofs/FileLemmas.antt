@@ -68,11 +68,13 @@ left_old status old commits bytes none h =
 pub fault_undone : (fault : Fault) → IsTrue (is_done (fault_status fault)) → ⊥
 fault_undone fault_is.Disk done = cc
 fault_undone fault_is.Input done = cc
+fault_undone (fault_is.Damaged name found) done = cc
 fault_undone fault_is.Memory done = cc
 
 pub fault_fades : (command : Option Command) (fault : Fault) → IsTrue (lasts command (fault_status fault)) → ⊥
 fault_fades command fault_is.Disk last = cc
 fault_fades command fault_is.Input last = cc
+fault_fades command (fault_is.Damaged name found) last = cc
 fault_fades command fault_is.Memory last = cc
 
 -- ---- what is told
@@ -154,7 +156,7 @@ pub record Loads (command : Option Command) : Type 0 where
   pub begun : IsTrue (begins command) → ⊥
   pub old : (old : List Record) (bytes : List ℕ) → AreOld command old bytes → IsFileOf bytes old
   pub refused : (bytes : List ℕ) → IsRefused command bytes → IsNoRepository bytes
-  pub fails : (read bytes : List ℕ) (at : ℕ) → FailsAt bytes at → IsSaidOutcome command read bytes (not_repository at)
+  pub fails : (honest : Bool) (read bytes : List ℕ) (at : ℕ) → FailsAt bytes at → IsSaidOutcome honest command read bytes (not_repository at)
   pub alone : meets command ≡ false
 
 module _ (command : Option Command) (loads : Loads command) (file left : DiskState) (bytes : List ℕ) (o : Outcome) where

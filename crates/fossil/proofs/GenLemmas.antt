@@ -81,7 +81,7 @@ pub text_added : (c : Contents) (items : List Item) (text : List ℕ) (item : It
 text_added c items text item s absent fits =
     let name = name_of text in
     let free = none (map_of.get c.held name) (sym (held_has c.held items name s.held) ∙ absent) in
-    subst (λ (d : Contents). IsSetOf d (with_item item items)) (sym (blob_after c false name text free (s.unshunned name)))
+    subst (λ (d : Contents). IsSetOf d (with_item item items)) (sym (blob_after c false name None text free (s.unshunned name)))
     (record { held = items_more c.held items name (public_held text) item s.held fits; unshunned = s.unshunned })
 
 -- ---- one note more

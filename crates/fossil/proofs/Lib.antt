@@ -1,8 +1,10 @@
+pub mod DamagedLine
 pub mod OneReport
 pub mod GenLemmas
 pub mod OneOutcome
 pub mod SomeOutcome
 pub mod MessageLemmas
+pub mod NotedLemmas
 pub mod ArrivalLemmas
 pub mod SetLemmas
 pub mod GatherLemmas

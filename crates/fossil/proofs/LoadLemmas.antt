@@ -1,10 +1,10 @@
 -- What a file stands for after it was loaded, or wasn't.
-use Rattle.std.proofs.Common.{◌≡◌, ◌≢◌, inl, inr, ℕ, List, [], ◌∷◌, ◌++◌, length, take, refl, sym, ap, subst, ◌∙◌, arith, length-append}
+use Rattle.std.proofs.Common.{◌≡◌, ◌≢◌, inl, inr, ℕ, List, [], ◌∷◌, ◌++◌, length, take, IsTrue, refl, sym, ap, subst, ◌∙◌, arith, length-append}
 use Rattle.std.proofs.lemmas.List.{append-nil, take_all}
 use Rattle.fsl_record.specs.declared.Record.{Record}
 use Rattle.fsl_record.specs.Records.{AreRecords}
-use Rattle.fsl_disk.specs.Disk.{DiskState, IsModelled, Keeps, LeavesOnly}
-use Rattle.fsl_disk.proofs.Moments.{weaker}
+use Rattle.fsl_disk.specs.Disk.{DiskState, IsModelled, Keeps, LeavesOnly, Quiet}
+use Rattle.fsl_disk.proofs.Moments.{weaker, and_then, quiet_moments}
 use Rattle.fsl_journal.specs.File.{IsFileOf}
 use Rattle.fsl_journal.specs.Log.{Log, IsLoaded, IsBetween, StandsBetween, committed}
 use Rattle.fsl_journal.specs.Journal.{Belongs, OfBytes, LoadFailed, IsSpared}
@@ -39,6 +39,13 @@ images_kept file left between modelled old are =
     weaker file left (StandsBetween old old) (λ c. IsFileOf c old) (λ c h. subst (λ (rs : List Record). IsFileOf c rs) (same_between old h.0 h.2) h.1)
     (between modelled old old (λ c image. (old, are c image, record { more = ([], sym (append-nil old)); front = ([], sym (append-nil old)) })))
 
+-- and a file that is only read then keeps them
+pub images_quiet : (file mid left : DiskState) → KeepsImages file mid → Keeps file mid → Quiet mid left → (IsTrue mid.is_model → (c : List ℕ) → mid.since mid.moment c → mid.images c) → KeepsImages file left
+images_quiet file mid left stays keeps quiet no_other modelled old are =
+    let model : IsTrue mid.is_model = keeps.model ∙ modelled.model in
+    let before = stays modelled old are in
+    and_then file mid left (λ c. IsFileOf c old) before (quiet_moments mid left (λ c. IsFileOf c old) quiet model (no_other model) before.now)
+
 -- ---- a file that was loaded
 
 module _ (file left : DiskState) (log : Log) (records : List Record) (loaded : IsLoaded log records) (stands : OfBytes file (λ bytes. IsFileOf bytes records)) (belongs : Belongs log left) where
@@ -50,13 +57,13 @@ module _ (file left : DiskState) (log : Log) (records : List Record) (loaded : I
       let same : records ≡ old = one_file bytes records old (subst (λ (b : List ℕ). IsFileOf b records) (stands.1 bytes told) stands.2) are in
       subst (λ (rs : List Record). IsFileOf held rs) (all_committed ∙ same) (belongs.reads loaded.runs held left_told).0.file
 
-  pub opened : (l : Loaded) → l.journal ≡ log → l.blobs.records ≡ records → KeepsBetween file left → Keeps file left → left.faults ≡ file.faults → IsOpened file left l
-  opened l same folded between keeps faults = record {
+  pub opened : (l : Loaded) → l.journal ≡ log → l.records ≡ records → l.places ≡ log.places → KeepsBetween file left → Keeps file left → left.faults ≡ file.faults → IsOpened file left l
+  opened l same read starts between keeps faults = record {
     is_open = record {
       runs = ap (λ (j : Log). j.stopped) same ∙ loaded.runs;
       stable = ap (λ (j : Log). j.stable) same ∙ loaded.stable ∙ ap length (sym (ap (λ (j : Log). j.records) same ∙ loaded.records));
-      fit = subst AreRecords (sym (ap (λ (j : Log). j.records) same ∙ loaded.records)) loaded.fit;
-      same = folded ∙ sym (ap (λ (j : Log). j.records) same ∙ loaded.records);
+      fit = subst AreRecords (sym read) loaded.fit;
+      same = (ap (λ (j : Log). j.records) same ∙ loaded.records ∙ sym read, ap (λ (j : Log). j.places) same ∙ sym starts);
     };
     stands = (stands.0, stands.1, subst (λ (rs : List Record). IsFileOf stands.0 rs) (sym (ap (λ (j : Log). j.records) same ∙ loaded.records)) stands.2);
     belongs = subst (λ (j : Log). Belongs j left) (sym same) belongs;
@@ -65,10 +72,6 @@ module _ (file left : DiskState) (log : Log) (records : List Record) (loaded : I
     any_moment = images_kept file left between;
     keeps = keeps;
   }
-
-  -- there was no memory for its artifacts
-  pub not_folded : KeepsUnreadable file left → KeepsBetween file left → Keeps file left → IsUnopened file left load_fault.Memory
-  not_folded unreadable between keeps = record { cause = tt; contents = λ other. contents_kept; modelled = λ model. contents_kept; unreadable = unreadable; any_moment = images_kept file left between; keeps = keeps }
 
 -- ---- a file that wasn't
 

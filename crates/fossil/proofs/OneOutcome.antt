@@ -1,6 +1,6 @@
 -- Words, an input and a file have one outcome.
-use Rattle.std.proofs.Common.{◌≡◌, ℕ, Bool, true, false, List, [], length, ltb, Option, Some, None, Result, Ok, Err, sym, ap, subst, ◌∙◌, inl, inr}
-use Rattle.std.specs.Prelude.{◌^◌, MatchBool}
+use Rattle.std.proofs.Common.{◌≡◌, ℕ, Bool, true, false, not, List, [], length, ltb, Option, Some, None, Result, Ok, Err, IsTrue, refl, sym, ap, subst, ◌∙◌, inl, inr}
+use Rattle.std.specs.Prelude.{◌^◌, ◌||◌, MatchBool, is_some}
 use Rattle.fsl_blobs.specs.Fold.{contents}
 use Rattle.fsl_journal.proofs.Failing.{no_file, one_place}
 use Rattle.fsl_journal.proofs.Unique.{one_file}
@@ -18,9 +18,10 @@ use Rattle.fossil.specs.Printed.{Printed}
 use Rattle.fossil.specs.Printed as printing
 use Rattle.fossil.specs.Ingest as ingest
 use Rattle.fossil.specs.Put.{IsPut, IsPutRead, IsPutFiles, printed_by, appended_by}
-use Rattle.fossil.specs.Outcome.{Outcome, without_commit, with_commit, not_repository, report_outcome, IsAnswered, IsIngestOfFiles, IsPutOfFiles, IsShunOf, IsLoaded, IsCommandOutcome, said, IsSaidOutcome, HasOneOutcome}
+use Rattle.fsl_query.specs.Answers.{prefix_of}
+use Rattle.fossil.specs.Outcome.{Outcome, without_commit, with_commit, not_repository, report_outcome, IsAnswered, IsIngestOfFiles, IsPutOfFiles, IsShunOf, IsLoaded, IsCommandOutcome, said, IsSaidOutcome, command_reads_content, reads_content, AreAlike, HasOneOutcome}
 use Rattle.fossil.proofs.GenLemmas.{one_gen}
-use Rattle.fossil.proofs.OneReport.{one_result}
+use Rattle.fossil.proofs.OneReport.{one_result, alike_result, same_alike}
 use Rattle.fossil.proofs.MessageLemmas.{one_files, one_refused, not_both}
 use Rattle.fossil.proofs.ArrivalLemmas.{one_arrive}
 
@@ -70,7 +71,7 @@ module _ (old : List Record) (a b : Printed) (xs ys : List Record) where
   same_read input (inr h) (inl k) = absurd (not_both input h.0 b h.1 k.0)
   same_read input (inr h) (inr k) =
       let f = subst (λ (files : List Sent). IsPutFiles files old a xs) (one_files input h.0 k.0 h.1 k.1) h.2 in
-      let same = one_arrive k.0 (none_taken (opened old 0)) f.0 k.2.0 f.1 k.2.1 in
+      let same = one_arrive k.0 (none_taken (opened old 0 true)) f.0 k.2.0 f.1 k.2.1 in
       (f.2 ∙ ap printed_by same ∙ sym k.2.2, f.3 ∙ ap (appended_by old) same ∙ sym k.2.3)
 
   same_put : (input : List ℕ) (t : Bool) → MatchBool t ((a ≡ printing.too_long) × (xs ≡ [])) (IsPutRead input old a xs) → MatchBool t ((b ≡ printing.too_long) × (ys ≡ [])) (IsPutRead input old b ys) → Same a b xs ys
@@ -87,35 +88,68 @@ one_put_outcome input old a b h k =
 
 -- ---- the file
 
+-- two outcomes over a file are the same, or so are those by its records
+loaded_by : (R : Outcome → Outcome → Type 0) → ((a b : Outcome) → a ≡ b → R a b) → (ByRecords : List Record → Outcome → Type 0) (bytes : List ℕ)
+    → ((old : List Record) (a b : Outcome) → ByRecords old a → ByRecords old b → R a b) → (a b : Outcome) → IsLoaded ByRecords bytes a → IsLoaded ByRecords bytes b → R a b
+loaded_by R same ByRecords bytes one a b (inl h) (inl k) = same a b (h.2 ∙ ap not_repository (one_place bytes h.0 k.0 h.1 k.1) ∙ sym k.2)
+loaded_by R same ByRecords bytes one a b (inl h) (inr k) = absurd (no_file bytes h.0 k.0 h.1 k.1)
+loaded_by R same ByRecords bytes one a b (inr h) (inl k) = absurd (no_file bytes k.0 h.0 k.1 h.1)
+loaded_by R same ByRecords bytes one a b (inr h) (inr k) =
+    one k.0 a b (subst (λ (old : List Record). ByRecords old a) (one_file bytes h.0 k.0 h.1 k.1) h.2) k.2
+
 pub one_loaded : (ByRecords : List Record → Outcome → Type 0) (bytes : List ℕ) → ((old : List Record) (a b : Outcome) → ByRecords old a → ByRecords old b → a ≡ b)
     → (a b : Outcome) → IsLoaded ByRecords bytes a → IsLoaded ByRecords bytes b → a ≡ b
-one_loaded ByRecords bytes one a b (inl h) (inl k) = h.2 ∙ ap not_repository (one_place bytes h.0 k.0 h.1 k.1) ∙ sym k.2
-one_loaded ByRecords bytes one a b (inl h) (inr k) = absurd (no_file bytes h.0 k.0 h.1 k.1)
-one_loaded ByRecords bytes one a b (inr h) (inl k) = absurd (no_file bytes k.0 h.0 k.1 h.1)
-one_loaded ByRecords bytes one a b (inr h) (inr k) =
-    one k.0 a b (subst (λ (old : List Record). ByRecords old a) (one_file bytes h.0 k.0 h.1 k.1) h.2) k.2
+one_loaded ByRecords bytes one a b h k = loaded_by (λ a b. a ≡ b) (λ a b same. same) ByRecords bytes one a b h k
 
 -- ---- a run
 
-one_answered : (question : Question) (old : List Record) (a b : Outcome) → IsAnswered question old a → IsAnswered question old b → a ≡ b
-one_answered question old a b h k = h.2 ∙ ap report_outcome (one_result (contents old) question h.0 k.0 h.1 k.1) ∙ sym k.2
+one_answered : (honest : Bool) (question : Question) → IsTrue (honest || not (is_some (prefix_of question))) → (old : List Record) (a b : Outcome)
+    → IsAnswered honest question old a → IsAnswered honest question old b → a ≡ b
+one_answered honest question kind old a b h k = h.2 ∙ ap report_outcome (one_result honest (contents old) question kind h.0 k.0 h.1 k.1) ∙ sym k.2
 
-pub one_command_outcome : (command : Command) (input bytes : List ℕ) (a b : Outcome) → IsCommandOutcome command input bytes a → IsCommandOutcome command input bytes b → a ≡ b
-one_command_outcome (command_of.Init project server fields) input bytes a b h k = h ∙ sym k
-one_command_outcome command_of.Ingest input bytes a b h k = one_ingested input a b h k
-one_command_outcome command_of.Put input bytes a b h k = one_loaded (IsPutOfFiles input) bytes (λ old x y p q. one_put_outcome input old x y p q) a b h k
-one_command_outcome (command_of.Shun name) input bytes a b h k = one_loaded (IsShunOf name) bytes (λ old x y p q. p ∙ sym q) a b h k
-one_command_outcome (command_of.Ask question) input bytes a b h k = one_loaded (IsAnswered question) bytes (one_answered question) a b h k
-one_command_outcome (command_of.Serve address users workers requests) input bytes a b h k = h ∙ sym k
-one_command_outcome (command_of.Gen count reversed) input bytes a b h k = one_gen count reversed a b h k
-one_command_outcome (command_of.Pull address login) input bytes a b h k = absurd h
-one_command_outcome (command_of.Push address login) input bytes a b h k = absurd h
-one_command_outcome (command_of.Clone address server fields) input bytes a b h k = absurd h
-one_command_outcome (command_of.PullLocal path) input bytes a b h k = absurd h
+alike_answered : (honest : Bool) (question : Question) (old : List Record) (a b : Outcome) → IsAnswered honest question old a → IsAnswered honest question old b → AreAlike a b
+alike_answered honest question old a b h k =
+    subst (λ (x : Outcome). AreAlike x b) (sym h.2) (subst (AreAlike (report_outcome h.0)) (sym k.2) (alike_result honest (contents old) question h.0 k.0 h.1 k.1))
 
-pub one_said_outcome : (command : Option Command) (input bytes : List ℕ) (a b : Outcome) → IsSaidOutcome command input bytes a → IsSaidOutcome command input bytes b → a ≡ b
-one_said_outcome None input bytes a b h k = h ∙ sym k
-one_said_outcome (Some command) input bytes a b h k = one_command_outcome command input bytes a b h k
+pub one_command_outcome : (honest : Bool) (command : Command) → IsTrue (honest || not (command_reads_content command)) → (input bytes : List ℕ) (a b : Outcome)
+    → IsCommandOutcome honest command input bytes a → IsCommandOutcome honest command input bytes b → a ≡ b
+one_command_outcome honest (command_of.Init project server fields) kind input bytes a b h k = h ∙ sym k
+one_command_outcome honest command_of.Ingest kind input bytes a b h k = one_ingested input a b h k
+one_command_outcome honest command_of.Put kind input bytes a b h k = one_loaded (IsPutOfFiles input) bytes (λ old x y p q. one_put_outcome input old x y p q) a b h k
+one_command_outcome honest (command_of.Shun name) kind input bytes a b h k = one_loaded (IsShunOf name) bytes (λ old x y p q. p ∙ sym q) a b h k
+one_command_outcome honest (command_of.Ask question) kind input bytes a b h k = one_loaded (IsAnswered honest question) bytes (one_answered honest question kind) a b h k
+one_command_outcome honest (command_of.Serve address users workers requests) kind input bytes a b h k = h ∙ sym k
+one_command_outcome honest (command_of.Gen count reversed) kind input bytes a b h k = one_gen count reversed a b h k
+one_command_outcome honest (command_of.Pull address login) kind input bytes a b h k = absurd h
+one_command_outcome honest (command_of.Push address login) kind input bytes a b h k = absurd h
+one_command_outcome honest (command_of.Clone address server fields) kind input bytes a b h k = absurd h
+one_command_outcome honest (command_of.PullLocal path) kind input bytes a b h k = absurd h
+
+pub one_said_outcome : (honest : Bool) (command : Option Command) → IsTrue (honest || not (reads_content command)) → (input bytes : List ℕ) (a b : Outcome)
+    → IsSaidOutcome honest command input bytes a → IsSaidOutcome honest command input bytes b → a ≡ b
+one_said_outcome honest None kind input bytes a b h k = h ∙ sym k
+one_said_outcome honest (Some command) kind input bytes a b h k = one_command_outcome honest command kind input bytes a b h k
+
+alike_command : (command : Command) (input bytes : List ℕ) (a b : Outcome) → IsCommandOutcome false command input bytes a → IsCommandOutcome false command input bytes b → AreAlike a b
+alike_command (command_of.Init project server fields) input bytes a b h k = same_alike a b (one_command_outcome false (command_of.Init project server fields) refl input bytes a b h k)
+alike_command command_of.Ingest input bytes a b h k = same_alike a b (one_command_outcome false command_of.Ingest refl input bytes a b h k)
+alike_command command_of.Put input bytes a b h k = same_alike a b (one_command_outcome false command_of.Put refl input bytes a b h k)
+alike_command (command_of.Shun name) input bytes a b h k = same_alike a b (one_command_outcome false (command_of.Shun name) refl input bytes a b h k)
+alike_command (command_of.Ask question) input bytes a b h k = loaded_by AreAlike same_alike (IsAnswered false question) bytes (alike_answered false question) a b h k
+alike_command (command_of.Serve address users workers requests) input bytes a b h k =
+    same_alike a b (one_command_outcome false (command_of.Serve address users workers requests) refl input bytes a b h k)
+alike_command (command_of.Gen count reversed) input bytes a b h k = same_alike a b (one_command_outcome false (command_of.Gen count reversed) refl input bytes a b h k)
+alike_command (command_of.Pull address login) input bytes a b h k = absurd h
+alike_command (command_of.Push address login) input bytes a b h k = absurd h
+alike_command (command_of.Clone address server fields) input bytes a b h k = absurd h
+alike_command (command_of.PullLocal path) input bytes a b h k = absurd h
+
+alike_said : (command : Option Command) (input bytes : List ℕ) (a b : Outcome) → IsSaidOutcome false command input bytes a → IsSaidOutcome false command input bytes b → AreAlike a b
+alike_said None input bytes a b h k = same_alike a b (h ∙ sym k)
+alike_said (Some command) input bytes a b h k = alike_command command input bytes a b h k
 
 pub one_outcome : HasOneOutcome
-one_outcome words input bytes a b h k = one_said_outcome (said words) input bytes a b h k
+one_outcome = record {
+  one = λ honest words input bytes a b kind h k. one_said_outcome honest (said words) kind input bytes a b h k;
+  alike = λ words input bytes a b h k. alike_said (said words) input bytes a b h k;
+}

@@ -1,13 +1,16 @@
 -- What a run says once the text of what it did is written.
-use Rattle.std.proofs.Common.{◌≡◌, ◌⊎◌, inl, inr, ⊎_elim, ℕ, Bool, true, false, cond, List, Result, Ok, Err, Option, IsTrue, refl, sym, subst, ◌∙◌, arith}
-use Rattle.std.specs.Prelude.{◌==◌}
+use Rattle.std.proofs.Common.{◌≡◌, ◌⊎◌, inl, inr, ⊎_elim, ℕ, Bool, true, false, cond, List, Result, Ok, Err, Option, Some, None, IsTrue, refl, sym, subst, ◌∙◌, arith}
+use Rattle.std.specs.Prelude.{◌==◌, ◌&&◌}
 use Rattle.fsl_order.specs.Causes.{Rose}
+use Rattle.fsl_disk.specs.Disk.{DiskState, IsModelled}
+use Rattle.fsl_repo.specs.Whole.{is_modelled}
 use Rattle.fsl_words.specs.declared.Command.{Command}
+use Rattle.fsl_words.specs.declared.Command.TheVariants as command_of
 use Rattle.fossil.specs.declared.answers.fault.Fault.{Fault}
 use Rattle.fossil.specs.declared.answers.fault.Fault.TheVariants as fault_is
 use Rattle.fossil.specs.Printed.{Printed}
 use Rattle.fossil.specs.Outcome.{Outcome, without_commit}
-use Rattle.fossil.specs.Run.{Input, Output, File, IsSaid, IsTold, IsFaulted, IsFileLeft, IsLeft, lasts, IsDurable, IsSpared, cut_off_status, RunsBy, HasRun}
+use Rattle.fossil.specs.Run.{Input, Output, File, IsSaid, IsTold, IsDamaged, IsFaulted, IsFileLeft, IsLeft, lasts, IsDurable, IsSpared, cut_off_status, RunsBy, HasRun}
 use Rattle.fossil.specs.Acts.{ActsBy, HasActed, IsWritten, IsCaused, result_status, fault_status, fault_line}
 
 abbrev OutputRose : Output → Type 0
@@ -29,21 +32,42 @@ ends (Ok answer) status out (inl told) = inl told.0
 ends (Ok answer) status out (inr cut) = cut_ends answer status out cut.0 cut.1.4
 ends (Err fault) status out said = inl said.0
 
+-- over a disk that tells its contents and meets the disk model no content has another name
+modelled_kind : (disk : DiskState) → IsModelled disk → is_modelled disk ≡ true
+modelled_kind disk m = λ i. m.tells i && m.model i
+
+not_spoilt : (command : Option Command) {disk : DiskState} (bytes name found : List ℕ) → IsModelled disk → IsDamaged (is_modelled disk) command bytes name found → ⊥
+not_spoilt None bytes name found m h = h
+not_spoilt (Some (command_of.Ask question)) {disk} bytes name found m h = let no = sym (modelled_kind disk m) ∙ h.3.never in cc
+not_spoilt (Some (command_of.Init project server fields)) bytes name found m h = h
+not_spoilt (Some command_of.Ingest) bytes name found m h = h
+not_spoilt (Some command_of.Put) bytes name found m h = h
+not_spoilt (Some (command_of.Shun other)) bytes name found m h = h
+not_spoilt (Some (command_of.Serve address users workers requests)) bytes name found m h = h
+not_spoilt (Some (command_of.Gen count reversed)) bytes name found m h = h
+not_spoilt (Some (command_of.Pull address login)) bytes name found m h = h
+not_spoilt (Some (command_of.Push address login)) bytes name found m h = h
+not_spoilt (Some (command_of.Clone address server fields)) bytes name found m h = h
+not_spoilt (Some (command_of.PullLocal path)) bytes name found m h = h
+
 module _ (command : Option Command) (input : Input) (file : File) (read bytes : List ℕ) (o : Outcome) where
   -- a status of a fault is that of this fault
   of_disk : (fault : Fault) → fault_status fault ≡ 4 → IsCaused command input file bytes o fault → Rose file.before.faults file.after.faults
   of_disk fault_is.Disk e h = h.rose
   of_disk fault_is.Input e h = absurd (cc)
+  of_disk (fault_is.Damaged name found) e h = absurd (cc)
   of_disk fault_is.Memory e h = absurd (cc)
 
   of_input : (fault : Fault) → fault_status fault ≡ 5 → IsCaused command input file bytes o fault → Rose input.before.faults input.after.faults
   of_input fault_is.Disk e h = absurd (cc)
   of_input fault_is.Input e h = h.rose
+  of_input (fault_is.Damaged name found) e h = absurd (cc)
   of_input fault_is.Memory e h = absurd (cc)
 
   no_output : (fault : Fault) → fault_status fault ≡ 6 → ⊥
   no_output fault_is.Disk e = cc
   no_output fault_is.Input e = cc
+  no_output (fault_is.Damaged name found) e = cc
   no_output fault_is.Memory e = cc
 
   disk_of : (result : Result Printed Fault) → ActsBy command input file result read bytes o → result_status result ≡ 4 → Rose file.before.faults file.after.faults
@@ -58,11 +82,23 @@ module _ (command : Option Command) (input : Input) (file : File) (read bytes : 
   no_six (Ok answer) acts six = let plain = acts.plain in omega (arith, plain, six)
   no_six (Err fault) acts six = no_output fault six
 
+  -- no content of a modelled disk is damaged
+  never_damaged : (fault : Fault) → fault_status fault ≡ 12 → IsCaused command input file bytes o fault → IsModelled file.before → ⊥
+  never_damaged fault_is.Disk e h modelled = cc
+  never_damaged fault_is.Input e h modelled = cc
+  never_damaged (fault_is.Damaged name found) e h modelled = not_spoilt command bytes name found modelled h.0
+  never_damaged fault_is.Memory e h modelled = cc
+
+  undamaged_of : (result : Result Printed Fault) → ActsBy command input file result read bytes o → IsModelled file.before → result_status result ≡ 12 → ⊥
+  undamaged_of (Ok answer) acts modelled twelve = let plain = acts.plain in omega (arith, plain, twelve)
+  undamaged_of (Err fault) acts modelled twelve = never_damaged fault twelve acts.cause modelled
+
   module _ (out : Output) (status : ℕ) where
     faulted : (fault : Fault) → IsCaused command input file bytes o fault → (status ≡ fault_status fault) × IsSaid out (fault_line fault) → IsFaulted command input out file status bytes o
     faulted fault_is.Disk cause said = inl (said.0, cause, said.1)
     faulted fault_is.Input cause said = inr (inl (said.0, cause, said.1))
-    faulted fault_is.Memory cause said = inr (inr said)
+    faulted (fault_is.Damaged name found) cause said = inr (inr (inr (said.0, record { name = name; found = found; damaged = cause.0; faults = cause.1; said = said.1 })))
+    faulted fault_is.Memory cause said = inr (inr (inl said))
 
     answer_by : (result : Result Printed Fault) → ActsBy command input file result read bytes o → IsWritten result status out → IsTold o status out ⊎ IsFaulted command input out file status bytes o
     answer_by (Ok answer) acts written = inl (subst (λ (a : Printed). IsTold (without_commit a) status out) acts.answer written)
@@ -99,6 +135,10 @@ module _ (command : Option Command) (input : Input) (file : File) (read bytes : 
       output_by (inl e) six = absurd (no_six result acts (sym e ∙ six))
       output_by (inr cut) six = cut.2
 
+      undamaged_by : Ends result status out → IsModelled file.before → status ≡ 12 → ⊥
+      undamaged_by (inl e) modelled twelve = undamaged_of result acts modelled (sym e ∙ twelve)
+      undamaged_by (inr cut) modelled twelve = let six = cut.1 in cc
+
       written_by : IsWritten result status out → RunsBy command input out file status read bytes o
       written_by written =
           let end = ends result status out written in
@@ -117,6 +157,7 @@ module _ (command : Option Command) (input : Input) (file : File) (read bytes : 
             disk_fault = disk_by end;
             input_fault = input_by end;
             output_fault = output_by end;
+            undamaged = undamaged_by end;
           }
 
 pub written : (command : Option Command) (input : Input) (file : File) (result : Result Printed Fault) (out : Output) (status : ℕ) → HasActed command input file result → IsWritten result status out → HasRun command input out file status

@@ -1,11 +1,13 @@
 -- What a push leaves, whether it has its end or was cut off.
-use Rattle.std.proofs.Common.{◌≡◌, inl, inr, ℕ, ◌+◌, ◌≤◌, Bool, true, false, List, [], ◌∷◌, ◌++◌, length, drop, Option, Some, None, Result, Ok, Err, refl, sym, subst, arith}
-use Rattle.std.specs.Prelude.{if◌then◌else◌, MatchOption}
+use Rattle.std.proofs.Common.{◌≡◌, ◌⊎◌, inl, inr, ℕ, ◌+◌, ◌≤◌, Bool, true, false, List, [], ◌∷◌, ◌++◌, length, drop, Option, Some, None, Result, Ok, Err, IsTrue, refl, sym, ap, subst, ◌∙◌, arith}
+use Rattle.std.specs.Prelude.{⊤, if◌then◌else◌, MatchOption}
 use Rattle.std.specs.List.{list_all}
 use Rattle.fsl_order.specs.Names.{has}
 use Rattle.fsl_outside.specs.Connections.{Connection}
 use Rattle.fsl_wire.specs.declared.WireCard.{WireCard}
 use Rattle.fsl_repo.specs.Machine.{State, now, unclustered_names}
+use Rattle.fsl_repo.specs.Replies.{IsSpoilt}
+use Rattle.fsl_repo.specs.Whole.{front}
 use Rattle.fsl_repo.proofs.SomeArrival.{some_items}
 use Rattle.fsl_http.specs.Responses.{Exchanged}
 use Rattle.fsl_pull.specs.declared.Login.{Login}
@@ -18,14 +20,15 @@ use Rattle.fsl_pull.specs.Dialled.{Rounds, Breaks, HasSent}
 use Rattle.fsl_pull.specs.Requests.{request_bytes, push_cards}
 use Rattle.fsl_pull.specs.Arrivals.{Taken}
 use Rattle.fsl_pull.specs.Pulls.{unread, stopped_end}
-use Rattle.fsl_pull.specs.Pushes.{Sending, files_to_send, asked_here, sent_on, push_ended, quiet_then, push_then, push_uncommitted, IsPushReply, PushRound, PushAsks, push_start, IsPush, PushSoFar, IsPushLeftOff, IsPushBroken, IsPushFailed}
+use Rattle.fsl_pull.specs.Pushes.{Sending, files_to_send, asked_here, sent_on, push_ended, quiet_then, push_then, push_uncommitted, IsPushReply, PushRound, PushAsks, push_start, IsPush, PushSoFar, IsPushLeftOff, IsPushBroken, IsPushFailed, IsPushUnread, names_of}
+use Rattle.fsl_pull.specs.Reading.{AreReadAs}
 use Rattle.fsl_pull.specs.Turns.{commits_of}
 use Rattle.fsl_pull.specs.Calls.{AreCommitsOf, a_push}
 use Rattle.fsl_pull.proofs.CommitLemmas.{with_longer}
 use Rattle.fsl_pull.proofs.RoundLemmas.{go_behind, end_behind}
 use Rattle.fsl_pull.proofs.SomeEnd.{push_step, some_read}
 use Rattle.fossil.proofs.TakenLemmas.{IsTellable, IsTakenOver, takes_over, Start, IsAt, same_at, longer_same, IsEndAt, Behind, KeepsOn, committed_at, taken_at, unread_behind, partly_at, goes_at, sync_at, other_commits, failed_at}
-use Rattle.fossil.proofs.SoundLemmas.{IsLeftAt, IsBrokenAt, IsUncommittedAt, IsSound, sent_as, fewer}
+use Rattle.fossil.proofs.SoundLemmas.{IsLeftAt, IsBrokenAt, IsUncommittedAt, Reading, IsUnreadAt, IsSound, sent_as, fewer}
 
 abbrev Files : Type 0
 Files = List (List ℕ × List ℕ)
@@ -77,6 +80,17 @@ push_keeps login base p r step h is = push_read base p h (files_to_send (now p.s
 
 -- ---- a push
 
+-- files that are read as they are held
+as_held : (honest : Bool) (files : Files) → AreReadAs honest files files
+as_held honest [] = tt
+as_held honest (file ∷ files) = (record { alike = refl; named = refl; sized = refl; same = λ kind. refl }, as_held honest files)
+
+-- a file that a further one is to send
+abbrev pub PushReads : Option Login → State → Reading
+PushReads login s rounds commits Says =
+    (p : Point Sending) × GoOn (PushRound login) (push_start s) rounds p × (length rounds + 1 ≤ most_rounds)
+    × ((name : List ℕ) × IsTrue (has (names_of (files_to_send (now p.state) p.memory)) name) × ((commits ≡ p.commits) × Says name p.state))
+
 -- what is due behind rounds that went on
 abbrev pub PushIsDue : Option Login → State → Rounds → List ℕ → Type 0
 PushIsDue login s rounds body = (p : Point Sending) × GoOn (PushRound login) (push_start s) rounds p × PushAsks login p body
@@ -101,7 +115,10 @@ module _ (login : Option Login) (s : State) (base : Start) (fresh : IsAt base s 
   some_asked : (p : Point Sending) → (body : List ℕ) × PushAsks login p body
   some_asked p =
       let i = some_items (now p.state).held in
-      (request_bytes login (push_cards (now p.state) (unclustered_names i.0) (files_to_send (now p.state) p.memory)), (unclustered_names i.0, (i.0, i.1, refl), refl))
+      let files = files_to_send (now p.state) p.memory in (
+        request_bytes login (push_cards (now p.state) (unclustered_names i.0) files),
+        (unclustered_names i.0, (i.0, i.1, refl), record { files = files; read = as_held p.state.honest files; bytes = refl }),
+      )
 
   left_off : (BreaksOff : Breaks) (broken : List Connection) (more : ℕ) (rounds : Rounds) (left : State)
       → IsPushLeftOff login s (λ p. HasSent BreaksOff broken (PushAsks login p)) more rounds left → IsLeftAt (a_push login s) (PushIsDue login s) base BreaksOff broken more rounds left
@@ -143,8 +160,8 @@ module _ (login : Option Login) (s : State) (base : Start) (fresh : IsAt base s 
         stands = partly_at base p at_point.0 part.broke.1.0 left part.broke.1.2;
       }
 
-  failed : (rounds : Rounds) (left : State) → IsPushFailed login s rounds left → IsUncommittedAt (a_push login s) base rounds left
-  failed rounds left (runs, few, off) =
+  uncommitted : (rounds : Rounds) (left : State) → IsPushFailed login s rounds left → IsUncommittedAt (a_push login s) base rounds left
+  uncommitted rounds left (runs, few, off) =
       let p = off.point in
       let at_point = goes_at (PushRound login) (push_keeps login) base (push_start s) off.front p fresh off.go in
       let kept = push_keeps login base p off.last off.step at_point.0 off.is_round in
@@ -157,5 +174,39 @@ module _ (login : Option Login) (s : State) (base : Start) (fresh : IsAt base s 
         stands = failed_at base p off.step left at_point.0 kept off.is_due off.state;
       }
 
-  pub push_sound : IsSound (a_push login s) (PushIsDue login s) base
-  push_sound = record { none = none; whole = whole; left_off = left_off; broken = broken; failed = failed }
+  -- a file isn't read, by the repository that is left
+  unread_by : (Says : List ℕ → State → Type 0) (why : PullFault) (rounds : Rounds) (left : State) (is : IsPushUnread login s why rounds left) → left ≡ record is.point.state { faults = left.faults } → Says is.name is.point.state
+      → IsUnreadAt (a_push login s) (PushReads login s) base rounds left Says
+  unread_by Says why rounds left is same says =
+      let p = is.point in
+      let at_point = (goes_at (PushRound login) (push_keeps login) base (push_start s) rounds p fresh is.go).0 in
+      record {
+        commits = p.commits;
+        so_far = (let few = is.few in omega (arith, few), (p, is.go, refl));
+        stands = record {
+          runs = ap (λ (x : State). x.stopped) same ∙ at_point.runs;
+          stands = ap front same ∙ at_point.stands;
+          within = subst (λ (x : State). x.committed ≤ length x.records) (sym same) at_point.within;
+          steady = refl;
+        };
+        reads = (p, is.go, is.few, (is.name, is.due, (refl, says)));
+      }
+
+  failed : (rounds : Rounds) (left : State) → IsPushFailed login s rounds left ⊎ IsPushUnread login s fault.Disk rounds left
+      → IsUncommittedAt (a_push login s) base rounds left ⊎ IsUnreadAt (a_push login s) (PushReads login s) base rounds left (λ name s. ⊤)
+  failed rounds left (inl is) = inl (uncommitted rounds left is)
+  failed rounds left (inr is) = inr (unread_by (λ name s. ⊤) fault.Disk rounds left is is.cant.1.state tt)
+
+  damaged : (name found : List ℕ) (rounds : Rounds) (left : State) → IsPushUnread login s (fault.Damaged name found) rounds left
+      → IsUnreadAt (a_push login s) (PushReads login s) base rounds left (λ asked s. (asked ≡ name) × IsSpoilt s name found) × (left.faults ≡ base.faults)
+  damaged name found rounds left is =
+      let same : left ≡ is.point.state = is.cant.2 in
+      let at_point = (goes_at (PushRound login) (push_keeps login) base (push_start s) rounds is.point fresh is.go).0 in
+      let named : name ≡ is.name = is.cant.0 in (
+        unread_by (λ asked s. (asked ≡ name) × IsSpoilt s name found) (fault.Damaged name found) rounds left is (same ∙ ap (λ (n : ℕ). record is.point.state { faults = n }) (sym (ap (λ (x : State). x.faults) same)))
+            (sym named, subst (λ (n : List ℕ). IsSpoilt is.point.state n found) (sym named) is.cant.1),
+        ap (λ (x : State). x.faults) same ∙ at_point.steady,
+      )
+
+  pub push_sound : IsSound (a_push login s) (PushIsDue login s) (PushReads login s) base
+  push_sound = record { none = none; whole = whole; left_off = left_off; broken = broken; failed = failed; damaged = damaged }

@@ -1,5 +1,5 @@
 -- What `put` appended, by what it read.
-use Rattle.std.proofs.Common.{◌≡◌, inl, inr, ℕ, Bool, List, [], ◌++◌, length, Some, None, Ok, Err, IsTrue, refl, sym, ap, subst}
+use Rattle.std.proofs.Common.{◌≡◌, inl, inr, ℕ, Bool, List, [], ◌++◌, length, Some, None, Ok, Err, IsTrue, refl, sym, ap, subst, true}
 use Rattle.std.specs.Prelude.{drop, MatchBool}
 use Rattle.std.proofs.lemmas.List.{append-nil}
 use Rattle.fsl_record.specs.declared.Record.{Record}
@@ -32,7 +32,7 @@ module _ (input : Input) (bytes : List ℕ) (before after : Loaded) (answer : Pr
     read = message;
     appended = appended;
     told = is.0;
-    outcome = λ file. inr (
+    outcome = λ file honest. inr (
       before.journal.records,
       file,
       (answer, appended, subst (λ (t : Bool). MatchBool t ((answer ≡ printing.too_long) × (appended ≡ [])) (IsPutRead message before.journal.records answer appended)) (sym is.2) put, refl),
@@ -56,11 +56,11 @@ module _ (input : Input) (bytes : List ℕ) (before : Loaded) (answer : Printed)
   refused_appended message is refused =
       by_message input bytes before before answer [] (sym (append-nil before.journal.records)) refl message is (inl (refused, refl)) (inr (refused_status message answer refused, refl))
 
-  pub refused_file_appended : (message : List ℕ) (files : List Sent) → IsInput input (Some message) → IsFileList message files → Arrive (none_taken (opened before.journal.records 0)) files (Err answer)
+  pub refused_file_appended : (message : List ℕ) (files : List Sent) → IsInput input (Some message) → IsFileList message files → Arrive (none_taken (opened before.journal.records 0 true)) files (Err answer)
       → IsAppended (Some command_of.Put) input bytes before before answer
   refused_file_appended message files is list refused =
       by_message input bytes before before answer [] (sym (append-nil before.journal.records)) refl message is (inr (files, list, (Err answer, refused, refl, refl)))
-      (inr (refused_files files (none_taken (opened before.journal.records 0)) answer refused, refl))
+      (inr (refused_files files (none_taken (opened before.journal.records 0 true)) answer refused, refl))
 
   abbrev none : List Record
   none = []
@@ -70,7 +70,7 @@ module _ (input : Input) (bytes : List ℕ) (before : Loaded) (answer : Printed)
     read = is.0;
     appended = [];
     told = is.1;
-    outcome = λ file. inr (
+    outcome = λ file honest. inr (
       before.journal.records,
       file,
       (answer, [], subst (λ (t : Bool). MatchBool t ((answer ≡ printing.too_long) × (none ≡ [])) (IsPutRead is.0 before.journal.records answer none)) (sym is.2) (long, refl), refl),

@@ -1,32 +1,36 @@
 -- What is answered to questions.
-use Rattle.std.proofs.Common.{◌≡◌, inl, inr, ℕ, ◌≤◌, List, [], Option, Some, Result, Ok, Err, IfOk, IfErr, refl, sym, ap, subst, arith}
-use Rattle.fsl_text.specs.declared.memory.Memory.{Memory}
+use Rattle.std.proofs.Common.{◌≡◌, inl, inr, ℕ, ◌≤◌, Bool, List, [], Option, Some, Result, Ok, Err, IsTrue, refl, sym, ap, subst, ◌∙◌, arith}
+use Rattle.fsl_order.specs.Causes.{Rose}
 use Rattle.fsl_outside.specs.Streams.{SourceState}
 use Rattle.fsl_record.specs.declared.Record.{Record}
 use Rattle.fsl_blobs.specs.Fold.{contents}
-use Rattle.fsl_disk.specs.Disk.{DiskState}
-use Rattle.fsl_disk.proofs.Moments.{modelled_after}
+use Rattle.fsl_disk.specs.Disk.{DiskState, Quiet}
+use Rattle.fsl_disk.proofs.Moments.{keeps_on, modelled_after}
+use Rattle.fsl_repo.specs.Whole.{is_modelled}
+use Rattle.fsl_repo.proofs.Steps.{same_kind}
 use Rattle.fsl_words.specs.declared.Question.{Question}
-use Rattle.fsl_words.specs.declared.Question.TheVariants as question_of
 use Rattle.fsl_words.specs.declared.Command.{Command}
 use Rattle.fsl_words.specs.declared.Command.TheVariants as command_of
 use Rattle.fsl_query.specs.declared.Refused.{Refused}
+use Rattle.fsl_query.specs.declared.QueryFault.{QueryFault}
+use Rattle.fsl_query.specs.declared.QueryFault.TheVariants as query_fault
 use Rattle.fsl_query.specs.Refusals.{refusal_text}
-use Rattle.fsl_query.specs.Reports.{content, IsReport}
+use Rattle.fsl_query.specs.Reports.{IsReport}
+use Rattle.fsl_query.specs.Answers.{content_asked, IsReported, IsReportedOn, IsSpoiltIn}
 use Rattle.fossil.specs.declared.answers.fault.Fault.{Fault}
 use Rattle.fossil.specs.declared.answers.fault.Fault.TheVariants as fault_is
 use Rattle.fossil.specs.declared.reading.load.Loaded.{Loaded}
 use Rattle.fossil.specs.Printed.{Printed}
 use Rattle.fossil.specs.Printed as printing
 use Rattle.fossil.specs.Outcome.{Outcome, without_commit, printed_of, report_outcome, IsAnswered}
-use Rattle.fossil.specs.Run.{Input, Output, Agrees, IsSaid, IsTold, HasRun}
-use Rattle.fossil.specs.Acts.{HasActed, Touches, IsWritten, IsContentWritten, IsOpened, fault_status, fault_line}
+use Rattle.fossil.specs.Run.{Input, Agrees}
+use Rattle.fossil.specs.Acts.{HasActed, Touches, IsOpened, IsAnsweredBy, IsAnswerOf, KeepsContents, KeepsImages}
 use Rattle.fossil.proofs.InputLemmas.{some_bytes}
-use Rattle.fossil.proofs.FileLemmas.{both, agrees, readable, loaded_left, loaded_touches, loaded_durable}
+use Rattle.fossil.proofs.FileLemmas.{both, agrees, stands, none_committed, readable, loaded_left, loaded_touches, loaded_durable}
 use Rattle.fossil.proofs.SomeOutcome.{some_said_outcome}
-use Rattle.fossil.proofs.ActLemmas.{ask_loads, memory_by}
+use Rattle.fossil.proofs.ActLemmas.{ask_loads, memory_by, disk_by, damaged_by}
 use Rattle.fossil.proofs.CommitLemmas.{idle_durable}
-use Rattle.fossil.proofs.PrintedLemmas.{written}
+use Rattle.fossil.proofs.LoadLemmas.{images_quiet}
 
 answered_small : (r : Result (List ℕ) Refused) → (report_outcome r).status ≤ 3
 answered_small (Ok text) = omega arith
@@ -36,7 +40,7 @@ answered_none : (r : Result (List ℕ) Refused) → (report_outcome r).commits �
 answered_none (Ok text) = refl
 answered_none (Err refused) = refl
 
-module _ (question : Question) (source : SourceState) (file left : DiskState) where
+module _ (question : Question) (source : SourceState) (file mid left : DiskState) where
   abbrev command : Option Command
   command = Some (command_of.Ask question)
 
@@ -46,18 +50,32 @@ module _ (question : Question) (source : SourceState) (file left : DiskState) wh
   abbrev Acted : Result Printed Fault → Type 0
   Acted result = HasActed command input (both file left) result
 
-  module _ (l : Loaded) (opened : IsOpened file left l) where
+  -- it was loaded, and then only read
+  module _ (no_other : IsTrue mid.is_model → (c : List ℕ) → mid.since mid.moment c → mid.images c) (l : Loaded) (opened : IsOpened file mid l) (quiet : Quiet mid left) where
     abbrev bytes : List ℕ
     bytes = opened.stands.0
 
     file_told : Agrees file.contents bytes
     file_told = agrees file.contents bytes opened.stands.1
 
+    images : KeepsImages file left
+    images = images_quiet file mid left opened.any_moment opened.keeps quiet no_other
+
     touches : (o : Outcome) → Touches command (both file left) bytes o
     touches o =
-        loaded_touches command (ask_loads question) file left bytes o (readable file left (bytes, opened.stands.1, (l.journal.records, opened.stands.2))) opened.any_moment opened.keeps
+        loaded_touches command (ask_loads question) file left bytes o (readable file left (bytes, opened.stands.1, (l.journal.records, opened.stands.2)))
+        images (keeps_on file mid left opened.keeps quiet.keeps)
 
-    pub result_acted : (result : Result (List ℕ) Refused) → IsReport (contents l.blobs.records) question result → Acted (Ok (printed_of (report_outcome result)))
+    kept : KeepsContents file left
+    kept told is_told old are held left_told = opened.contents told is_told old are held (sym quiet.contents ∙ left_told)
+
+    pub no_memory : Acted (Err fault_is.Memory)
+    no_memory =
+        let read = some_bytes source.left in
+        let o = some_said_outcome (is_modelled file) command read.0 bytes refl in
+        (read.0, bytes, o.0, memory_by command (ask_loads question) input file left read.0 bytes o.0 read.1 file_told o.1 (touches o.0) kept)
+
+    result_acted : (result : Result (List ℕ) Refused) → IsReport (is_modelled file) (contents l.journal.records) question result → Acted (Ok (printed_of (report_outcome result)))
     result_acted result is =
         let read = some_bytes source.left in
         let o = report_outcome result in (
@@ -67,55 +85,86 @@ module _ (question : Question) (source : SourceState) (file left : DiskState) wh
           record {
             input_told = read.1;
             file_told = file_told;
-            outcome = inr (l.journal.records, opened.stands.2, (result, subst (λ (rs : List Record). IsReport (contents rs) question result) opened.is_open.same is, refl));
+            outcome = inr (l.journal.records, opened.stands.2, (result, is, refl));
             answer = refl;
             plain = answered_small result;
             cause = tt;
             end = λ z reads. absurd (cc);
-            contents = loaded_left command (ask_loads question) file left bytes o o.status (λ done. answered_none result) opened.contents;
+            contents = loaded_left command (ask_loads question) file left bytes o o.status (λ done. answered_none result) kept;
             touches = touches o;
             durable = λ last.
                 loaded_durable command (ask_loads question) file left bytes o (answered_none result) l.journal.records opened.stands.2
-                (λ modelled c image. idle_durable l.journal left opened.belongs opened.is_open.runs opened.is_open.stable (modelled_after file left opened.keeps modelled) c image);
+                (λ modelled c image. idle_durable l.journal mid opened.belongs opened.is_open.runs opened.is_open.stable (modelled_after file mid opened.keeps modelled) c
+                (quiet.images (opened.keeps.model ∙ modelled.model) c image));
             spared = λ nine begun. absurd (cc);
           },
         )
 
-    pub no_memory : Acted (Err fault_is.Memory)
-    no_memory =
-        let read = some_bytes source.left in
-        let o = some_said_outcome command read.0 bytes refl in
-        (read.0, bytes, o.0, memory_by command (ask_loads question) input file left read.0 bytes o.0 read.1 file_told o.1 (touches o.0) opened.contents)
-
-    answer_acted : (a : Printed) → IsAnswered question l.blobs.records (without_commit a) → Acted (Ok a)
+    answer_acted : (a : Printed) → IsAnswered (is_modelled file) question l.journal.records (without_commit a) → Acted (Ok a)
     answer_acted a is = subst (λ (x : Printed). Acted (Ok x)) (sym (ap printed_of is.2)) (result_acted is.0 is.1)
 
-    pub report_acted : (made : Result Printed Fault) (r : Result Printed Memory) → IfOk made (λ a. r ≡ Ok a) → IfErr made (λ fault. fault ≡ fault_is.Memory) → IfOk r (λ a. IsAnswered question l.blobs.records (without_commit a))
-        → Acted made
-    report_acted (Ok a) r made fault is = answer_acted a (subst (λ (x : Result Printed Memory). IfOk x (λ y. IsAnswered question l.blobs.records (without_commit y))) made is)
-    report_acted (Err f) r made fault is = subst (λ (x : Fault). Acted (Err x)) (sym fault) no_memory
+    disk_acted : Rose mid.faults left.faults → Acted (Err fault_is.Disk)
+    disk_acted rose =
+        let read = some_bytes source.left in
+        let o = some_said_outcome (is_modelled file) command read.0 bytes refl in (
+          read.0,
+          bytes,
+          o.0,
+          disk_by command (ask_loads question) input file left read.0 bytes o.0 read.1 file_told o.1 (touches o.0) (subst (λ (n : ℕ). Rose n left.faults) opened.faults rose) (inl refl)
+              (λ old held told left_told are known. none_committed old (o.0).commits held (stands old held (kept bytes told old are held left_told))),
+        )
 
--- ---- cat
+    damaged_acted : (name found : List ℕ) → content_asked (contents l.journal.records) question ≡ Some name → IsSpoiltIn (is_modelled file) (contents l.journal.records) name found
+        → left.faults ≡ mid.faults → Acted (Err (fault_is.Damaged name found))
+    damaged_acted name found asked spoilt same =
+        let read = some_bytes source.left in
+        let o = some_said_outcome (is_modelled file) command read.0 bytes refl in (
+          read.0,
+          bytes,
+          o.0,
+          damaged_by command (ask_loads question) input file left read.0 bytes o.0 read.1 file_told o.1 (touches o.0) name found
+              (l.journal.records, opened.stands.2, asked, spoilt) (same ∙ opened.faults) kept,
+        )
 
-pub cat_run : (prefix : List ℕ) (source : SourceState) (out : Output) (file left : DiskState) (l : Loaded) → IsOpened file left l → (status : ℕ) → IsContentWritten (content (contents l.blobs.records) prefix) status out
-    → HasRun (Some (command_of.Ask (question_of.Cat prefix))) (record { before = source; after = source }) out (both file left) status
-cat_run prefix source out file left l opened status (inl told) =
-    let due = content (contents l.blobs.records) prefix in
-    written (Some (command_of.Ask (question_of.Cat prefix))) (record { before = source; after = source }) (both file left) (Ok (printed_of (report_outcome due))) out status
-    (result_acted (question_of.Cat prefix) source file left l opened due refl) told
-cat_run prefix source out file left l opened status (inr memory) =
-    written (Some (command_of.Ask (question_of.Cat prefix))) (record { before = source; after = source }) (both file left) (Err fault_is.Memory) out status
-    (no_memory (question_of.Cat prefix) source file left l opened) memory
+    by_answer : (made : Result Printed Fault) → IsAnsweredBy (is_modelled file) l.journal.records question mid.faults left.faults made → Acted made
+    by_answer (Ok a) is = answer_acted a is.0
+    by_answer (Err fault_is.Disk) is = disk_acted is
+    by_answer (Err fault_is.Input) is = absurd is
+    by_answer (Err (fault_is.Damaged name found)) is = damaged_acted name found is.0 is.1 is.2
+    by_answer (Err fault_is.Memory) is = no_memory
 
-refusal_told : (refused : Refused) (a : Printed) (r : Result Printed Memory) (status : ℕ) (out : Output) → r ≡ Ok a → IfOk r (λ x. x ≡ printing.refused (refusal_text refused))
-    → IsTold (without_commit a) status out → IsTold (report_outcome (Err refused)) status out
-refusal_told refused a r status out made is told =
-    let same : a ≡ printing.refused (refusal_text refused) = subst (λ (x : Result Printed Memory). IfOk x (λ y. y ≡ printing.refused (refusal_text refused))) made is in
-    subst (λ (x : Printed). IsTold (without_commit x) status out) same told
+    -- what was found of the loaded records is answered
+    pub found_acted : (found : Result (List ℕ) QueryFault) (made : Result Printed Fault) → IsReportedOn mid l.records question left found → IsAnswerOf found made → Acted made
+    found_acted found made is answers =
+        by_answer made
+        (answers (is_modelled file) l.journal.records question mid.faults left.faults
+        (subst (λ (rs : List Record). IsReported (is_modelled file) (contents rs) question mid.faults left.faults found) (sym opened.is_open.same.0)
+        (subst (λ (b : Bool). IsReported b (contents l.records) question mid.faults left.faults found) (same_kind file mid opened.keeps) is)))
 
-pub refused_told : (due : Result (List ℕ) Refused) (refused : Refused) (made : Result Printed Fault) (r : Result Printed Memory) (status : ℕ) (out : Output) → due ≡ Err refused
-    → IfOk made (λ a. r ≡ Ok a) → IfErr made (λ fault. fault ≡ fault_is.Memory) → IfOk r (λ a. a ≡ printing.refused (refusal_text refused)) → IsWritten made status out → IsContentWritten due status out
-refused_told due refused (Ok a) r status out e made fault is printed =
-    inl (subst (λ (t : Result (List ℕ) Refused). IsTold (report_outcome t) status out) (sym e) (refusal_told refused a r status out made is printed))
-refused_told due refused (Err f) r status out e made fault is printed =
-    inr (subst (λ (x : Fault). (status ≡ fault_status x) × IsSaid out (fault_line x)) fault printed)
+-- ---- what was found
+
+pub text_answer : (text : List ℕ) → IsAnswerOf (Ok text) (Ok (record { status = 0; text = text }))
+text_answer text honest records question before after is = ((Ok text, is.0, refl), is.1)
+
+pub refused_answer : (refused : Refused) (a : Printed) → a ≡ printing.refused (refusal_text refused) → IsAnswerOf (Err (query_fault.Refused refused)) (Ok a)
+refused_answer refused a same honest records question before after is = ((Err refused, is.0, ap without_commit same), is.1)
+
+pub memory_answer : (found : Result (List ℕ) QueryFault) → IsAnswerOf found (Err fault_is.Memory)
+memory_answer found honest records question before after is = tt
+
+pub disk_answer : IsAnswerOf (Err query_fault.Disk) (Err fault_is.Disk)
+disk_answer honest records question before after is = is.2
+
+pub damaged_answer : (name found : List ℕ) → IsAnswerOf (Err (query_fault.Damaged name found)) (Err (fault_is.Damaged name found))
+damaged_answer name found honest records question before after is = is
+
+-- ---- by what was found
+
+pub disk_told : (fault : QueryFault) → fault ≡ query_fault.Disk → IsAnswerOf (Err fault) (Err fault_is.Disk)
+disk_told fault same = subst (λ (f : QueryFault). IsAnswerOf (Err f) (Err fault_is.Disk)) (sym same) disk_answer
+
+pub damaged_told : (name found : List ℕ) (fault : QueryFault) → fault ≡ query_fault.Damaged name found → IsAnswerOf (Err fault) (Err (fault_is.Damaged name found))
+damaged_told name found fault same = subst (λ (f : QueryFault). IsAnswerOf (Err f) (Err (fault_is.Damaged name found))) (sym same) (damaged_answer name found)
+
+pub refused_told : (refused : Refused) (fault : QueryFault) (a : Printed) → fault ≡ query_fault.Refused refused → a ≡ printing.refused (refusal_text refused) → IsAnswerOf (Err fault) (Ok a)
+refused_told refused fault a same is = subst (λ (f : QueryFault). IsAnswerOf (Err f) (Ok a)) (sym same) (refused_answer refused a is)

@@ -16,7 +16,7 @@ pub repo_opened : {D : Type 0} (file left : DiskState) (r : Whole D) → opening
 repo_opened file left r is whole between keeps =
     opened file left (log_of r) r.seen.state.records
     (record { records = refl; stable = ap (λ s. s.committed) is.state; runs = ap (λ s. s.stopped) is.state; fit = whole.seen.records })
-    is.stands whole.belongs (loaded_of r) refl refl between keeps is.faults
+    is.stands whole.belongs (loaded_of r) refl refl refl between keeps is.faults
 
 -- ---- a file over which none was opened
 

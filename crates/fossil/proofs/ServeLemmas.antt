@@ -90,16 +90,16 @@ module _ {D : Type 0} (tells : D → DiskState) (disk : D) where
 
 -- ---- the workers
 
-within_at : {X : Type 0} (xs : List X) (present : X → Option Connection) (standing : X → Standing) (users : List User) (project : List ℕ) (requests : ℕ) (works : List Work) (ys : List X) → AllWorked present standing users project requests works xs ys
+within_at : {D X : Type 0} (tells : D → DiskState) (xs : List X) (present : X → Option Connection) (standing : X → Standing) (users : List User) (project : List ℕ) (requests : ℕ) (works : List Work) (ys : List X) → AllWorked tells present standing users project requests works xs ys
     → (i : ℕ) (w : Work) → i < length xs → (slice_index_or works i w).sessions ≤ requests
-within_at [] present standing users project requests works ys all i w l = absurd (omega (arith, l))
-within_at (x ∷ xs) present standing users project requests works ys all i w l = (all.2 i x w l).2.within
+within_at tells [] present standing users project requests works ys all i w l = absurd (omega (arith, l))
+within_at tells (x ∷ xs) present standing users project requests works ys all i w l = (all.2 i x w l).2.within
 
 -- each worker took as many connections as it was asked for, or fewer
-pub within_of : {X : Type 0} (xs : List X) (present : X → Option Connection) (standing : X → Standing) (users : List User) (project : List ℕ) (requests : ℕ) (works : List Work) (ys : List X) → AllWorked present standing users project requests works xs ys
+pub within_of : {D X : Type 0} (tells : D → DiskState) (xs : List X) (present : X → Option Connection) (standing : X → Standing) (users : List User) (project : List ℕ) (requests : ℕ) (works : List Work) (ys : List X) → AllWorked tells present standing users project requests works xs ys
     → requests ≤ 65536 → AreWithin 65536 works
-within_of xs present standing users project requests works ys all few i w l =
-    let each = within_at xs present standing users project requests works ys all i w (omega (arith, l, all.1)) in
+within_of tells xs present standing users project requests works ys all few i w l =
+    let each = within_at tells xs present standing users project requests works ys all i w (omega (arith, l, all.1)) in
     omega (arith, each, few)
 
 -- the project code of the Config record

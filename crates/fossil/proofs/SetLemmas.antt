@@ -1,6 +1,6 @@
 -- Artifacts of a set, one more of them, and one that becomes public.
-use Rattle.std.proofs.Common.{◌≡◌, ℕ, Bool, true, false, cond, not, List, [], ◌∷◌, ◌++◌, map, Some, None, refl, sym, ap, subst, ◌∙◌}
-use Rattle.std.specs.Prelude.{T, ◌&&◌, ◌||◌, filter, flat_map}
+use Rattle.std.proofs.Common.{◌≡◌, ℕ, Bool, true, false, cond, not, List, [], ◌∷◌, ◌++◌, length, ◌+◌, map, Some, None, refl, sym, ap, subst, ◌∙◌}
+use Rattle.std.specs.Prelude.{T, ◌&&◌, ◌||◌, filter, flat_map, sum_by}
 use Rattle.std.specs.List.{AllZip, AllByRecursion, IsDistinct, list_any}
 use Rattle.std.specs.Str.{bytes_eq}
 use Rattle.std.specs.Ordering.{is_eq}
@@ -11,6 +11,7 @@ use Rattle.std.specs.FinMap.{put, find, is_sorted}
 use Rattle.std.specs.FinMap.Entries.{by_order, below_all}
 use Rattle.std.specs.FinSet as set
 use Rattle.std.proofs.lemmas.List.Elements.{filter_agree}
+use Rattle.std.proofs.lemmas.List.Sums.{sum_by-cons}
 use Rattle.std.proofs.lemmas.List.Sorted.{list_any-IsPermutation, IsPermutation-map}
 use Rattle.std.proofs.lemmas.Bool.{or_parts}
 use Rattle.fsl_order.specs.Names.{bytes_cmp, has}
@@ -22,7 +23,7 @@ use Rattle.fsl_order.proofs.MovedLemmas.{IsPermutation-by_name}
 use Rattle.fsl_artifact.specs.Kind.{IsKind}
 use Rattle.fsl_artifact.specs.References.{references}
 use Rattle.fsl_artifact.proofs.OneKind.{one_artifact}
-use Rattle.fsl_blobs.specs.Fold.{Held, HeldSet}
+use Rattle.fsl_blobs.specs.Fold.{Held, HeldSet, held_bytes}
 use Rattle.fsl_blobs.proofs.Totals.{front_first, front_second, below_less, none_below}
 use Rattle.fsl_cluster.specs.declared.Fact.{Fact}
 use Rattle.fsl_cluster.specs.Clusters.{names, missing, wants}
@@ -141,6 +142,22 @@ same_public name a (e ∷ es) rise found =
       | Equal ↦ λ p h. let same : e.1 ≡ a = cc in ((refl, ap (λ (x : Held). x.bytes) (sym same)), same_all es)
       | Greater ↦ λ p h. ((refl, refl), same_public name a es (front_second (below_all bytes_cmp e.0 es) (is_sorted bytes_cmp es) rise) h)
     ] refl found
+
+-- and so all have as many bytes as before
+same_sizes : (es fs : List (List ℕ × Held)) → AllZip AreSame fs es → sum_by (λ (a : Held). length a.bytes) (map (λ e. e.1) fs) ≡ sum_by (λ (a : Held). length a.bytes) (map (λ e. e.1) es)
+same_sizes [] [] same = refl
+same_sizes [] (f ∷ fs) same = absurd same
+same_sizes (e ∷ es) [] same = absurd same
+same_sizes (e ∷ es) (f ∷ fs) same =
+    let size = λ (a : Held). length a.bytes in
+    let rest = same_sizes es fs same.1 in
+    sum_by-cons size f.1 (map (λ e. e.1) fs) ∙ (λ i. length (same.0.1 i) + rest i) ∙ sym (sum_by-cons size e.1 (map (λ e. e.1) es))
+
+pub bytes_published : (held : HeldSet) (name : List ℕ) (a : Held) → map_of.get held name ≡ Some a → held_bytes (map_of.insert held name (public a)) ≡ held_bytes held
+bytes_published held name a there =
+    ap (λ (es : List (List ℕ × Held)). sum_by (λ (x : Held). length x.bytes) (map (λ e. e.1) es)) (map_of.entries-insert bytes_cmp-IsTotalOrder held name (public a))
+    ∙ same_sizes (map_of.entries held) (put bytes_cmp name (public a) (map_of.entries held))
+    (same_public name a (map_of.entries held) (map_of.entries_sorted held) (sym (map_of.get-entries held name) ∙ there))
 
 -- what is held and what is referred to
 abbrev parts : List Item → List (List ℕ) × List (List ℕ)

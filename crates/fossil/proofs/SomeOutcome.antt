@@ -11,7 +11,7 @@ use Rattle.fsl_query.specs.Summary.{summary}
 use Rattle.fsl_repo.specs.Machine.{now}
 use Rattle.fsl_repo.specs.Whole.{opened}
 use Rattle.fsl_query.specs.declared.Refused.{Refused}
-use Rattle.fsl_query.specs.Reports.{IsReport, report, content}
+use Rattle.fsl_query.specs.Reports.{IsReport, IsReadContent, report, content}
 use Rattle.fsl_words.specs.declared.Question.{Question}
 use Rattle.fsl_words.specs.declared.Question.TheVariants as question_of
 use Rattle.fsl_words.specs.declared.Command.{Command}
@@ -46,7 +46,7 @@ some_ingested input false = some_read input (some_message input)
 module _ (old : List Record) where
   some_put_read : (input : List ℕ) → IsSomeMessage input → (o : Printed) × (xs : List Record) × IsPutRead input old o xs
   some_put_read input (inl h) =
-      let result = some_arrive h.0 (none_taken (opened old 0)) in
+      let result = some_arrive h.0 (none_taken (opened old 0 true)) in
       (printed_by result.0, appended_by old result.0, inr (h.0, h.1, (result.0, result.1, refl, refl)))
   some_put_read input (inr h) = (h.0, [], inl (h.1, refl))
 
@@ -56,17 +56,21 @@ module _ (old : List Record) where
 
 -- ---- questions
 
-some_report : (c : Contents) (q : Question) → (result : Result (List ℕ) Refused) × IsReport c q result
-some_report c (question_of.Cat prefix) = (content c prefix, refl)
-some_report c (question_of.Timeline count) = let i = some_items c.held in (report c i.0 (question_of.Timeline count), (i.0, i.1, refl))
-some_report c question_of.Leaves = let i = some_items c.held in (report c i.0 question_of.Leaves, (i.0, i.1, refl))
-some_report c (question_of.Tags prefix) = let i = some_items c.held in (report c i.0 (question_of.Tags prefix), (i.0, i.1, refl))
-some_report c (question_of.Tip symbol) = let i = some_items c.held in (report c i.0 (question_of.Tip symbol), (i.0, i.1, refl))
-some_report c (question_of.Files prefix) = let i = some_items c.held in (report c i.0 (question_of.Files prefix), (i.0, i.1, refl))
-some_report c (question_of.Wiki title) = let i = some_items c.held in (report c i.0 (question_of.Wiki title), (i.0, i.1, refl))
-some_report c (question_of.Ticket id) = let i = some_items c.held in (report c i.0 (question_of.Ticket id), (i.0, i.1, refl))
-some_report c (question_of.Thread name) = let i = some_items c.held in (report c i.0 (question_of.Thread name), (i.0, i.1, refl))
-some_report c question_of.Phantoms = let i = some_items c.held in (report c i.0 question_of.Phantoms, (i.0, i.1, refl))
+some_content : (honest : Bool) (due : Result (List ℕ) Refused) → IsReadContent honest due due
+some_content honest (Ok bytes) = (bytes, record { named = refl; sized = refl; same = λ kind. refl }, refl)
+some_content honest (Err refused) = refl
+
+some_report : (honest : Bool) (c : Contents) (q : Question) → (result : Result (List ℕ) Refused) × IsReport honest c q result
+some_report honest c (question_of.Cat prefix) = (content c prefix, some_content honest (content c prefix))
+some_report honest c (question_of.Timeline count) = let i = some_items c.held in (report c i.0 (question_of.Timeline count), (i.0, i.1, refl))
+some_report honest c question_of.Leaves = let i = some_items c.held in (report c i.0 question_of.Leaves, (i.0, i.1, refl))
+some_report honest c (question_of.Tags prefix) = let i = some_items c.held in (report c i.0 (question_of.Tags prefix), (i.0, i.1, refl))
+some_report honest c (question_of.Tip symbol) = let i = some_items c.held in (report c i.0 (question_of.Tip symbol), (i.0, i.1, refl))
+some_report honest c (question_of.Files prefix) = let i = some_items c.held in (report c i.0 (question_of.Files prefix), (i.0, i.1, refl))
+some_report honest c (question_of.Wiki title) = let i = some_items c.held in (report c i.0 (question_of.Wiki title), (i.0, i.1, refl))
+some_report honest c (question_of.Ticket id) = let i = some_items c.held in (report c i.0 (question_of.Ticket id), (i.0, i.1, refl))
+some_report honest c (question_of.Thread name) = let i = some_items c.held in (report c i.0 (question_of.Thread name), (i.0, i.1, refl))
+some_report honest c question_of.Phantoms = let i = some_items c.held in (report c i.0 question_of.Phantoms, (i.0, i.1, refl))
 
 -- ---- a run
 
@@ -75,26 +79,26 @@ some_loaded : (bytes : List ℕ) (ByRecords : List Record → Outcome → Type 0
 some_loaded bytes ByRecords some (inl fails) = (not_repository fails.0, inl (fails.0, fails.1, refl))
 some_loaded bytes ByRecords some (inr is) = let o = some is.0 in (o.0, inr (is.0, is.1, o.1))
 
-some_command : (command : Command) (input bytes : List ℕ) → command_meets command ≡ false → (o : Outcome) × IsCommandOutcome command input bytes o
-some_command (command_of.Init project server fields) input bytes plain = (init_outcome project server fields (length bytes), refl)
-some_command command_of.Ingest input bytes plain = let o = some_ingested input (nat_lt (2 ^ 27) (length input)) in (without_commit o.0, (o.0, o.1, refl))
-some_command command_of.Put input bytes plain =
+some_command : (honest : Bool) (command : Command) (input bytes : List ℕ) → command_meets command ≡ false → (o : Outcome) × IsCommandOutcome honest command input bytes o
+some_command honest (command_of.Init project server fields) input bytes plain = (init_outcome project server fields (length bytes), refl)
+some_command honest command_of.Ingest input bytes plain = let o = some_ingested input (nat_lt (2 ^ 27) (length input)) in (without_commit o.0, (o.0, o.1, refl))
+some_command honest command_of.Put input bytes plain =
     some_loaded bytes (IsPutOfFiles input) (λ old. let o = some_put old input (nat_lt (2 ^ 27) (length input)) in (with_commit o.0 o.1, (o.0, o.1, o.2, refl))) (some_file bytes)
-some_command (command_of.Shun name) input bytes plain = some_loaded bytes (IsShunOf name) (λ old. (shun_outcome name old, refl)) (some_file bytes)
-some_command (command_of.Serve address users workers requests) input bytes plain = (usage, refl)
-some_command (command_of.Gen count reversed) input bytes plain =
+some_command honest (command_of.Shun name) input bytes plain = some_loaded bytes (IsShunOf name) (λ old. (shun_outcome name old, refl)) (some_file bytes)
+some_command honest (command_of.Serve address users workers requests) input bytes plain = (usage, refl)
+some_command honest (command_of.Gen count reversed) input bytes plain =
     let i = some_items (contents (map public_record (generated count reversed))).held in
     let printed : Printed = record { status = 0; text = summary (tables [] i.0) i.0 } in (without_commit printed, (printed, (i.0, i.1, refl), refl))
-some_command (command_of.Ask question) input bytes plain =
-    some_loaded bytes (IsAnswered question) (λ records. let r = some_report (contents records) question in (report_outcome r.0, (r.0, r.1, refl))) (some_file bytes)
-some_command (command_of.Pull address login) input bytes plain = absurd (cc)
-some_command (command_of.Push address login) input bytes plain = absurd (cc)
-some_command (command_of.Clone address server fields) input bytes plain = absurd (cc)
-some_command (command_of.PullLocal path) input bytes plain = absurd (cc)
+some_command honest (command_of.Ask question) input bytes plain =
+    some_loaded bytes (IsAnswered honest question) (λ records. let r = some_report honest (contents records) question in (report_outcome r.0, (r.0, r.1, refl))) (some_file bytes)
+some_command honest (command_of.Pull address login) input bytes plain = absurd (cc)
+some_command honest (command_of.Push address login) input bytes plain = absurd (cc)
+some_command honest (command_of.Clone address server fields) input bytes plain = absurd (cc)
+some_command honest (command_of.PullLocal path) input bytes plain = absurd (cc)
 
-pub some_said_outcome : (command : Option Command) (input bytes : List ℕ) → meets command ≡ false → (o : Outcome) × IsSaidOutcome command input bytes o
-some_said_outcome None input bytes plain = (usage, refl)
-some_said_outcome (Some command) input bytes plain = some_command command input bytes plain
+pub some_said_outcome : (honest : Bool) (command : Option Command) (input bytes : List ℕ) → meets command ≡ false → (o : Outcome) × IsSaidOutcome honest command input bytes o
+some_said_outcome honest None input bytes plain = (usage, refl)
+some_said_outcome honest (Some command) input bytes plain = some_command honest command input bytes plain
 
 pub some_outcome : HasSomeOutcome
-some_outcome words input bytes plain = some_said_outcome (said words) input bytes plain
+some_outcome honest words input bytes plain = some_said_outcome honest (said words) input bytes plain

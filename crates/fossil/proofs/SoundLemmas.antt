@@ -1,15 +1,15 @@
 -- What a pull leaves, whether it has its end or was cut off.
-use Rattle.std.proofs.Common.{◌≡◌, ◌≢◌, inl, inr, ℕ, ◌+◌, ◌≤◌, Bool, true, false, List, [], ◌∷◌, ◌++◌, length, drop, Option, Some, None, Result, Ok, Err, refl, sym, ap, subst, ◌∙◌, arith, length-append}
-use Rattle.std.specs.Prelude.{if◌then◌else◌, MatchBool, MatchOption}
+use Rattle.std.proofs.Common.{◌≡◌, ◌≢◌, ◌⊎◌, inl, inr, ℕ, ◌+◌, ◌≤◌, Bool, true, false, List, [], ◌∷◌, ◌++◌, length, drop, Option, Some, None, Result, Ok, Err, refl, sym, ap, subst, ◌∙◌, arith, length-append}
+use Rattle.std.specs.Prelude.{⊤, if◌then◌else◌, MatchBool, MatchOption}
 use Rattle.std.specs.Str.{bytes_eq}
 use Rattle.std.proofs.lemmas.List.{append-nil}
 use Rattle.fsl_outside.specs.Connections.{Connection}
 use Rattle.fsl_record.specs.declared.Record.{Record}
 use Rattle.fsl_wire.specs.declared.WireCard.{WireCard}
 use Rattle.fsl_repo.specs.Machine.{State, now, wants}
+use Rattle.fsl_repo.specs.Replies.{IsSpoilt}
 use Rattle.fsl_repo.proofs.SomeArrival.{some_items}
 use Rattle.fsl_http.specs.Responses.{Exchanged}
-use Rattle.fsl_blobs.specs.Fold.{Contents}
 use Rattle.fsl_pull.specs.declared.Login.{Login}
 use Rattle.fsl_pull.specs.declared.PeerFault.{PeerFault}
 use Rattle.fsl_pull.specs.declared.PullFault.{PullFault}
@@ -58,8 +58,8 @@ module _ (base : Start) (p : Point Names) (h : IsAt base p.state p.commits) wher
 pub pull_keeps : (login : Option Login) → KeepsOn (PullRound login)
 pull_keeps login base p r step h is = pull_read base p h is.1.0 step is.1.2
 
-pub local_keeps : (there : Contents) (unclustered : Names) → KeepsOn (LocalRound there unclustered)
-local_keeps there unclustered base p r step h is = let t = is.2.0 in local_taken base p h r.reply t (takes_over p.state None r.reply t is.2.1) step t.fault refl is.2.2
+pub local_keeps : (peer : State) (unclustered : Names) → KeepsOn (LocalRound peer unclustered)
+local_keeps peer unclustered base p r step h is = let t = is.2.0 in local_taken base p h r.reply t (takes_over p.state None r.reply t is.2.1) step t.fault refl is.2.2
 
 -- ---- the commits of a round of a pull from another repository
 
@@ -85,8 +85,8 @@ taken_one p reply t step None (wanted, are, same) =
     subst (λ (x : Then Names). HasOneMore p.commits (commits_of x)) (sym same) (then_one p t next (is_end p.memory t next))
 taken_one p reply t step (Some why) same = subst (λ (x : Then Names). HasOneMore p.commits (commits_of x)) (sym same) (none_more p.commits)
 
-pub local_one : (there : Contents) (unclustered : Names) (p : Point Names) (r : Round Names (List WireCard)) (step : Then Names) → LocalRound there unclustered p r step → HasOneMore p.commits (commits_of step)
-local_one there unclustered p r step is = let t = is.2.0 in taken_one p r.reply t step t.fault is.2.2
+pub local_one : (peer : State) (unclustered : Names) (p : Point Names) (r : Round Names (List WireCard)) (step : Then Names) → LocalRound peer unclustered p r step → HasOneMore p.commits (commits_of step)
+local_one peer unclustered p r step is = let t = is.2.0 in taken_one p r.reply t step t.fault is.2.2
 
 -- ---- a pull from another repository
 
@@ -110,7 +110,7 @@ local_pull s t rounds e may is = subst (ProjectBy s t rounds e) (sym may.project
 local_by : (s t : State) (base : Start) → IsAt base s [] → (rounds : Given) (e : End) (b : Bool) → ProjectBy s t rounds e b → IsEndAt base [] e
 local_by s t base start rounds e true h =
     let is = subst (LocalBy s t rounds e) start.runs h in
-    ends_at (LocalRound (now t) is.0) (local_keeps (now t) is.0) base (pull_start s is.2.0) rounds e start is.2.2
+    ends_at (LocalRound t is.0) (local_keeps t is.0) base (pull_start s is.2.0) rounds e start is.2.2
 local_by s t base start rounds e false h = subst (IsEndAt base []) (sym h.1) (record { stands = start; told = refl; longer = longer_same [] })
 
 pub local_end_at : (s t : State) (base : Start) → IsAt base s [] → (rounds : Given) (e : End) → IsLocalPull s t rounds e → IsEndAt base [] e
@@ -148,22 +148,39 @@ pub record IsUncommittedAt (k : Kind) (base : Start) (rounds : Rounds) (left : S
   pub others : commits ≢ done
   pub stands : IsFailedAt base left done commits
 
+-- what is said of a content that is to be read behind rounds that went on and come to these commits: its name, and the repository that holds it
+abbrev pub Reading : Type 1
+Reading = Rounds → List (List Record) → (List ℕ → State → Type 0) → Type 0
+
+-- such a content wasn't read: all of these commits were made, and nothing was changed but, where the disk failed, its count
+pub record IsUnreadAt (k : Kind) (Reads : Reading) (base : Start) (rounds : Rounds) (left : State) (Says : List ℕ → State → Type 0) : Type 0 where
+  pub commits : List (List Record)
+  pub so_far : k.SoFar rounds commits
+  pub stands : IsAt (record base { faults = left.faults }) left commits
+  pub reads : Reads rounds commits Says
+
 -- rounds that have one behind them are as few
 pub fewer : (rounds front : Rounds) (last : Round (List ℕ) Exchanged) → rounds ≡ front ++ last ∷ [] → length rounds ≤ most_rounds → length front ≤ most_rounds
 fewer rounds front last split few = let n = ap length split in omega (arith, n, few, length-append front (last ∷ []))
 
-pub record IsSound (k : Kind) (IsDue : Rounds → List ℕ → Type 0) (base : Start) : Type 1 where
+pub record IsSound (k : Kind) (IsDue : Rounds → List ℕ → Type 0) (Reads : Reading) (base : Start) : Type 1 where
   pub none : k.SoFar [] []
   pub whole : (rounds : Rounds) (e : End) → k.Is rounds e → IsEndAt base [] e
   pub left_off : (BreaksOff : Breaks) (broken : List Connection) (more : ℕ) (rounds : Rounds) (left : State) → k.IsLeftOff BreaksOff broken more rounds left → IsLeftAt k IsDue base BreaksOff broken more rounds left
   pub broken : (rounds : Rounds) (left : State) → k.IsBroken rounds left → IsBrokenAt k base rounds left
-  pub failed : (rounds : Rounds) (left : State) → k.IsFailed rounds left → IsUncommittedAt k base rounds left
+  pub failed : (rounds : Rounds) (left : State) → k.IsFailed rounds left → IsUncommittedAt k base rounds left ⊎ IsUnreadAt k Reads base rounds left (λ name s. ⊤)
+  pub damaged : (name found : List ℕ) (rounds : Rounds) (left : State) → k.IsDamaged name found rounds left →
+      IsUnreadAt k Reads base rounds left (λ asked s. (asked ≡ name) × IsSpoilt s name found) × (left.faults ≡ base.faults)
 
 pub sent_as : (BreaksOff : Breaks) (broken : List Connection) (P Q : List ℕ → Type 0) → ((body : List ℕ) → P body → Q body) → HasSent BreaksOff broken P → HasSent BreaksOff broken Q
 sent_as BreaksOff [] P Q f h = tt
 sent_as BreaksOff (c ∷ more) P Q f h = (h.0, f h.0 h.1, h.2)
 
 -- ---- a pull
+
+-- no content is read for it
+abbrev pub no_reading : Reading
+no_reading rounds commits Says = ⊥
 
 -- what is due behind rounds that went on
 abbrev pub PullIsDue : Option Login → State → Rounds → List ℕ → Type 0
@@ -241,5 +258,12 @@ module _ (login : Option Login) (s : State) (base : Start) (fresh : IsAt base s 
         stands = failed_at base p off.step left at_point.0 kept off.is_due off.state;
       }
 
-  pub pull_sound : IsSound (a_pull login s) (PullIsDue login s) base
-  pull_sound = record { none = none; whole = whole; left_off = left_off; broken = broken; failed = failed }
+  pub pull_sound : IsSound (a_pull login s) (PullIsDue login s) no_reading base
+  pull_sound = record {
+    none = none;
+    whole = whole;
+    left_off = left_off;
+    broken = broken;
+    failed = λ rounds left is. inl (failed rounds left is);
+    damaged = λ name found rounds left is. absurd is;
+  }

@@ -1,6 +1,6 @@
 -- What the commands that sync come to, once the repository was loaded or wasn't.
 use Rattle.std.proofs.Common.{◌≡◌, ◌≢◌, ◌⊎◌, inl, inr, ℕ, true, List, [], ◌∷◌, ◌++◌, length, take, Option, Some, None, is_some, Result, Ok, Err, IsTrue, refl, sym, ap, subst, ◌∙◌, arith}
-use Rattle.std.specs.Prelude.{IfSome}
+use Rattle.std.specs.Prelude.{⊤, IfSome}
 use Rattle.std.proofs.lemmas.List.{append-nil, take_all}
 use Rattle.fsl_order.specs.Causes.{Rose}
 use Rattle.fsl_outside.specs.Connections.{Connection, LinkState}
@@ -10,7 +10,8 @@ use Rattle.fsl_disk.proofs.Moments.{keeps_on}
 use Rattle.fsl_journal.specs.File.{IsFileOf}
 use Rattle.fsl_journal.proofs.Failing.{no_file}
 use Rattle.fsl_repo.specs.Machine.{State}
-use Rattle.fsl_repo.specs.Whole.{Whole, IsWholeOn, front}
+use Rattle.fsl_repo.specs.Replies.{IsSpoilt}
+use Rattle.fsl_repo.specs.Whole.{Whole, IsWholeOn, front, is_modelled}
 use Rattle.fsl_http.specs.Responses.{Exchanged, IsBrokenOff, IsLeft}
 use Rattle.fsl_pull.specs.declared.Pulled.{Pulled}
 use Rattle.fsl_pull.specs.declared.PullFault.{PullFault}
@@ -22,17 +23,17 @@ use Rattle.fsl_pull.specs.Asking.{IsDialCounted}
 use Rattle.fsl_pull.specs.Calls.{Kind, Ended, IsWhole, IsSynced, AreCommitsOf}
 use Rattle.fsl_words.specs.declared.Command.{Command}
 use Rattle.fossil.specs.declared.answers.due.Due.{Due}
-use Rattle.fossil.specs.Printed.{Printed}
+use Rattle.fossil.specs.Printed.{Printed, damaged}
 use Rattle.fossil.specs.Outcome.{Outcome, printed_of}
 use Rattle.fossil.specs.Run.{Agrees, disk_fault}
 use Rattle.fossil.specs.Served.{with_text, link_fault, no_memory}
 use Rattle.fossil.specs.Serving.{printed, IsDue}
 use Rattle.fossil.specs.Syncs.{synced, fault_printed, end_printed, with_commits, IsEndOutcome}
-use Rattle.fossil.specs.Synced.{Read, Objects, IsSyncOutcome, AreCommitsSoFar, AreCommits, IsDue as IsAsked, command_asks_peer, AreCommitsBefore, IsFileDue, IsAnswer, Far, AreCutOff, AreMade, reached, IsWholeAtAnyMoment, IsPeerKept, SyncsBy, objects_of}
+use Rattle.fossil.specs.Synced.{Read, Objects, IsSyncOutcome, AreCommitsSoFar, AreCommits, IsDue as IsAsked, command_asks_peer, AreCommitsBefore, ReadsContent, IsFileDue, IsAnswer, Far, AreCutOff, AreMade, reached, IsWholeAtAnyMoment, IsPeerKept, SyncsBy, objects_of}
 use Rattle.fossil.specs.Syncing.{IsSyncDue, IsReady}
 use Rattle.fossil.proofs.FileLemmas.{both, agrees}
 use Rattle.fossil.proofs.TakenLemmas.{IsTellable, Start, IsAt, same_at, IsEndAt}
-use Rattle.fossil.proofs.SoundLemmas.{IsSound, AreBefore, sent_as}
+use Rattle.fossil.proofs.SoundLemmas.{Reading, IsUncommittedAt, IsUnreadAt, IsSound, AreBefore, sent_as}
 use Rattle.fossil.proofs.SyncedLemmas.{holds, holds_either, IsLeftSo, made_all, reached_all, contents_left, durable_left, moments_left}
 
 -- ---- ends
@@ -82,7 +83,7 @@ module _ {D : Type 0} (command : Command) (peer peer_left : DiskState) (dial dia
   bytes = ready.loaded.stands.0
 
   abbrev pub read : Rounds → Read
-  read rounds = record { file = bytes; peer = peer_bytes; rounds = rounds }
+  read rounds = record { file = bytes; peer = peer_bytes; honest = is_modelled file; peer_honest = is_modelled peer; rounds = rounds }
 
   abbrev x : Objects
   x = objects_of (file, left) (peer, peer_left) (dial, dial_left)
@@ -138,6 +139,8 @@ module _ {D : Type 0} (command : Command) (peer peer_left : DiskState) (dial dia
         file_told = file_told;
         peer_told = peer_told;
         rounds_are = refl;
+        honest = refl;
+        peer_honest = refl;
         led = led;
         answer = answer;
         far = far;
@@ -178,16 +181,18 @@ module _ {D : Type 0} (command : Command) (peer peer_left : DiskState) (dial dia
         by_due text o is at same commits (inl told) =
             at_by rounds broken e.commits text told (inl (o, is, sym commits)) (inl (o, none, is, commits, same)) at kept (λ other. same_count)
         by_due text o is at same commits (inr told) =
-            at_by rounds broken e.commits no_memory told (inl (o, is, sym commits)) (inr (inr (inr (inl none, refl)))) at kept (λ other. same_count)
+            at_by rounds broken e.commits no_memory told (inl (o, is, sym commits)) (inr (inr (inr (inl (inl none, refl))))) at kept (λ other. same_count)
 
     -- ---- a sync over the dial, of whatever kind
 
-    module _ (k : Kind) (IsDueK : Rounds → List ℕ → Type 0) (sound : IsSound k IsDueK at_start)
+    module _ (k : Kind) (IsDueK : Rounds → List ℕ → Type 0) (Reads : Reading) (sound : IsSound k IsDueK Reads at_start)
         (outcome : (rounds : Rounds) (e : End) (o : Outcome) → k.Is rounds e → IsEndOutcome (length rounds) e o → IsSyncOutcome command (read rounds) o)
         (so_far : (rounds : Rounds) (commits : List (List Record)) → k.SoFar rounds commits → AreCommitsSoFar command (read rounds) commits)
         (asked : (rounds : Rounds) (body : List ℕ) → IsDueK rounds body → IsAsked command (read rounds) body)
         (cut_off : (rounds : Rounds) (commits : List (List Record)) (far : Far) → (AreCommitsBefore command (read rounds) far.done × (far.due ≡ commits)) → AreCutOff command (read rounds) commits far)
-        (file_due : (rounds : Rounds) (commits : List (List Record)) → ((done : List (List Record)) × AreCommitsBefore command (read rounds) done × (commits ≢ done)) → IsFileDue command (read rounds) commits (both peer peer_left))
+        (file_due : (rounds : Rounds) (commits : List (List Record)) → ((done : List (List Record)) × AreCommitsBefore command (read rounds) done × (commits ≢ done)) ⊎ ReadsContent command (read rounds) commits (λ name s. ⊤)
+        → IsFileDue command (read rounds) commits (both peer peer_left))
+        (reads : (rounds : Rounds) (commits : List (List Record)) (Says : List ℕ → State → Type 0) → Reads rounds commits Says → ReadsContent command (read rounds) commits Says)
         (rounds : Rounds) (broken : List Connection)
         (kept : (commits : List (List Record)) → AreCommitsOf k.Is k.SoFar rounds commits → IsKeptAtAnyMoment (front old.seen.state) mid left commits) where
       abbrev pub Came : Type 0
@@ -228,21 +233,49 @@ module _ {D : Type 0} (command : Command) (peer peer_left : DiskState) (dial dia
                 l.stands (kept l.commits (inr l.so_far)) (λ other. absurd (other refl)),
           )
 
+      failed_by : IsUncommittedAt k at_start rounds new.seen.state ⊎ IsUnreadAt k Reads at_start rounds new.seen.state (λ name s. ⊤) → Rose old.seen.state.faults new.seen.state.faults → broken ≡ []
+          → printed d ≡ with_text 4 disk_fault → dial_left.faults ≡ dial.faults → Came
+      failed_by (inr c) rose none told same_count = (
+        c.commits,
+        synced_by rounds broken c.commits (made_all c.commits) (with_text 4 disk_fault) told (inl (led_by c.commits (inr c.so_far)))
+            (inr (inl (none, inl (rose_file rose, peer_steady, file_due rounds c.commits (inr (reads rounds c.commits (λ name s. ⊤) c.reads))), refl))) (inl (refl, refl))
+            (inl (holds left new (record at_start { faults = new.seen.state.faults }) c.commits whole c.stands)) (moments_all 4 c.commits (kept c.commits (inr c.so_far))) peer_kept
+            (λ other. absurd (other refl)) (λ other. same_count),
+      )
+      failed_by (inl c) rose none told same_count = (
+        c.commits,
+        synced_by rounds broken c.commits (all_but c.done c.commits) (with_text 4 disk_fault) told (inl (led_by c.commits c.are))
+            (inr (inl (none, inl (rose_file rose, peer_steady, file_due rounds c.commits (inl (c.done, before_by c.done c.before, c.others))), refl))) (inr (refl, none, cut_by c.done c.commits c.before))
+            (inr (refl, rose_file rose, holds_either left new at_start (all_but c.done c.commits) whole c.stands)) (moments_by c.commits (kept c.commits c.are)) peer_kept (λ other. absurd (other refl)) (λ other. same_count),
+      )
+
       failed : Rose old.seen.state.faults new.seen.state.faults → broken ≡ [] → k.IsFailed rounds new.seen.state → printed d ≡ with_text 4 disk_fault → dial_left.faults ≡ dial.faults → Came
-      failed rose none is told same_count =
-          let c = sound.failed rounds new.seen.state is in (
-            c.commits,
-            synced_by rounds broken c.commits (all_but c.done c.commits) (with_text 4 disk_fault) told (inl (led_by c.commits c.are))
-                (inr (inl (none, inl (rose_file rose, peer_steady, file_due rounds c.commits (c.done, before_by c.done c.before, c.others)), refl))) (inr (refl, none, cut_by c.done c.commits c.before))
-                (inr (refl, rose_file rose, holds_either left new at_start (all_but c.done c.commits) whole c.stands)) (moments_by c.commits (kept c.commits c.are)) peer_kept (λ other. absurd (other refl)) (λ other. same_count),
-          )
+      failed rose none is told same_count = failed_by (sound.failed rounds new.seen.state is) rose none told same_count
+
+      -- a content is damaged, and no call of the disks failed
+      damaged_by : (name found : List ℕ) → broken ≡ [] → k.IsDamaged name found rounds new.seen.state → IsDue (damaged name found) d → dial_left.faults ≡ dial.faults → Came
+      damaged_by name found none is due same_count = by_due (sound.damaged name found rounds new.seen.state is) due
+        where
+          by_due : IsUnreadAt k Reads at_start rounds new.seen.state (λ asked s. (asked ≡ name) × IsSpoilt s name found) × (new.seen.state.faults ≡ at_start.faults) → IsDue (damaged name found) d → Came
+          by_due (c, steady) (inl told) =
+              let at = subst (λ (n : ℕ). IsAt (record at_start { faults = n }) new.seen.state c.commits) steady c.stands in (
+                c.commits,
+                at_by rounds broken c.commits (damaged name found) told (led_by c.commits (inr c.so_far))
+                    (inr (inr (inr (inr (name, found, none, reads rounds c.commits (λ asked s. (asked ≡ name) × IsSpoilt s name found) c.reads, refl)))))
+                    at (kept c.commits (inr c.so_far)) (λ other. same_count),
+              )
+          by_due (c, steady) (inr told) =
+              let at = subst (λ (n : ℕ). IsAt (record at_start { faults = n }) new.seen.state c.commits) steady c.stands in (
+                c.commits,
+                at_by rounds broken c.commits no_memory told (led_by c.commits (inr c.so_far)) (inr (inr (inr (inl (inl none, refl))))) at (kept c.commits (inr c.so_far)) (λ other. same_count),
+              )
 
       -- no memory before the first round, behind some rounds, or in the midst of a reply
       unbegun : rounds ≡ [] → broken ≡ [] → new.seen.state ≡ old.seen.state → printed d ≡ no_memory → dial_left.faults ≡ dial.faults → Came
       unbegun first none same told same_count =
           let are : AreCommitsOf k.Is k.SoFar rounds [] = inr (subst (λ (rs : Rounds). k.SoFar rs []) (sym first) sound.none) in (
             [],
-            at_by rounds broken [] no_memory told (led_by [] are) (inr (inr (inr (inl none, refl)))) (same_at at_start old.seen.state new.seen.state [] same fresh) (kept [] are) (λ other. same_count),
+            at_by rounds broken [] no_memory told (led_by [] are) (inr (inr (inr (inl (inl none, refl))))) (same_at at_start old.seen.state new.seen.state [] same fresh) (kept [] are) (λ other. same_count),
           )
 
       left_off : k.IsLeftOff IsLeft broken (length broken) rounds new.seen.state → printed d ≡ no_memory → dial_left.faults ≡ dial.faults → Came
@@ -250,7 +283,7 @@ module _ {D : Type 0} (command : Command) (peer peer_left : DiskState) (dial dia
           let l = sound.left_off IsLeft broken (length broken) rounds new.seen.state off in (
             l.commits,
             at_by rounds broken l.commits no_memory told (led_by l.commits (inr l.so_far))
-                (inr (inr (inr (inr (record { due = (l.due.0, asked rounds l.due.0 l.due.1); few = l.few; sent = sent_as IsLeft broken (IsDueK rounds) (IsAsked command (read rounds)) (asked rounds) l.sent }), refl))))
+                (inr (inr (inr (inl (inr (record { due = (l.due.0, asked rounds l.due.0 l.due.1); few = l.few; sent = sent_as IsLeft broken (IsDueK rounds) (IsAsked command (read rounds)) (asked rounds) l.sent }), refl)))))
                 l.stands (kept l.commits (inr l.so_far)) (λ other. same_count),
           )
 
@@ -261,7 +294,7 @@ module _ {D : Type 0} (command : Command) (peer peer_left : DiskState) (dial dia
           let b = sound.broken rounds new.seen.state is in
           let before = b.before in (
             b.commits,
-            synced_by rounds broken b.commits (all_but b.done b.commits) no_memory told (inl (led_by b.commits b.are)) (inr (inr (inr (inl none, refl)))) (inr (refl, none, cut_by b.done b.commits before))
+            synced_by rounds broken b.commits (all_but b.done b.commits) no_memory told (inl (led_by b.commits b.are)) (inr (inr (inr (inl (inl none, refl))))) (inr (refl, none, cut_by b.done b.commits before))
                 (inl (holds left new at_start b.done whole b.stands)) (moments_by b.done (kept_so before.0 before.1 b.done before.2 before.3)) peer_kept (λ other. (steady_by (b.stands).steady, peer_steady)) (λ other. same_count),
           )
 
@@ -277,6 +310,7 @@ module _ {D : Type 0} (command : Command) (peer peer_left : DiskState) (dial dia
       came (Err (fault.TooLarge name size)) is same due = refused_by (fault.TooLarge name size) is due same
       came (Err (fault.Full name)) is same due = refused_by (fault.Full name) is due same
       came (Err (fault.Missing name)) is same due = refused_by (fault.Missing name) is due same
+      came (Err (fault.Damaged name found)) is same due = damaged_by name found is.0 is.1 due same
       came (Err fault.Rounds) is same due = refused_by fault.Rounds is due same
       came (Err fault.Memory) (inl (first, none, left_as)) same due = unbegun first none left_as due same
       came (Err fault.Memory) (inr (inl off)) same due = left_off off due same

@@ -11,7 +11,7 @@ use Rattle.fsl_journal.specs.File.{IsFileOf}
 use Rattle.fsl_journal.specs.Journal.{HeldOrSame}
 use Rattle.fsl_journal.proofs.Unique.{one_file}
 use Rattle.fsl_repo.specs.Machine.{State}
-use Rattle.fsl_repo.specs.Whole.{Whole, IsWholeOn, front as committed_front}
+use Rattle.fsl_repo.specs.Whole.{Whole, IsWholeOn, is_modelled, front as committed_front}
 use Rattle.fsl_http.specs.Responses.{IsBrokenOff, IsLeft}
 use Rattle.fsl_pull.specs.Dialled.{Rounds, Breaks, Grows}
 use Rattle.fsl_pull.specs.Kept.{all_of_them, StandsForSome, IsKeptAtAnyMoment}
@@ -27,7 +27,7 @@ use Rattle.fossil.specs.Run.{File, Output, Agrees, IsTold}
 use Rattle.fossil.specs.Acts.{file_of, KeepsImages}
 use Rattle.fossil.specs.Served.{IsWrittenAs, all, front}
 use Rattle.fossil.specs.Serving.{printed}
-use Rattle.fossil.specs.Synced.{Read, Objects, IsSyncOutcome, AreCommitsSoFar, AreCommits, IsDue, IsCutOff, command_asks_peer, AreCommitsBefore, IsFileDue, HasFailed, objects_of, IsAnswer, IsFaulted, Far, AreCutOff, AreMade, reached, StandsForAll, StandsAsFar, StandsOrWasLeft, IsFileLeft, IsWholeAtAnyMoment, IsDurable, IsPeerKept, IsUntouched, SyncsBy, HasSynced}
+use Rattle.fossil.specs.Synced.{Read, Objects, IsSyncOutcome, AreCommitsSoFar, AreCommits, IsDue, IsCutOff, command_asks_peer, AreCommitsBefore, IsFileDue, HasFailed, objects_of, IsAnswer, IsDamaged, IsFaulted, Far, AreCutOff, AreMade, reached, StandsForAll, StandsAsFar, StandsOrWasLeft, IsFileLeft, IsWholeAtAnyMoment, IsDurable, IsPeerKept, IsUntouched, SyncsBy, HasSynced}
 use Rattle.fossil.specs.Syncing.{command_by}
 use Rattle.fossil.proofs.InputLemmas.{some_bytes}
 use Rattle.fossil.proofs.FileLemmas.{both, some_same, agreed, quiet_none}
@@ -156,7 +156,8 @@ module _ (command : Command) (x : Objects) (broken : List Connection) (r : Read)
   faulted_as : IsFaulted command r broken commits x P → IsFaulted command r broken commits x Q
   faulted_as (inl (none, failed, tells)) = inl (none, failed, turn _ tells)
   faulted_as (inr (inl (rose, cut, tells))) = inr (inl (rose, cut, turn _ tells))
-  faulted_as (inr (inr (cut, tells))) = inr (inr (cut, turn _ tells))
+  faulted_as (inr (inr (inl (cut, tells)))) = inr (inr (inl (cut, turn _ tells)))
+  faulted_as (inr (inr (inr (name, found, none, is, tells)))) = inr (inr (inr (name, found, none, is, turn _ tells)))
 
   answered_as : IsAnswer command r broken commits x P → IsAnswer command r broken commits x Q
   answered_as (inl (o, none, is, same, tells)) = inl (o, none, is, same, turn (printed_of o) tells)
@@ -171,6 +172,8 @@ module _ (command : Command) (x : Objects) (rounds : Rounds) (broken : List Conn
     file_told = s.file_told;
     peer_told = s.peer_told;
     rounds_are = s.rounds_are;
+    honest = s.honest;
+    peer_honest = s.peer_honest;
     led = s.led;
     answer = answered_as command x broken r commits P Q turn s.answer;
     far = s.far;
@@ -204,6 +207,8 @@ module _ (command : Command) (x : Objects) (rounds : Rounds) (broken : List Conn
         file_told = at_zero.file_told;
         peer_told = at_zero.peer_told;
         rounds_are = at_zero.rounds_are;
+        honest = at_zero.honest;
+        peer_honest = at_zero.peer_honest;
         led = at_zero.led;
         answer = answered_as command x broken r commits P Q turn at_zero.answer;
         far = at_zero.far;
@@ -238,71 +243,79 @@ synced_printed command x d out status (rounds, broken, grows, (r, commits, s)) w
 -- ---- a sync over a dial, which uses no peer's file
 
 -- a reading with other bytes in the place of the peer's
-abbrev pub with_peer : List ℕ → Read → Read
-with_peer bytes r = record { file = r.file; peer = bytes; rounds = r.rounds }
+abbrev pub with_peer : List ℕ → Bool → Read → Read
+with_peer bytes kind r = record { file = r.file; peer = bytes; honest = r.honest; peer_honest = kind; rounds = r.rounds }
 
 -- nothing that is said of a command speaks of the peer's file
 pub record IsApart (command : Command) : Type 1 where
   pub alone : IsTrue (command_asks_peer command) → ⊥
-  pub outcome : (bytes : List ℕ) (r : Read) (o : Outcome) → IsSyncOutcome command r o → IsSyncOutcome command (with_peer bytes r) o
-  pub so_far : (bytes : List ℕ) (r : Read) (commits : List (List Record)) → AreCommitsSoFar command r commits → AreCommitsSoFar command (with_peer bytes r) commits
-  pub due : (bytes : List ℕ) (r : Read) (body : List ℕ) → IsDue command r body → IsDue command (with_peer bytes r) body
-  pub cut_off : (bytes : List ℕ) (r : Read) (commits : List (List Record)) (far : Far) → AreCutOff command r commits far → AreCutOff command (with_peer bytes r) commits far
-  pub file_due : (bytes : List ℕ) (r : Read) (commits : List (List Record)) (peer other : File) → IsFileDue command r commits peer → IsFileDue command (with_peer bytes r) commits other
+  pub outcome : (bytes : List ℕ) (kind : Bool) (r : Read) (o : Outcome) → IsSyncOutcome command r o → IsSyncOutcome command (with_peer bytes kind r) o
+  pub so_far : (bytes : List ℕ) (kind : Bool) (r : Read) (commits : List (List Record)) → AreCommitsSoFar command r commits → AreCommitsSoFar command (with_peer bytes kind r) commits
+  pub due : (bytes : List ℕ) (kind : Bool) (r : Read) (body : List ℕ) → IsDue command r body → IsDue command (with_peer bytes kind r) body
+  pub cut_off : (bytes : List ℕ) (kind : Bool) (r : Read) (commits : List (List Record)) (far : Far) → AreCutOff command r commits far → AreCutOff command (with_peer bytes kind r) commits far
+  pub file_due : (bytes : List ℕ) (kind : Bool) (r : Read) (commits : List (List Record)) (peer other : File) → IsFileDue command r commits peer → IsFileDue command (with_peer bytes kind r) commits other
+  pub damaged : (bytes : List ℕ) (kind : Bool) (r : Read) (commits : List (List Record)) (name found : List ℕ) → IsDamaged command r commits name found →
+      IsDamaged command (with_peer bytes kind r) commits name found
 
 pub apart_by : (w : Way) (address : List ℕ) (login : Option (List ℕ × List ℕ)) → IsApart (command_by w address login)
 apart_by way.Pull address login = record {
   alone = λ asks. absurd (cc);
-  outcome = λ bytes r o h. h;
-  so_far = λ bytes r commits h. h;
-  due = λ bytes r body h. h;
-  cut_off = λ bytes r commits far h. h;
-  file_due = λ bytes r commits peer other h. h;
+  outcome = λ bytes kind r o h. h;
+  so_far = λ bytes kind r commits h. h;
+  due = λ bytes kind r body h. h;
+  cut_off = λ bytes kind r commits far h. h;
+  file_due = λ bytes kind r commits peer other h. h;
+  damaged = λ bytes kind r commits name found h. h;
 }
 apart_by way.Push address login = record {
   alone = λ asks. absurd (cc);
-  outcome = λ bytes r o h. h;
-  so_far = λ bytes r commits h. h;
-  due = λ bytes r body h. h;
-  cut_off = λ bytes r commits far h. h;
-  file_due = λ bytes r commits peer other h. h;
+  outcome = λ bytes kind r o h. h;
+  so_far = λ bytes kind r commits h. h;
+  due = λ bytes kind r body h. h;
+  cut_off = λ bytes kind r commits far h. h;
+  file_due = λ bytes kind r commits peer other h. h;
+  damaged = λ bytes kind r commits name found h. h;
 }
 
 module _ (command : Command) (apart : IsApart command) (file peer other : DiskState × DiskState) (still : IsUntouched (file_of other)) (dial : LinkState × LinkState) (Tells : Printed → Type 0) where
   abbrev there : List ℕ
   there = (some_bytes (other.0).contents).0
 
+  abbrev kind : Bool
+  kind = is_modelled other.0
+
   -- no disk but that of its own file fails
-  own_failed : (r : Read) (commits : List (List Record)) → HasFailed command r commits (objects_of file peer dial) → HasFailed command (with_peer there r) commits (objects_of file other dial)
-  own_failed r commits (inl (rose, alone, due)) = inl (rose, (λ asks. absurd (apart.alone asks)), apart.file_due there r commits (file_of peer) (file_of other) due)
+  own_failed : (r : Read) (commits : List (List Record)) → HasFailed command r commits (objects_of file peer dial) → HasFailed command (with_peer there kind r) commits (objects_of file other dial)
+  own_failed r commits (inl (rose, alone, due)) = inl (rose, (λ asks. absurd (apart.alone asks)), apart.file_due there kind r commits (file_of peer) (file_of other) due)
   own_failed r commits (inr (asks, rose, same, none)) = absurd (apart.alone asks)
 
-  own_cut : (r : Read) (BreaksOff : Breaks) (broken : List Connection) (more : ℕ) → IsCutOff command r BreaksOff broken more → IsCutOff command (with_peer there r) BreaksOff broken more
+  own_cut : (r : Read) (BreaksOff : Breaks) (broken : List Connection) (more : ℕ) → IsCutOff command r BreaksOff broken more → IsCutOff command (with_peer there kind r) BreaksOff broken more
   own_cut r BreaksOff broken more h = record {
-    due = ((h.due).0, apart.due there r (h.due).0 (h.due).1);
+    due = ((h.due).0, apart.due there kind r (h.due).0 (h.due).1);
     few = h.few;
-    sent = sent_as BreaksOff broken (IsDue command r) (IsDue command (with_peer there r)) (apart.due there r) h.sent;
+    sent = sent_as BreaksOff broken (IsDue command r) (IsDue command (with_peer there kind r)) (apart.due there kind r) h.sent;
   }
 
-  own_made : (r : Read) (status : ℕ) (broken : List Connection) (commits : List (List Record)) (far : Far) → AreMade command r status broken commits far → AreMade command (with_peer there r) status broken commits far
+  own_made : (r : Read) (status : ℕ) (broken : List Connection) (commits : List (List Record)) (far : Far) → AreMade command r status broken commits far → AreMade command (with_peer there kind r) status broken commits far
   own_made r status broken commits far (inl whole) = inl whole
-  own_made r status broken commits far (inr (cut, none, off)) = inr (cut, none, apart.cut_off there r commits far off)
+  own_made r status broken commits far (inr (cut, none, off)) = inr (cut, none, apart.cut_off there kind r commits far off)
 
-  own_faulted : (r : Read) (broken : List Connection) (commits : List (List Record)) → IsFaulted command r broken commits (objects_of file peer dial) Tells → IsFaulted command (with_peer there r) broken commits (objects_of file other dial) Tells
+  own_faulted : (r : Read) (broken : List Connection) (commits : List (List Record)) → IsFaulted command r broken commits (objects_of file peer dial) Tells → IsFaulted command (with_peer there kind r) broken commits (objects_of file other dial) Tells
   own_faulted r broken commits (inl (none, failed, tells)) = inl (none, own_failed r commits failed, tells)
   own_faulted r broken commits (inr (inl (rose, cut, tells))) = inr (inl (rose, own_cut r IsBrokenOff broken 1 cut, tells))
-  own_faulted r broken commits (inr (inr (inl none, tells))) = inr (inr (inl none, tells))
-  own_faulted r broken commits (inr (inr (inr cut, tells))) = inr (inr (inr (own_cut r IsLeft broken (length broken) cut), tells))
+  own_faulted r broken commits (inr (inr (inl (inl none, tells)))) = inr (inr (inl (inl none, tells)))
+  own_faulted r broken commits (inr (inr (inl (inr cut, tells)))) = inr (inr (inl (inr (own_cut r IsLeft broken (length broken) cut), tells)))
+  own_faulted r broken commits (inr (inr (inr (name, found, none, is, tells)))) = inr (inr (inr (name, found, none, apart.damaged there kind r commits name found is, tells)))
 
-  own_answer : (r : Read) (broken : List Connection) (commits : List (List Record)) → IsAnswer command r broken commits (objects_of file peer dial) Tells → IsAnswer command (with_peer there r) broken commits (objects_of file other dial) Tells
-  own_answer r broken commits (inl (o, none, is, same, tells)) = inl (o, none, apart.outcome there r o is, same, tells)
+  own_answer : (r : Read) (broken : List Connection) (commits : List (List Record)) → IsAnswer command r broken commits (objects_of file peer dial) Tells → IsAnswer command (with_peer there kind r) broken commits (objects_of file other dial) Tells
+  own_answer r broken commits (inl (o, none, is, same, tells)) = inl (o, none, apart.outcome there kind r o is, same, tells)
   own_answer r broken commits (inr fault) = inr (own_faulted r broken commits fault)
 
-  own_commits : (r : Read) (commits : List (List Record)) → AreCommits command r commits → AreCommits command (with_peer there r) commits
-  own_commits r commits (inl (o, is, same)) = inl (o, apart.outcome there r o is, same)
-  own_commits r commits (inr so_far) = inr (apart.so_far there r commits so_far)
+  own_commits : (r : Read) (commits : List (List Record)) → AreCommits command r commits → AreCommits command (with_peer there kind r) commits
+  own_commits r commits (inl (o, is, same)) = inl (o, apart.outcome there kind r o is, same)
+  own_commits r commits (inr so_far) = inr (apart.so_far there kind r commits so_far)
 
-  own_led : (r : Read) (rounds : Rounds) (commits : List (List Record)) → AreCommits command r commits ⊎ ((rounds ≡ []) × (commits ≡ [])) → AreCommits command (with_peer there r) commits ⊎ ((rounds ≡ []) × (commits ≡ []))
+  own_led : (r : Read) (rounds : Rounds) (commits : List (List Record)) → AreCommits command r commits ⊎ ((rounds ≡ []) × (commits ≡ [])) → AreCommits command (with_peer there kind r) commits ⊎ ((rounds ≡ []) × (commits ≡ []))
   own_led r rounds commits (inl are) = inl (own_commits r commits are)
   own_led r rounds commits (inr none) = inr none
 
@@ -313,12 +326,14 @@ module _ (command : Command) (apart : IsApart command) (file peer other : DiskSt
     broken,
     grows,
     (
-      with_peer there r,
+      with_peer there kind r,
       commits,
       record {
         file_told = s.file_told;
         peer_told = (some_bytes (other.0).contents).1;
         rounds_are = s.rounds_are;
+        honest = s.honest;
+        peer_honest = refl;
         led = own_led r rounds commits s.led;
         answer = own_answer r broken commits s.answer;
         far = s.far;

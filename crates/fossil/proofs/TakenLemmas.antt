@@ -71,7 +71,7 @@ ArrivalBy stopped records name bytes result =
 arrival_plain : (s : State) (name bytes : List ℕ) (r : Told) → s.stopped ≡ None → IsArrival s name bytes false r → IsPlain name r
 arrival_plain s name bytes r runs is =
     let c = contents s.records in
-    plain_by name (length bytes) (name_of bytes) (after c (record_of.Blob false name bytes)) (nat_lt (2 ^ 24) (length bytes)) (bytes_eq (name_of bytes) name) (set.contains c.shunned name) (map_of.get c.held name) r
+    plain_by name (length bytes) (name_of bytes) (after c (record_of.Blob false name None bytes)) (nat_lt (2 ^ 24) (length bytes)) (bytes_eq (name_of bytes) name) (set.contains c.shunned name) (map_of.get c.held name) r
     (subst (λ (o : Option ℕ). ArrivalBy o s.records name bytes r) runs is)
 
 -- ---- the cards of a reply
@@ -98,13 +98,13 @@ pub record HasArrived (s new : State) : Type 0 where
   pub stopped : new.stopped ≡ s.stopped
   pub steady : new.faults ≡ s.faults
 
-has_arrived : (s : State) (name bytes : List ℕ) (a : Arrival) → HasArrived s (arrived s name bytes false (Ok a))
+has_arrived : (s : State) (name bytes : List ℕ) (a : Arrival) → HasArrived s (arrived s name None bytes false (Ok a))
 has_arrived s name bytes arrival.Shunned = record { more = []; records = sym (append-nil s.records); committed = refl; stopped = refl; steady = refl }
 has_arrived s name bytes arrival.Present = record { more = []; records = sym (append-nil s.records); committed = refl; stopped = refl; steady = refl }
 has_arrived s name bytes arrival.Published = record { more = record_of.Publish name ∷ []; records = refl; committed = refl; stopped = refl; steady = refl }
-has_arrived s name bytes arrival.Stored = record { more = record_of.Blob false name bytes ∷ []; records = refl; committed = refl; stopped = refl; steady = refl }
+has_arrived s name bytes arrival.Stored = record { more = record_of.Blob false name None bytes ∷ []; records = refl; committed = refl; stopped = refl; steady = refl }
 
-one_over : (s : State) (name bytes : List ℕ) (a : Arrival) (t : Taken) → IsTakenOver (arrived s name bytes false (Ok a)) t → IsTakenOver s (record t { arrivals = a ∷ t.arrivals })
+one_over : (s : State) (name bytes : List ℕ) (a : Arrival) (t : Taken) → IsTakenOver (arrived s name None bytes false (Ok a)) t → IsTakenOver s (record t { arrivals = a ∷ t.arrivals })
 one_over s name bytes a t h =
     let one = has_arrived s name bytes a in
     record {
@@ -118,7 +118,7 @@ one_over s name bytes a t h =
 
 file_over : (s : State) (name bytes : List ℕ) (due : Option ℕ) (rest : List WireCard) (t : Taken) (answer : Told) → ((s2 : State) (m : Taken) → Takes s2 due rest m → IsTakenOver s2 m)
     → IsArrival s name bytes false answer → FileTaken s name bytes due rest t answer → IsTakenOver s t
-file_over s name bytes due rest t (Ok a) others is h = subst (IsTakenOver s) (sym h.2) (one_over s name bytes a h.0 (others (arrived s name bytes false (Ok a)) h.0 h.1))
+file_over s name bytes due rest t (Ok a) others is h = subst (IsTakenOver s) (sym h.2) (one_over s name bytes a h.0 (others (arrived s name None bytes false (Ok a)) h.0 h.1))
 file_over s name bytes due rest t (Err why) others is h =
     subst (IsTakenOver s) (sym h) (stopped_over s (arrival_fault name why) (λ runs. arrival_plain s name bytes (Err why) runs is))
 

@@ -11,7 +11,7 @@ use Rattle.fsl_journal.specs.declared.LoadFault.{LoadFault}
 use Rattle.fsl_journal.specs.declared.LoadFault.TheVariants as load_fault
 use Rattle.fsl_journal.proofs.Failing.{no_file}
 use Rattle.fsl_journal.proofs.Unique.{one_file}
-use Rattle.fsl_repo.specs.Whole.{Whole, IsWholeOn}
+use Rattle.fsl_repo.specs.Whole.{Whole, IsWholeOn, is_modelled}
 use Rattle.fsl_repo.specs.Opening as opening
 use Rattle.fsl_pull.specs.Kept.{StandsForSome}
 use Rattle.fsl_pull.proofs.KeptLemmas.{none_of_them}
@@ -50,7 +50,7 @@ module _ (command : Command) (no_repository : (r : Read) (at : ℕ) → FailsAt 
   x = objects_of (file, left) (peer, peer) (dial, dial)
 
   abbrev read : List ℕ → Read
-  read bytes = record { file = bytes; peer = (some_bytes peer.contents).0; rounds = [] }
+  read bytes = record { file = bytes; peer = (some_bytes peer.contents).0; honest = is_modelled file; peer_honest = is_modelled peer; rounds = [] }
 
   abbrev Comes : Type 0
   Comes = ComesTo command (file, left) (peer, peer) (dial, dial) d
@@ -76,6 +76,8 @@ module _ (command : Command) (no_repository : (r : Read) (at : ℕ) → FailsAt 
               file_told = told;
               peer_told = (some_bytes peer.contents).1;
               rounds_are = refl;
+              honest = refl;
+              peer_honest = refl;
               led = inr (refl, refl);
               answer = answer;
               far = made_all [];
@@ -117,7 +119,7 @@ module _ (command : Command) (no_repository : (r : Read) (at : ℕ) → FailsAt 
     memory : (fault ≡ load_fault.Disk → ⊥) → printed d ≡ no_memory → Comes
     memory other told =
         let bytes = some_bytes file.contents in
-        by_text bytes.0 no_memory bytes.1 told (inr (inr (inr (inl refl, refl)))) (contents_by other bytes.0 9) (images_by bytes.0 9 (inl refl)) (λ status. counts other)
+        by_text bytes.0 no_memory bytes.1 told (inr (inr (inr (inl (inl refl, refl))))) (contents_by other bytes.0 9) (images_by bytes.0 9 (inl refl)) (λ status. counts other)
 
     disk : Rose file.faults left.faults → printed d ≡ with_text 4 disk_fault → Comes
     disk rose told =
@@ -180,14 +182,14 @@ module _ {D : Type 0} (path : List ℕ) (file mid : DiskState) (old : Whole D) (
   same_keeps = record { tells = refl; model = refl }
 
   module _ (fault : LoadFault) (un : IsUnopened peer peer_left fault) (counts : (fault ≡ load_fault.Disk → ⊥) → peer_left.faults ≡ peer.faults) where
-    peer_by : (bytes : List ℕ) (o : Printed) → Agrees peer.contents bytes → printed d ≡ o → IsAnswer local (record { file = ready.loaded.stands.0; peer = bytes; rounds = [] }) [] [] (objects_of (file, mid) (peer, peer_left) (dial, dial)) (λ p. o ≡ p)
+    peer_by : (bytes : List ℕ) (o : Printed) → Agrees peer.contents bytes → printed d ≡ o → IsAnswer local (record { file = ready.loaded.stands.0; peer = bytes; honest = is_modelled file; peer_honest = is_modelled peer; rounds = [] }) [] [] (objects_of (file, mid) (peer, peer_left) (dial, dial)) (λ p. o ≡ p)
         → Rose peer.faults peer_left.faults ⊎ KeepsContents peer peer_left → (o.status ≢ 4 → peer_left.faults ≡ peer.faults) → Locals
     peer_by bytes o told is answer contents steady = (
       [],
       [],
       none_grown _,
       (
-        record { file = ready.loaded.stands.0; peer = bytes; rounds = [] },
+        record { file = ready.loaded.stands.0; peer = bytes; honest = is_modelled file; peer_honest = is_modelled peer; rounds = [] },
         [],
         synced_by local peer peer_left dial dial file mid mid old old ready ready.whole same_keeps file_reads mid_reads bytes told d [] [] [] (made_all []) o is (inr (refl, refl)) answer (inl (refl, refl))
             (inl (holds mid old (at_start local peer peer_left dial dial file mid mid old old ready ready.whole same_keeps file_reads mid_reads bytes told d) [] ready.whole
@@ -199,12 +201,12 @@ module _ {D : Type 0} (path : List ℕ) (file mid : DiskState) (old : Whole D) (
     )
 
     peer_memory : (fault ≡ load_fault.Disk → ⊥) → printed d ≡ no_memory → Locals
-    peer_memory other told = let bytes = some_bytes peer.contents in peer_by bytes.0 no_memory bytes.1 told (inr (inr (inr (inl refl, refl)))) (inr (un.contents other)) (λ status. counts other)
+    peer_memory other told = let bytes = some_bytes peer.contents in peer_by bytes.0 no_memory bytes.1 told (inr (inr (inr (inl (inl refl, refl))))) (inr (un.contents other)) (λ status. counts other)
 
     peer_disk : Rose peer.faults peer_left.faults → printed d ≡ with_text 4 disk_fault → Locals
     peer_disk rose told =
         let bytes = some_bytes peer.contents in
-        peer_by bytes.0 (with_text 4 disk_fault) bytes.1 told (inr (inl (refl, inr (refl, rose, ready.loaded.faults, refl), refl))) (inl rose) (λ other. absurd (other refl))
+        peer_by bytes.0 (with_text 4 disk_fault) bytes.1 told (inr (inl (refl, inr (refl, rose, ready.loaded.faults, inl refl), refl))) (inl rose) (λ other. absurd (other refl))
 
     peer_nowhere : (fault ≡ load_fault.Disk → ⊥) → (bytes : List ℕ) (at : ℕ) → Agrees peer.contents bytes → FailsAt bytes at → printed d ≡ no_peer at → Locals
     peer_nowhere other bytes at agree fails told =
@@ -236,14 +238,16 @@ idle_synced command file peer dial out status no_other no_other_peer written =
       [],
       none_grown _,
       (
-        record { file = bytes.0; peer = there.0; rounds = [] },
+        record { file = bytes.0; peer = there.0; honest = is_modelled file; peer_honest = is_modelled peer; rounds = [] },
         [],
         record {
           file_told = bytes.1;
           peer_told = there.1;
           rounds_are = refl;
+          honest = refl;
+          peer_honest = refl;
           led = inr (refl, refl);
-          answer = inr (inr (inr (inl refl, told_memory out status written)));
+          answer = inr (inr (inr (inl (inl refl, told_memory out status written))));
           far = made_all [];
           are_made = inl (refl, refl);
           contents = λ old held file_told left_told are known. as_old_so_far status old held (subst (λ (b : List ℕ). IsFileOf b old) (some_same (sym file_told ∙ left_told)) are);

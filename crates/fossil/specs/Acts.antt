@@ -1,5 +1,5 @@
 -- What the parts of a run say of what they did.
-use Rattle.std.specs.Prelude.{◌≡◌, ◌≢◌, ◌⊎◌, ◌<◌, ◌≤◌, ℕ, false, List, length, nat_lt, true, Option, Some, None, Result, Ok, Err, IfOk, IfErr, IsTrue, ⊤}
+use Rattle.std.specs.Prelude.{◌≡◌, ◌≢◌, ◌⊎◌, ◌<◌, ◌≤◌, ℕ, false, List, length, nat_lt, true, Bool, Option, Some, None, Result, Ok, Err, IfOk, IfErr, IsTrue, ⊤}
 use Rattle.std.specs.Io.KnownBytes.{IsAtEnd}
 use Rattle.fsl_order.specs.Causes.{Rose}
 use Rattle.fsl_text.specs.Limits.{most_of_message}
@@ -11,17 +11,20 @@ use Rattle.fsl_journal.specs.File.{IsFileOf, FailsAt}
 use Rattle.fsl_journal.specs.Journal.{Belongs, OfBytes}
 use Rattle.fsl_journal.specs.declared.LoadFault.{LoadFault}
 use Rattle.fsl_journal.specs.declared.LoadFault.TheVariants as load_fault
-use Rattle.fsl_repo.specs.Whole.{Whole, log_of}
+use Rattle.fsl_blobs.specs.Fold.{contents}
+use Rattle.fsl_repo.specs.Whole.{Whole, log_of, is_modelled}
+use Rattle.fsl_words.specs.declared.Question.{Question}
 use Rattle.fsl_words.specs.declared.Command.{Command}
 use Rattle.fsl_words.specs.declared.Command.TheVariants.{Init, Ingest, Put, Shun, Ask, Serve, Gen, Pull, Push, Clone, PullLocal}
 use Rattle.fossil.specs.declared.answers.fault.Fault.{Fault}
 use Rattle.fossil.specs.declared.answers.fault.Fault.TheVariants as fault_is
 use Rattle.fossil.specs.declared.reading.load.Loaded.{Loaded}
-use Rattle.fossil.specs.Printed.{Printed}
+use Rattle.fossil.specs.Printed.{Printed, damaged}
 use Rattle.fossil.specs.Ingest.{IsIngested}
-use Rattle.fsl_query.specs.declared.Refused.{Refused}
-use Rattle.fossil.specs.Outcome.{Outcome, without_commit, report_outcome, printed_of, not_repository, IsSaidOutcome}
-use Rattle.fossil.specs.Run.{Input, Output, File, Agrees, reads, IsSaid, IsTold, IsDiskFault, IsInputFault, IsFileLeft, IsRefusedKept, IsWholeAtAnyMoment, lasts, IsDurable, IsSpared, disk_fault, input_fault, out_of_memory}
+use Rattle.fsl_query.specs.declared.QueryFault.{QueryFault}
+use Rattle.fsl_query.specs.Answers.{content_asked, IsRead, IsReported, IsSpoiltIn}
+use Rattle.fossil.specs.Outcome.{Outcome, without_commit, printed_of, not_repository, IsAnswered, IsSaidOutcome}
+use Rattle.fossil.specs.Run.{Input, Output, File, Agrees, reads, IsSaid, IsTold, IsDiskFault, IsInputFault, IsDamaged, IsFileLeft, IsRefusedKept, IsWholeAtAnyMoment, lasts, IsDurable, IsSpared, disk_fault, input_fault, out_of_memory}
 
 -- ---- objects before and after
 
@@ -39,17 +42,21 @@ file_of s = record { before = s.0; after = s.1 }
 abbrev pub fault_status : Fault → ℕ
 fault_status fault_is.Disk = 4
 fault_status fault_is.Input = 5
+fault_status (fault_is.Damaged name found) = 12
 fault_status fault_is.Memory = 9
 
 abbrev pub fault_line : Fault → List ℕ
 fault_line fault_is.Disk = disk_fault
 fault_line fault_is.Input = input_fault
+fault_line (fault_is.Damaged name found) = (damaged name found).text
 fault_line fault_is.Memory = out_of_memory
 
 -- a fault of a command, with its cause
 abbrev pub IsCaused : Option Command → Input → File → List ℕ → Outcome → Fault → Type 0
 IsCaused command input file bytes o fault_is.Disk = IsDiskFault command input file o
 IsCaused command input file bytes o fault_is.Input = IsInputFault command input bytes
+IsCaused command input file bytes o (fault_is.Damaged name found) =
+    IsDamaged (is_modelled file.before) command bytes name found × (file.after.faults ≡ file.before.faults)
 IsCaused command input file bytes o fault_is.Memory = ⊤
 
 -- ---- the input
@@ -63,6 +70,7 @@ IsInput input (Some text) = Agrees input.before.left text × IsAtEnd input.after
 abbrev pub IsUnread : Fault → Input → Type 0
 IsUnread fault_is.Disk input = ⊥
 IsUnread fault_is.Input input = Rose input.before.faults input.after.faults
+IsUnread (fault_is.Damaged name found) input = ⊥
 IsUnread fault_is.Memory input = ⊤
 
 -- ---- the file
@@ -80,16 +88,16 @@ KeepsImages file left =
 abbrev pub KeepsUnreadable : DiskState → DiskState → Type 0
 KeepsUnreadable file left = Told file (λ bytes. (at : ℕ) → FailsAt bytes at → Quiet file left)
 
--- a repository as the journal and the artifacts of a file that was loaded
+-- a repository as the journal of a file that was loaded, with its records and where their contents begin
 abbrev pub loaded_of : {D : Type 0} → Whole D → Loaded
-loaded_of r = record { journal = log_of r; blobs = record { records = r.seen.state.records; announced = r.seen.state.announced } }
+loaded_of r = record { journal = log_of r; places = r.places; records = r.seen.state.records }
 
--- a journal that runs, with all its records committed, and the artifacts that they leave
+-- a journal that runs, with all its records committed, and these records with the places of their contents
 pub record IsOpen (l : Loaded) : Type 0 where
   pub runs : l.journal.stopped ≡ None
   pub stable : l.journal.stable ≡ length l.journal.records
-  pub fit : AreRecords l.journal.records
-  pub same : l.blobs.records ≡ l.journal.records
+  pub fit : AreRecords l.records
+  pub same : IsRead l.journal l.records l.places
 
 -- the file was loaded, and stands for what it stood for
 pub record IsOpened (file left : DiskState) (l : Loaded) : Type 0 where
@@ -140,7 +148,7 @@ pub record Touches (command : Option Command) (file : File) (bytes : List ℕ) (
 pub record ActsBy (command : Option Command) (input : Input) (file : File) (result : Result Printed Fault) (read bytes : List ℕ) (o : Outcome) : Type 0 where
   pub input_told : Agrees input.before.left read
   pub file_told : Agrees file.before.contents bytes
-  pub outcome : IsSaidOutcome command read bytes o
+  pub outcome : IsSaidOutcome (is_modelled file.before) command read bytes o
   pub answer : IfOk result (λ answer. answer ≡ printed_of o)
   pub plain : IfOk result (λ answer. answer.status ≤ 3)
   pub cause : IfErr result (IsCaused command input file bytes o)
@@ -164,10 +172,6 @@ abbrev pub IsWritten : Result Printed Fault → ℕ → Output → Type 0
 IsWritten (Ok answer) status out = IsTold (without_commit answer) status out
 IsWritten (Err fault) status out = (status ≡ fault_status fault) × IsSaid out (fault_line fault)
 
--- the content of an artifact or the refusal is written, or there was no memory for it
-abbrev pub IsContentWritten : Result (List ℕ) Refused → ℕ → Output → Type 0
-IsContentWritten due status out = IsTold (report_outcome due) status out ⊎ ((status ≡ 9) × IsSaid out out_of_memory)
-
 -- the fields of a new repository are in their form, workers and their connections within their bounds, and so is the number of artifacts
 abbrev pub IsObeyable : Command → Type 0
 IsObeyable (Init project server fields) = AreFields fields
@@ -181,6 +185,24 @@ IsObeyable (Pull address login) = ⊤
 IsObeyable (Push address login) = ⊤
 IsObeyable (Clone address server fields) = AreFields fields
 IsObeyable (PullLocal path) = ⊤
+
+-- ---- questions
+
+-- what is answered to a question, by the records, and by the disk's count of faults before and after: the report or its refusal, and no call failed; or why
+-- there is none. Want of memory has no cause
+abbrev pub IsAnsweredBy : Bool → List Record → Question → ℕ → ℕ → Result Printed Fault → Type 0
+IsAnsweredBy honest records question before after (Ok a) = IsAnswered honest question records (without_commit a) × (after ≡ before)
+IsAnsweredBy honest records question before after (Err fault_is.Disk) = Rose before after
+IsAnsweredBy honest records question before after (Err fault_is.Input) = ⊥
+IsAnsweredBy honest records question before after (Err (fault_is.Damaged name found)) =
+    (content_asked (contents records) question ≡ Some name) × IsSpoiltIn honest (contents records) name found × (after ≡ before)
+IsAnsweredBy honest records question before after (Err fault_is.Memory) = ⊤
+
+-- each question that found this is answered so
+abbrev pub IsAnswerOf : Result (List ℕ) QueryFault → Result Printed Fault → Type 0
+IsAnswerOf found result =
+    (honest : Bool) (records : List Record) (question : Question) (before after : ℕ) →
+    IsReported honest (contents records) question before after found → IsAnsweredBy honest records question before after result
 
 -- ---- messages
 

@@ -38,7 +38,7 @@ refusal_of name _ = None
 
 -- what was taken, and one file more, by the answer of its arrival
 abbrev pub and_taken : Taken → Sent → Result Arrival ArriveFault → Taken
-and_taken t f answer = record { state = arrived t.state f.name f.bytes f.private answer; text = t.text ++ arrival_line f.name answer }
+and_taken t f answer = record { state = arrived t.state f.name None f.bytes f.private answer; text = t.text ++ arrival_line f.name answer }
 
 -- the files arrive one after another: the first that is refused refuses all, and without one all are taken
 abbrev pub Arrive : Taken → List Sent → Result Taken Printed → Type 0

@@ -1,5 +1,5 @@
 -- Laws of the outcomes of clones.
-use Rattle.std.specs.Prelude.{◌≡◌, ℕ, List, ◌++◌, length, Option, Some, None, Result, Ok, Err}
+use Rattle.std.specs.Prelude.{◌≡◌, ℕ, Bool, List, ◌++◌, length, Option, Some, None, Result, Ok, Err}
 use Rattle.fsl_http.specs.Responses.{Exchanged}
 use Rattle.fsl_pull.specs.declared.Pulled.{Pulled}
 use Rattle.fsl_pull.specs.declared.PullFault.{PullFault}
@@ -20,9 +20,10 @@ result_of (Some why) rounds stored = Err why
 abbrev pub end_outcome : ℕ → End → Outcome
 end_outcome rounds e = with_commits (result_printed (result_of e.fault rounds e.count)) e.commits
 
--- the outcome of a whole clone onto a file of so many bytes, whatever the count of faults of its disk was
+-- the outcome of a whole clone onto a file of so many bytes, whatever its disk and the count of its faults
 abbrev pub IsCloneOutcome : List ℕ → List (List ℕ) → ℕ → Rounds → Outcome → Type 0
-IsCloneOutcome server fields len rounds o = (faults : ℕ) × (e : End) × IsClone server fields None len faults rounds e × (o ≡ end_outcome (length rounds) e)
+IsCloneOutcome server fields len rounds o =
+    (faults : ℕ) × (honest : Bool) × (e : End) × IsClone server fields None len faults honest rounds e × (o ≡ end_outcome (length rounds) e)
 
 -- Law. A clone has one outcome at most: of replies that begin alike it needs no more than another time
 abbrev pub HasOneCloneOutcome : Type 0

@@ -10,7 +10,7 @@ use Rattle.fsl_pull.specs.Asking.{IsDialCounted}
 use Rattle.fsl_pull.specs.CloneCalls.{UnlessDisk, IsClonedOver}
 use Rattle.fsl_words.specs.declared.Command.{Command}
 use Rattle.fsl_words.specs.declared.Command.TheVariants.{Clone}
-use Rattle.fossil.specs.Printed.{Printed, refused, full, too_large}
+use Rattle.fossil.specs.Printed.{Printed, refused, full, too_large, damaged}
 use Rattle.fossil.specs.Outcome.{without_commit, printed_of, not_repository}
 use Rattle.fossil.specs.Run.{IsTold, disk_fault}
 use Rattle.fossil.specs.Acts.{output_of}
@@ -19,7 +19,7 @@ use Rattle.fossil.specs.Syncs.{synced, wrong_reply, missing, too_many_rounds, ot
 
 -- ---- the text
 
--- what is printed of a fault, whichever it is; no clone is stopped, and none has another project or misses a name
+-- what is printed of a fault, whichever it is; no clone is stopped, none has another project or misses a name, and none reads a content
 abbrev pub fault_text : PullFault → Printed
 fault_text (fault.NotEmpty len) = refused (codes "file not empty " ++ decimal len)
 fault_text (fault.NotRepository at) = printed_of (not_repository at)
@@ -32,6 +32,7 @@ fault_text (fault.TooLarge name size) = too_large name size
 fault_text (fault.Full name) = full name
 fault_text (fault.Missing name) = missing name
 fault_text fault.Rounds = too_many_rounds
+fault_text (fault.Damaged name found) = damaged name found
 fault_text fault.Memory = no_memory
 
 -- what is printed of what a clone came to

@@ -1,5 +1,5 @@
 -- What `gen` prints, by its count and its order.
-use Rattle.std.specs.Prelude.{◌≡◌, ℕ, List, [], ◌∷◌, Bool, false, map}
+use Rattle.std.specs.Prelude.{◌≡◌, ℕ, List, [], ◌∷◌, Bool, false, map, None}
 use Rattle.std.specs.FinSet as set
 use Rattle.fsl_name.specs.Name.{name_of}
 use Rattle.fsl_record.specs.declared.Record.{Record}
@@ -14,7 +14,7 @@ use Rattle.fossil.specs.Printed.{Printed}
 
 -- a text as a public artifact under its name
 abbrev pub public_record : List ℕ → Record
-public_record text = record_of.Blob false (name_of text) text
+public_record text = record_of.Blob false (name_of text) None text
 
 -- the summary of the set that texts make, one after another
 abbrev pub IsSummed : List (List ℕ) → List ℕ → Type 0

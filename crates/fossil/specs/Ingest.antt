@@ -1,5 +1,5 @@
 -- What `ingest` prints, by its input.
-use Rattle.std.specs.Prelude.{◌≡◌, ℕ, ◌⊎◌, nat_lt, List, [], ◌++◌, length, flat_map, codes, Result, Ok, Err, MatchBool}
+use Rattle.std.specs.Prelude.{◌≡◌, ℕ, ◌⊎◌, true, nat_lt, List, [], ◌++◌, length, flat_map, codes, Result, Ok, Err, MatchBool}
 use Rattle.fsl_text.specs.Limits.{most_of_message}
 use Rattle.fsl_blobs.specs.Fold.{Contents}
 use Rattle.fsl_cross.specs.declared.Item.{Item}
@@ -12,7 +12,7 @@ use Rattle.fossil.specs.Arrivals.{Taken, none_taken, Arrive}
 
 -- a set without artifacts
 abbrev pub fresh : State
-fresh = opened [] 0
+fresh = opened [] 0 true
 
 -- the lines of a set: the unclustered names and the wanted ones, ascending
 abbrev pub report : Contents → List Item → List ℕ

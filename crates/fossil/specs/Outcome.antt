@@ -1,6 +1,7 @@
 -- The outcome of a run: the status, the text, and the commits that the command appends to the file.
-use Rattle.std.specs.Prelude.{◌≡◌, ℕ, Bool, true, false, ◌==◌, ◌||◌, ◌⊎◌, List, [], ◌∷◌, ◌++◌, length, Option, Some, None, option_map, Result, Ok, Err, IfOk, if◌then◌else◌, codes, decimal}
+use Rattle.std.specs.Prelude.{◌≡◌, ℕ, Bool, true, false, ◌==◌, ◌||◌, ◌⊎◌, List, [], ◌∷◌, ◌++◌, length, not, Option, Some, None, is_some, option_map, IsTrue, Result, Ok, Err, if◌then◌else◌, codes, decimal}
 use Rattle.std.specs.Option.{option_map_or}
+use Rattle.fsl_name.specs.Name.{name_of}
 use Rattle.fsl_record.specs.declared.Record.{Record}
 use Rattle.fsl_record.specs.declared.Record.TheVariants as record_of
 use Rattle.fsl_journal.specs.File.{IsFileOf, FailsAt}
@@ -12,8 +13,7 @@ use Rattle.fsl_words.specs.Grammar.{words_in}
 use Rattle.fsl_query.specs.declared.Refused.{Refused}
 use Rattle.fsl_query.specs.Refusals.{refusal_text}
 use Rattle.fsl_query.specs.Reports.{IsReport}
-use Rattle.fsl_query.specs.declared.QueryFault.{QueryFault}
-use Rattle.fsl_query.specs.Answers.{IsReported}
+use Rattle.fsl_query.specs.Answers.{prefix_of}
 use Rattle.fossil.specs.Printed.{Printed}
 use Rattle.fossil.specs.Printed as printing
 use Rattle.fossil.specs.Ingest as ingest
@@ -80,14 +80,11 @@ abbrev pub report_outcome : Result (List ℕ) Refused → Outcome
 report_outcome (Ok text) = without_commit (record { status = 0; text = text })
 report_outcome (Err refused) = without_commit (printing.refused (refusal_text refused))
 
--- the report on a question or its refusal is printed, by what the records leave
-abbrev pub IsAnswered : Question → List Record → Outcome → Type 0
-IsAnswered question records o = (result : Result (List ℕ) Refused) × IsReport (contents records) question result × (o ≡ report_outcome result)
-
--- each question that found this is answered so, where there was memory
-abbrev pub IsAnswerOf : {E : Type 0} → Result (List ℕ) QueryFault → Result Printed E → Type 0
-IsAnswerOf found result =
-    (question : Question) (records : List Record) → IsReported (contents records) question found → IfOk result (λ a. IsAnswered question records (without_commit a))
+-- the report on a question or its refusal is printed, by what the records leave. A content is as it is read: over an honest disk, which tells its contents
+-- and meets the disk model, it is that of the records
+abbrev pub IsAnswered : Bool → Question → List Record → Outcome → Type 0
+IsAnswered honest question records o =
+    (result : Result (List ℕ) Refused) × IsReport honest (contents records) question result × (o ≡ report_outcome result)
 
 -- `gen` prints what the generated artifacts make
 abbrev pub IsGen : ℕ → Bool → Outcome → Type 0
@@ -123,19 +120,20 @@ command_clones command = false
 abbrev pub command_meets : Command → Bool
 command_meets command = command_syncs command || command_clones command
 
--- the outcome of a command that meets none, over its input and the bytes of the file: `init` looks at their number alone, `ingest` at none, and `gen` at neither; `serve` is no command of a run
-abbrev pub IsCommandOutcome : Command → List ℕ → List ℕ → Outcome → Type 0
-IsCommandOutcome (Init project server fields) input bytes o = o ≡ init_outcome project server fields (length bytes)
-IsCommandOutcome Ingest input bytes o = IsIngestOfFiles input o
-IsCommandOutcome Put input bytes o = IsLoaded (IsPutOfFiles input) bytes o
-IsCommandOutcome (Shun name) input bytes o = IsLoaded (IsShunOf name) bytes o
-IsCommandOutcome (Ask question) input bytes o = IsLoaded (IsAnswered question) bytes o
-IsCommandOutcome (Serve address users workers requests) input bytes o = o ≡ usage
-IsCommandOutcome (Gen count reversed) input bytes o = IsGen count reversed o
-IsCommandOutcome (Pull address login) input bytes o = ⊥
-IsCommandOutcome (Push address login) input bytes o = ⊥
-IsCommandOutcome (Clone address server fields) input bytes o = ⊥
-IsCommandOutcome (PullLocal path) input bytes o = ⊥
+-- the outcome of a command that meets none, over its input and the bytes of the file, and whether the file's disk is honest: `init` looks at their number
+-- alone, `ingest` at none, and `gen` at neither; `serve` is no command of a run
+abbrev pub IsCommandOutcome : Bool → Command → List ℕ → List ℕ → Outcome → Type 0
+IsCommandOutcome honest (Init project server fields) input bytes o = o ≡ init_outcome project server fields (length bytes)
+IsCommandOutcome honest Ingest input bytes o = IsIngestOfFiles input o
+IsCommandOutcome honest Put input bytes o = IsLoaded (IsPutOfFiles input) bytes o
+IsCommandOutcome honest (Shun name) input bytes o = IsLoaded (IsShunOf name) bytes o
+IsCommandOutcome honest (Ask question) input bytes o = IsLoaded (IsAnswered honest question) bytes o
+IsCommandOutcome honest (Serve address users workers requests) input bytes o = o ≡ usage
+IsCommandOutcome honest (Gen count reversed) input bytes o = IsGen count reversed o
+IsCommandOutcome honest (Pull address login) input bytes o = ⊥
+IsCommandOutcome honest (Push address login) input bytes o = ⊥
+IsCommandOutcome honest (Clone address server fields) input bytes o = ⊥
+IsCommandOutcome honest (PullLocal path) input bytes o = ⊥
 
 -- the command that words say, where they are in the grammar
 abbrev pub said : List (List ℕ) → Option Command
@@ -146,18 +144,38 @@ abbrev pub meets : Option Command → Bool
 meets command = option_map_or command_meets command false
 
 -- the outcome of what words say, if anything
-abbrev pub IsSaidOutcome : Option Command → List ℕ → List ℕ → Outcome → Type 0
-IsSaidOutcome None input bytes o = o ≡ usage
-IsSaidOutcome (Some command) input bytes o = IsCommandOutcome command input bytes o
+abbrev pub IsSaidOutcome : Bool → Option Command → List ℕ → List ℕ → Outcome → Type 0
+IsSaidOutcome honest None input bytes o = o ≡ usage
+IsSaidOutcome honest (Some command) input bytes o = IsCommandOutcome honest command input bytes o
 
 -- the outcome: the words first, then the file, then the input
-abbrev pub IsOutcome : List (List ℕ) → List ℕ → List ℕ → Outcome → Type 0
-IsOutcome words input bytes o = IsSaidOutcome (said words) input bytes o
+abbrev pub IsOutcome : Bool → List (List ℕ) → List ℕ → List ℕ → Outcome → Type 0
+IsOutcome honest words input bytes o = IsSaidOutcome honest (said words) input bytes o
 
--- Law. Words, an input and a file have one outcome at most
-abbrev pub HasOneOutcome : Type 0
-HasOneOutcome = (words : List (List ℕ)) (input bytes : List ℕ) (a b : Outcome) → IsOutcome words input bytes a → IsOutcome words input bytes b → a ≡ b
+-- whether a command reads a content: `cat` does, and no other that meets no peer
+abbrev pub command_reads_content : Command → Bool
+command_reads_content (Ask question) = is_some (prefix_of question)
+command_reads_content command = false
 
--- Law. And they have one, where the words say no command that meets a peer
+-- whether words say such a command
+abbrev pub reads_content : Option Command → Bool
+reads_content command = option_map_or command_reads_content command false
+
+-- two outcomes by contents that were read: the texts have one name and one size, and all else is the same
+pub record AreAlike (a b : Outcome) : Type 0 where
+  pub status : a.status ≡ b.status
+  pub named : name_of a.text ≡ name_of b.text
+  pub sized : length a.text ≡ length b.text
+  pub commits : a.commits ≡ b.commits
+
+-- Law. Words, an input and a file have one outcome at most. Where a content is read from a disk that isn't honest, the texts of two have one name and one size
+pub record HasOneOutcome : Type 0 where
+  pub one : (honest : Bool) (words : List (List ℕ)) (input bytes : List ℕ) (a b : Outcome) → IsTrue (honest || not (reads_content (said words))) →
+      IsOutcome honest words input bytes a → IsOutcome honest words input bytes b → a ≡ b
+  pub alike : (words : List (List ℕ)) (input bytes : List ℕ) (a b : Outcome) →
+      IsOutcome false words input bytes a → IsOutcome false words input bytes b → AreAlike a b
+
+-- Law. And they have one, where the words say no command that meets a peer, whatever the disk
 abbrev pub HasSomeOutcome : Type 0
-HasSomeOutcome = (words : List (List ℕ)) (input bytes : List ℕ) → meets (said words) ≡ false → (o : Outcome) × IsOutcome words input bytes o
+HasSomeOutcome =
+    (honest : Bool) (words : List (List ℕ)) (input bytes : List ℕ) → meets (said words) ≡ false → (o : Outcome) × IsOutcome honest words input bytes o

@@ -39,6 +39,10 @@ too_large name size = refused (codes "too large " ++ name_text name ++ 32 ∷ de
 abbrev pub full : List ℕ → Printed
 full name = refused (codes "full " ++ name_text name)
 
+-- a content whose bytes were read and have another name than its own
+abbrev pub damaged : List ℕ → List ℕ → Printed
+damaged name found = record { status = 12; text = codes "damaged " ++ name_text name ++ 32 ∷ name_text found ++ 10 ∷ [] }
+
 -- a line of a word and a name
 abbrev pub name_line : List ℕ → List ℕ → List ℕ
 name_line word name = word ++ 32 ∷ name_text name ++ 10 ∷ []

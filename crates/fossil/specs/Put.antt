@@ -1,5 +1,5 @@
 -- What `put` prints and appends, by its input and the records of the file.
-use Rattle.std.specs.Prelude.{◌≡◌, ℕ, ◌⊎◌, nat_lt, List, [], length, drop, Result, Ok, Err, MatchBool}
+use Rattle.std.specs.Prelude.{◌≡◌, ℕ, ◌⊎◌, true, nat_lt, List, [], length, drop, Result, Ok, Err, MatchBool}
 use Rattle.fsl_text.specs.Limits.{most_of_message}
 use Rattle.fsl_record.specs.declared.Record.{Record}
 use Rattle.fsl_repo.specs.Whole.{opened}
@@ -22,7 +22,7 @@ appended_by old (Err refusal) = []
 -- the files arrive behind the old records
 abbrev pub IsPutFiles : List Sent → List Record → Printed → List Record → Type 0
 IsPutFiles files old printed appended =
-    (result : Result Taken Printed) × Arrive (none_taken (opened old 0)) files result × (printed ≡ printed_by result) × (appended ≡ appended_by old result)
+    (result : Result Taken Printed) × Arrive (none_taken (opened old 0 true)) files result × (printed ≡ printed_by result) × (appended ≡ appended_by old result)
 
 -- a message is refused, and nothing is taken of it; or its files arrive
 abbrev pub IsPutRead : List ℕ → List Record → Printed → List Record → Type 0

@@ -7,8 +7,12 @@ use Rattle.fsl_outside.specs.Streams.{SourceState, SinkState}
 use Rattle.fsl_record.specs.declared.Record.{Record}
 use Rattle.fsl_disk.specs.Disk.{DiskState, IsModelled, Keeps, Quiet, LeavesOnly}
 use Rattle.fsl_journal.specs.File.{IsFileOf, FailsAt}
+use Rattle.fsl_blobs.specs.Fold.{contents}
+use Rattle.fsl_repo.specs.Whole.{is_modelled}
+use Rattle.fsl_query.specs.Answers.{content_asked, IsSpoiltIn}
 use Rattle.fsl_words.specs.declared.Command.{Command}
 use Rattle.fsl_words.specs.declared.Command.TheVariants.{Init, Ingest, Put, Shun, Ask, Serve, Gen, Pull, Push, Clone, PullLocal}
+use Rattle.fossil.specs.Printed as printing
 use Rattle.fossil.specs.Outcome.{Outcome, said, IsSaidOutcome}
 
 -- ---- what a run is handed and leaves
@@ -136,12 +140,28 @@ pub record IsInputFault (command : Option Command) (input : Input) (bytes : List
   pub rose : Rose input.before.faults input.after.faults
   pub file : IsTrue (opens command) → (records : List Record) × IsFileOf bytes records
 
+-- bytes that were read for an artifact have another name than its own: for the one whose content `cat` asks for, by the file's records. No other command
+-- that meets no peer reads a content, and over an honest disk, which tells its contents and meets the disk model, none is damaged
+abbrev pub IsDamaged : Bool → Option Command → List ℕ → List ℕ → List ℕ → Type 0
+IsDamaged honest (Some (Ask question)) bytes name found =
+    (records : List Record) × IsFileOf bytes records × (content_asked (contents records) question ≡ Some name) × IsSpoiltIn honest (contents records) name found
+IsDamaged honest command bytes name found = ⊥
+
+-- such bytes were read, no call of the disk failed, and both names are said
+pub record IsDamagedFault (command : Option Command) (out : Output) (file : File) (bytes : List ℕ) : Type 0 where
+  pub name : List ℕ
+  pub found : List ℕ
+  pub damaged : IsDamaged (is_modelled file.before) command bytes name found
+  pub faults : file.after.faults ≡ file.before.faults
+  pub said : IsSaid out (printing.damaged name found).text
+
 -- a fault has its status and its line; want of memory has no cause
 abbrev pub IsFaulted : Option Command → Input → Output → File → ℕ → List ℕ → Outcome → Type 0
 IsFaulted command input out file status bytes o =
     ((status ≡ 4) × IsDiskFault command input file o × IsSaid out disk_fault)
     ⊎ ((status ≡ 5) × IsInputFault command input bytes × IsSaid out input_fault)
     ⊎ ((status ≡ 9) × IsSaid out out_of_memory)
+    ⊎ ((status ≡ 12) × IsDamagedFault command out file bytes)
 
 -- ---- the file
 
@@ -243,7 +263,7 @@ pub record RunsBy (command : Option Command) (input : Input) (out : Output) (fil
   -- what was read is what was told
   pub input_told : Agrees input.before.left read
   pub file_told : Agrees file.before.contents bytes
-  pub outcome : IsSaidOutcome command read bytes o
+  pub outcome : IsSaidOutcome (is_modelled file.before) command read bytes o
   -- the text is that of the outcome, or the line of a fault
   pub answer : IsTold o status out ⊎ IsFaulted command input out file status bytes o
   -- after status 0 an input that the command reads was read to its end
@@ -257,6 +277,8 @@ pub record RunsBy (command : Option Command) (input : Input) (out : Output) (fil
   pub disk_fault : status ≡ 4 → Rose file.before.faults file.after.faults
   pub input_fault : status ≡ 5 → Rose input.before.faults input.after.faults
   pub output_fault : status ≡ 6 → Rose out.before.faults out.after.faults
+  -- no content of a disk that tells its contents and meets the disk model is damaged
+  pub undamaged : IsModelled file.before → status ≢ 12
 
 -- what a command, or words outside the grammar, came to
 abbrev pub HasRun : Option Command → Input → Output → File → ℕ → Type 0

@@ -10,6 +10,7 @@ use Rattle.fsl_words.specs.declared.Command.{Command}
 use Rattle.fsl_words.specs.declared.Command.TheVariants.{Shun, Ask}
 use Rattle.fossil.specs.declared.answers.fault.Fault.{Fault}
 use Rattle.fossil.specs.declared.ran.Ran.{Ran}
+use Rattle.fossil.specs.declared.reading.load.Loaded.{Loaded}
 use Rattle.fossil.specs.Printed.{Printed}
 use Rattle.fossil.specs.Outcome.{said, meets, command_meets, command_syncs}
 use Rattle.fossil.specs.Run.{HasRun}
@@ -44,6 +45,11 @@ abbrev pub ShunsName : {D : Type 0} → List ℕ → (D → DiskState) × Whole 
 ShunsName name repo result =
     (disk : _) (input : SourceState) → IsOpened (repo.0 disk) (repo.0 repo.1.disk) (loaded_of repo.1)
     → Acts (Shun name) (input, input) (repo.0 disk, repo.0 repo.2.disk) result
+
+-- what a question about a file that was loaded came to, from whatever file, under whatever input
+abbrev pub AnswersQuestion : {D : Type 0} → Question → Loaded → (D → DiskState) × D × D → Result Printed Fault → Type 0
+AnswersQuestion question loaded file result =
+    (disk : _) (input : SourceState) → IsOpened (file.0 disk) (file.0 file.1) loaded → Acts (Ask question) (input, input) (file.0 disk, file.0 file.2) result
 
 -- ---- behind the printing
 

@@ -29,8 +29,8 @@ disk_left (state.Unloaded disk) = disk
 -- one worker for each crew, and each crew as its worker left it, its gate too; and the steps of all sessions make one history of the repository
 pub record CrewsWorked {D A G : Type 0} (tells : D → DiskState) (door : A → LinkState) (passed : G → Option Points) (before after : List (Crew A G))
     (users : List User) (project : List ℕ) (requests : ℕ) (works : List Work) (first last : Whole D) : Type 0 where
-  pub worked : AllWorked (λ c. (door c.door).present) (λ c. (door c.door).standing) users project requests works before after
-  pub gates : AllGated (λ c. (door c.door).present) (λ c. (door c.door).standing) (λ c. passed c.gate) users project requests works before after
+  pub worked : AllWorked tells (λ c. (door c.door).present) (λ c. (door c.door).standing) users project requests works before after
+  pub gates : AllGated tells (λ c. (door c.door).present) (λ c. (door c.door).standing) (λ c. passed c.gate) users project requests works before after
   pub history : IsOneHistory tells (λ c. door c.door) (λ c. passed c.gate) users project requests works before after first last
 
 -- The words, or how many connections each worker is to take; the users, or what tells their file, before and after; the output before and after; the disk;

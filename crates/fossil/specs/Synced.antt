@@ -1,5 +1,5 @@
 -- What a run of a command that syncs says of its status, its output, its files and its dial, by one reading of all that it read.
-use Rattle.std.specs.Prelude.{◌≡◌, ◌≢◌, ℕ, ◌+◌, ◌≤◌, ◌⊎◌, ◌==◌, ◌||◌, if◌then◌else◌, Bool, true, false, List, [], ◌∷◌, ◌++◌, length, Some, IsTrue}
+use Rattle.std.specs.Prelude.{◌≡◌, ◌≢◌, ℕ, ◌+◌, ◌≤◌, ◌⊎◌, ◌==◌, ◌||◌, if◌then◌else◌, Bool, true, false, List, [], ◌∷◌, ◌++◌, length, Some, IsTrue, ⊤}
 use Rattle.std.specs.Option.{option_map_or}
 use Rattle.fsl_order.specs.Causes.{Rose}
 use Rattle.fsl_outside.specs.Connections.{Connection, LinkState}
@@ -9,26 +9,35 @@ use Rattle.fsl_disk.specs.Disk.{DiskState, IsModelled, Keeps, Quiet, LeavesOnly}
 use Rattle.fsl_journal.specs.File.{IsFileOf, FailsAt}
 use Rattle.fsl_journal.specs.Journal.{HeldOrSame, IsSpared}
 use Rattle.fsl_http.specs.Responses.{Exchanged, IsBrokenOff, IsLeft}
+use Rattle.fsl_repo.specs.Machine.{State}
+use Rattle.fsl_repo.specs.Replies.{IsSpoilt}
+use Rattle.fsl_repo.specs.Whole.{is_modelled}
 use Rattle.fsl_pull.specs.Rounds.{Round, most_rounds}
 use Rattle.fsl_pull.specs.Dialled.{Rounds, HasRounds, HasSent, Breaks}
 use Rattle.fsl_pull.specs.Kept.{all_of_them, StandsForSome}
 use Rattle.fsl_pull.specs.Calls.{Dialled, dialled}
 use Rattle.fsl_words.specs.declared.Command.{Command}
 use Rattle.fsl_words.specs.declared.Command.TheVariants.{Pull, Push, Clone, PullLocal}
-use Rattle.fossil.specs.Printed.{Printed}
+use Rattle.fossil.specs.Printed.{Printed, damaged}
 use Rattle.fossil.specs.Outcome.{Outcome, without_commit, said, printed_of, not_repository}
 use Rattle.fossil.specs.Run.{File, Agrees, IsNoRepository, IsTold, disk_fault}
 use Rattle.fossil.specs.Acts.{file_of, output_of, KeepsContents, KeepsImages, KeepsUnreadable}
 use Rattle.fossil.specs.Served.{with_text, link_fault, no_memory}
-use Rattle.fossil.specs.Syncs.{IsPullOutcome, PullCommits, PullDue, IsPushOutcome, PushCommits, PushDue, IsLocalOutcome}
+use Rattle.fossil.specs.Syncs.{Honesty, IsPullOutcome, PullCommits, PullDue, IsPushOutcome, PushCommits, PushDue, PushSends, IsLocalOutcome, LocalCommits, LocalTakes}
 
 -- ---- the outcome
 
--- what was read: the bytes of the file and of the peer's, and the rounds of the sync
+-- what was read: the bytes of the file and of the peer's, whether each of their disks is honest, so that it tells its contents and meets the disk model, and
+-- the rounds of the sync
 pub record Read : Type 0 where
   pub file : List ℕ
   pub peer : List ℕ
+  pub honest : Bool
+  pub peer_honest : Bool
   pub rounds : Rounds
+
+abbrev pub honesty : Read → Honesty
+honesty r = (r.honest, r.peer_honest)
 
 -- the file stands for records, by which the outcome is told; or the place at which it doesn't is told, and there is no round
 abbrev pub IsLoadedBy : (List Record → Outcome → Type 0) → Read → Outcome → Type 0
@@ -37,15 +46,16 @@ IsLoadedBy ByRecords r o =
 
 -- the outcome of a command that syncs
 abbrev pub IsSyncOutcome : Command → Read → Outcome → Type 0
-IsSyncOutcome (Pull address login) r o = IsLoadedBy (IsPullOutcome login r.rounds) r o
-IsSyncOutcome (Push address login) r o = IsLoadedBy (IsPushOutcome login r.rounds) r o
-IsSyncOutcome (PullLocal path) r o = (r.rounds ≡ []) × IsLoadedBy (IsLocalOutcome r.peer) r o
+IsSyncOutcome (Pull address login) r o = IsLoadedBy (IsPullOutcome r.honest login r.rounds) r o
+IsSyncOutcome (Push address login) r o = IsLoadedBy (IsPushOutcome r.honest login r.rounds) r o
+IsSyncOutcome (PullLocal path) r o = (r.rounds ≡ []) × IsLoadedBy (IsLocalOutcome (honesty r) r.peer) r o
 IsSyncOutcome command r o = ⊥
 
 -- the commits of rounds that all went on
 abbrev pub AreCommitsSoFar : Command → Read → List (List Record) → Type 0
-AreCommitsSoFar (Pull address login) r commits = (records : List Record) × IsFileOf r.file records × PullCommits login r.rounds records commits
-AreCommitsSoFar (Push address login) r commits = (records : List Record) × IsFileOf r.file records × PushCommits login r.rounds records commits
+AreCommitsSoFar (Pull address login) r commits = (records : List Record) × IsFileOf r.file records × PullCommits r.honest login r.rounds records commits
+AreCommitsSoFar (Push address login) r commits = (records : List Record) × IsFileOf r.file records × PushCommits r.honest login r.rounds records commits
+AreCommitsSoFar (PullLocal path) r commits = (r.rounds ≡ []) × ((records : List Record) × IsFileOf r.file records × LocalCommits (honesty r) r.peer records commits)
 AreCommitsSoFar command r commits = ⊥
 
 -- the commits that a run comes to, whether its sync has its end or was cut off: of an outcome, or of rounds that all went on
@@ -54,9 +64,20 @@ AreCommits command r commits = ((o : Outcome) × IsSyncOutcome command r o × (c
 
 -- behind these rounds, which all went on, this body is asked
 abbrev pub IsDue : Command → Read → List ℕ → Type 0
-IsDue (Pull address login) r body = (records : List Record) × IsFileOf r.file records × PullDue login r.rounds records body
-IsDue (Push address login) r body = (records : List Record) × IsFileOf r.file records × PushDue login r.rounds records body
+IsDue (Pull address login) r body = (records : List Record) × IsFileOf r.file records × PullDue r.honest login r.rounds records body
+IsDue (Push address login) r body = (records : List Record) × IsFileOf r.file records × PushDue r.honest login r.rounds records body
 IsDue command r body = ⊥
+
+-- behind rounds that all went on and come to these commits a content is to be read; this is said of its name and of the repository that holds it: a push sends
+-- files, and a pull from a peer's file takes the peer's
+abbrev pub ReadsContent : Command → Read → List (List Record) → (List ℕ → State → Type 0) → Type 0
+ReadsContent (Push address login) r commits Says =
+    (records : List Record) × IsFileOf r.file records
+    × PushSends r.honest login r.rounds records (λ name p. (commits ≡ p.commits) × Says name p.state)
+ReadsContent (PullLocal path) r commits Says =
+    (records : List Record) × IsFileOf r.file records
+    × LocalTakes (honesty r) r.peer records (λ name peer p. (commits ≡ p.commits) × Says name peer)
+ReadsContent command r commits Says = ⊥
 
 -- ---- what a command uses
 
@@ -106,26 +127,34 @@ abbrev pub AreCommitsBefore : Command → Read → List (List Record) → Type 0
 AreCommitsBefore command r done =
     (front : Rounds) × (last : Round (List ℕ) Exchanged) × (r.rounds ≡ front ++ last ∷ []) × AreCommitsSoFar command (record r { rounds = front }) done
 
--- a call of the file's disk was due: no round was read, so that it was to be loaded; or the last round has something to commit. The rounds of a pull from a
--- peer's file aren't told: the peer's is as one of which nothing was asked, which no body shows of every disk once it asked; or there is something to commit
+-- a call of the file's disk was due: no round was read, so that it was to be loaded; or the last round has something to commit; or a content of it is to be
+-- read. The rounds of a pull from a peer's file aren't told: the peer's is as one of which nothing was asked, which no body shows of every disk once it asked;
+-- or there is something to commit
 abbrev pub IsFileDue : Command → Read → List (List Record) → File → Type 0
 IsFileDue (PullLocal path) r commits peer = IsUntouched peer ⊎ (commits ≢ [])
-IsFileDue command r commits peer = (r.rounds ≡ []) ⊎ ((done : List (List Record)) × AreCommitsBefore command r done × (commits ≢ done))
+IsFileDue command r commits peer =
+    (r.rounds ≡ []) ⊎ (((done : List (List Record)) × AreCommitsBefore command r done × (commits ≢ done)) ⊎ ReadsContent command r commits (λ name s. ⊤))
 
 -- the count of one disk rose, and not that of the other, and a call of it was due: that of the file; or that of the peer's, for a command that reads it,
--- which is loaded before anything is committed
+-- which is loaded before anything is committed, or of which a content is to be read
 abbrev pub HasFailed : Command → Read → List (List Record) → Objects → Type 0
 HasFailed command r commits x =
     (Rose x.file.before.faults x.file.after.faults × (IsTrue (command_asks_peer command) → x.peer.after.faults ≡ x.peer.before.faults)
     × IsFileDue command r commits x.peer)
-    ⊎ (IsTrue (command_asks_peer command) × Rose x.peer.before.faults x.peer.after.faults × (x.file.after.faults ≡ x.file.before.faults) × (commits ≡ []))
+    ⊎ (IsTrue (command_asks_peer command) × Rose x.peer.before.faults x.peer.after.faults × (x.file.after.faults ≡ x.file.before.faults)
+    × ((commits ≡ []) ⊎ ReadsContent command r commits (λ name s. ⊤)))
 
--- a fault has its status and its line, its object's count rose, and a call of it was due; want of memory has no cause
+-- a content is to be read, and the bytes that were read for it have another name, which is never so over an honest disk
+abbrev pub IsDamaged : Command → Read → List (List Record) → List ℕ → List ℕ → Type 0
+IsDamaged command r commits name found = ReadsContent command r commits (λ asked s. (asked ≡ name) × IsSpoilt s name found)
+
+-- a fault has its status and its line, its object's count rose, and a call of it was due; a damaged content is told with both names; want of memory has no cause
 abbrev pub IsFaulted : Command → Read → List Connection → List (List Record) → Objects → (Printed → Type 0) → Type 0
 IsFaulted command r broken commits x Tells =
     ((broken ≡ []) × HasFailed command r commits x × Tells (with_text 4 disk_fault))
     ⊎ ((Rose x.dial.faults_before x.dial.faults_after × IsCutOff command r IsBrokenOff broken 1 × Tells (with_text 7 link_fault))
-    ⊎ (((broken ≡ []) ⊎ IsCutOff command r IsLeft broken (length broken)) × Tells no_memory))
+    ⊎ ((((broken ≡ []) ⊎ IsCutOff command r IsLeft broken (length broken)) × Tells no_memory)
+    ⊎ ((name found : List ℕ) × (broken ≡ []) × IsDamaged command r commits name found × Tells (damaged name found))))
 
 -- what is told is the outcome over what was read, where no connection broke off; or a fault
 abbrev pub IsAnswer : Command → Read → List Connection → List (List Record) → Objects → (Printed → Type 0) → Type 0
@@ -144,11 +173,11 @@ pub record Far : Type 0 where
   pub done : List (List Record)
   pub due : List (List Record)
 
--- where the last round wasn't committed: the commits of the rounds before it, and all. The rounds of a pull from a peer's file aren't told: some first
--- commits, and at most one more
+-- where the last round wasn't committed: the commits of the rounds before it, and all. The rounds of a pull from a peer's file aren't told: all commits but at
+-- most the last one, and all
 abbrev pub AreCutOff : Command → Read → List (List Record) → Far → Type 0
 AreCutOff (PullLocal path) r commits far =
-    ((more : List (List Record)) × (far.due ≡ far.done ++ more) × (length more ≤ 1)) × ((left : List (List Record)) × (commits ≡ far.due ++ left))
+    ((more : List (List Record)) × (commits ≡ far.done ++ more) × (length more ≤ 1)) × (far.due ≡ commits)
 AreCutOff command r commits far = AreCommitsBefore command r far.done × (far.due ≡ commits)
 
 -- all commits were made, or behind a cut perhaps all but that of the last round
@@ -223,6 +252,8 @@ pub record SyncsBy (command : Command) (x : Objects) (Tells : Printed → Type 0
   pub file_told : Agrees x.file.before.contents r.file
   pub peer_told : Agrees x.peer.before.contents r.peer
   pub rounds_are : r.rounds ≡ rounds
+  pub honest : r.honest ≡ is_modelled x.file.before
+  pub peer_honest : r.peer_honest ≡ is_modelled x.peer.before
   -- the rounds come to these commits, or there was none
   pub led : AreCommits command r commits ⊎ ((rounds ≡ []) × (commits ≡ []))
   pub answer : IsAnswer command r broken commits x Tells

@@ -4,13 +4,14 @@ use Rattle.fsl_outside.specs.Connections.{LinkState}
 use Rattle.fsl_disk.specs.Disk.{DiskState}
 use Rattle.fsl_journal.specs.declared.LoadFault.{LoadFault}
 use Rattle.fsl_journal.specs.declared.LoadFault.TheVariants as load_fault
-use Rattle.fsl_repo.specs.Whole.{Seen, Whole, front, opened, IsWholeOn}
+use Rattle.fsl_repo.specs.Whole.{Seen, Whole, front, opened, is_modelled, IsWholeOn}
 use Rattle.fsl_pull.specs.declared.Login.{Login}
 use Rattle.fsl_pull.specs.declared.Pulled.{Pulled}
 use Rattle.fsl_pull.specs.declared.PullFault.{PullFault}
 use Rattle.fsl_pull.specs.declared.PullFault.TheVariants as fault
 use Rattle.fsl_pull.specs.Asking.{IsDialCounted}
 use Rattle.fsl_pull.specs.Calls.{IsPullCall, IsPushCall, dialled}
+use Rattle.fsl_pull.specs.CloneCalls.{UnlessDisk}
 use Rattle.fsl_pull.specs.Kept.{IsKeptAtAnyMoment}
 use Rattle.fsl_pull.specs.LocalTurns.{IsPulledFrom}
 use Rattle.fsl_words.specs.declared.Command.{Command}
@@ -18,7 +19,7 @@ use Rattle.fsl_words.specs.declared.Command.TheVariants as command_of
 use Rattle.fossil.specs.declared.answers.due.Due.{Due}
 use Rattle.fossil.specs.declared.commands.sync.Way.{Way}
 use Rattle.fossil.specs.declared.commands.sync.Way.TheVariants as way
-use Rattle.fossil.specs.Printed.{Printed}
+use Rattle.fossil.specs.Printed.{Printed, damaged}
 use Rattle.fossil.specs.Outcome.{printed_of, not_repository}
 use Rattle.fossil.specs.Run.{disk_fault}
 use Rattle.fossil.specs.Acts.{loaded_of, IsOpened}
@@ -37,6 +38,7 @@ IsFaultDue fault.Link d = printed d ≡ with_text 7 link_fault
 IsFaultDue fault.Disk d = printed d ≡ with_text 4 disk_fault
 IsFaultDue fault.Memory d = printed d ≡ no_memory
 IsFaultDue (fault.NotRepository at) d = IsDue (printed_of (not_repository at)) d
+IsFaultDue (fault.Damaged name found) d = IsDue (damaged name found) d
 IsFaultDue (fault.Stopped faults) d = printed d ≡ with_text 4 disk_fault
 IsFaultDue why d = IfSome (fault_printed why) (λ o. IsDue o d)
 
@@ -68,7 +70,7 @@ ComesTo command file peer dial due = HasSynced command (objects_of file peer dia
 pub record IsReady {D : Type 0} (file left : DiskState) (r : Whole D) : Type 0 where
   pub loaded : IsOpened file left (loaded_of r)
   pub faults : ℕ
-  pub state : r.seen.state ≡ opened r.seen.state.records faults
+  pub state : r.seen.state ≡ opened r.seen.state.records faults (is_modelled file)
   pub whole : IsWholeOn left r
 
 -- one call of the client, by the way that artifacts go
@@ -85,10 +87,11 @@ pub record HasMade (w : Way) (login : Option Login) (dial : LinkState × LinkSta
   pub counted : IsDialCounted dial.0 dial.1 result
   pub says : IsSyncDue result due
 
--- the same of a pull from a peer, which stays as it is
-abbrev pub HasPulledFrom : DiskState × DiskState → Seen → Seen → Seen → Due → Type 0
+-- the same of a pull from a peer, of which contents are read: unless a disk failed its count is as before
+abbrev pub HasPulledFrom : DiskState × DiskState → Seen → Seen → Seen × Seen → Due → Type 0
 HasPulledFrom disk old new peer due =
-    (result : Result Pulled PullFault) × IsPulledFrom disk.0 disk.1 old new peer result × IsSyncDue result due
+    (result : Result Pulled PullFault) × IsPulledFrom disk.0 disk.1 old new peer.0 peer.1 result × UnlessDisk (peer.1.state ≡ peer.0.state) result
+    × IsSyncDue result due
 
 -- a way as a command
 abbrev pub command_by : Way → List ℕ → Option (List ℕ × List ℕ) → Command

@@ -1,18 +1,16 @@
 -- What the parts of `put` and `ingest` say of the files of a message.
-use Rattle.std.specs.Prelude.{◌≡◌, ◌&&◌, ◌||◌, not, ℕ, Bool, List, [], ◌∷◌, ◌++◌, length, drop, map, flat_map, codes, Option, Some, None, Result, Ok, Err, ⊤}
+use Rattle.std.specs.Prelude.{◌≡◌, ◌≤◌, ◌+◌, ◌&&◌, ◌||◌, not, true, false, ℕ, Bool, List, ◌++◌, length, drop, map, flat_map, codes, Option, Some, None, is_some, if◌then◌else◌, Result, Ok, Err, ⊤}
 use Rattle.std.specs.FinSet as set
 use Rattle.std.specs.FinMap as map_of
+use Rattle.std.specs.List.{AllZip}
+use Rattle.std.specs.Str.{bytes_eq}
+use Rattle.std.specs.BTreeMap.{BTreeMap, get, insert_entry}
 use Rattle.std.specs.BTreeSet.{BTreeSet, contains}
 use Rattle.fsl_order.specs.Names.{bytes_cmp, has}
 use Rattle.fsl_outside.specs.Streams.{SourceState}
 use Rattle.fsl_disk.specs.Disk.{DiskState}
-use Rattle.fsl_record.specs.declared.Config.{Config}
-use Rattle.fsl_record.specs.declared.Record.{Record}
-use Rattle.fsl_record.specs.declared.Record.TheVariants as record_of
-use Rattle.fsl_blobs.specs.Fold.{Held, contents}
-use Rattle.fsl_artifact.specs.declared.Artifact.{Artifact}
-use Rattle.fsl_artifact.specs.Kind.{IsKind}
-use Rattle.fsl_artifact.specs.References.{references}
+use Rattle.fsl_text.specs.Limits.{most_held_bytes}
+use Rattle.fsl_blobs.specs.Fold.{Held, HeldSet, held_bytes}
 use Rattle.fsl_cluster.specs.declared.Fact.{Fact}
 use Rattle.fsl_cluster.specs.Clusters.{unclustered, missing}
 use Rattle.fsl_cross.specs.declared.Item.{Item}
@@ -47,7 +45,7 @@ IsChecked message (checked.Refused refusal) = IsMessageRefused message refusal
 -- all files were taken behind the old records, with these lines
 pub record AreAllTaken (files : List Sent) (old new : State) (lines : List ℕ) : Type 0 where
   pub taken : Taken
-  pub arrive : Arrive (none_taken (opened old.records 0)) files (Ok taken)
+  pub arrive : Arrive (none_taken (opened old.records 0 true)) files (Ok taken)
   pub printed : lines ≡ taken.text
   pub records : new.records ≡ old.records ++ drop (length old.records) taken.state.records
   pub committed : new.committed ≡ old.committed
@@ -55,13 +53,13 @@ pub record AreAllTaken (files : List Sent) (old new : State) (lines : List ℕ) 
 
 -- what a file came to that arrived in a repository: its line comes behind those of the files before it, or else it is refused
 abbrev pub HasCome : Sent → State × State → List ℕ × List ℕ → Option Printed → Type 0
-HasCome f repo lines None = (a : Arrival) × ArriveStep repo.0 f.name f.bytes f.private (Ok a) repo.1 × (lines.1 ≡ lines.0 ++ name_line (arrival_word a) f.name)
-HasCome f repo lines (Some refusal) = (fault : ArriveFault) × ArriveStep repo.0 f.name f.bytes f.private (Err fault) repo.1 × (refusal_of f.name (Err fault) ≡ Some refusal)
+HasCome f repo lines None = (a : Arrival) × ArriveStep repo.0 f.name None f.bytes f.private (Ok a) repo.1 × (lines.1 ≡ lines.0 ++ name_line (arrival_word a) f.name)
+HasCome f repo lines (Some refusal) = (fault : ArriveFault) × ArriveStep repo.0 f.name None f.bytes f.private (Err fault) repo.1 × (refusal_of f.name (Err fault) ≡ Some refusal)
 
 -- what files came to that arrived in a repository
 abbrev pub HaveArrived : List Sent → State → State → Arrivals → Type 0
 HaveArrived files old new (came.Taken lines) = AreAllTaken files old new lines
-HaveArrived files old new (came.Refused refusal) = Arrive (none_taken (opened old.records 0)) files (Err refusal)
+HaveArrived files old new (came.Refused refusal) = Arrive (none_taken (opened old.records 0 true)) files (Err refusal)
 
 -- what `put` did with a message over a repository that was opened, of whatever input and file these are
 abbrev pub PutsMessage : {D : Type 0} → List ℕ → (D → DiskState) × Whole D × Whole D → Result Printed Fault → Type 0
@@ -80,23 +78,38 @@ PutsInput input repo result =
 
 -- ---- ingest
 
--- the records are a Config alone
-abbrev pub IsConfigAlone : List Record → Type 0
-IsConfigAlone records = (config : Config) × (records ≡ record_of.Config config ∷ [])
+-- the fact of an artifact, by what it is
+abbrev pub IsFactOf : List ℕ × Held → Fact → Type 0
+IsFactOf entry fact = (item : Item) × IsItemOf entry item × (fact ≡ cluster_fact item)
 
--- what an arrival in a set looks at and leaves: what is held, no name that is shunned, and the names that held artifacts refer to and that aren't held
+-- the fact of a held artifact stands under its name
+abbrev pub IsNotedAs : List ℕ × Held → List ℕ × Fact → Type 0
+IsNotedAs entry noted = (noted.0 ≡ entry.0) × IsFactOf entry noted.1
+
+-- the facts are those of the held artifacts, by name
+abbrev pub AreNoted : HeldSet → BTreeMap (List ℕ) Fact → Type 0
+AreNoted held facts = AllZip IsNotedAs (map_of.entries held) facts.entries
+
+-- the artifact of a name is public from then on
+abbrev pub MakesPublic : List ℕ → BTreeMap (List ℕ) Fact → BTreeMap (List ℕ) Fact → Type 0
+MakesPublic name old new =
+    (held : HeldSet) (a : Held) → map_of.get held name ≡ Some a → AreNoted held old → AreNoted (map_of.insert held name (record a { private = false })) new
+
+-- what an arrival in a set looks at and leaves: the facts of what is held and its size, no name that is shunned, and the names that held artifacts refer to
+-- and that aren't held
 pub record IsGathered (s : State) (g : Gathered) : Type 0 where
   pub runs : s.stopped ≡ None
-  pub held : (contents g.blobs.records).held ≡ (now s).held
-  pub shunned : (contents g.blobs.records).shunned ≡ set.empty
   pub none : (now s).shunned ≡ set.empty
+  pub noted : AreNoted (now s).held g.facts
+  pub bytes : g.bytes ≡ held_bytes (now s).held
+  pub few : g.bytes ≤ most_held_bytes
   pub wanted : (items : List Item) → AreItems (now s).held items → (name : List ℕ) →
       contains bytes_cmp g.wanted name ≡ has (missing (map cluster_fact items)) name
 
 -- a file arrived in a set
 abbrev pub IsGatheredBy : Sent → Gathered → Gathered → Result Arrival ArriveFault → Type 0
 IsGatheredBy f old new (Ok a) = (s : State) → IsGathered s old → IsArrival s f.name f.bytes f.private (Ok a)
-    × IsGathered (arrived s f.name f.bytes f.private (Ok a)) new
+    × IsGathered (arrived s f.name None f.bytes f.private (Ok a)) new
 IsGatheredBy f old new (Err arrive_fault.Memory) = ⊤
 IsGatheredBy f old new (Err fault) = (s : State) → IsGathered s old → IsArrival s f.name f.bytes f.private (Err fault)
 
@@ -105,18 +118,24 @@ abbrev pub HaveGathered : List Sent → Gathered → Option Printed → Type 0
 HaveGathered files new None = (taken : Taken) × Arrive (none_taken fresh) files (Ok taken) × IsGathered taken.state new
 HaveGathered files new (Some refusal) = Arrive (none_taken fresh) files (Err refusal)
 
--- to the wanted names come those of these that aren't held
-abbrev pub WantsUnheld : (List ℕ → Bool) → List Record → BTreeSet (List ℕ) → BTreeSet (List ℕ) → Type 0
-WantsUnheld these records old new =
-    (q : List ℕ) → contains bytes_cmp new q ≡ (contains bytes_cmp old q || (these q && not (map_of.contains_key (contents records).held q)))
+-- whether a fact stands under a name
+abbrev pub is_noted : BTreeMap (List ℕ) Fact → List ℕ → Bool
+is_noted facts name = is_some (get bytes_cmp facts name)
 
--- what bytes refer to, by what they are
-abbrev pub AreReferences : List ℕ → List (List ℕ) → Type 0
-AreReferences bytes names = (a : Artifact) × IsKind bytes a × (names ≡ references a)
+-- to the wanted names come those of these under which no fact stands
+abbrev pub WantsUnnoted : (List ℕ → Bool) → BTreeMap (List ℕ) Fact → BTreeSet (List ℕ) → BTreeSet (List ℕ) → Type 0
+WantsUnnoted these facts old new =
+    (q : List ℕ) → contains bytes_cmp new q ≡ (contains bytes_cmp old q || (these q && not (is_noted facts q)))
 
--- the fact of a held artifact, by what it is
-abbrev pub IsFactOf : List ℕ × Held → Fact → Type 0
-IsFactOf entry fact = (item : Item) × IsItemOf entry item × (fact ≡ cluster_fact item)
+-- an artifact whose name isn't there was added: its fact and its size, and to the wanted names come those that it refers to and that aren't there; its own is
+-- wanted no more
+pub record IsAdded (name : List ℕ) (a : Held) (old new : Gathered) : Type 0 where
+  pub fact : Fact
+  pub is_fact : IsFactOf (name, a) fact
+  pub facts : new.facts.entries ≡ insert_entry bytes_cmp old.facts.entries name fact
+  pub bytes : new.bytes ≡ old.bytes + length a.bytes
+  pub wanted : (q : List ℕ) → contains bytes_cmp new.wanted q ≡
+      (if bytes_eq q name then false else (contains bytes_cmp old.wanted q || (has fact.refs q && not (is_noted old.facts q))))
 
 -- the lines of facts
 abbrev pub report_of : List Fact → List ℕ

@@ -1,7 +1,6 @@
 //! What each command does.
 
 pub(crate) mod ask;
-pub(crate) mod cat;
 pub(crate) mod clone;
 pub(crate) mod generating;
 pub(crate) mod ingest;

@@ -142,9 +142,11 @@ fn start<S: Source, K: Sink, D: Disk, P: Disk, N: Dial>(
 /// status and the disks: 0 after a report, 1 for words outside the grammar and for `serve`, 2 where a file isn't a
 /// repository, 3 where the command or its input is refused, 4, 5, 6 and 7 where a disk, the input, the output or the
 /// dial failed, 8 where a reply of the peer is wrong, 9 for want of memory, 10 where a name that the peer announced
-/// isn't sent, 11 after 100,000 rounds of a sync. A command that reads no input leaves it, and so `ingest` leaves the
-/// disk; `gen` and words outside the grammar leave both. Only `pull-local` uses the peer's disk, and only `pull`,
-/// `push` and `clone` use the dial. Where the line of a refusal or of a fault can't be written, the status stays.
+/// isn't sent, 11 after 100,000 rounds of a sync, 12 where the bytes that were read for an artifact have another name. Only
+/// `cat`, `push` and `pull-local` read a content, and over a disk that tells its contents and meets the disk model none is
+/// damaged. A command that reads no input leaves it, and so `ingest` leaves the disk; `gen` and words outside the grammar
+/// leave both. Only `pull-local` uses the peer's disk, and only `pull`, `push` and `clone` use the dial. Where the line of
+/// a refusal or of a fault can't be written, the status stays.
 ///
 /// The file is loaded first, then the input is read, then what it appends is committed, then the text is printed.
 ///
@@ -153,11 +155,11 @@ fn start<S: Source, K: Sink, D: Disk, P: Disk, N: Dial>(
 /// ones. Whatever moment a crash comes at, what it leaves stands for the old ones with all or none of the command's;
 /// after status 0 and 6, for all, whatever a crash before the run might have left.
 ///
-/// A sync has one commit for each round that stored or published something and that no fault ended: after 7 and each
-/// status of its end all of them stand there, after 4 and 9 all, or all but that of the last round (of `pull-local`,
-/// some first ones), and at each moment a crash leaves some first ones. A clone refuses a file with bytes, which stays
-/// as it is; into an empty one the commit of its first reply writes the record of the repository too. What the peer's
-/// file stands for stays, unless its disk failed; and it isn't looked at where the repository's own file isn't one.
+/// A sync has one commit for each round that stored or published something and that no fault ended: after 7, 12 and each
+/// status of its end all of them stand there, after 4 and 9 all, or all but that of the last round, and at each moment a
+/// crash leaves some first ones. A clone refuses a file with bytes, which stays as it is; into an empty one the commit of
+/// its first reply writes the record of the repository too. What the peer's file stands for stays, unless its disk failed;
+/// and it isn't looked at where the repository's own file isn't one.
 pub fn run<S: Source, K: Sink, D: Disk, P: Disk, N: Dial>(
     alloc: Global,
     words: &[String],

@@ -4,7 +4,7 @@ use Rattle.fsl_card.specs.declared.types.Card.{Card}
 use Rattle.fsl_card.specs.Cards.{IsCards}
 use Rattle.fsl_card.proofs.ReadAgain.{unambiguous}
 use Rattle.fsl_grammar.specs.Letters.{manifest_letters, cluster_letters, control_letters, wiki_letters, ticket_letters, attachment_letters, technote_letters, forum_letters}
-use Rattle.fsl_grammar.specs.Forms.{hash_form, text_form, date_form, user_form, tag_form, checksum_form}
+use Rattle.fsl_grammar.specs.Forms.{hash_form, ref_form, text_form, date_form, user_form, tag_form, checksum_form}
 use Rattle.fsl_grammar.proofs.Apart.{apart}
 use Rattle.fsl_grammar.proofs.Determined.{one_is, at_most_one_is, each_is, parents_are, body_is}
 use Rattle.fsl_manifest.specs.Manifests.{IsManifest, file_form, pick_form}
@@ -37,7 +37,7 @@ manifest_is cards a b h k =
 
 cluster_is : (cards : List Card) (a b : cluster_types.Cluster) → IsCluster cards a → IsCluster cards b → a ≡ b
 cluster_is cards a b h k =
-    let members_same = each_is cards 77 hash_form a.members b.members h.members k.members in
+    let members_same = each_is cards 77 ref_form a.members b.members h.members k.members in
     λ i. record { members = members_same i }
 
 control_is : (cards : List Card) (a b : control_types.Control) → IsControl cards a → IsControl cards b → a ≡ b

@@ -1,15 +1,17 @@
 -- Each text is some artifact.
-use Rattle.std.specs.Prelude.{◌≡◌, ℕ, List, IsTrue}
+use Rattle.std.specs.Prelude.{◌≡◌, ◌&&◌, ℕ, List, IsTrue}
+use Rattle.std.proofs.lemmas.Bool.{and_from}
+use Rattle.fsl_order.proofs.Booleans.{first_holds, second_holds}
 use Rattle.std.proofs.Common.{subst, inl, inr}
 use Rattle.std.specs.List.{list_all}
 use Rattle.fsl_card.specs.declared.types.Card.{Card}
 use Rattle.fsl_card.specs.Cards.{IsCards}
 use Rattle.fsl_card.proofs.Deciding.{Decided, decide_by, decide_true, decide_cards}
 use Rattle.fsl_grammar.specs.Letters.{has_letters, manifest_letters, cluster_letters, control_letters, wiki_letters, ticket_letters, attachment_letters, technote_letters, forum_letters}
-use Rattle.fsl_grammar.specs.Forms.{hash_form, text_form, date_form, user_form, tag_form, checksum_form}
+use Rattle.fsl_grammar.specs.Forms.{hash_form, ref_form, text_form, date_form, user_form, tag_form, checksum_form}
 use Rattle.fsl_grammar.proofs.Determined.{one_is, at_most_one_is, each_is, parents_are, body_is}
 use Rattle.fsl_grammar.proofs.Deciding.{decide_one, decide_most, decide_each, decide_parents, decide_text_body}
-use Rattle.fsl_manifest.specs.Manifests.{IsManifest, file_form, pick_form, has_hashes}
+use Rattle.fsl_manifest.specs.Manifests.{IsManifest, begins_own, file_form, has_hashes, pick_form}
 use Rattle.fsl_manifest.specs.declared.Manifest as manifests
 use Rattle.fsl_forms.specs.Kinds.{IsCluster, IsControl, IsWiki, IsTicket, IsAttachment, IsTechnote, IsForum, attached_form, event_form, change_form, names_target, is_own_tag, begins_or_replies}
 use Rattle.fsl_forms.specs.declared.cluster.Cluster as cluster_types
@@ -38,7 +40,7 @@ manifest_value cards =
     decide_by (decide_each cards 84 tag_form) (λ tags.
     decide_by (decide_one cards 85 user_form) (λ user.
     let m : manifests.Manifest = record { baseline = baseline.0; comment = comment.0; date = date.0; files = files.0; mime = mime.0; parents = parents.0; picks = picks.0; checksum = checksum.0; tags = tags.0; user = user.0 } in
-    decide_by (decide_true (has_hashes m)) (λ hashes. inl (m, record { letters = letters; baseline = baseline.1; comment = comment.1; date = date.1; files = files.1; mime = mime.1; parents = parents.1; picks = picks.1; checksum = checksum.1; tags = tags.1; user = user.1; hashes = hashes }))
+    decide_by (decide_true (has_hashes m && begins_own m.parents)) (λ whole. inl (m, record { letters = letters; baseline = baseline.1; comment = comment.1; date = date.1; files = files.1; mime = mime.1; parents = parents.1; picks = picks.1; checksum = checksum.1; tags = tags.1; user = user.1; hashes = first_holds _ (begins_own m.parents) whole; primary = second_holds (has_hashes m) _ whole }))
     (λ n h.
     let baseline_same = at_most_one_is cards 66 hash_form h.0.baseline baseline.0 h.1.baseline baseline.1 in
     let comment_same = one_is cards 67 text_form h.0.comment comment.0 h.1.comment comment.1 in
@@ -51,7 +53,7 @@ manifest_value cards =
     let tags_same = each_is cards 84 tag_form h.0.tags tags.0 h.1.tags tags.1 in
     let user_same = one_is cards 85 user_form h.0.user user.0 h.1.user user.1 in
     let same : h.0 ≡ m = λ i. record { baseline = baseline_same i; comment = comment_same i; date = date_same i; files = files_same i; mime = mime_same i; parents = parents_same i; picks = picks_same i; checksum = checksum_same i; tags = tags_same i; user = user_same i } in
-    n (subst (λ (x : manifests.Manifest). IsTrue (has_hashes x)) {x = h.0} same h.1.hashes)))
+    n (subst (λ (x : manifests.Manifest). IsTrue (has_hashes x && begins_own x.parents)) {x = h.0} same (and_from _ _ h.1.hashes h.1.primary))))
     (λ n h. n (h.0.user, h.1.user)))
     (λ n h. n (h.0.tags, h.1.tags)))
     (λ n h. n (h.0.checksum, h.1.checksum)))
@@ -67,7 +69,7 @@ manifest_value cards =
 cluster_value : (cards : List Card) → Decided ((m : cluster_types.Cluster) × IsCluster cards m)
 cluster_value cards =
     decide_by (decide_true (has_letters cluster_letters cards)) (λ letters.
-    decide_by (decide_each cards 77 hash_form) (λ members.
+    decide_by (decide_each cards 77 ref_form) (λ members.
     let m : cluster_types.Cluster = record { members = members.0 } in
     inl (m, record { letters = letters; members = members.1 }))
     (λ n h. n (h.0.members, h.1.members)))

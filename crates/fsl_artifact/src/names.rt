@@ -1,12 +1,13 @@
-//! The names that stand in the cards of an artifact, put behind others.
+//! The own names that stand in the cards of an artifact, put behind others. Foreign ones are left out.
 ghost use Rattle.std.specs.Prelude.{◌≡◌, ◌∷◌, ◌++◌, OnOk, flat_map, option_to_list};
+ghost use Rattle.fsl_name.specs.Ref.{own_names};
 ghost use Rattle.fsl_artifact.specs.References.{manifest_names, names_in, tag_targets};
 
 use super::Artifact;
 use fsl_forms::{Forum, Technote};
 use fsl_grammar::TagCard;
 use fsl_manifest::{FileCard, Manifest, Pick};
-use fsl_name::Name;
+use fsl_name::{Name, Ref};
 use fsl_text::Memory;
 
 /// Puts a name at the end, where there is one.
@@ -19,11 +20,23 @@ fn append_optional(names: &mut Vec<Name>, name: Option<Name>) -> Result<(), Memo
     Ok(())
 }
 
-/// Puts names at the end.
-fn append_all(names: &mut Vec<Name>, more: &[Name]) -> Result<(), Memory>
-    ensures { OnOk result (names.new.items ≡ names.old.items ++ more.now) }
+/// Puts the name of a reference at the end, where there is one that isn't foreign.
+fn append_ref(names: &mut Vec<Name>, reference: &Option<Ref>) -> Result<(), Memory>
+    ensures { OnOk result (names.new.items ≡ names.old.items ++ own_names (option_to_list reference.now)) }
 {
-    names.extend_from_slice(more)?;
+    match reference {
+        Some(found) => append_optional(names, found.own()),
+        None => Ok(()),
+    }
+}
+
+/// Puts the names of references at the end.
+pub fn append_refs(names: &mut Vec<Name>, refs: &[Ref]) -> Result<(), Memory>
+    ensures { OnOk result (names.new.items ≡ names.old.items ++ own_names refs.now) }
+{
+    for found in refs {
+        append_optional(names, found.own())?;
+    }
     Ok(())
 }
 
@@ -32,28 +45,28 @@ fn append_targets(names: &mut Vec<Name>, tags: &[TagCard]) -> Result<(), Memory>
     ensures { OnOk result (names.new.items ≡ names.old.items ++ tag_targets tags.now) }
 {
     for tag in tags {
-        append_optional(names, tag.target)?;
+        append_ref(names, &tag.target)?;
     }
     Ok(())
 }
 
 /// Puts the contents of files at the end.
 fn append_files(names: &mut Vec<Name>, files: &[FileCard]) -> Result<(), Memory>
-    ensures { OnOk result (names.new.items ≡ names.old.items ++ flat_map (λ file. option_to_list file.hash) files.now) }
+    ensures { OnOk result (names.new.items ≡ names.old.items ++ flat_map (λ file. own_names (option_to_list file.hash)) files.now) }
 {
     for file in files {
-        append_optional(names, file.hash)?;
+        append_ref(names, &file.hash)?;
     }
     Ok(())
 }
 
 /// Puts the check-ins that were picked or backed out at the end.
 fn append_picks(names: &mut Vec<Name>, picks: &[Pick]) -> Result<(), Memory>
-    ensures { OnOk result (names.new.items ≡ names.old.items ++ flat_map (λ pick. pick.target ∷ option_to_list pick.other) picks.now) }
+    ensures { OnOk result (names.new.items ≡ names.old.items ++ flat_map (λ pick. own_names (pick.target ∷ option_to_list pick.other)) picks.now) }
 {
     for pick in picks {
-        names.push(pick.target)?;
-        append_optional(names, pick.other)?;
+        append_optional(names, pick.target.own())?;
+        append_ref(names, &pick.other)?;
     }
     Ok(())
 }
@@ -64,16 +77,16 @@ fn append_manifest(names: &mut Vec<Name>, manifest: &Manifest) -> Result<(), Mem
 {
     append_optional(names, manifest.baseline)?;
     append_files(names, manifest.files.items())?;
-    append_all(names, manifest.parents.items())?;
+    append_refs(names, manifest.parents.items())?;
     append_picks(names, manifest.picks.items())?;
     append_targets(names, manifest.tags.items())
 }
 
 /// Puts the names in a technote at the end.
 fn append_technote(names: &mut Vec<Name>, note: &Technote) -> Result<(), Memory>
-    ensures { OnOk result (names.new.items ≡ names.old.items ++ (note.now.parents ++ tag_targets note.now.tags)) }
+    ensures { OnOk result (names.new.items ≡ names.old.items ++ (own_names note.now.parents ++ tag_targets note.now.tags)) }
 {
-    append_all(names, note.parents.items())?;
+    append_refs(names, note.parents.items())?;
     append_targets(names, note.tags.items())
 }
 
@@ -93,10 +106,10 @@ pub fn append_names(names: &mut Vec<Name>, artifact: &Artifact) -> Result<(), Me
     match artifact {
         Artifact::Plain | Artifact::Ticket(_) => Ok(()),
         Artifact::Manifest(manifest) => append_manifest(names, manifest),
-        Artifact::Cluster(cluster) => append_all(names, cluster.members.items()),
+        Artifact::Cluster(cluster) => append_refs(names, cluster.members.items()),
         Artifact::Control(control) => append_targets(names, control.tags.items()),
-        Artifact::Wiki(page) => append_all(names, page.parents.items()),
-        Artifact::Attachment(attachment) => append_optional(names, attachment.source),
+        Artifact::Wiki(page) => append_refs(names, page.parents.items()),
+        Artifact::Attachment(attachment) => append_ref(names, &attachment.source),
         Artifact::Technote(note) => append_technote(names, note),
         Artifact::Forum(post) => append_forum(names, post),
     }

@@ -44,7 +44,7 @@ abbrev known_by : Bool → Bool → Bool → Bool → Known
 known_by h s a f = if h then known.Held else if s then known.Shunned else if a then known.Again else if f then known.Full else known.New
 
 module _ (records : List Record) (found : Config) (es : List (List ℕ × HeldArtifact)) (shuns announced : List (List ℕ)) (kept : IsKept records found es shuns announced)
-    (b : Seen) (view : record { records = records; announced = set.from_list announced } ≡ b) (name : List ℕ) where
+    (starts : List ℕ) (cached : List (ℕ × List ℕ)) (b : Seen) (view : record { records = records; starts = starts; announced = set.from_list announced; cached = cached } ≡ b) (name : List ℕ) where
   known_is : (full : Bool) → nat_le 65536 (set.len b.announced) ≡ full → known_of b name ≡ known_by (is_some (held_at es name)) (stands shuns name) (stands announced name) full
   known_is full is_full =
       let held : map_of.contains_key (contents b.records).held name ≡ is_some (held_at es name) =
@@ -79,6 +79,7 @@ module _ (records : List Record) (found : Config) (es : List (List ℕ × HeldAr
       config = kept.config;
       held = kept.held;
       places = kept.places;
+      receipts = kept.receipts;
       shunned = kept.shunned;
       new = λ q e. still q (sym (now q) ∙ e);
     }
@@ -107,13 +108,13 @@ module _ (records : List Record) (found : Config) (es : List (List ℕ × HeldAr
     announced_is : set.from_list {R = bytes_cmp} more ≡ set.insert b.announced name
     announced_is = inserted ∙ ap (λ (s : Seen). set.insert s.announced name) view
 
-    pub seen-announced : ◌≡◌ {A = Seen} (record { records = records; announced = set.from_list more }) (record { records = b.records; announced = set.insert b.announced name })
-    seen-announced = λ i. record { records = (view i).records; announced = announced_is i }
+    pub seen-announced : ◌≡◌ {A = Seen} (record { records = records; starts = starts; announced = set.from_list more; cached = cached }) (record b { announced = set.insert b.announced name })
+    seen-announced = λ i. record (view i) { announced = announced_is i }
 
 -- announced names are neither held nor shunned
 pub announced-new : (records : List Record) (found : Config) (es : List (List ℕ × HeldArtifact)) (shuns announced : List (List ℕ)) → IsKept records found es shuns announced
-    → (b : Seen) → ◌≡◌ {A = Seen} (record { records = records; announced = set.from_list announced }) b → (q : List ℕ) → set.contains b.announced q ≡ true → is_new (contents b.records) q ≡ true
-announced-new records found es shuns announced kept b view =
+    → (starts : List ℕ) (cached : List (ℕ × List ℕ)) (b : Seen) → ◌≡◌ {A = Seen} (record { records = records; starts = starts; announced = set.from_list announced; cached = cached }) b → (q : List ℕ) → set.contains b.announced q ≡ true → is_new (contents b.records) q ≡ true
+announced-new records found es shuns announced kept starts cached b view =
     subst (λ (s : Seen). (q : List ℕ) → set.contains s.announced q ≡ true → is_new (contents s.records) q ≡ true) view
     (λ q e. kept.new q (sym (set.contains-from_list bytes_cmp-IsTotalOrder announced q) ∙ e))
 

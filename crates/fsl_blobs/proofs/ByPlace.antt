@@ -276,13 +276,13 @@ module _ (records : List Record) (es : List (List ℕ × HeldArtifact)) (held : 
 
 -- ---- as the methods have them
 
-module _ (records : List Record) (es : List (List ℕ × HeldArtifact)) (held : (name : List ℕ) → option_map artifact_of (held_at es name) ≡ map_of.get (contents records).held name) where
+module _ (records : List Record) (es : List (List ℕ × HeldArtifact)) (held : (name : List ℕ) → option_map artifact_of (held_at es name) ≡ map_of.get (contents records).held name) (sized : (name : List ℕ) → IfSome (held_at es name) (λ a. a.size ≡ length a.bytes.value)) where
   size_is : (name : List ℕ) → size_at es name ≡ size_in (contents records).held name
-  size_is name = by (held_at es name) ∙ ap (λ (o : Option Held). option_map_or (λ a. length a.bytes) o 0) (held name)
+  size_is name = by (held_at es name) (sized name) ∙ ap (λ (o : Option Held). option_map_or (λ a. length a.bytes) o 0) (held name)
     where
-      by : (o : Option HeldArtifact) → option_map_or (λ a. length a.bytes) o 0 ≡ option_map_or (λ a. length a.bytes) (option_map artifact_of o) 0
-      by None = refl
-      by (Some a) = refl
+      by : (o : Option HeldArtifact) → IfSome o (λ a. a.size ≡ length a.bytes.value) → option_map_or (λ a. a.size) o 0 ≡ option_map_or (λ a. length a.bytes) (option_map artifact_of o) 0
+      by None h = refl
+      by (Some a) h = h
 
   pub walked_alike : (most each sum : ℕ) (ps : Pairs) → walked most each (size_at es) sum ps ≡ walked most each (size_in (contents records).held) sum ps
   walked_alike most each sum [] = refl

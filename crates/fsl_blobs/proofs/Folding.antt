@@ -1,16 +1,15 @@
 -- Records that are read one after another.
-use Rattle.std.proofs.Common.{◌≡◌, Bool, true, not, List, [], ◌∷◌, ◌++◌, sym, ap, ◌∙◌, append_assoc}
-use Rattle.std.specs.Prelude.{◌&&◌}
-use Rattle.std.specs.List.{list_all}
+use Rattle.std.proofs.Common.{◌≡◌, ℕ, suc, zero, ◌+◌, ◌<◌, Bool, List, [], ◌∷◌, ◌++◌, length, take, Some, refl, sym, ap, ◌∙◌, subst, append_assoc, append-nil, length-append, arith}
+use Rattle.std.specs.Prelude.{◌&&◌, slice_get}
+use Rattle.std.specs.List.{AllByRecursion}
 use Rattle.std.specs.FinSet as set
-use Rattle.std.proofs.lemmas.Bool.{and_parts}
 use Rattle.fsl_order.specs.Names.{bytes_cmp}
 use Rattle.fsl_order.proofs.Orders.{bytes_cmp-IsTotalOrder, bytes_cmp-IsAntisymmetric}
 use Rattle.fsl_record.specs.declared.Record.{Record}
-use Rattle.fsl_record.specs.Records.{is_config}
+use Rattle.fsl_record.specs.Records.{IsFit, IsWritable, AreRecords}
 use Rattle.fsl_blobs.specs.Fold.{Contents, contents, is_new}
 use Rattle.fsl_blobs.specs.Held.{still_new}
-use Rattle.fsl_blobs.specs.Seen.{Seen}
+use Rattle.fsl_blobs.specs.Seen.{Seen, applied}
 
 still_none : (c : Contents) → still_new c set.empty ≡ set.empty
 still_none c =
@@ -18,21 +17,72 @@ still_none c =
     set.contains-retain set.empty (is_new c) q (λ x e. ap (is_new c) (sym (bytes_cmp-IsAntisymmetric q x e)))
     ∙ ap (λ (b : Bool). b && is_new c q) (set.contains-empty bytes_cmp q) ∙ sym (set.contains-empty bytes_cmp q)
 
-abbrev plain : List Record → Bool
-plain records = list_all (λ r. not (is_config r)) records
-
 -- what a fold has read, and what is left
-pub record IsFolded (entries : List Record) (seen : Seen) (left : List Record) : Type 0 where
+pub record IsFolded (entries : List Record) (places : List ℕ) (seen : Seen) (left : List Record) : Type 0 where
   pub all : entries ≡ seen.records ++ left
+  pub starts : seen.starts ≡ take (length seen.records) places
   pub names : seen.announced ≡ set.empty
-  pub plain : list_all (λ r. not (is_config r)) left ≡ true
+  pub cached : seen.cached ≡ []
+  pub fit : AllByRecursion IsFit left
 
-module _ (entries : List Record) (old new : Seen) (entry : Record) (left rest : List Record)
-    (all : entries ≡ old.records ++ left) (names : old.announced ≡ set.empty) (others : plain left ≡ true) (next : left ≡ entry ∷ rest)
-    (now : new ≡ record { records = old.records ++ entry ∷ []; announced = still_new (contents (old.records ++ entry ∷ [])) old.announced }) where
-  pub folded-more : IsFolded entries new rest
-  folded-more = record {
-    all = all ∙ ap (λ (rs : List Record). old.records ++ rs) next ∙ sym (append_assoc old.records (entry ∷ []) rest) ∙ ap (λ (b : Seen). b.records ++ rest) (sym now);
-    names = ap (λ (b : Seen). b.announced) now ∙ ap (still_new (contents (old.records ++ entry ∷ []))) names ∙ still_none (contents (old.records ++ entry ∷ []));
-    plain = (and_parts (not (is_config entry)) (plain rest) (sym (ap plain next) ∙ others)).1;
-  }
+-- one more from the front
+take-more : (ns : List ℕ) (k n : ℕ) → slice_get ns k ≡ Some n → take (k + 1) ns ≡ take k ns ++ n ∷ []
+take-more [] k n e = cc
+take-more (m ∷ ns) zero n e = let same : m ≡ n = cc in ap (λ (x : ℕ). x ∷ []) same
+take-more (m ∷ ns) (suc k) n e =
+    let one : suc k + 1 ≡ suc (k + 1) = omega arith in
+    ap (λ (j : ℕ). take j (m ∷ ns)) one ∙ ap (λ (ms : List ℕ). m ∷ ms) (take-more ns k n e)
+
+take-all : (ns : List ℕ) (k : ℕ) → k ≡ length ns → take k ns ≡ ns
+take-all [] zero e = refl
+take-all [] (suc k) e = refl
+take-all (n ∷ ns) zero e = absurd (omega (arith, e))
+take-all (n ∷ ns) (suc k) e = ap (λ (ms : List ℕ). n ∷ ms) (take-all ns k (omega (arith, e)))
+
+tail : (l rest : List Record) (entry : Record) → AllByRecursion IsFit l → l ≡ entry ∷ rest → IsFit entry × AllByRecursion IsFit rest
+tail [] rest entry h e = absurd cc
+tail (r ∷ rs) rest entry h e =
+    let first : r ≡ entry = cc in
+    let same : rs ≡ rest = cc in
+    (subst IsFit first h.0, subst (AllByRecursion IsFit) same h.1)
+
+pub folded-first : (entries : List Record) (places : List ℕ) (many : length places ≡ length entries) (are : AreRecords entries) (first : Record) (rest : List Record) (at : ℕ) (seen : Seen)
+    → entries ≡ first ∷ rest → slice_get places 0 ≡ Some at → seen ≡ record { records = first ∷ []; starts = at ∷ []; announced = set.empty; cached = [] } → IsFolded entries places seen rest
+folded-first entries places many are first rest at seen split begins is =
+    subst (λ (b : Seen). IsFolded entries places b rest) (sym is)
+    (let fits = subst AreRecords split are in record {
+      all = split;
+      starts = sym (take-more places 0 at begins);
+      names = refl;
+      cached = refl;
+      fit = fits.2.1;
+    })
+
+module _ (entries : List Record) (places : List ℕ) (many : length places ≡ length entries) (old : Seen) (left : List Record) (so_far : IsFolded entries places old left) where
+  pub writable : (entry : Record) (rest : List Record) → left ≡ entry ∷ rest → IsWritable entry
+  writable entry rest next = (tail left rest entry so_far.fit next).0.1
+
+  -- there is a place for the next one
+  pub is_there : (entry : Record) (rest : List Record) → left ≡ entry ∷ rest → length old.records < length places
+  is_there entry rest next =
+      let all : length entries ≡ length old.records + length left = ap length so_far.all ∙ length-append old.records left in
+      let some : length left ≡ suc (length rest) = ap length next in
+      omega (arith, many, all, some)
+
+  pub folded-all : left ≡ [] → old ≡ record { records = entries; starts = places; announced = set.empty; cached = [] }
+  folded-all none =
+      let records : old.records ≡ entries = sym (so_far.all ∙ ap (λ (rs : List Record). old.records ++ rs) none ∙ append-nil old.records) in
+      let starts : old.starts ≡ places = so_far.starts ∙ take-all places (length old.records) (ap length records ∙ sym many) in
+      λ i. record { records = records i; starts = starts i; announced = so_far.names i; cached = so_far.cached i }
+
+  module _ (new : Seen) (at : ℕ) (entry : Record) (rest : List Record) (next : left ≡ entry ∷ rest) (now : new ≡ applied old at entry) (begins : slice_get places (length old.records) ≡ Some at) where
+    pub folded-more : IsFolded entries places new rest
+    folded-more = subst (λ (b : Seen). IsFolded entries places b rest) (sym now) record {
+      all = so_far.all ∙ ap (λ (rs : List Record). old.records ++ rs) next ∙ sym (append_assoc old.records (entry ∷ []) rest);
+      starts =
+          ap (λ (ns : List ℕ). ns ++ at ∷ []) so_far.starts ∙ sym (take-more places (length old.records) at begins)
+          ∙ ap (λ (n : ℕ). take n places) (sym (length-append old.records (entry ∷ [])));
+      names = ap (still_new (contents (old.records ++ entry ∷ []))) so_far.names ∙ still_none (contents (old.records ++ entry ∷ []));
+      cached = so_far.cached;
+      fit = (tail left rest entry so_far.fit next).1;
+    }

@@ -21,6 +21,7 @@ use Rattle.std.proofs.lemmas.Bool.{eqb-true}
 use Rattle.fsl_order.specs.Rows.{greater, greatest}
 use Rattle.fsl_order.specs.Names.{bytes_cmp}
 use Rattle.fsl_order.proofs.Orders.{bytes_cmp-IsTotalOrder, bytes_cmp-IsAntisymmetric}
+use Rattle.fsl_record.specs.Receipts.{Brought}
 use Rattle.fsl_record.specs.declared.Record.{Record}
 use Rattle.fsl_blobs.specs.declared.Found.TheVariants.{Several}
 use Rattle.fsl_text.specs.declared.memory.Memory.{Memory}
@@ -129,10 +130,11 @@ pub place-blob : (records : List Record) (name : List ℕ) (n : ℕ) → place r
 place-blob records name n e = adds-blob records name n (greatest-passes (adds records name) (filter (adds records name) (range_with_len 1 (length records))) n (filter-passes (adds records name) (range_with_len 1 (length records))) e)
 
 one_name : (r : Record) (a b : List ℕ) → is_blob_of a r ≡ true → is_blob_of b r ≡ true → a ≡ b
-one_name (record_of.Blob private name bytes) a b p q = sym ((bytes_decides name a).0 p) ∙ (bytes_decides name b).0 q
+one_name (record_of.Blob private name receipt bytes) a b p q = sym ((bytes_decides name a).0 p) ∙ (bytes_decides name b).0 q
 one_name (record_of.Config c) a b p q = cc
 one_name (record_of.Publish name) a b p q = cc
 one_name (record_of.Shun name) a b p q = cc
+one_name (record_of.Unshun name) a b p q = cc
 
 pub one_place : (o : Option Record) (a b : List ℕ) → option_map_or (is_blob_of a) o false ≡ true → option_map_or (is_blob_of b) o false ≡ true → a ≡ b
 one_place None a b p q = cc

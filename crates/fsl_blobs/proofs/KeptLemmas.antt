@@ -6,6 +6,7 @@ use Rattle.std.specs.Cmp.{eq_by_cmp_equiv, tied_itself}
 use Rattle.std.specs.Cmp.Lexicographic.{texts_ties}
 use Rattle.std.specs.Str.{bytes_eq}
 use Rattle.std.specs.FinSet.{FinSet}
+use Rattle.std.specs.FinMap.{FinMap}
 use Rattle.std.proofs.lemmas.Bool.{and_parts}
 use Rattle.std.specs.declared.cmp.Ordering.{Ordering}
 use Rattle.std.specs.declared.cmp.Ordering.TheVariants.{Less, Equal, Greater}
@@ -15,13 +16,14 @@ use Rattle.std.specs.FinSet as set
 use Rattle.fsl_order.specs.Names.{bytes_cmp}
 use Rattle.fsl_order.proofs.Orders.{bytes_cmp-IsTotalOrder, bytes_cmp-IsAntisymmetric}
 use Rattle.fsl_record.specs.declared.Config.{Config}
+use Rattle.fsl_record.specs.Receipts.{Brought}
 use Rattle.fsl_record.specs.declared.Record.{Record}
 use Rattle.fsl_record.specs.declared.Record.TheVariants as record_of
 use Rattle.fsl_blobs.specs.declared.blobs.HeldArtifact.{HeldArtifact}
-use Rattle.fsl_blobs.specs.Fold.{Held, HeldSet, Contents, contents, after, is_new, is_blob_of, place}
+use Rattle.fsl_blobs.specs.Fold.{Held, HeldSet, Contents, contents, after, received, is_new, is_blob_of, place}
 use Rattle.fsl_blobs.specs.Held.{still_new}
 use Rattle.fsl_blobs.proofs.Places.{contents_push, place_push}
-use Rattle.fsl_blobs.specs.Kept.{is_same, is_kept, held_at, stands, published, artifact_of, IsKept}
+use Rattle.fsl_blobs.specs.Kept.{is_same, is_kept, held_at, stands, published, artifact_of, receipt_of, IsKept}
 
 -- ---- the same names
 
@@ -90,25 +92,45 @@ shown_apart name q None e = refl
 shown_apart name q (Some a) e = ap (λ (b : Bool). Some (if b then record a { private = false } else a)) (sym e)
 
 module _ (c : Contents) (name : List ℕ) where
-  abbrev pub blobbed : Bool → List ℕ → Contents
-  blobbed private bytes = after c (record_of.Blob private name bytes)
+  abbrev pub blobbed : Bool → Option Brought → List ℕ → Contents
+  blobbed private receipt bytes = after c (record_of.Blob private name receipt bytes)
 
-  abbrev blobbing : Bool → List ℕ → Bool → Contents
-  blobbing private bytes b = if b then record c { held = map_of.insert c.held name (record { private = private; bytes = bytes }) } else c
+  abbrev blobbing : Bool → Option Brought → List ℕ → Bool → Contents
+  blobbing private receipt bytes b = if b then record c { held = map_of.insert c.held name (record { private = private; bytes = bytes }); receipts = received c.receipts name receipt } else c
 
-  pub blob-get : (private : Bool) (bytes q : List ℕ) → map_of.get (blobbed private bytes).held q ≡ cond (is_same name q && is_new c name) (Some (record { private = private; bytes = bytes })) (map_of.get c.held q)
-  blob-get private bytes q =
+  pub blob-get : (private : Bool) (receipt : Option Brought) (bytes q : List ℕ) → map_of.get (blobbed private receipt bytes).held q ≡ cond (is_same name q && is_new c name) (Some (record { private = private; bytes = bytes })) (map_of.get c.held q)
+  blob-get private receipt bytes q =
       let a : Held = record { private = private; bytes = bytes } in
-      elim (is_new c name) as (λ b. map_of.get (blobbing private bytes b).held q ≡ cond (is_same name q && b) (Some (record { private = private; bytes = bytes })) (map_of.get c.held q)) [
+      elim (is_new c name) as (λ b. map_of.get (blobbing private receipt bytes b).held q ≡ cond (is_same name q && b) (Some (record { private = private; bytes = bytes })) (map_of.get c.held q)) [
         | true ↦ map_of.get-insert bytes_cmp-IsTotalOrder c.held name a q ∙ ap (λ (b : Bool). cond b (Some a) (map_of.get c.held q)) (turned q name) ∙ if_also (is_same name q) (Some a) (map_of.get c.held q)
         | false ↦ if_never (is_same name q) (Some a) (map_of.get c.held q)
       ]
 
-  pub blob-shunned : (private : Bool) (bytes : List ℕ) → (blobbed private bytes).shunned ≡ c.shunned
-  blob-shunned private bytes = elim (is_new c name) as (λ b. (blobbing private bytes b).shunned ≡ c.shunned) [ true ↦ refl | false ↦ refl ]
+  pub blob-shunned : (private : Bool) (receipt : Option Brought) (bytes : List ℕ) → (blobbed private receipt bytes).shunned ≡ c.shunned
+  blob-shunned private receipt bytes = elim (is_new c name) as (λ b. (blobbing private receipt bytes b).shunned ≡ c.shunned) [ true ↦ refl | false ↦ refl ]
 
-  blob-config : (private : Bool) (bytes : List ℕ) → (blobbed private bytes).config ≡ c.config
-  blob-config private bytes = elim (is_new c name) as (λ b. (blobbing private bytes b).config ≡ c.config) [ true ↦ refl | false ↦ refl ]
+  blob-config : (private : Bool) (receipt : Option Brought) (bytes : List ℕ) → (blobbed private receipt bytes).config ≡ c.config
+  blob-config private receipt bytes = elim (is_new c name) as (λ b. (blobbing private receipt bytes b).config ≡ c.config) [ true ↦ refl | false ↦ refl ]
+
+  received-get : (receipt : Option Brought) (q : List ℕ) → map_of.get (received c.receipts name receipt) q ≡ option_map_or (λ r. cond (is_same name q) (Some r) (map_of.get c.receipts q)) receipt (map_of.get c.receipts q)
+  received-get None q = refl
+  received-get (Some r) q = map_of.get-insert bytes_cmp-IsTotalOrder c.receipts name r q ∙ ap (λ (b : Bool). cond b (Some r) (map_of.get c.receipts q)) (turned q name)
+
+  -- the receipts after a blob, where a name that is new had none
+  pub blob-receipts : (private : Bool) (receipt : Option Brought) (bytes q : List ℕ) → (is_new c name ≡ true → map_of.get c.receipts name ≡ None)
+      → map_of.get (blobbed private receipt bytes).receipts q ≡ cond (is_same name q && is_new c name) receipt (map_of.get c.receipts q)
+  blob-receipts private receipt bytes q none =
+      elim (is_new c name) as (λ b. is_new c name ≡ b → map_of.get (blobbing private receipt bytes b).receipts q ≡ cond (is_same name q && b) receipt (map_of.get c.receipts q)) [
+        | true ↦ λ new. received-get receipt q ∙ by receipt (none new) ∙ if_also (is_same name q) receipt (map_of.get c.receipts q)
+        | false ↦ λ _. if_never (is_same name q) receipt (map_of.get c.receipts q)
+      ] refl
+    where
+      gone : is_same name q ≡ true → map_of.get c.receipts name ≡ None → map_of.get c.receipts q ≡ None
+      gone e missing = subst (λ (x : List ℕ). map_of.get c.receipts x ≡ None) (is_same-means name q e) missing
+
+      by : (r : Option Brought) → map_of.get c.receipts name ≡ None → option_map_or (λ r. cond (is_same name q) (Some r) (map_of.get c.receipts q)) r (map_of.get c.receipts q) ≡ cond (is_same name q) r (map_of.get c.receipts q)
+      by (Some r) missing = refl
+      by None missing = elim (is_same name q) as (λ b. is_same name q ≡ b → map_of.get c.receipts q ≡ cond b None (map_of.get c.receipts q)) [ true ↦ λ e. gone e missing | false ↦ λ _. refl ] refl
 
   abbrev publishing : Option Held → Contents
   publishing o = option_map_or (λ a. record c { held = map_of.insert c.held name (record a { private = false }) }) o c
@@ -135,11 +157,20 @@ module _ (c : Contents) (name : List ℕ) where
   publish-config : (after c (record_of.Publish name)).config ≡ c.config
   publish-config = elim (map_of.get c.held name) as (λ o. (publishing o).config ≡ c.config) [ None ↦ refl | Some a ↦ refl ]
 
+  publish-receipts : (after c (record_of.Publish name)).receipts ≡ c.receipts
+  publish-receipts = elim (map_of.get c.held name) as (λ o. (publishing o).receipts ≡ c.receipts) [ None ↦ refl | Some a ↦ refl ]
+
   pub shun-get : (q : List ℕ) → map_of.get (after c (record_of.Shun name)).held q ≡ cond (is_same name q) None (map_of.get c.held q)
   shun-get q = map_of.get-remove bytes_cmp-IsTotalOrder c.held name q ∙ ap (λ (b : Bool). cond b None (map_of.get c.held q)) (turned q name)
 
   pub shun-shunned : (q : List ℕ) → set.contains (after c (record_of.Shun name)).shunned q ≡ (is_same name q || set.contains c.shunned q)
   shun-shunned q = set.contains-insert bytes_cmp-IsTotalOrder c.shunned name q ∙ ap (λ (b : Bool). b || set.contains c.shunned q) (turned q name)
+
+  pub shun-receipts : (q : List ℕ) → map_of.get (after c (record_of.Shun name)).receipts q ≡ cond (is_same name q) None (map_of.get c.receipts q)
+  shun-receipts q = map_of.get-remove bytes_cmp-IsTotalOrder c.receipts name q ∙ ap (λ (b : Bool). cond b None (map_of.get c.receipts q)) (turned q name)
+
+  pub unshun-shunned : (q : List ℕ) → set.contains (after c (record_of.Unshun name)).shunned q ≡ (not (is_same name q) && set.contains c.shunned q)
+  unshun-shunned q = set.contains-remove bytes_cmp-IsTotalOrder c.shunned name q ∙ ap (λ (b : Bool). not b && set.contains c.shunned q) (turned q name)
 
 -- ---- which names are new
 
@@ -152,23 +183,23 @@ publish-new c name q =
     let shuns = ap (λ (s : FinSet bytes_cmp). set.contains s q) (publish-shunned c name) in
     λ i. not (some i || shuns i)
 
-blob-new_apart : (c : Contents) (name : List ℕ) (private : Bool) (bytes q : List ℕ) → is_same name q ≡ false → is_new (after c (record_of.Blob private name bytes)) q ≡ is_new c q
-blob-new_apart c name private bytes q e =
+blob-new_apart : (c : Contents) (name : List ℕ) (private : Bool) (receipt : Option Brought) (bytes q : List ℕ) → is_same name q ≡ false → is_new (after c (record_of.Blob private name receipt bytes)) q ≡ is_new c q
+blob-new_apart c name private receipt bytes q e =
     let a : Held = record { private = private; bytes = bytes } in
-    let at : map_of.get (after c (record_of.Blob private name bytes)).held q ≡ map_of.get c.held q =
-    blob-get c name private bytes q ∙ ap (λ (b : Bool). cond (b && is_new c name) (Some a) (map_of.get c.held q)) e in
-    let shuns = ap (λ (s : FinSet bytes_cmp). set.contains s q) (blob-shunned c name private bytes) in
+    let at : map_of.get (after c (record_of.Blob private name receipt bytes)).held q ≡ map_of.get c.held q =
+    blob-get c name private receipt bytes q ∙ ap (λ (b : Bool). cond (b && is_new c name) (Some a) (map_of.get c.held q)) e in
+    let shuns = ap (λ (s : FinSet bytes_cmp). set.contains s q) (blob-shunned c name private receipt bytes) in
     λ i. newness (at i) (shuns i)
 
 itself : (name : List ℕ) → is_same name name ≡ true
 itself name = ap is_eq (tied_itself bytes_cmp-IsTotalOrder name)
 
-blob-not_new : (c : Contents) (name : List ℕ) (private : Bool) (bytes : List ℕ) → is_new (after c (record_of.Blob private name bytes)) name ≡ false
-blob-not_new c name private bytes =
+blob-not_new : (c : Contents) (name : List ℕ) (private : Bool) (receipt : Option Brought) (bytes : List ℕ) → is_new (after c (record_of.Blob private name receipt bytes)) name ≡ false
+blob-not_new c name private receipt bytes =
     let a : Held = record { private = private; bytes = bytes } in
-    let at : map_of.get (after c (record_of.Blob private name bytes)).held name ≡ cond (is_new c name) (Some a) (map_of.get c.held name) =
-    blob-get c name private bytes name ∙ ap (λ (b : Bool). cond (b && is_new c name) (Some a) (map_of.get c.held name)) (itself name) in
-    let shuns = ap (λ (s : FinSet bytes_cmp). set.contains s name) (blob-shunned c name private bytes) in
+    let at : map_of.get (after c (record_of.Blob private name receipt bytes)).held name ≡ cond (is_new c name) (Some a) (map_of.get c.held name) =
+    blob-get c name private receipt bytes name ∙ ap (λ (b : Bool). cond (b && is_new c name) (Some a) (map_of.get c.held name)) (itself name) in
+    let shuns = ap (λ (s : FinSet bytes_cmp). set.contains s name) (blob-shunned c name private receipt bytes) in
     (λ i. newness (at i) (shuns i))
     ∙ elim (is_new c name) as (λ b. is_new c name ≡ b → newness (cond b (Some (record { private = private; bytes = bytes })) (map_of.get c.held name)) (set.contains c.shunned name) ≡ false) [ true ↦ λ e. refl | false ↦ λ e. e ] refl
 
@@ -183,6 +214,19 @@ shun-new_apart c name q e =
     let at : map_of.get (after c (record_of.Shun name)).held q ≡ map_of.get c.held q = shun-get c name q ∙ ap (λ (b : Bool). cond b None (map_of.get c.held q)) e in
     let shuns : set.contains (after c (record_of.Shun name)).shunned q ≡ set.contains c.shunned q = shun-shunned c name q ∙ ap (λ (b : Bool). b || set.contains c.shunned q) e in
     λ i. newness (at i) (shuns i)
+
+-- a name that is new stays so when a name is taken off the list
+unshun-still_new : (c : Contents) (name q : List ℕ) → is_new c q ≡ true → is_new (after c (record_of.Unshun name)) q ≡ true
+unshun-still_new c name q new =
+    ap (newness (map_of.get c.held q)) (unshun-shunned c name q)
+    ∙ elim (is_same name q) as (λ b. newness (map_of.get c.held q) (not b && set.contains c.shunned q) ≡ true) [
+      | true ↦ out (is_some (map_of.get c.held q)) (set.contains c.shunned q) new
+      | false ↦ new
+    ]
+  where
+    out : (h s : Bool) → not (h || s) ≡ true → not (h || false) ≡ true
+    out true s e = e
+    out false s e = refl
 
 -- ---- announced names
 
@@ -264,6 +308,18 @@ map_more : (b : Bool) (a : HeldArtifact) (o : Option HeldArtifact) → option_ma
 map_more true a o = refl
 map_more false a o = refl
 
+receipt_more : (b : Bool) (a : HeldArtifact) (o : Option HeldArtifact) → receipt_of (cond b (Some a) o) ≡ cond b a.receipt (receipt_of o)
+receipt_more true a o = refl
+receipt_more false a o = refl
+
+receipt_less : (b : Bool) (o : Option HeldArtifact) → receipt_of (cond b None o) ≡ cond b None (receipt_of o)
+receipt_less true o = refl
+receipt_less false o = refl
+
+receipt_published : (name q : List ℕ) (o : Option HeldArtifact) → receipt_of (option_map (published name q) o) ≡ receipt_of o
+receipt_published name q None = refl
+receipt_published name q (Some a) = elim (is_same name q) as (λ b. (if b then record a { private = false } else a).receipt ≡ a.receipt) [ true ↦ refl | false ↦ refl ]
+
 module _ (records : List Record) (found : Config) (es : List (List ℕ × HeldArtifact)) (shuns announced : List (List ℕ)) (kept : IsKept records found es shuns announced) where
   abbrev with_one : Record → List Record
   with_one r = records ++ r ∷ []
@@ -279,22 +335,20 @@ module _ (records : List Record) (found : Config) (es : List (List ℕ × HeldAr
 
   -- ---- a blob
 
-  blob-still : (private : Bool) (name bytes : List ℕ) (fewer : List (List ℕ)) → ((q : List ℕ) → stands fewer q ≡ (not (is_same name q) && stands announced q)) → IsStill (contents (with_one (record_of.Blob private name bytes))) announced fewer
-  blob-still private name bytes fewer left =
-      subst (λ (c : Contents). IsStill c announced fewer) (sym (contents_push records (record_of.Blob private name bytes)))
-      (still_without (contents records) (after (contents records) (record_of.Blob private name bytes)) name announced fewer kept.new (blob-not_new (contents records) name private bytes) (blob-new_apart (contents records) name private bytes) left)
+  blob-still : (private : Bool) (name : List ℕ) (receipt : Option Brought) (bytes : List ℕ) (fewer : List (List ℕ)) → ((q : List ℕ) → stands fewer q ≡ (not (is_same name q) && stands announced q)) → IsStill (contents (with_one (record_of.Blob private name receipt bytes))) announced fewer
+  blob-still private name receipt bytes fewer left =
+      subst (λ (c : Contents). IsStill c announced fewer) (sym (contents_push records (record_of.Blob private name receipt bytes)))
+      (still_without (contents records) (after (contents records) (record_of.Blob private name receipt bytes)) name announced fewer kept.new (blob-not_new (contents records) name private receipt bytes) (blob-new_apart (contents records) name private receipt bytes) left)
 
-  pub announced-blob : (private : Bool) (name bytes : List ℕ) (fewer : List (List ℕ)) → ((q : List ℕ) → stands fewer q ≡ (not (is_same name q) && stands announced q)) → set.from_list {R = bytes_cmp} fewer ≡ still_new (contents (with_one (record_of.Blob private name bytes))) (set.from_list announced)
-  announced-blob private name bytes fewer left = still_new-from (contents (with_one (record_of.Blob private name bytes))) announced fewer (blob-still private name bytes fewer left)
+  pub announced-blob : (private : Bool) (name : List ℕ) (receipt : Option Brought) (bytes : List ℕ) (fewer : List (List ℕ)) → ((q : List ℕ) → stands fewer q ≡ (not (is_same name q) && stands announced q)) → set.from_list {R = bytes_cmp} fewer ≡ still_new (contents (with_one (record_of.Blob private name receipt bytes))) (set.from_list announced)
+  announced-blob private name receipt bytes fewer left = still_new-from (contents (with_one (record_of.Blob private name receipt bytes))) announced fewer (blob-still private name receipt bytes fewer left)
 
-  module _ (private : Bool) (name bytes : List ℕ) (at : ℕ) (last : at ≡ length records + 1) (new : List (List ℕ × HeldArtifact)) (fewer : List (List ℕ))
-      (now : (q : List ℕ) → held_at new q ≡ cond (is_same name q && not (is_kept es shuns name)) (Some (record { place = at; private = private; bytes = bytes })) (held_at es q))
+  module _ (private : Bool) (name : List ℕ) (receipt : Option Brought) (bytes : List ℕ) (artifact : HeldArtifact) (is : artifact_of artifact ≡ record { private = private; bytes = bytes }) (brought : artifact.receipt ≡ receipt) (last : artifact.place ≡ length records + 1)
+      (new : List (List ℕ × HeldArtifact)) (fewer : List (List ℕ))
+      (now : (q : List ℕ) → held_at new q ≡ cond (is_same name q && not (is_kept es shuns name)) (Some artifact) (held_at es q))
       (left : (q : List ℕ) → stands fewer q ≡ (not (is_same name q) && stands announced q)) where
     abbrev blob : Record
-    blob = record_of.Blob private name bytes
-
-    abbrev artifact : HeldArtifact
-    artifact = record { place = at; private = private; bytes = bytes }
+    blob = record_of.Blob private name receipt bytes
 
     abbrev added : List ℕ → Bool
     added q = is_same name q && is_new (contents records) name
@@ -303,7 +357,7 @@ module _ (records : List Record) (found : Config) (es : List (List ℕ × HeldAr
     now_new q = now q ∙ ap (λ (b : Bool). cond (is_same name q && b) (Some artifact) (held_at es q)) (kept-new name)
 
     -- the artifact that is added has the last place
-    placed_last : (q : List ℕ) → added q ≡ true → place (with_one blob) q ≡ Some at
+    placed_last : (q : List ℕ) → added q ≡ true → place (with_one blob) q ≡ Some artifact.place
     placed_last q e =
         let parts = and_parts (is_same name q) (is_new (contents records) name) e in
         let same = is_same-means name q parts.0 in
@@ -323,15 +377,30 @@ module _ (records : List Record) (found : Config) (es : List (List ℕ × HeldAr
     blob-held : (q : List ℕ) → option_map artifact_of (held_at new q) ≡ map_of.get (contents (with_one blob)).held q
     blob-held q =
         ap (option_map artifact_of) (now_new q) ∙ map_more (added q) artifact (held_at es q) ∙ ap (cond (added q) (Some (artifact_of artifact))) (kept.held q)
-        ∙ sym (blob-get (contents records) name private bytes q) ∙ ap (λ (c : Contents). map_of.get c.held q) (sym (contents_push records blob))
+        ∙ ap (λ (a : Held). cond (added q) (Some a) (map_of.get (contents records).held q)) is
+        ∙ sym (blob-get (contents records) name private receipt bytes q) ∙ ap (λ (c : Contents). map_of.get c.held q) (sym (contents_push records blob))
+
+    -- a name that is new has no receipt
+    unbrought : is_new (contents records) name ≡ true → map_of.get (contents records).receipts name ≡ None
+    unbrought e = sym (kept.receipts name) ∙ ap receipt_of (nowhere (held_at es name) (stands shuns name) (kept-new name ∙ e))
+      where
+        nowhere : (o : Option HeldArtifact) (s : Bool) → not (is_some o || s) ≡ true → o ≡ None
+        nowhere None s e = refl
+        nowhere (Some a) s e = absurd cc
+
+    blob-brought : (q : List ℕ) → receipt_of (held_at new q) ≡ map_of.get (contents (with_one blob)).receipts q
+    blob-brought q =
+        ap receipt_of (now_new q) ∙ receipt_more (added q) artifact (held_at es q) ∙ (λ i. cond (added q) (brought i) (kept.receipts q i))
+        ∙ sym (blob-receipts (contents records) name private receipt bytes q unbrought) ∙ ap (λ (c : Contents). map_of.get c.receipts q) (sym (contents_push records blob))
 
     pub kept-blob : IsKept (with_one blob) found new shuns fewer
     kept-blob = record {
-      config = ap (λ (c : Contents). c.config) (contents_push records blob) ∙ blob-config (contents records) name private bytes ∙ kept.config;
+      config = ap (λ (c : Contents). c.config) (contents_push records blob) ∙ blob-config (contents records) name private receipt bytes ∙ kept.config;
       held = blob-held;
       places = blob-placed;
-      shunned = λ q. kept.shunned q ∙ ap (λ (s : FinSet bytes_cmp). set.contains s q) (sym (ap (λ (c : Contents). c.shunned) (contents_push records blob) ∙ blob-shunned (contents records) name private bytes));
-      new = still_means (contents (with_one blob)) announced fewer (blob-still private name bytes fewer left);
+      receipts = blob-brought;
+      shunned = λ q. kept.shunned q ∙ ap (λ (s : FinSet bytes_cmp). set.contains s q) (sym (ap (λ (c : Contents). c.shunned) (contents_push records blob) ∙ blob-shunned (contents records) name private receipt bytes));
+      new = still_means (contents (with_one blob)) announced fewer (blob-still private name receipt bytes fewer left);
     }
 
   -- ---- a name is published
@@ -363,6 +432,8 @@ module _ (records : List Record) (found : Config) (es : List (List ℕ × HeldAr
       config = ap (λ (c : Contents). c.config) (contents_push records publish) ∙ publish-config (contents records) name ∙ kept.config;
       held = publish-held;
       places = publish-placed;
+      receipts = λ q. ap receipt_of (now q) ∙ receipt_published name q (held_at es q) ∙ kept.receipts q
+          ∙ ap (λ (m : FinMap bytes_cmp Brought). map_of.get m q) (sym (ap (λ (c : Contents). c.receipts) (contents_push records publish) ∙ publish-receipts (contents records) name));
       shunned = λ q. kept.shunned q ∙ ap (λ (s : FinSet bytes_cmp). set.contains s q) (sym (ap (λ (c : Contents). c.shunned) (contents_push records publish) ∙ publish-shunned (contents records) name));
       new = still_means (contents (with_one publish)) announced announced (publish-still name);
     }
@@ -386,6 +457,7 @@ module _ (records : List Record) (found : Config) (es : List (List ℕ × HeldAr
       config = ap (λ (c : Contents). c.config) (contents_push records config) ∙ ap (λ (o : Option Config). option_or o (Some other)) kept.config;
       held = λ q. kept.held q ∙ ap (λ (c : Contents). map_of.get c.held q) (sym (contents_push records config));
       places = λ q. placed_still records config q (held_at es q) (kept.held q) (kept.places q);
+      receipts = λ q. kept.receipts q ∙ ap (λ (c : Contents). map_of.get c.receipts q) (sym (contents_push records config));
       shunned = λ q. kept.shunned q ∙ ap (λ (c : Contents). set.contains c.shunned q) (sym (contents_push records config));
       new = still_means (contents (with_one config)) announced announced config-still;
     }
@@ -427,8 +499,38 @@ module _ (records : List Record) (found : Config) (es : List (List ℕ × HeldAr
       config = ap (λ (c : Contents). c.config) (contents_push records shun) ∙ kept.config;
       held = shun-held;
       places = shun-placed;
+      receipts = λ q. ap receipt_of (now q) ∙ receipt_less (is_same name q) (held_at es q) ∙ ap (cond (is_same name q) None) (kept.receipts q)
+          ∙ sym (shun-receipts (contents records) name q) ∙ ap (λ (c : Contents). map_of.get c.receipts q) (sym (contents_push records shun));
       shunned = shun-listed;
       new = still_means (contents (with_one shun)) announced fewer (shun-still name fewer left);
+    }
+
+  -- ---- a name is taken off the list
+
+  unshun-still : (name : List ℕ) → IsStill (contents (with_one (record_of.Unshun name))) announced announced
+  unshun-still name =
+      subst (λ (c : Contents). IsStill c announced announced) (sym (contents_push records (record_of.Unshun name)))
+      (λ q. elim (stands announced q) as (λ b. stands announced q ≡ b → b ≡ (b && is_new (after (contents records) (record_of.Unshun name)) q)) [
+        | true ↦ λ e. sym (unshun-still_new (contents records) name q (kept.new q e))
+        | false ↦ λ _. refl
+      ] refl)
+
+  pub announced-unshun : (name : List ℕ) → set.from_list {R = bytes_cmp} announced ≡ still_new (contents (with_one (record_of.Unshun name))) (set.from_list announced)
+  announced-unshun name = still_new-from (contents (with_one (record_of.Unshun name))) announced announced (unshun-still name)
+
+  module _ (name : List ℕ) (fewer : List (List ℕ)) (listed : (q : List ℕ) → stands fewer q ≡ (not (is_same name q) && stands shuns q)) where
+    abbrev unshun : Record
+    unshun = record_of.Unshun name
+
+    pub kept-unshun : IsKept (with_one unshun) found es fewer announced
+    kept-unshun = record {
+      config = ap (λ (c : Contents). c.config) (contents_push records unshun) ∙ kept.config;
+      held = λ q. kept.held q ∙ ap (λ (c : Contents). map_of.get c.held q) (sym (contents_push records unshun));
+      places = λ q. placed_still records unshun q (held_at es q) (kept.held q) (kept.places q);
+      receipts = λ q. kept.receipts q ∙ ap (λ (c : Contents). map_of.get c.receipts q) (sym (contents_push records unshun));
+      shunned = λ q. listed q ∙ ap (λ (b : Bool). not (is_same name q) && b) (kept.shunned q) ∙ sym (unshun-shunned (contents records) name q)
+          ∙ ap (λ (c : Contents). set.contains c.shunned q) (sym (contents_push records unshun));
+      new = still_means (contents (with_one unshun)) announced announced (unshun-still name);
     }
 
 -- ---- the first record
@@ -440,6 +542,7 @@ kept-first first found records es shuns announced is one none no_shuns no_names 
       config = refl;
       held = λ q. ap (λ (m : List (List ℕ × HeldArtifact)). option_map artifact_of (held_at m q)) none ∙ sym (map_of.get-empty bytes_cmp q);
       places = λ q. subst (λ (m : List (List ℕ × HeldArtifact)). IsPlaced (record_of.Config found ∷ []) q (held_at m q)) (sym none) tt;
+      receipts = λ q. ap (λ (m : List (List ℕ × HeldArtifact)). receipt_of (held_at m q)) none ∙ sym (map_of.get-empty bytes_cmp q);
       shunned = λ q. ap (λ (ns : List (List ℕ)). stands ns q) no_shuns ∙ sym (set.contains-empty bytes_cmp q);
       new = λ q e. absurd (nothing_stands (sym (ap (λ (ns : List (List ℕ)). stands ns q) no_names) ∙ e));
     }

@@ -4,6 +4,7 @@ pub mod OrderSteps
 pub mod Ordered
 pub mod ByPlace
 pub mod KeptLemmas
+pub mod Sources
 pub mod Folding
 pub mod AnnouncedNames
 pub mod HeldLists
@@ -11,3 +12,5 @@ pub mod Totals
 pub mod NameLists
 pub mod ShunnedNames
 pub mod NamedHeld
+pub mod ContentLemmas
+pub mod Holdings

@@ -7,6 +7,7 @@ use Rattle.std.specs.FinMap as map_of
 use Rattle.std.proofs.lemmas.Bool.{and_parts}
 use Rattle.fsl_name.specs.Name.{name_of}
 use Rattle.fsl_order.specs.Names.{bytes_cmp}
+use Rattle.fsl_record.specs.Receipts.{Brought}
 use Rattle.fsl_record.specs.declared.Record.{Record}
 use Rattle.fsl_record.specs.declared.Record.TheVariants as record_of
 use Rattle.fsl_record.specs.Records.{IsFit}
@@ -28,14 +29,15 @@ named_less false q o h = h
 
 named-after : (c : Contents) (r : Record) → IsFit r → AreNamed c.held → AreNamed (after c r).held
 named-after c (record_of.Config config) fit h = h
-named-after c (record_of.Blob private name bytes) fit h = λ q.
-    subst (IsNamed q) (sym (blob-get c name private bytes q))
+named-after c (record_of.Blob private name receipt bytes) fit h = λ q.
+    subst (IsNamed q) (sym (blob-get c name private receipt bytes q))
     (elim (is_same name q && is_new c name) as (λ b. (is_same name q && is_new c name) ≡ b → IsNamed q (cond b (Some (record { private = private; bytes = bytes })) (map_of.get c.held q))) [
       | true ↦ λ e. sym (is_same-means name q (and_parts (is_same name q) (is_new c name) e).0) ∙ fit.1.0
       | false ↦ λ _. h q
     ] refl)
 named-after c (record_of.Publish name) fit h = λ q. subst (IsNamed q) (sym (publish-get c name q)) (named_shown name q (map_of.get c.held q) (h q))
 named-after c (record_of.Shun name) fit h = λ q. subst (IsNamed q) (sym (shun-get c name q)) (named_less (is_same name q) q (map_of.get c.held q) (h q))
+named-after c (record_of.Unshun name) fit h = h
 
 named-fold : (records : List Record) (c : Contents) → AllByRecursion IsFit records → AreNamed c.held → AreNamed (fold after c records).held
 named-fold [] c fit h = h

@@ -58,7 +58,7 @@ get_before records r i lt =
     let longer : i < length (records ++ r ∷ []) = omega (arith, length-append records (r ∷ [])) in
     slice_get-get_or (records ++ r ∷ []) i r longer ∙ ap Some (get_or-append records (r ∷ []) r i lt) ∙ sym (slice_get-get_or records i r lt)
 
-get_last : (records : List Record) (r : Record) → slice_get (records ++ r ∷ []) (length records) ≡ Some r
+pub get_last : {X : Type 0} (records : List X) (r : X) → slice_get (records ++ r ∷ []) (length records) ≡ Some r
 get_last records r =
     let longer : length records < length (records ++ r ∷ []) = omega (arith, length-append records (r ∷ [])) in
     slice_get-get_or (records ++ r ∷ []) (length records) r longer ∙ ap Some (get_or-append_seam records r [] r)

@@ -7,12 +7,13 @@ use Rattle.std.specs.FinSet as set
 use Rattle.std.specs.FinSet.{FinSet}
 use Rattle.std.proofs.lemmas.Bool.{and_parts}
 use Rattle.fsl_order.specs.Names.{bytes_cmp}
+use Rattle.fsl_record.specs.Receipts.{Brought}
 use Rattle.fsl_record.specs.declared.Record.{Record}
 use Rattle.fsl_record.specs.declared.Record.TheVariants as record_of
 use Rattle.fsl_blobs.specs.Fold.{Held, Contents, nothing, after, is_new}
 use Rattle.fsl_blobs.specs.Kept.{is_same}
 use Rattle.fsl_blobs.specs.Laws.{ShunnedAreNotHeld}
-use Rattle.fsl_blobs.proofs.KeptLemmas.{is_same-means, shown, blob-get, blob-shunned, publish-get, publish-shunned, shun-get, shun-shunned}
+use Rattle.fsl_blobs.proofs.KeptLemmas.{is_same-means, shown, blob-get, blob-shunned, publish-get, publish-shunned, shun-get, shun-shunned, unshun-shunned}
 
 abbrev IsApart : Contents → Type 0
 IsApart c = (name : List ℕ) → set.contains c.shunned name ≡ true → map_of.get c.held name ≡ None
@@ -25,10 +26,10 @@ out_of (Some a) false e h = cc
 
 apart-after : (c : Contents) (r : Record) → IsApart c → IsApart (after c r)
 apart-after c (record_of.Config config) h = h
-apart-after c (record_of.Blob private name bytes) h = λ q out.
-    let was : set.contains c.shunned q ≡ true = sym (ap (λ (s : FinSet bytes_cmp). set.contains s q) (blob-shunned c name private bytes)) ∙ out in
+apart-after c (record_of.Blob private name receipt bytes) h = λ q out.
+    let was : set.contains c.shunned q ≡ true = sym (ap (λ (s : FinSet bytes_cmp). set.contains s q) (blob-shunned c name private receipt bytes)) ∙ out in
     let a : Held = record { private = private; bytes = bytes } in
-    blob-get c name private bytes q
+    blob-get c name private receipt bytes q
     ∙ elim (is_same name q && is_new c name) as (λ b. (is_same name q && is_new c name) ≡ b → cond b (Some (record { private = private; bytes = bytes })) (map_of.get c.held q) ≡ None) [
       | true ↦ λ e.
           let parts = and_parts (is_same name q) (is_new c name) e in
@@ -45,6 +46,7 @@ apart-after c (record_of.Shun name) h = λ q out.
       | true ↦ λ _. refl
       | false ↦ λ e. h q (sym (shun-shunned c name q ∙ ap (λ (b : Bool). b || set.contains c.shunned q) e) ∙ out)
     ] refl
+apart-after c (record_of.Unshun name) h = λ q out. h q (and_parts (not (is_same name q)) (set.contains c.shunned q) (sym (unshun-shunned c name q) ∙ out)).1
 
 apart-fold : (records : List Record) (c : Contents) → IsApart c → IsApart (fold after c records)
 apart-fold [] c h = h

@@ -1,6 +1,6 @@
 -- The sum of the held sizes, as records change it.
 use Rattle.std.proofs.Common.{◌≡◌, ℕ, ◌+◌, ◌-◌, Bool, true, false, cond, not, List, [], ◌∷◌, ◌++◌, length, map, Option, Some, None, refl, sym, ap, subst, ◌∙◌, arith}
-use Rattle.std.specs.Prelude.{T, ◌&&◌, ◌||◌, if◌then◌else◌, is_some, sum_by}
+use Rattle.std.specs.Prelude.{T, ◌&&◌, ◌||◌, if◌then◌else◌, is_some, sum_by, IfSome}
 use Rattle.std.specs.Option.{option_map, option_map_or}
 use Rattle.std.specs.Ordering.{is_eq, is_lt, eq_by_cmp}
 use Rattle.std.specs.declared.cmp.Ordering.{Ordering}
@@ -14,10 +14,11 @@ use Rattle.std.proofs.lemmas.List.Sums.{sum_by-cons}
 use Rattle.fsl_order.specs.Names.{bytes_cmp}
 use Rattle.fsl_order.proofs.Orders.{bytes_cmp-IsTotalOrder, bytes_cmp-IsAntisymmetric}
 use Rattle.fsl_record.specs.declared.Config.{Config}
+use Rattle.fsl_record.specs.Receipts.{Brought}
 use Rattle.fsl_record.specs.declared.Record.{Record}
 use Rattle.fsl_record.specs.declared.Record.TheVariants as record_of
 use Rattle.fsl_blobs.specs.declared.blobs.HeldArtifact.{HeldArtifact}
-use Rattle.fsl_blobs.specs.Fold.{Held, HeldSet, Contents, contents, after, is_new, held_bytes}
+use Rattle.fsl_blobs.specs.Fold.{Held, HeldSet, Contents, contents, after, received, is_new, held_bytes}
 use Rattle.fsl_blobs.specs.Kept.{is_kept, held_at, artifact_of, IsKept}
 use Rattle.fsl_blobs.proofs.Places.{contents_push}
 use Rattle.fsl_blobs.proofs.KeptLemmas.{kept-new}
@@ -159,9 +160,10 @@ bytes_less held name size is =
 
 -- ---- one record more
 
-size_map : (o : Option HeldArtifact) → option_map_or (λ a. length a.bytes) o 0 ≡ size_or (option_map artifact_of o)
-size_map None = refl
-size_map (Some a) = refl
+-- the sizes that are kept are those of the bytes
+pub size_map : (o : Option HeldArtifact) → IfSome o (λ a. a.size ≡ length a.bytes.value) → option_map_or (λ a. a.size) o 0 ≡ size_or (option_map artifact_of o)
+size_map None h = refl
+size_map (Some a) h = h
 
 turn : (a b : Bool) → not a ≡ b → a ≡ not b
 turn true b e = ap not e
@@ -174,20 +176,20 @@ module _ (records : List Record) (found : Config) (es : List (List ℕ × HeldAr
   pushed : (r : Record) → held_bytes (contents (records ++ r ∷ [])).held ≡ held_bytes (after c r).held
   pushed r = ap (λ (x : Contents). held_bytes x.held) (contents_push records r)
 
-  abbrev held_with : Bool → List ℕ → List ℕ → Bool → Contents
-  held_with private name bytes b = if b then record c { held = map_of.insert c.held name (record { private = private; bytes = bytes }) } else c
+  abbrev held_with : Bool → List ℕ → Option Brought → List ℕ → Bool → Contents
+  held_with private name receipt bytes b = if b then record c { held = map_of.insert c.held name (record { private = private; bytes = bytes }); receipts = received c.receipts name receipt } else c
 
-  pub total-known : (private : Bool) (name bytes : List ℕ) → is_kept es shuns name ≡ true → total ≡ held_bytes (contents (records ++ record_of.Blob private name bytes ∷ [])).held
-  total-known private name bytes known =
+  pub total-known : (private : Bool) (name : List ℕ) (receipt : Option Brought) (bytes : List ℕ) → is_kept es shuns name ≡ true → total ≡ held_bytes (contents (records ++ record_of.Blob private name receipt bytes ∷ [])).held
+  total-known private name receipt bytes known =
       let old : is_new c name ≡ false = sym (kept-new records found es shuns announced kept name) ∙ ap not known in
-      sum ∙ ap (λ (b : Bool). held_bytes (held_with private name bytes b).held) (sym old) ∙ sym (pushed (record_of.Blob private name bytes))
+      sum ∙ ap (λ (b : Bool). held_bytes (held_with private name receipt bytes b).held) (sym old) ∙ sym (pushed (record_of.Blob private name receipt bytes))
 
-  pub total-new : (private : Bool) (name bytes : List ℕ) → is_kept es shuns name ≡ false → total + length bytes ≡ held_bytes (contents (records ++ record_of.Blob private name bytes ∷ [])).held
-  total-new private name bytes known =
+  pub total-new : (private : Bool) (name : List ℕ) (receipt : Option Brought) (bytes : List ℕ) → is_kept es shuns name ≡ false → total + length bytes ≡ held_bytes (contents (records ++ record_of.Blob private name receipt bytes ∷ [])).held
+  total-new private name receipt bytes known =
       let new : is_new c name ≡ true = sym (kept-new records found es shuns announced kept name) ∙ ap not known in
       let none : map_of.get c.held name ≡ None = absent (map_of.get c.held name) (map_of.contains_key c.held name) (set.contains c.shunned name) refl (turn (map_of.contains_key c.held name || set.contains c.shunned name) true new) in
       ap (λ n. n + length bytes) sum ∙ sym (bytes_more c.held name (record { private = private; bytes = bytes }) none)
-      ∙ ap (λ (b : Bool). held_bytes (held_with private name bytes b).held) (sym new) ∙ sym (pushed (record_of.Blob private name bytes))
+      ∙ ap (λ (b : Bool). held_bytes (held_with private name receipt bytes b).held) (sym new) ∙ sym (pushed (record_of.Blob private name receipt bytes))
     where
       absent : (o : Option Held) (b d : Bool) → is_some o ≡ b → (b || d) ≡ false → o ≡ None
       absent None b d e h = refl
@@ -204,9 +206,12 @@ module _ (records : List Record) (found : Config) (es : List (List ℕ × HeldAr
         | Some a ↦ λ there. bytes_again c.held name a (record a { private = false }) there refl
       ] refl) ∙ sym (pushed (record_of.Publish name))
 
-  pub total-shun : (name : List ℕ) (size : ℕ) → size ≡ option_map_or (λ a. length a.bytes) (held_at es name) 0 → total - size ≡ held_bytes (contents (records ++ record_of.Shun name ∷ [])).held
-  total-shun name size is =
-      ap (λ n. n - size) sum ∙ bytes_less c.held name size (is ∙ size_map (held_at es name) ∙ ap size_or (kept.held name)) ∙ sym (pushed (record_of.Shun name))
+  pub total-unshun : (name : List ℕ) → total ≡ held_bytes (contents (records ++ record_of.Unshun name ∷ [])).held
+  total-unshun name = sum ∙ sym (pushed (record_of.Unshun name))
+
+  pub total-shun : (name : List ℕ) (size : ℕ) → IfSome (held_at es name) (λ a. a.size ≡ length a.bytes.value) → size ≡ option_map_or (λ a. a.size) (held_at es name) 0 → total - size ≡ held_bytes (contents (records ++ record_of.Shun name ∷ [])).held
+  total-shun name size sized is =
+      ap (λ n. n - size) sum ∙ bytes_less c.held name size (is ∙ size_map (held_at es name) sized ∙ ap size_or (kept.held name)) ∙ sym (pushed (record_of.Shun name))
 
 pub total-first : (first : Record) (config : Config) (records : List Record) → first ≡ record_of.Config config → records ≡ first ∷ [] → 0 ≡ held_bytes (contents records).held
 total-first first config records is one =

@@ -50,7 +50,7 @@ module _ (most each : ℕ) (size : List ℕ → ℕ) (late passed left rest : Pa
   pub walk_ends : late ≡ passed → map pair_of names ≡ walked most each size 0 late
   walk_ends all = sym (ap (walked most each size 0) all ∙ all_passed most each size passed (map pair_of names) sum walk.passed)
 
-  pub walk_goes : (behind : Pairs) (a b : ℕ) → behind ≡ passed ++ pair_of x ∷ [] → sum < most → most < 2 ^ 64 → each < 2 ^ 64 → a < 2 ^ 63 → a ≡ size x.name → b ≡ each → new ≡ names ++ x ∷ [] → IsWalked most each size behind new (sum + (a + b))
+  pub walk_goes : (behind : Pairs) (a b : ℕ) → behind ≡ passed ++ pair_of x ∷ [] → sum < most → most < 2 ^ 64 → each < 2 ^ 64 → a < 2 ^ 64 → a ≡ size x.name → b ≡ each → new ≡ names ++ x ∷ [] → IsWalked most each size behind new (sum + (a + b))
   walk_goes behind a b all below small little fits is same pushed =
       let go : nat_le most sum ≡ false = grind (arith, nat_tests) in
       let one : Passed most each size behind (map pair_of new) (sum + (size x.name + each)) =

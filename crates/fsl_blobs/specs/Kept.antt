@@ -1,17 +1,22 @@
 -- What the code keeps of the records.
-use Rattle.std.specs.Prelude.{◌≡◌, ℕ, ◌+◌, ◌≤◌, ◌*◌, ◌^◌, length, List, Bool, true, false, not, ◌&&◌, ◌||◌, if◌then◌else◌, Option, Some, None, IfSome, is_some}
+use Rattle.std.specs.Prelude.{◌≡◌, ℕ, ◌+◌, ◌-◌, ◌≤◌, ◌*◌, ◌^◌, length, List, Bool, true, false, not, ◌&&◌, ◌||◌, if◌then◌else◌, Option, Some, None, IfSome, is_some, slice_get, Contains}
 use Rattle.std.specs.List.{list_any}
 use Rattle.std.specs.Map.{lookup}
-use Rattle.std.specs.Option.{option_map}
+use Rattle.std.specs.Option.{option_map, option_map_or}
 use Rattle.std.specs.Ordering.{is_eq, nat_cmp}
 use Rattle.std.specs.FinMap as map_of
 use Rattle.std.specs.FinSet as set
 use Rattle.fsl_order.specs.Names.{bytes_cmp}
+use Rattle.lru.specs.LruCache.{LruCache}
+use Rattle.fsl_name.specs.Name.{name_of}
+use Rattle.fsl_record.specs.Receipts.{Brought}
 use Rattle.fsl_record.specs.declared.Config.{Config}
 use Rattle.fsl_record.specs.declared.Record.{Record}
 use Rattle.fsl_blobs.specs.declared.blobs.HeldArtifact.{HeldArtifact}
+use Rattle.fsl_blobs.specs.declared.contents.Spot.{Spot}
 use Rattle.fsl_blobs.specs.declared.order.Order.{Order}
-use Rattle.fsl_blobs.specs.Fold.{Held, contents, is_new, place, held_bytes}
+use Rattle.fsl_blobs.specs.Fold.{Held, contents, is_new, place, held_bytes, IsBlobAt}
+use Rattle.fsl_blobs.specs.Seen.{IsBounded}
 
 -- whether two names are the same
 abbrev pub is_same : List ℕ → List ℕ → Bool
@@ -33,17 +38,51 @@ is_kept entries shuns name = is_some (held_at entries name) || stands shuns name
 abbrev pub published : List ℕ → List ℕ → HeldArtifact → HeldArtifact
 published name q a = if is_same name q then record a { private = false } else a
 
--- a held artifact without its place
+-- a held artifact as definitions see it
 abbrev pub artifact_of : HeldArtifact → Held
-artifact_of a = record { private = a.private; bytes = a.bytes }
+artifact_of a = record { private = a.private; bytes = a.bytes.value }
+
+-- the receipt of an artifact that may not be there
+abbrev pub receipt_of : Option HeldArtifact → Option Brought
+receipt_of o = option_map_or (λ a. a.receipt) o None
 
 -- the map and the sets have what the records leave, and announced names are neither held nor shunned
 pub record IsKept (records : List Record) (found : Config) (entries : List (List ℕ × HeldArtifact)) (shuns announced : List (List ℕ)) : Type 0 where
   pub config : (contents records).config ≡ Some found
   pub held : (name : List ℕ) → option_map artifact_of (held_at entries name) ≡ map_of.get (contents records).held name
   pub places : (name : List ℕ) → IfSome (held_at entries name) (λ a. place records name ≡ Some a.place)
+  pub receipts : (name : List ℕ) → receipt_of (held_at entries name) ≡ map_of.get (contents records).receipts name
   pub shunned : (name : List ℕ) → stands shuns name ≡ set.contains (contents records).shunned name
   pub new : (name : List ℕ) → stands announced name ≡ true → is_new (contents records) name ≡ true
+
+-- ---- where contents stand
+
+-- an artifact is that of the blob at its place; the content of that record begins in the file where the artifact says, and has its size and its name
+pub record IsFrom (records : List Record) (starts name : List ℕ) (a : HeldArtifact) : Type 0 where
+  pub blob : IsBlobAt records a.place name a.bytes.value
+  pub start : slice_get starts (a.place - 1) ≡ Some a.at
+  pub size : a.size ≡ length a.bytes.value
+  pub named : name ≡ name_of a.bytes.value
+
+-- where the content of an artifact stands, which is there
+abbrev pub IsSpotOf : Option HeldArtifact → Spot → Type 0
+IsSpotOf None s = ⊥
+IsSpotOf (Some a) s = (s.place ≡ a.place) × (s.at ≡ a.at) × (s.size ≡ a.size)
+
+-- each held artifact is so
+abbrev pub AreFrom : List Record → List ℕ → List (List ℕ × HeldArtifact) → Type 0
+AreFrom records starts entries = (name : List ℕ) → IfSome (held_at entries name) (IsFrom records starts name)
+
+-- bytes that are kept in memory for a record, by its place: they have the name and the size of its content
+pub record IsCachedOf (records : List Record) (e : ℕ × List ℕ) : Type 0 where
+  pub name : List ℕ
+  pub bytes : List ℕ
+  pub blob : IsBlobAt records e.0 name bytes
+  pub named : name ≡ name_of e.1
+  pub sized : length e.1 ≡ length bytes
+
+abbrev pub AreCached : List Record → List (ℕ × List ℕ) → Type 0
+AreCached records cached = (e : ℕ × List ℕ) → Contains cached e → IsCachedOf records e
 
 -- ---- the names by their places
 
@@ -99,9 +138,14 @@ StaysOrdered entries shuns announced place order next after =
 
 -- ---- all of it
 
--- the sum of the held sizes is kept too; each is below 2^63, and there are no more of them than records
-pub record IsCounted (records : List Record) (found : Config) (entries : List (List ℕ × HeldArtifact)) (shuns announced : List (List ℕ)) (total : ℕ) (order : Order) : Type 0 where
+-- where contents begin is known of each record, and of what is kept in memory, which is little; the sum of the held sizes is kept too; each is below 2^63, and there are no more of them than records
+pub record IsCounted (records : List Record) (starts : List ℕ) (found : Config) (entries : List (List ℕ × HeldArtifact)) (shuns announced : List (List ℕ)) (total : ℕ) (order : Order) (cache : LruCache ℕ (List ℕ)) : Type 0 where
   pub kept : IsKept records found entries shuns announced
+  pub from : AreFrom records starts entries
+  pub as_many : length starts ≡ length records
+  pub cached : AreCached records cache.entries
+  pub bounded : IsBounded cache.entries
+  pub cap : cache.cap ≡ 64
   pub ordered : IsOrdered entries order
   pub sum : total ≡ held_bytes (contents records).held
   pub small : total ≤ length records * 2 ^ 63

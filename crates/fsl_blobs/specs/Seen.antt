@@ -1,5 +1,5 @@
 -- What clauses see of the held artifacts, and what an announcement meets.
-use Rattle.std.specs.Prelude.{◌≡◌, ℕ, List, [], ◌∷◌, ◌++◌, true, false, nat_le, if◌then◌else◌}
+use Rattle.std.specs.Prelude.{◌≡◌, ◌≤◌, ◌^◌, ℕ, List, [], ◌∷◌, ◌++◌, length, true, false, nat_le, if◌then◌else◌, Contains}
 use Rattle.std.specs.List.{list_any}
 use Rattle.std.specs.Str.{bytes_eq}
 use Rattle.std.specs.FinMap as map_of
@@ -7,20 +7,35 @@ use Rattle.std.specs.FinSet as set
 use Rattle.std.specs.FinSet.{FinSet}
 use Rattle.fsl_order.specs.Names.{bytes_cmp}
 use Rattle.fsl_record.specs.declared.Record.{Record}
-use Rattle.fsl_blobs.specs.Fold.{Held, contents, held_from, held_as_from, size_in, walked}
+use Rattle.fsl_blobs.specs.Fold.{Held, contents, held_from, held_as_from, size_in, walked, IsBlobAt}
 use Rattle.fsl_blobs.specs.Held.{still_new}
 use Rattle.fsl_blobs.specs.declared.Holding.{Holding}
 use Rattle.fsl_blobs.specs.declared.Known.{Known}
 use Rattle.fsl_blobs.specs.declared.Known.TheVariants as known
 
--- all records that were read, in order, and the announced names
+-- all records that were read, in order, where the content of each begins in the file, the announced names, and the contents that are kept in memory, by the places of their records
 pub record Seen : Type 0 where
   pub records : List Record
+  pub starts : List ℕ
   pub announced : FinSet bytes_cmp
+  pub cached : List (ℕ × List ℕ)
 
--- what a record more leaves: the announced names that it doesn't settle are still announced
-abbrev pub applied : Seen → Record → Seen
-applied b entry = record { records = b.records ++ entry ∷ []; announced = still_new (contents (b.records ++ entry ∷ [])) b.announced }
+-- what is kept in memory of contents is what their records have
+abbrev pub AreTrue : Seen → Type 0
+AreTrue b = (e : ℕ × List ℕ) → Contains b.cached e → (name : List ℕ) × IsBlobAt b.records e.0 name e.1
+
+-- what is kept in memory of contents is little: at most 64 of them, and each has at most 2^20 bytes
+pub record IsBounded (cached : List (ℕ × List ℕ)) : Type 0 where
+  pub few : length cached ≤ 64
+  pub short : (e : ℕ × List ℕ) → Contains cached e → length e.1 ≤ 2 ^ 20
+
+-- what a record more leaves, whose content begins at this place in the file: the announced names that it doesn't settle are still announced
+abbrev pub applied : Seen → ℕ → Record → Seen
+applied b at entry = record b {
+  records = b.records ++ entry ∷ [];
+  starts = b.starts ++ at ∷ [];
+  announced = still_new (contents (b.records ++ entry ∷ [])) b.announced;
+}
 
 -- each held name is among those from place 0 on
 abbrev pub ListsAllHeld : List Record → Type 0
@@ -46,4 +61,9 @@ announced_after b name _ = b
 
 -- a held artifact, under its name
 abbrev pub held_as : Holding → List ℕ × Held
-held_as h = (h.name, record { private = h.private; bytes = h.bytes.now })
+held_as h = (h.name, record { private = h.private; bytes = h.bytes.now.value })
+
+-- a held artifact is that of the blob at its place, and has the size of its bytes
+pub record IsHolding (records : List Record) (h : Holding) : Type 0 where
+  pub blob : IsBlobAt records h.place h.name h.bytes.now.value
+  pub size : h.size ≡ length h.bytes.now.value

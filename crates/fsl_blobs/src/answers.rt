@@ -1,18 +1,17 @@
 //! What the held artifacts answer.
-ghost use Rattle.std.specs.Prelude.{◌≡◌, ◌↔◌, Some, None, IfOk, OnOk, map};
-ghost use Rattle.std.specs.Option.{option_map};
+ghost use Rattle.std.specs.Prelude.{◌≡◌, nat_eq, Some, None, IfOk, IfSome, OnOk, map};
+ghost use Rattle.std.specs.List.{AllByRecursion, IsDistinct};
+ghost use Rattle.std.specs.Option.{option_map, option_copied};
 ghost use Rattle.std.specs.FinMap as map_of;
 ghost use Rattle.fsl_blobs.specs.Fold.{contents, held_from, held_as_from};
 ghost use Rattle.fsl_blobs.specs.Held.{state_of, matching, found};
-ghost use Rattle.fsl_blobs.specs.Seen.{ListsAllHeld, held_as, public_front};
-ghost use Rattle.fsl_blobs.specs.declared.BlobFault.TheVariants.{Absent as AbsentFault};
+ghost use Rattle.fsl_blobs.specs.Seen.{ListsAllHeld, IsHolding, held_as, public_front};
 
 use crate::listing::{front_from, holdings, is_map, names_over, only_match, placed_from};
-use crate::{BlobFault, BlobState, Blobs, Found, Holding, Placed};
-use fsl_disk::Disk;
+use crate::{BlobState, Blobs, Found, Holding, Placed};
 use fsl_name::Name;
-use fsl_record::Config;
-use fsl_text::{List, Memory, Text};
+use fsl_record::{Config, Receipt};
+use fsl_text::{List, Memory};
 use std::alloc::Global;
 
 impl Blobs {
@@ -29,7 +28,7 @@ impl Blobs {
     {
         match self.held.get(&name) {
             Some(artifact) => {
-                let size = artifact.bytes.bytes().len() as u64;
+                let size = artifact.size;
                 if artifact.private {
                     BlobState::Private { size }
                 } else {
@@ -41,34 +40,13 @@ impl Blobs {
         }
     }
 
-    /// The bytes of a held artifact, public or private; none where the name isn't held. Takes no memory.
-    pub fn bytes_of(&self, name: Name) -> Option<&[u8]>
-        ensures { option_map (λ bytes. bytes.now) result ≡ option_map (λ a. a.bytes) (map_of.get (contents self.now.records).held name) }
+    /// Who brought a held artifact, and when; none where that wasn't told, or the name isn't held. Takes no memory.
+    pub fn receipt(&self, name: Name) -> Option<&Receipt>
+        ensures { option_copied result ≡ map_of.get (contents self.now.records).receipts name }
     {
         match self.held.get(&name) {
-            Some(artifact) => Some(artifact.bytes.bytes()),
+            Some(artifact) => artifact.receipt.as_ref(),
             None => None,
-        }
-    }
-
-    /// A copy of the bytes of a held artifact, public or private. For now they are in memory, and the disk isn't called.
-    ///
-    /// Errors: `Absent` where the name isn't held; `Memory` for want of memory.
-    pub fn content<D: Disk>(
-        &mut self,
-        alloc: Global,
-        disk: &mut D,
-        name: Name,
-    ) -> Result<Text, BlobFault>
-        ensures bytes { IfOk result (λ text. option_map (λ a. a.bytes) (map_of.get (contents self.old.records).held name) ≡ Some text) }
-        ensures absent { (result ≡ Err AbsentFault) ↔ (map_of.get (contents self.old.records).held name ≡ None) }
-        ensures same { self.new ≡ self.old }
-        ensures disk { disk.new ≡ disk.old }
-    {
-        let _ = disk;
-        match self.bytes_of(name) {
-            Some(bytes) => Ok(Text::of(alloc, bytes)?),
-            None => Err(BlobFault::Absent),
         }
     }
 
@@ -126,24 +104,31 @@ impl Blobs {
         Ok(List::from_vec(names))
     }
 
-    /// A held artifact, public or private, with its bytes lent; none where the name isn't held. Takes no memory.
+    /// What is known of a held artifact, public or private; none where the name isn't held. Takes no memory.
     pub fn holding(&self, name: Name) -> Option<Holding<'_>>
-        ensures { option_map held_as result ≡ option_map (λ a. (name, a)) (map_of.get (contents self.now.records).held name) }
+        ensures held { option_map held_as result ≡ option_map (λ a. (name, a)) (map_of.get (contents self.now.records).held name) }
+        ensures from { IfSome result (IsHolding self.now.records) }
     {
         match self.held.get(&name) {
             Some(artifact) => Some(Holding {
                 name,
                 private: artifact.private,
-                bytes: artifact.bytes.bytes(),
+                place: artifact.place,
+                size: artifact.size,
+                bytes: &artifact.bytes,
             }),
             None => None,
         }
     }
 
-    /// The held artifacts, public and private, by rising name. No bytes are copied. `Memory` is the only error.
+    /// What is known of the held artifacts, public and private, by rising name. `Memory` is the only error.
     pub fn holdings<'a>(&'a self, alloc: Global) -> Result<Vec<Holding<'a>>, Memory>
-        ensures { IfOk result (λ list. map held_as list.items ≡ map_of.entries (contents self.now.records).held) }
+        ensures held { IfOk result (λ list. map held_as list.items ≡ map_of.entries (contents self.now.records).held) }
+        ensures from { IfOk result (λ list. AllByRecursion (IsHolding self.now.records) list.items) }
+        // No two stand at one place.
+        ensures apart { IfOk result (λ list. IsDistinct nat_eq (map (λ h. h.place) list.items)) }
     {
+        is_map(&self.held);
         holdings(alloc, &self.held)
     }
 }

@@ -1,20 +1,47 @@
 //! What one record does to the held artifacts, the shunned and the announced names.
-ghost use Rattle.std.specs.Prelude.{◌≡◌, ℕ, ◌+◌, ◌++◌, ◌∷◌, [], List, length, None, Some, false, not, ◌&&◌, ◌||◌, Bool, if◌then◌else◌, OnOk, OnErr};
+ghost use Rattle.std.specs.Prelude.{◌≡◌, ℕ, ◌+◌, ◌++◌, ◌∷◌, [], List, length, None, Some, not, ◌&&◌, ◌||◌, Bool, if◌then◌else◌, OnOk, OnErr};
 ghost use Rattle.std.specs.Option.{option_map};
 ghost use Rattle.std.specs.FinSet as set;
 ghost use Rattle.fsl_record.specs.declared.Config as config_of;
 ghost use Rattle.fsl_record.specs.declared.Record as record_of;
+ghost use Rattle.fsl_record.specs.Records.{IsWritable};
 ghost use Rattle.fsl_blobs.specs.Fold.{contents};
 ghost use Rattle.fsl_blobs.specs.Held.{still_new};
-ghost use Rattle.fsl_blobs.specs.Kept.{is_same, is_kept, held_at, stands, published, name_in, names_in, added, revealed, gone, IsKept, StaysOrdered};
+ghost use Rattle.fsl_blobs.specs.Kept.{is_same, is_kept, held_at, stands, published, name_in, names_in, added, revealed, gone, artifact_of, IsKept, AreFrom, StaysOrdered};
 
 use crate::blobs::HeldArtifact;
 use crate::order::{Order, put, take};
 use crate::sizes::is_kept;
 use fsl_name::Name;
-use fsl_record::Record;
-use fsl_text::Memory;
+use fsl_record::{Receipt, Record};
+use fsl_text::{Memory, Text};
 use std::collections::{BTreeMap, BTreeSet};
+use std::snapshot::Snapshot;
+
+/// An artifact whose content stands in the file, without its bytes.
+fn in_file(
+    place: u64,
+    at: u64,
+    private: bool,
+    receipt: Option<Receipt>,
+    bytes: Text,
+) -> HeldArtifact
+    ensures artifact { artifact_of result ≡ record { private = private; bytes = bytes } }
+    ensures receipt { result.receipt ≡ receipt }
+    ensures place { result.place ≡ place }
+    ensures at { result.at ≡ at }
+    ensures size { result.size ≡ length bytes }
+    ensures bytes { result.bytes.value ≡ bytes }
+{
+    HeldArtifact {
+        place,
+        private,
+        at,
+        size: bytes.bytes().len() as u64,
+        receipt,
+        bytes: Snapshot::of(&bytes),
+    }
+}
 
 /// Adds an artifact, unless its name is held or shunned.
 fn add(
@@ -90,18 +117,28 @@ fn shun(
     Ok(())
 }
 
-/// Reads a record, which comes behind the first Config at this place, counted from 1. Another Config changes nothing. A
-/// name that is held or shunned isn't announced.
+/// Takes a name off the list of the shunned ones.
+fn unshun(shunned: &mut BTreeSet<Name>, name: &Name)
+    ensures { (q : List ℕ) → stands shunned.new.keys q ≡ (not (is_same name.now q) && stands shunned.old.keys q) }
+{
+    shunned.remove(name);
+}
+
+/// Reads a record, which comes behind the first Config at this place, counted from 1. Its content begins in the file at a
+/// place too. Another Config changes nothing. A name that is held or shunned isn't announced.
 pub(crate) fn change(
     held: &mut BTreeMap<Name, HeldArtifact>,
     shunned: &mut BTreeSet<Name>,
     announced: &mut BTreeSet<Name>,
     order: &mut Order,
     place: u64,
+    at: u64,
     entry: Record,
 ) -> Result<(), Memory>
+    requires fit { IsWritable entry }
     ensures kept { OnOk result ((records : List record_of.Record) (found : config_of.Config) → IsKept records found held.old.entries shunned.old.keys announced.old.keys → place ≡ length records + 1 → IsKept (records ++ entry ∷ []) found held.new.entries shunned.new.keys announced.new.keys) }
     ensures announced { OnOk result ((records : List record_of.Record) (found : config_of.Config) → IsKept records found held.old.entries shunned.old.keys announced.old.keys → set.from_list announced.new.keys ≡ still_new (contents (records ++ entry ∷ [])) (set.from_list announced.old.keys)) }
+    ensures from { OnOk result ((records : List record_of.Record) (starts : List ℕ) → AreFrom records starts held.old.entries → place ≡ length records + 1 → length starts ≡ length records → AreFrom (records ++ entry ∷ []) (starts ++ at ∷ []) held.new.entries) }
     // Whatever the answer.
     ensures ordered { StaysOrdered held.old.entries shunned.old.keys announced.old.keys place order.old held.new.entries order.new }
     ensures held_err { OnErr result (held.new.entries ≡ held.old.entries) }
@@ -113,13 +150,10 @@ pub(crate) fn change(
         Record::Blob {
             private,
             name,
+            receipt,
             bytes,
         } => {
-            let artifact = HeldArtifact {
-                place,
-                private,
-                bytes,
-            };
+            let artifact = in_file(place, at, private, receipt, bytes);
             add(held, shunned, order, name, artifact)?;
             announced.remove(&name);
             Ok(())
@@ -132,6 +166,10 @@ pub(crate) fn change(
         Record::Shun { name } => {
             shun(held, shunned, order, name)?;
             announced.remove(&name);
+            Ok(())
+        }
+        Record::Unshun { name } => {
+            unshun(shunned, &name);
             Ok(())
         }
     }

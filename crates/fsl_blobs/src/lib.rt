@@ -1,13 +1,16 @@
-//! The held artifacts: what the records of a repository leave, kept in memory as the records come.
+//! The held artifacts: what the records of a repository leave, kept in memory as the records come. Their contents stay in
+//! the file; of each its place and its size there are known.
 //!
-//! A blob adds its artifact unless its name is held or shunned. Publishing makes a held artifact public. Shunning takes
-//! an artifact out and lists its name. Whatever is asked is answered as if all records were read again from the first.
+//! A blob adds its artifact, with its receipt, unless its name is held or shunned. Publishing makes a held artifact public.
+//! Shunning takes an artifact out, with its receipt, and lists its name; unshunning takes the name off the list. Whatever
+//! is asked is answered as if all records were read again from the first.
 #![tactic(auto)]
 
 mod announcing;
 mod answers;
 mod blobs;
 mod changes;
+mod contents;
 mod laws;
 mod listing;
 mod names;
@@ -19,8 +22,9 @@ ghost use Rattle.fsl_blobs.specs.declared.BlobFault.TheVariants.{Memory as Memor
 
 pub use blobs::Blobs;
 use fsl_name::Name;
-use fsl_text::Memory;
+use fsl_text::{Memory, Text};
 pub use laws::{held_are_named, shunned_are_not_held};
+use std::snapshot::Snapshot;
 
 /// What an announcement met.
 #[derive(Clone, Copy, PartialEq, Eq, Debug)]
@@ -44,7 +48,7 @@ pub enum BlobState {
     Public { size: u64 },
     /// A held artifact that isn't given to others.
     Private { size: u64 },
-    /// A name that is never held again.
+    /// A name that isn't held while it is listed.
     Shunned,
     /// Neither held nor shunned.
     Absent,
@@ -68,13 +72,18 @@ pub struct Placed {
     pub name: Name,
 }
 
-/// A held artifact, whose bytes are lent.
-#[derive(Clone, Copy, Debug)]
+/// What is known of a held artifact.
+#[derive(Clone, Copy)]
 pub struct Holding<'a> {
     pub name: Name,
     /// Whether it isn't given to others.
     pub private: bool,
-    pub bytes: &'a [u8],
+    /// The place of the record that added it, counted from 1.
+    pub place: u64,
+    /// The number of its bytes.
+    pub size: u64,
+    /// Its bytes, which clauses alone see.
+    pub bytes: &'a Snapshot<Text>,
 }
 
 /// Why a content wasn't given.
@@ -82,7 +91,11 @@ pub struct Holding<'a> {
 pub enum BlobFault {
     /// The name isn't held.
     Absent,
-    /// There was no memory for the copy.
+    /// A call of the disk failed.
+    Disk,
+    /// The bytes that were read have this name, which is another one.
+    Damaged { found: Name },
+    /// There was no memory.
     Memory,
 }
 

@@ -8,7 +8,7 @@ ghost use Rattle.fsl_blobs.specs.Fold.{walked};
 ghost use Rattle.fsl_blobs.specs.Held.{found};
 ghost use Rattle.fsl_blobs.specs.Kept.{held_at};
 ghost use Rattle.fsl_blobs.specs.Seen.{held_as};
-ghost use Rattle.fsl_blobs.specs.Listing.{begins, pair_of, size_at, entry_of};
+ghost use Rattle.fsl_blobs.specs.Listing.{begins, pair_of, size_at, entry_of, known_as, known_of};
 
 use crate::blobs::HeldArtifact;
 use crate::sizes::size_of;
@@ -112,12 +112,13 @@ pub(crate) fn is_map(held: &BTreeMap<Name, HeldArtifact>)
     let _ = held.iter();
 }
 
-/// The held artifacts in the order of their names, with their bytes lent.
+/// What is known of the held artifacts, in the order of their names.
 pub(crate) fn holdings<'a>(
     alloc: Global,
     held: &'a BTreeMap<Name, HeldArtifact>,
 ) -> Result<Vec<Holding<'a>>, Memory>
     ensures holdings { IfOk result (λ list. map held_as list.items ≡ map entry_of held.now.entries) }
+    ensures known { IfOk result (λ list. map known_as list.items ≡ map known_of held.now.entries) }
     ensures ordered { IsStrictlySortedBy bytes_cmp (tree.keys held.now) }
 {
     let mut list = Vec::new(alloc);
@@ -125,7 +126,9 @@ pub(crate) fn holdings<'a>(
         let holding = Holding {
             name: *name,
             private: artifact.private,
-            bytes: artifact.bytes.bytes(),
+            place: artifact.place,
+            size: artifact.size,
+            bytes: &artifact.bytes,
         };
         if list.push(holding).is_err() {
             return Err(Memory);

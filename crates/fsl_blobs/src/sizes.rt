@@ -1,11 +1,11 @@
 //! The sum of the held sizes, as records change it.
-ghost use Rattle.std.specs.Prelude.{◌≡◌, ◌<◌, ◌≤◌, ◌+◌, ◌^◌, ◌++◌, ◌∷◌, [], ℕ, List, length};
+ghost use Rattle.std.specs.Prelude.{◌≡◌, ◌<◌, ◌≤◌, ◌+◌, ◌^◌, ◌++◌, ◌∷◌, [], ℕ, List};
 ghost use Rattle.std.specs.Option.{option_map_or};
 ghost use Rattle.std.specs.FinMap as map_of;
 ghost use Rattle.fsl_record.specs.declared.Config as config_of;
 ghost use Rattle.fsl_record.specs.declared.Record as record_of;
 ghost use Rattle.fsl_blobs.specs.Fold.{contents, held_bytes};
-ghost use Rattle.fsl_blobs.specs.Kept.{held_at, is_kept, IsKept};
+ghost use Rattle.fsl_blobs.specs.Kept.{held_at, is_kept, AreFrom, IsKept};
 
 use crate::Blobs;
 use crate::blobs::HeldArtifact;
@@ -15,11 +15,10 @@ use std::collections::{BTreeMap, BTreeSet};
 
 /// The size of a held artifact, in bytes, and 0 where the name isn't held.
 pub(crate) fn size_of(held: &BTreeMap<Name, HeldArtifact>, name: &Name) -> u64
-    ensures size { result ≡ option_map_or (λ a. length a.bytes) (held_at held.now.entries name.now) 0 }
-    ensures fits { result < 2 ^ 63 }
+    ensures { result ≡ option_map_or (λ a. a.size) (held_at held.now.entries name.now) 0 }
 {
     match held.get(name) {
-        Some(artifact) => artifact.bytes.bytes().len() as u64,
+        Some(artifact) => artifact.size,
         None => 0,
     }
 }
@@ -43,7 +42,7 @@ pub(crate) fn total_with(
     entry: &Record,
 ) -> u128
     requires { total < 2 ^ 126 }
-    ensures total { (records : List record_of.Record) (found : config_of.Config) (announced : List (List ℕ)) → IsKept records found held.now.entries shunned.now.keys announced → total ≡ held_bytes (contents records).held → result ≡ held_bytes (contents (records ++ entry.now ∷ [])).held }
+    ensures total { (records : List record_of.Record) (starts : List ℕ) (found : config_of.Config) (announced : List (List ℕ)) → IsKept records found held.now.entries shunned.now.keys announced → AreFrom records starts held.now.entries → total ≡ held_bytes (contents records).held → result ≡ held_bytes (contents (records ++ entry.now ∷ [])).held }
     ensures fits { result ≤ total + 2 ^ 63 }
 {
     match entry {
@@ -55,6 +54,7 @@ pub(crate) fn total_with(
         }
         Record::Shun { name } => total.saturating_sub(u128::from(size_of(held, name))),
         Record::Publish { .. } => total,
+        Record::Unshun { .. } => total,
         Record::Config(_) => total,
     }
 }

@@ -17,7 +17,7 @@ use Rattle.fsl_wiki.specs.Pages as pages
 use Rattle.fsl_forum.specs.Threads as threads
 use Rattle.fsl_timeline.specs.declared.RowKind.TheVariants as row
 use Rattle.fsl_cross.specs.declared.Item.{Item}
-use Rattle.fsl_cross.specs.Facts.{as_manifest, tag_cards, links_fact, assertions}
+use Rattle.fsl_cross.specs.Facts.{as_manifest, tag_cards, links_fact, assertions, parent_names}
 use Rattle.fsl_cross.specs.Checkins.{links_facts, tags_fact, tags_facts}
 use Rattle.fsl_cross.specs.Inside.{tags_fact_over, attachment_row}
 use Rattle.fsl_cross.specs.Tables.{pages_facts, forum_facts, attachment_kind, timeline_row_of, without}
@@ -52,7 +52,7 @@ module _ (items : List Item) (rise : Rise items) (x : Item) (at : named item_nam
 
   -- an artifact that is no check-in leaves the facts of parentage
   pub links-stay : as_manifest x.artifact ≡ None → links_facts items ≡ links_facts old
-  links-stay none = facts-stay items rise x at (λ (f : links.Fact). f.name) links_fact links_own (ap (option_map (λ m. let f : links.Fact = record { name = x.name; parents = m.parents } in f)) none)
+  links-stay none = facts-stay items rise x at (λ (f : links.Fact). f.name) links_fact links_own (ap (option_map (λ m. let f : links.Fact = record { name = x.name; parents = parent_names m } in f)) none)
 
   -- .. and where it has no T cards those of tags
   pub tags-stay : as_manifest x.artifact ≡ None → tag_cards x.artifact ≡ None → tags_facts items ≡ tags_facts old

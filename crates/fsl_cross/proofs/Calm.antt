@@ -13,7 +13,11 @@ use Rattle.fsl_order.specs.Rows.{ascending, by_name, named}
 use Rattle.fsl_order.proofs.AscendingLemmas.{has-ascending}
 use Rattle.fsl_order.proofs.RowLemmas.{named-All}
 use Rattle.fsl_table.specs.Pairs.{is_name}
-use Rattle.fsl_grammar.specs.Forms.{all_differ}
+use Rattle.fsl_name.specs.Ref.{own_names, ref_bytes}
+use Rattle.fsl_name.specs.declared.reference.Ref.{Ref}
+use Rattle.fsl_name.specs.declared.reference.Ref.TheVariants.{Own, Foreign}
+use Rattle.fsl_grammar.specs.Forms.{refs_differ}
+use Rattle.fsl_grammar.proofs.DifferLemmas.{all_differ}
 use Rattle.fsl_manifest.specs.declared.Manifest.{Manifest}
 use Rattle.fsl_artifact.specs.declared.Artifact.{Artifact}
 use Rattle.fsl_artifact.specs.declared.Artifact.TheVariants as kind
@@ -31,7 +35,7 @@ use Rattle.fsl_files.specs.Files as listing
 use Rattle.fsl_files.specs.Touches.{is_followed, counted}
 use Rattle.fsl_cross.specs.declared.Item.{Item}
 use Rattle.fsl_cross.specs.Checkins.{links_facts, tags_fact, tags_facts, checkin, branch}
-use Rattle.fsl_cross.specs.Facts.{as_manifest, tag_cards, assertions, links_fact, file_row}
+use Rattle.fsl_cross.specs.Facts.{as_manifest, tag_cards, assertions, links_fact, file_row, parent_names}
 use Rattle.fsl_cross.specs.Mixed.{is_child}
 use Rattle.fsl_cross.specs.Tables.{leaves_fact, files_facts, without}
 use Rattle.fsl_cross.specs.Touches.{is_unnamed, are_own, has_own_tags, is_calm, file_count, NoneRetagged}
@@ -113,10 +117,10 @@ module _ (n : List ℕ) where
   all-apart [] h = tt
   all-apart (x ∷ xs) h = let parts = or_parts (has (references x.artifact) n) _ h in (parts.0, all-apart xs parts.1)
 
-  manifest-apart : (x : Item) (m : Manifest) → as_manifest x.artifact ≡ Some m → IsApart x → (has (option_to_list m.baseline) n ≡ false) × (has m.parents n ≡ false)
+  manifest-apart : (x : Item) (m : Manifest) → as_manifest x.artifact ≡ Some m → IsApart x → (has (option_to_list m.baseline) n ≡ false) × (has (parent_names m) n ≡ false)
   manifest-apart x m is apart =
       let whole : has (manifest_names m) n ≡ false = sym (has-ascending (manifest_names m) n) ∙ ap (λ a. has (references a) n) (sym (manifest-is x.artifact m is)) ∙ apart in
-      five-apart (option_to_list m.baseline) (flat_map (λ file. option_to_list file.hash) m.files) m.parents (flat_map (λ pick. pick.target ∷ option_to_list pick.other) m.picks) (tag_targets m.tags) n whole
+      five-apart (option_to_list m.baseline) (flat_map (λ file. own_names (option_to_list file.hash)) m.files) (parent_names m) (flat_map (λ pick. own_names (pick.target ∷ option_to_list pick.other)) m.picks) (tag_targets m.tags) n whole
 
   -- no check-in has it as a parent
   no-kids : (xs : List Item) → AllByRecursion IsApart xs → filter (λ (f : links.Fact). has f.parents n) (links_facts xs) ≡ []
@@ -124,10 +128,10 @@ module _ (n : List ℕ) where
   no-kids (x ∷ xs) all = by (as_manifest x.artifact) refl (no-kids xs all.1)
     where
       by : (o : Option Manifest) → as_manifest x.artifact ≡ o → filter (λ (f : links.Fact). has f.parents n) (links_facts xs) ≡ []
-          → filter (λ (f : links.Fact). has f.parents n) (cons_option (option_map (λ m. let f : links.Fact = record { name = x.name; parents = m.parents } in f) o) (links_facts xs)) ≡ []
+          → filter (λ (f : links.Fact). has f.parents n) (cons_option (option_map (λ m. let f : links.Fact = record { name = x.name; parents = parent_names m } in f) o) (links_facts xs)) ≡ []
       by None e rest = rest
       by (Some m) e rest =
-          let f : links.Fact = record { name = x.name; parents = m.parents } in
+          let f : links.Fact = record { name = x.name; parents = parent_names m } in
           ap (λ b. cond b (f ∷ filter (λ (f : links.Fact). has f.parents n) (links_facts xs)) (filter (λ (f : links.Fact). has f.parents n) (links_facts xs))) (manifest-apart x m e all.0).1 ∙ rest
 
   pub no-children : (xs : List Item) → AllByRecursion IsApart xs → children (links_facts xs) n ≡ []
@@ -138,7 +142,7 @@ module _ (n : List ℕ) where
   no-parent s (x ∷ xs) all = by (as_manifest x.artifact) refl (no-parent s xs all.1)
     where
       by : (o : Option Manifest) → as_manifest x.artifact ≡ o → list_any (λ (f : leaves.Fact). has f.parents n) (filter_map (leaves_fact s) xs) ≡ false
-          → list_any (λ (f : leaves.Fact). has f.parents n) (cons_option (option_map (λ m. let f : leaves.Fact = record { name = x.name; parents = m.parents; branch = branch s x.name } in f) o) (filter_map (leaves_fact s) xs)) ≡ false
+          → list_any (λ (f : leaves.Fact). has f.parents n) (cons_option (option_map (λ m. let f : leaves.Fact = record { name = x.name; parents = parent_names m; branch = branch s x.name } in f) o) (filter_map (leaves_fact s) xs)) ≡ false
       by None e rest = rest
       by (Some m) e rest = λ i. (manifest-apart x m e all.0).1 i || rest i
 
@@ -156,11 +160,11 @@ module _ (n : List ℕ) where
   no-follower (x ∷ xs) all = by (as_manifest x.artifact) refl (no-follower xs all.1)
     where
       by : (o : Option Manifest) → as_manifest x.artifact ≡ o → is_followed (files_facts xs) n ≡ false
-          → is_followed (cons_option (option_map (λ m. let f : files.Fact = record { name = x.name; baseline = m.baseline; parent = slice_get m.parents 0; files = map file_row m.files } in f) o) (files_facts xs)) n ≡ false
+          → is_followed (cons_option (option_map (λ m. let f : files.Fact = record { name = x.name; baseline = m.baseline; parent = slice_get (parent_names m) 0; files = map file_row m.files } in f) o) (files_facts xs)) n ≡ false
       by None e rest = rest
       by (Some m) e rest =
           let parts = manifest-apart x m e all.0 in
-          λ i. (none-some m.baseline parts.0 i || none-first m.parents parts.1 i) || rest i
+          λ i. (none-some m.baseline parts.0 i || none-first (parent_names m) parts.1 i) || rest i
 
   -- ---- primary parents
 
@@ -191,9 +195,9 @@ module _ (items : List Item) (rise : Rise items) (x : Item) (at : named item_nam
           found_old = named-out item_name x.name q items ∙ (λ i. cond ((nat_list_eq_equiv.symm x.name q ∙ apart) i) None (found i))
 
           by_manifest : (o : Option Manifest) → as_manifest y.artifact ≡ o
-              → option_map_or (bytes_eq n) (option_and_then (λ (f : links.Fact). slice_get f.parents 0) (option_map (λ m. let f : links.Fact = record { name = y.name; parents = m.parents } in f) o)) false ≡ false
+              → option_map_or (bytes_eq n) (option_and_then (λ (f : links.Fact). slice_get f.parents 0) (option_map (λ m. let f : links.Fact = record { name = y.name; parents = parent_names m } in f) o)) false ≡ false
           by_manifest None e = refl
-          by_manifest (Some m) e = none-first x.name m.parents (manifest-apart x.name y m e (named-All item_name (λ (item : Item). has (references item.artifact) x.name ≡ false) old all q y found_old)).1
+          by_manifest (Some m) e = none-first x.name (parent_names m) (manifest-apart x.name y m e (named-All item_name (λ (item : Item). has (references item.artifact) x.name ≡ false) old all q y found_old)).1
 
       by : (b : Bool) → bytes_eq q n ≡ b → (not b && is_name (primary (links_facts items) q) n) ≡ false
       by true e = refl
@@ -248,14 +252,25 @@ distinct (x ∷ xs) h = let parts = and_parts (list_all (λ y. not (bytes_eq x y
 pub differ-within : (xs ys : List (List ℕ)) → all_differ xs ≡ true → ((q : List ℕ) → has xs q ≡ true → has ys q ≡ true) → length xs ≤ length ys
 differ-within xs ys apart among = length-le_from_is_member nat_list_eq_equiv xs ys (distinct xs apart) among
 
+-- own names among references that differ do so too
+own-apart : (x : List ℕ) (refs : List Ref) → list_all (λ y. not (bytes_eq x (ref_bytes y))) refs ≡ true → list_all (λ y. not (bytes_eq x y)) (own_names refs) ≡ true
+own-apart x [] h = refl
+own-apart x (Own name ∷ refs) h = let parts = and_parts (not (bytes_eq x name)) _ h in rw (parts.0, own-apart x refs parts.1) refl
+own-apart x (Foreign bytes ∷ refs) h = own-apart x refs (and_parts (not (bytes_eq x bytes)) _ h).1
+
+own-differ : (refs : List Ref) → refs_differ refs ≡ true → all_differ (own_names refs) ≡ true
+own-differ [] h = refl
+own-differ (Own name ∷ refs) h = let parts = and_parts _ (refs_differ refs) h in rw (own-apart name refs parts.0, own-differ refs parts.1) refl
+own-differ (Foreign bytes ∷ refs) h = own-differ refs (and_parts _ (refs_differ refs) h).1
+
 -- the parents of a check-in are among its references
-pub parents-within : (text : List ℕ) (m : Manifest) → IsKind text (kind.Manifest m) → length m.parents ≤ length (references (kind.Manifest m))
-parents-within text m is = differ-within m.parents (references (kind.Manifest m)) is.2.parents.differ among
+pub parents-within : (text : List ℕ) (m : Manifest) → IsKind text (kind.Manifest m) → length (parent_names m) ≤ length (references (kind.Manifest m))
+parents-within text m is = differ-within (parent_names m) (references (kind.Manifest m)) (own-differ m.parents is.2.parents.differ) among
   where
-    among : (q : List ℕ) → has m.parents q ≡ true → has (references (kind.Manifest m)) q ≡ true
+    among : (q : List ℕ) → has (parent_names m) q ≡ true → has (references (kind.Manifest m)) q ≡ true
     among q there =
         has-ascending (manifest_names m) q
-        ∙ five-among (option_to_list m.baseline) (flat_map (λ file. option_to_list file.hash) m.files) m.parents (flat_map (λ pick. pick.target ∷ option_to_list pick.other) m.picks) (tag_targets m.tags) q there
+        ∙ five-among (option_to_list m.baseline) (flat_map (λ file. own_names (option_to_list file.hash)) m.files) (parent_names m) (flat_map (λ pick. own_names (pick.target ∷ option_to_list pick.other)) m.picks) (tag_targets m.tags) q there
 
 -- what a check-in counts of another
 pub counted-is : (items : List Item) (o : Option (List ℕ)) → counted (files_facts items) o ≡ option_map_or (file_count items) o 0

@@ -6,10 +6,10 @@ use Rattle.std.proofs.lemmas.List.Elements.{All-nil, All-cons, All-head, All-tai
 use Rattle.fsl_order.specs.Names.{is_before}
 use Rattle.fsl_order.specs.Rows.{rises}
 use Rattle.fsl_order.proofs.Booleans.{first_holds, second_holds}
-use Rattle.fsl_grammar.specs.Forms.{all_differ, is_tag_written}
+use Rattle.fsl_grammar.specs.Forms.{is_tag_written, refs_differ}
 use Rattle.fsl_manifest.specs.declared.FileCard.{FileCard}
 use Rattle.fsl_manifest.specs.declared.Manifest.{Manifest}
-use Rattle.fsl_manifest.specs.Manifests.{files_rise, has_hashes}
+use Rattle.fsl_manifest.specs.Manifests.{begins_own, files_rise, has_hashes}
 use Rattle.fsl_manifest.proofs.Exact.{well_formed_from}
 use Rattle.fsl_artifact.specs.declared.Artifact.{Artifact}
 use Rattle.fsl_artifact.specs.declared.Artifact.TheVariants.{Plain, Cluster, Control, Wiki, Ticket, Attachment, Technote, Forum}
@@ -39,7 +39,7 @@ whole-without (Some base) files h = tt
 abbrev rise_of : (text : List ℕ) (m : Manifest) → IsOfKind text (kind.Manifest m) → files_rise m.files ≡ true
 rise_of text m is =
     let well = well_formed_from text is.0 m is.1 is.2 in
-    second_holds _ (files_rise m.files) (first_holds _ (has_hashes m) (first_holds _ (all_differ m.parents) (first_holds _ (list_all is_tag_written m.tags) well)))
+    second_holds _ (files_rise m.files) (first_holds _ (has_hashes m) (first_holds _ (begins_own m.parents) (first_holds _ (refs_differ m.parents) (first_holds _ (list_all is_tag_written m.tags) well))))
 
 -- the fact of what some bytes are meets it
 pub fit_of : (name text : List ℕ) (private : Bool) (a : Artifact) → IsKind text a → IfSome (files_fact (record { name = name; private = private; artifact = a })) IsFilesFact

@@ -19,7 +19,7 @@ use Rattle.fsl_timeline.specs.declared.Row.{Row}
 use Rattle.fsl_timeline.specs.declared.RowKind.TheVariants as row
 use Rattle.fsl_date.specs.Moment.{date_in}
 use Rattle.fsl_cross.specs.declared.Item.{Item}
-use Rattle.fsl_cross.specs.Facts.{as_manifest}
+use Rattle.fsl_cross.specs.Facts.{as_manifest, parent_names}
 use Rattle.fsl_cross.specs.Checkins.{tags_facts, checkin, branch}
 use Rattle.fsl_cross.specs.Tables.{leaves_fact, leaves_facts, timeline_rows, timeline_row_of, without}
 use Rattle.fsl_cross.specs.Inside.{checkin_row, leaves_fact_over}
@@ -36,8 +36,8 @@ use Rattle.fsl_cross.proofs.Going.{goes-stay, goes-put}
 use Rattle.fsl_cross.proofs.Pushing.{pushed-before, pushed-out, told-same}
 
 -- a check-in, and nothing else, gives a leaf's fact
-leaf_some : (b : List ℕ) (item : Item) → is_some (option_map (λ m. let g : leaves.Fact = record { name = item.name; parents = m.parents; branch = b } in g) (as_manifest item.artifact)) ≡ is_some (as_manifest item.artifact)
-leaf_some b item = elim (as_manifest item.artifact) as (λ o. is_some (option_map (λ m. let g : leaves.Fact = record { name = item.name; parents = m.parents; branch = b } in g) o) ≡ is_some o) [ None ↦ refl | Some m ↦ refl ]
+leaf_some : (b : List ℕ) (item : Item) → is_some (option_map (λ m. let g : leaves.Fact = record { name = item.name; parents = parent_names m; branch = b } in g) (as_manifest item.artifact)) ≡ is_some (as_manifest item.artifact)
+leaf_some b item = elim (as_manifest item.artifact) as (λ o. is_some (option_map (λ m. let g : leaves.Fact = record { name = item.name; parents = parent_names m; branch = b } in g) o) ≡ is_some o) [ None ↦ refl | Some m ↦ refl ]
 
 -- the row of a check-in
 pub row-checkin : (items : List Item) (name : List ℕ) (a : Artifact) (m : Manifest) → as_manifest a ≡ Some m → timeline_row_of items name a ≡ Some (checkin_row (tags_facts items) name m)
@@ -62,7 +62,7 @@ module _ (law : EffectiveByRow) (a b : List tags.Fact) (name : List ℕ) (same :
 
   pub leaf-same : (item : Item) → item.name ≡ name → leaves_fact_over a item ≡ leaves_fact_over b item
   leaf-same item is =
-      ap (λ o. option_map (λ m. let g : leaves.Fact = record { name = item.name; parents = m.parents; branch = unwrap_or o (codes "trunk") } in g) (as_manifest item.artifact))
+      ap (λ o. option_map (λ m. let g : leaves.Fact = record { name = item.name; parents = parent_names m; branch = unwrap_or o (codes "trunk") } in g) (as_manifest item.artifact))
       (subst (λ n. option_map (λ (x : Assertion). x.value) (only (λ x. not (cancels x.prefix)) (effective a n (codes "branch"))) ≡ option_map (λ (x : Assertion). x.value) (only (λ x. not (cancels x.prefix)) (effective b n (codes "branch")))) (sym is) (forced-same (codes "branch")))
 
   pub checkin_row-same : (m : Manifest) → checkin_row a name m ≡ checkin_row b name m
@@ -127,8 +127,8 @@ module _ (items : List Item) (rise : Rise items) (x : Item) (at : named item_nam
     leaves-end =
         mixed-end item_name (λ (f : leaves.Fact). f.name) (leaves_fact old) (leaves_fact items) (leaves_own old) (leaves_own items) items rise done
         (λ y found out. elim (as_manifest y.artifact) as (λ o. as_manifest y.artifact ≡ o → leaves_fact items y ≡ leaves_fact old y) [
-          | None ↦ λ e. ap (option_map (λ m. let g : leaves.Fact = record { name = y.name; parents = m.parents; branch = branch items y.name } in g)) e
-              ∙ sym (ap (option_map (λ m. let g : leaves.Fact = record { name = y.name; parents = m.parents; branch = branch old y.name } in g)) e)
+          | None ↦ λ e. ap (option_map (λ m. let g : leaves.Fact = record { name = y.name; parents = parent_names m; branch = branch items y.name } in g)) e
+              ∙ sym (ap (option_map (λ m. let g : leaves.Fact = record { name = y.name; parents = parent_names m; branch = branch old y.name } in g)) e)
           | Some m ↦ λ e. leaf-same law (tags_facts items) (tags_facts old) y.name (row-kept y m found e out) y refl
         ] refl)
 

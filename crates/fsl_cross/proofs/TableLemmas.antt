@@ -21,7 +21,7 @@ use Rattle.fsl_ticket.specs.declared.Fact as ticket
 use Rattle.fsl_ticket.specs.Seen.{Seen}
 use Rattle.fsl_forum.specs.Threads as threads
 use Rattle.fsl_cross.specs.declared.Item.{Item}
-use Rattle.fsl_cross.specs.Facts.{as_manifest, file_row, files_fact, pages_fact, pages_fact_of, ticket_fact, ticket_fact_of, forum_fact, forum_fact_of, cluster_fact}
+use Rattle.fsl_cross.specs.Facts.{as_manifest, file_row, files_fact, pages_fact, pages_fact_of, ticket_fact, ticket_fact_of, forum_fact, forum_fact_of, cluster_fact, parent_names}
 use Rattle.fsl_cross.specs.Checkins.{tags_facts}
 use Rattle.fsl_cross.specs.Tables.{files_facts, pages_facts, ticket_facts, forum_facts, cluster_facts, timeline_row_of, timeline_rows}
 use Rattle.fsl_cross.specs.Inside.{is_ticket, is_note, row_over, item_row_over}
@@ -33,7 +33,7 @@ use Rattle.fsl_cross.proofs.FactLemmas.{Rise}
 
 pub files-own : (item : Item) → IfSome (files_fact item) (λ f. f.name ≡ item.name)
 files-own item =
-    elim (as_manifest item.artifact) as (λ o. IfSome (option_map (λ m. let f : files.Fact = record { name = item.name; baseline = m.baseline; parent = slice_get m.parents 0; files = map file_row m.files } in f) o) (λ f. f.name ≡ item.name)) [
+    elim (as_manifest item.artifact) as (λ o. IfSome (option_map (λ m. let f : files.Fact = record { name = item.name; baseline = m.baseline; parent = slice_get (parent_names m) 0; files = map file_row m.files } in f) o) (λ f. f.name ≡ item.name)) [
       | None ↦ tt
       | Some m ↦ refl
     ]

@@ -1,9 +1,10 @@
 -- What each table takes of touches when an artifact comes that asks nothing of others.
 use Rattle.std.proofs.Common.{◌≡◌, ◌≤◌, ◌+◌, ◌*◌, ℕ, suc, true, false, cond, List, [], ◌∷◌, Bool, length, Option, Some, None, map, refl, sym, ap, ◌∙◌, subst, arith, inl, inr}
-use Rattle.std.specs.Prelude.{◌&&◌, option_map, option_and_then, slice_get, IfSome}
+use Rattle.std.specs.Prelude.{◌&&◌, filter, option_map, option_and_then, slice_get, IfSome}
 use Rattle.std.specs.List.{AllByRecursion, list_any}
 use Rattle.std.specs.Option.{option_map_or}
 use Rattle.std.proofs.lemmas.Bool.{not-true}
+use Rattle.std.proofs.lemmas.List.Sums.{count_by-le-length, length-filter}
 use Rattle.fsl_order.specs.TableState.{TableState, Change}
 use Rattle.fsl_order.specs.Names.{has}
 use Rattle.fsl_order.specs.Rows.{named}
@@ -24,7 +25,7 @@ use Rattle.fsl_cross.specs.declared.Item.{Item}
 use Rattle.fsl_cross.specs.Attached.{target_id}
 use Rattle.fsl_cross.specs.Kinds.{own_id}
 use Rattle.fsl_cross.specs.Checkins.{links_facts, tags_facts}
-use Rattle.fsl_cross.specs.Facts.{as_manifest, tag_cards, file_row, pages_fact_of, ticket_fact_of, forum_fact_of}
+use Rattle.fsl_cross.specs.Facts.{as_manifest, asserts, tag_cards, file_row, pages_fact_of, ticket_fact_of, forum_fact_of, parent_names}
 use Rattle.fsl_cross.specs.Mixed.{is_child, is_other_checkin, all_changed}
 use Rattle.fsl_cross.specs.Tables.{IsItem, leaves_facts, files_facts, without}
 use Rattle.fsl_cross.specs.Touches.{touches_of, add_touches, added_most, is_unnamed, are_own, has_own_tags, is_calm, file_count, NoneOf, IsNoParent, NoneRetagged, NoneLate, Untouched, IsCalm, parents_most, tags_most, files_most}
@@ -125,9 +126,9 @@ length-mapped : {X Y : Type 0} (f : X → Y) (xs : List X) → length (map f xs)
 length-mapped f [] = refl
 length-mapped f (x ∷ xs) = ap suc (length-mapped f xs)
 
-sum-checkin : (p t r f g c d up base most : ℕ) → p ≤ r → f ≡ g → c ≡ up → d ≡ base → most ≡ 64 * (1 + r + (t + g + up + base))
-    → 2 * (6 * (1 + p)) + 20 * (1 + t) + (6 * (1 + 0 + r) + 10 * (1 + f + c + d) + 4) + 6 ≤ most
-sum-checkin p t r f g c d up base most pr fg cu db is = omega (arith, pr, fg, cu, db, is)
+sum-checkin : (p s t r f g c d up base most : ℕ) → p ≤ r → s ≤ t → f ≡ g → c ≡ up → d ≡ base → most ≡ 64 * (1 + r + (t + g + up + base))
+    → 2 * (6 * (1 + p)) + 20 * (1 + s) + (6 * (1 + 0 + r) + 10 * (1 + f + c + d) + 4) + 6 ≤ most
+sum-checkin p s t r f g c d up base most pr st fg cu db is = omega (arith, pr, st, fg, cu, db, is)
 
 sum-page : (r most : ℕ) → most ≡ 64 * (1 + r) → 2 * 0 + 0 + (6 * (1 + 0 + r) + 0 + 4) + 6 ≤ most
 sum-page r most is = omega (arith, is)
@@ -146,10 +147,10 @@ module _ (items : List Item) (x : Item) where
       by (kind.Manifest m) k e =
           let b = if-bounded (is_unnamed (without x.name items) x.name && are_own m.tags) _ most e in (
             b.0,
-            sum-checkin (length m.parents) (length m.tags) (length (references (kind.Manifest m))) (length (map file_row m.files)) (length m.files)
-                (counted (files_facts (without x.name items)) (slice_get m.parents 0)) (counted (files_facts (without x.name items)) m.baseline)
-                (option_map_or (file_count (without x.name items)) (slice_get m.parents 0) 0) (option_map_or (file_count (without x.name items)) m.baseline 0) most
-                (parents-within k.0 m k.1) (length-mapped file_row m.files) (counted-is (without x.name items) (slice_get m.parents 0)) (counted-is (without x.name items) m.baseline) b.1,
+            sum-checkin (length (parent_names m)) (length (filter asserts m.tags)) (length m.tags) (length (references (kind.Manifest m))) (length (map file_row m.files)) (length m.files)
+                (counted (files_facts (without x.name items)) (slice_get (parent_names m) 0)) (counted (files_facts (without x.name items)) m.baseline)
+                (option_map_or (file_count (without x.name items)) (slice_get (parent_names m) 0) 0) (option_map_or (file_count (without x.name items)) m.baseline 0) most
+                (parents-within k.0 m k.1) (subst (λ n. n ≤ length m.tags) (sym (length-filter asserts m.tags)) (count_by-le-length asserts m.tags)) (length-mapped file_row m.files) (counted-is (without x.name items) (slice_get (parent_names m) 0)) (counted-is (without x.name items) m.baseline) b.1,
           )
       by (kind.Wiki w) k e = (refl, sum-page (length (references (kind.Wiki w))) most (sym (inside e)))
       by (kind.Cluster w) k e = cc

@@ -1,6 +1,8 @@
 -- What one artifact gives to each table, apart from what other artifacts decide.
-use Rattle.std.specs.Prelude.{ℕ, List, [], Option, Some, None, map, slice_get, unwrap_or, option_map}
+use Rattle.std.specs.Prelude.{ℕ, List, [], Bool, Option, Some, None, is_some, map, filter_map, slice_get, unwrap_or, option_map}
 use Rattle.std.specs.List.{enumerate_from}
+use Rattle.fsl_name.specs.Ref.{own_name, own_names}
+use Rattle.fsl_name.specs.declared.reference.Ref.{Ref}
 use Rattle.fsl_grammar.specs.declared.Prefix.{Prefix}
 use Rattle.fsl_grammar.specs.declared.Prefix.TheVariants as card
 use Rattle.fsl_grammar.specs.declared.TagCard.{TagCard}
@@ -52,9 +54,18 @@ row_perm_of perm.Writable = row.Writable
 row_perm_of perm.Exec = row.Exec
 row_perm_of perm.Symlink = row.Symlink
 
--- the assertion of the T card at a place, counted from 0; a missing value is empty, and a missing target the artifact itself
-abbrev pub assertion : ℕ → List ℕ → ℕ × TagCard → Assertion
-assertion date source numbered =
+-- what a T card of an artifact is on: without a target the artifact itself; on a foreign target it asserts nothing
+abbrev pub target_of : List ℕ → Option Ref → Option (List ℕ)
+target_of source None = Some source
+target_of source (Some r) = own_name r
+
+-- whether a T card asserts something
+abbrev pub asserts : TagCard → Bool
+asserts card = is_some (target_of [] card.target)
+
+-- the assertion of the T card at a place, counted from 0, on a target; a missing value is empty
+abbrev pub assertion_on : ℕ → List ℕ → ℕ × TagCard → List ℕ → Assertion
+assertion_on date source numbered target =
     record {
       date = date;
       source = source;
@@ -62,16 +73,23 @@ assertion date source numbered =
       prefix = tag_prefix_of numbered.1.prefix;
       tag = numbered.1.tag;
       value = unwrap_or numbered.1.value [];
-      target = unwrap_or numbered.1.target source;
+      target = target;
     }
 
--- the assertions of an artifact
+abbrev pub assertion : ℕ → List ℕ → ℕ × TagCard → Option Assertion
+assertion date source numbered = option_map (assertion_on date source numbered) (target_of source numbered.1.target)
+
+-- the assertions of an artifact; the places count all its T cards
 abbrev pub assertions : Item → ℕ × List TagCard → List Assertion
-assertions item cards = map (assertion cards.0 item.name) (enumerate_from 0 cards.1)
+assertions item cards = filter_map (assertion cards.0 item.name) (enumerate_from 0 cards.1)
+
+-- the own names of the P card of a check-in; the first of them is its first P name, which is never foreign
+abbrev pub parent_names : Manifest → List (List ℕ)
+parent_names m = own_names m.parents
 
 -- a check-in with its parents
 abbrev pub links_fact : Item → Option links.Fact
-links_fact item = option_map (λ m. record { name = item.name; parents = m.parents }) (as_manifest item.artifact)
+links_fact item = option_map (λ m. record { name = item.name; parents = parent_names m }) (as_manifest item.artifact)
 
 -- a file of a check-in
 abbrev pub file_row : FileCard → FileRow
@@ -80,12 +98,12 @@ file_row f = record { path = f.path; hash = f.hash; perm = row_perm_of f.perm }
 -- a check-in with its B name, its first P name and its F cards
 abbrev pub files_fact : Item → Option files.Fact
 files_fact item =
-    option_map (λ m. record { name = item.name; baseline = m.baseline; parent = slice_get m.parents 0; files = map file_row m.files }) (as_manifest item.artifact)
+    option_map (λ m. record { name = item.name; baseline = m.baseline; parent = slice_get (parent_names m) 0; files = map file_row m.files }) (as_manifest item.artifact)
 
 -- a wiki page, a technote or an attachment
 abbrev pub pages_fact_of : List ℕ → Artifact → Option wiki.Fact
 pages_fact_of name (kind.Wiki w) = Some (pages.Page (record { name = name; date = w.date; title = w.title; user = w.user }))
-pages_fact_of name (kind.Attachment a) = Some (pages.Attached (record { name = name; date = a.date; target = a.target; file = a.file; source = a.source }))
+pages_fact_of name (kind.Attachment a) = Some (pages.Attached (record { name = name; date = a.date; target = a.target; file = a.file; sourced = is_some a.source }))
 pages_fact_of name (kind.Technote t) = Some (pages.Note (record { name = name; date = t.date; time = t.time; id = t.id }))
 pages_fact_of name _ = None
 

@@ -29,7 +29,7 @@ use Rattle.fsl_forum.specs.declared.Fact as forum
 use Rattle.fsl_forum.specs.Threads as threads
 use Rattle.fsl_cross.specs.declared.Item.{Item}
 use Rattle.fsl_cross.specs.declared.Values.{Values}
-use Rattle.fsl_cross.specs.Facts.{as_manifest, tag_cards, assertions, pages_fact, ticket_fact}
+use Rattle.fsl_cross.specs.Facts.{as_manifest, tag_cards, assertions, pages_fact, ticket_fact, parent_names}
 use Rattle.fsl_cross.specs.Tables.{pages_facts, ticket_facts, tag_text}
 
 -- an artifact that may have T cards, with its assertions and its primary parent by some facts
@@ -71,7 +71,7 @@ values_over facts name m =
 -- a check-in with its parents and its branch
 abbrev pub leaves_fact_over : List tags.Fact → Item → Option leaves.Fact
 leaves_fact_over facts item =
-    option_map (λ m. record { name = item.name; parents = m.parents; branch = branch_over facts item.name }) (as_manifest item.artifact)
+    option_map (λ m. record { name = item.name; parents = parent_names m; branch = branch_over facts item.name }) (as_manifest item.artifact)
 
 -- the date and the name of the check-in of a name
 abbrev pub dated_over : List tags.Fact → List Item → List ℕ → Option (ℕ × List ℕ)

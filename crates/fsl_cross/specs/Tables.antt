@@ -26,13 +26,13 @@ use Rattle.fsl_forum.specs.Threads as threads
 use Rattle.fsl_cluster.specs.declared.Fact as cluster
 use Rattle.fsl_table.specs.Trail.{AreAllAtMost}
 use Rattle.fsl_cross.specs.declared.Item.{Item}
-use Rattle.fsl_cross.specs.Facts.{as_manifest, files_fact, pages_fact, ticket_fact, forum_fact, cluster_fact}
+use Rattle.fsl_cross.specs.Facts.{as_manifest, files_fact, pages_fact, ticket_fact, forum_fact, cluster_fact, parent_names}
 use Rattle.fsl_cross.specs.Checkins.{links_facts, tags_facts, branch, values_of}
 
 -- a check-in with its parents and its branch
 abbrev pub leaves_fact : List Item → Item → Option leaves.Fact
 leaves_fact items item =
-    option_map (λ m. record { name = item.name; parents = m.parents; branch = branch items item.name }) (as_manifest item.artifact)
+    option_map (λ m. record { name = item.name; parents = parent_names m; branch = branch items item.name }) (as_manifest item.artifact)
 
 abbrev pub leaves_facts : List Item → List leaves.Fact
 leaves_facts items = filter_map (leaves_fact items) items

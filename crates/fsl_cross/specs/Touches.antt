@@ -1,6 +1,6 @@
 -- How many touches one artifact more may cost.
 use Rattle.std.specs.Prelude.{◌≡◌, ℕ, ◌+◌, ◌*◌, List, length, filter_map, slice_get, Bool, true, false, not, ◌&&◌, if◌then◌else◌}
-use Rattle.std.specs.Prelude.{Option, Some, None, is_none}
+use Rattle.std.specs.Prelude.{Option, Some, None, filter, is_none}
 use Rattle.std.specs.List.{list_any, list_all}
 use Rattle.std.specs.Option.{option_map_or}
 use Rattle.fsl_order.specs.TableState.{Change}
@@ -15,7 +15,7 @@ use Rattle.fsl_files.specs.Files.{files, known}
 use Rattle.fsl_files.specs.Touches.{file_most}
 use Rattle.fsl_leaves.specs.declared.Fact as leaves
 use Rattle.fsl_cross.specs.declared.Item.{Item}
-use Rattle.fsl_cross.specs.Facts.{as_manifest, tag_cards, files_fact}
+use Rattle.fsl_cross.specs.Facts.{as_manifest, asserts, tag_cards, files_fact, parent_names}
 use Rattle.fsl_cross.specs.Tables.{files_facts, without}
 use Rattle.fsl_cross.specs.Mixed.{is_child, is_other_checkin, all_changed}
 
@@ -34,7 +34,7 @@ file_count items name = option_map_or length (known (files (filter_map files_fac
 -- what the bound of a check-in counts beside its names: its T and F cards, and the files of its first parent and of its baseline
 abbrev pub checkin_size : List Item → Manifest → ℕ
 checkin_size items m =
-    length m.tags + length m.files + option_map_or (file_count items) (slice_get m.parents 0) 0 + option_map_or (file_count items) m.baseline 0
+    length m.tags + length m.files + option_map_or (file_count items) (slice_get (parent_names m) 0) 0 + option_map_or (file_count items) m.baseline 0
 
 -- the most touches of the arrival of an artifact in a set, where a bound is stated
 abbrev pub touches_of : List Item → List ℕ → Artifact → Option ℕ
@@ -86,11 +86,11 @@ has_own_tags a = option_map_or (λ cards. are_own cards.1) (tag_cards a) true
 
 -- the most touches of the table of parentage, and of that of leaves
 abbrev pub parents_most : Artifact → ℕ
-parents_most a = option_map_or (λ m. 6 * (1 + length m.parents)) (as_manifest a) 0
+parents_most a = option_map_or (λ m. 6 * (1 + length (parent_names m))) (as_manifest a) 0
 
 -- .. of that of tags
 abbrev pub tags_most : Artifact → ℕ
-tags_most a = option_map_or (λ cards. 20 * (1 + length cards.1)) (tag_cards a) 0
+tags_most a = option_map_or (λ cards. 20 * (1 + length (filter asserts cards.1))) (tag_cards a) 0
 
 -- .. of that of files
 abbrev pub files_most : List files.Fact → Item → ℕ

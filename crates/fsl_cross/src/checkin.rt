@@ -1,6 +1,7 @@
 //! The values of a check-in.
 ghost use Rattle.std.specs.Prelude.{◌≡◌, IfOk, option_map};
 ghost use Rattle.std.specs.Option.{option_copied};
+ghost use Rattle.fsl_name.specs.Ref.{own_names};
 ghost use Rattle.fsl_cross.specs.Facts.{as_manifest};
 ghost use Rattle.fsl_cross.specs.Inside.{forced_over, branch_over, date_over, values_over, text_over};
 
@@ -8,16 +9,22 @@ use super::Values;
 use fsl_artifact::Artifact;
 use fsl_date::Moment;
 use fsl_manifest::Manifest;
-use fsl_name::Name;
+use fsl_name::{Name, Ref};
 use fsl_tags::{Prefix, Tags};
 use fsl_text::{List, Memory, Text};
 use std::alloc::Global;
 
-/// A list of some names.
-pub(crate) fn copied(alloc: Global, names: &[Name]) -> Result<List<Name>, Memory>
-    ensures { IfOk result (λ list. list ≡ names.now) }
+/// The own names among references, in their order.
+pub(crate) fn own_names(alloc: Global, refs: &[Ref]) -> Result<List<Name>, Memory>
+    ensures { IfOk result (λ list. list ≡ own_names refs.now) }
 {
-    Ok(List::from_vec(names.to_vec(alloc)?))
+    let mut names = Vec::new(alloc);
+    for found in refs {
+        if let Some(name) = found.own() {
+            names.push(name)?;
+        }
+    }
+    Ok(List::from_vec(names))
 }
 
 /// The manifest, where an artifact is one.

@@ -1,6 +1,7 @@
 pub mod Change
 pub mod Disk
 pub mod File
+pub mod Flip
 pub mod Fuse
 pub mod History
 pub mod Images

@@ -1,10 +1,12 @@
 //! Disks: what their calls do to the contents, and what a crash at any moment may leave of them. A disk in memory tells
-//! both, and can be crashed; a fuse fails every call after so many; a disk over a real file promises nothing of contents.
+//! both, and can be crashed; a fuse fails every call after so many; a flip gives one byte wrong; a disk over a real file
+//! promises nothing of contents.
 #![tactic(auto)]
 
 mod change;
 mod disk;
 mod file;
+mod flip;
 mod fuse;
 mod history;
 mod law;
@@ -13,6 +15,7 @@ mod tearing;
 
 pub use disk::Disk;
 pub use file::FileDisk;
+pub use flip::FlipDisk;
 pub use fuse::FuseDisk;
 pub use law::images_by_place;
 pub use memory::MemoryDisk;

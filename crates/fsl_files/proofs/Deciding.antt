@@ -7,6 +7,9 @@ use Rattle.std.specs.Cmp.Lexicographic.{pointwise_decides, bytes_decides}
 use Rattle.std.specs.Option.{option_eq}
 use Rattle.std.specs.Str.{bytes_eq}
 use Rattle.std.proofs.lemmas.Bool.{and_parts}
+use Rattle.fsl_name.specs.Ref.{same_ref}
+use Rattle.fsl_name.specs.declared.reference.Ref.{Ref}
+use Rattle.fsl_name.proofs.RefTexts.{ref_decides}
 use Rattle.fsl_files.specs.declared.Change.{Change}
 use Rattle.fsl_files.specs.declared.FileRow.{FileRow}
 use Rattle.fsl_files.specs.declared.How.{How}
@@ -68,16 +71,16 @@ abbrev value_or : {X : Type 0} → X → Option X → X
 value_or x None = x
 value_or x (Some y) = y
 
-hash_decides : (a b : Option (List ℕ)) → Decides (option_eq bytes_eq a b) (a ≡ b)
+hash_decides : (a b : Option Ref) → Decides (option_eq same_ref a b) (a ≡ b)
 hash_decides None None = (λ _. refl, λ _. refl)
 hash_decides None (Some y) = (no, λ e. ap is_some e)
 hash_decides (Some x) None = (no, λ e. sym (ap is_some e))
-hash_decides (Some x) (Some y) = (λ h. ap Some ((bytes_decides x y).0 h), λ e. (bytes_decides x y).1 (ap (value_or x) e))
+hash_decides (Some x) (Some y) = (λ h. ap Some ((ref_decides x y).0 h), λ e. (ref_decides x y).1 (ap (value_or x) e))
 
 row_decides : (a b : FileRow) → Decides (is_row a b) (a ≡ b)
 row_decides a b =
-    both (bytes_eq a.path b.path && option_eq bytes_eq a.hash b.hash) (perm_code a.perm == perm_code b.perm)
-    (both {R = (a.path ≡ b.path) × (a.hash ≡ b.hash)} (bytes_eq a.path b.path) (option_eq bytes_eq a.hash b.hash) (bytes_decides a.path b.path) (hash_decides a.hash b.hash) (λ p q. (p, q)) (λ r. r.0) (λ r. r.1))
+    both (bytes_eq a.path b.path && option_eq same_ref a.hash b.hash) (perm_code a.perm == perm_code b.perm)
+    (both {R = (a.path ≡ b.path) × (a.hash ≡ b.hash)} (bytes_eq a.path b.path) (option_eq same_ref a.hash b.hash) (bytes_decides a.path b.path) (hash_decides a.hash b.hash) (λ p q. (p, q)) (λ r. r.0) (λ r. r.1))
     (perm_decides a.perm b.perm)
     (λ p q. λ i. record { path = p.0 i; hash = p.1 i; perm = q i }) (λ e. (ap (λ r. r.path) e, ap (λ r. r.hash) e)) (ap (λ r. r.perm))
 

@@ -3,6 +3,7 @@ use Rattle.std.specs.Prelude.{ℕ, List, Bool, true, false, ◌&&◌, ◌==◌, 
 use Rattle.std.specs.Cmp.Lexicographic.{pointwise}
 use Rattle.std.specs.Option.{option_eq}
 use Rattle.std.specs.Str.{bytes_eq}
+use Rattle.fsl_name.specs.Ref.{same_ref}
 use Rattle.fsl_files.specs.declared.Change.{Change}
 use Rattle.fsl_files.specs.declared.FileRow.{FileRow}
 use Rattle.fsl_files.specs.declared.How.{How}
@@ -29,7 +30,7 @@ how_code Deleted = 2
 
 -- whether two files are one and the same
 abbrev pub is_row : FileRow → FileRow → Bool
-is_row a b = (bytes_eq a.path b.path && option_eq bytes_eq a.hash b.hash) && perm_code a.perm == perm_code b.perm
+is_row a b = (bytes_eq a.path b.path && option_eq same_ref a.hash b.hash) && perm_code a.perm == perm_code b.perm
 
 -- whether two changes are
 abbrev pub is_change : Change → Change → Bool

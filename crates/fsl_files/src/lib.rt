@@ -18,7 +18,7 @@ mod same;
 mod touched;
 
 pub use files::{Files, Undo};
-use fsl_name::Name;
+use fsl_name::{Name, Ref};
 use fsl_text::{List, Text};
 
 /// A file's permission.
@@ -39,8 +39,8 @@ pub enum Perm {
 pub struct FileRow {
     /// Its path.
     pub path: Text,
-    /// The name of its content. None where a check-in takes the path out of its baseline's files.
-    pub hash: Option<Name>,
+    /// What its content is named. None where a check-in takes the path out of its baseline's files.
+    pub hash: Option<Ref>,
     /// Its permission.
     pub perm: Perm,
 }
@@ -52,7 +52,7 @@ pub struct Fact {
     pub name: Name,
     /// The name of its B card, whose files it takes over where that is there and has no B card itself.
     pub baseline: Option<Name>,
-    /// The first name of its P card.
+    /// The first name of its P card, which is never foreign.
     pub parent: Option<Name>,
     /// Its F cards, which rise by path. Without a baseline each has a hash.
     pub files: List<FileRow>,

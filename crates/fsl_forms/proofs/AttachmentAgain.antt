@@ -8,15 +8,16 @@ use Rattle.fsl_order.proofs.Booleans.{first_holds, second_holds}
 use Rattle.fsl_text.specs.Bytes.{is_empty}
 use Rattle.fsl_text.specs.Escapes.{escape}
 use Rattle.fsl_text.proofs.Unescaping.{unescape-escape}
-use Rattle.fsl_name.specs.Name.{IsName, name_text}
-use Rattle.fsl_name.proofs.ReadAgain.{name_again}
+use Rattle.fsl_name.specs.Ref.{IsRef, ref_text}
+use Rattle.fsl_name.specs.declared.reference.Ref.{Ref}
+use Rattle.fsl_name.proofs.RefTexts.{ref_again}
 use Rattle.fsl_date.specs.Moment.{IsMoment, moment_text}
 use Rattle.fsl_card.specs.declared.types.Card.{Card}
 use Rattle.fsl_card.specs.Cards.{IsTextOf, is_argument}
 use Rattle.fsl_grammar.specs.Letters.{attachment_letters}
 use Rattle.fsl_grammar.specs.Forms.{date_form, is_filled, text_form, user_form}
 use Rattle.fsl_grammar.specs.Writing.{card, card_if, written_if}
-use Rattle.fsl_grammar.proofs.WrittenArguments.{is_argument-date, is_argument-escape, is_argument-name}
+use Rattle.fsl_grammar.proofs.WrittenArguments.{is_argument-date, is_argument-escape, is_argument-ref}
 use Rattle.fsl_grammar.proofs.Blocks.{AreBlocks, at_most_one_if, one_block, single_block}
 use Rattle.fsl_grammar.proofs.FormsAgain.{date_again}
 use Rattle.fsl_grammar.proofs.BlockLemmas.{by_form, letters_are, one_read, text_block, text_is, text_read, user_read}
@@ -33,16 +34,16 @@ blocks a =
 regroup : (c n u : List Card) (a d : Card) → a ∷ (c ++ (d ∷ (n ++ (u ++ [])))) ≡ ((a ∷ c) ++ (d ∷ n)) ++ u
 regroup c n u a d = simp (append_assoc, append-nil)
 
-attached_again : (file target : List ℕ) (source : Option (List ℕ)) → AllByRecursion IsName (option_to_list source)
-    → attached_form (escape file ∷ escape target ∷ written_if name_text source) ≡ Some (record { file = file; target = target; source = source })
+attached_again : (file target : List ℕ) (source : Option Ref) → AllByRecursion IsRef (option_to_list source)
+    → attached_form (escape file ∷ escape target ∷ written_if ref_text source) ≡ Some (record { file = file; target = target; source = source })
 attached_again file target None h = rw (unescape-escape file, unescape-escape target) refl
-attached_again file target (Some name) h = rw (name_again name h.0, unescape-escape file, unescape-escape target) refl
+attached_again file target (Some name) h = rw (ref_again name h.0, unescape-escape file, unescape-escape target) refl
 
-source_argument : (source : Option (List ℕ)) → AllByRecursion IsName (option_to_list source) → list_all is_argument (written_if name_text source) ≡ true
+source_argument : (source : Option Ref) → AllByRecursion IsRef (option_to_list source) → list_all is_argument (written_if ref_text source) ≡ true
 source_argument None h = refl
-source_argument (Some name) h = and_from _ _ (is_argument-name name h.0) refl
+source_argument (Some name) h = and_from _ _ (is_argument-ref name h.0) refl
 
-module _ (a : Attachment) (named : AllByRecursion IsName (option_to_list a.source)) (moment : IsMoment a.date) (w : is_attachment_well_formed a ≡ true) where
+module _ (a : Attachment) (named : AllByRecursion IsRef (option_to_list a.source)) (moment : IsMoment a.date) (w : is_attachment_well_formed a ≡ true) where
   w3 : (not (is_empty a.file) && not (is_empty a.target) && is_filled a.comment && is_filled a.mime) ≡ true
   w3 = first_holds _ (is_filled a.user) w
 
@@ -52,14 +53,14 @@ module _ (a : Attachment) (named : AllByRecursion IsName (option_to_list a.sourc
   w1 : (not (is_empty a.file) && not (is_empty a.target)) ≡ true
   w1 = first_holds _ (is_filled a.comment) w2
 
-  arguments_fit : list_all is_argument (escape a.file ∷ escape a.target ∷ written_if name_text a.source) ≡ true
+  arguments_fit : list_all is_argument (escape a.file ∷ escape a.target ∷ written_if ref_text a.source) ≡ true
   arguments_fit =
       and_from _ _ (is_argument-escape a.file (first_holds _ (not (is_empty a.target)) w1))
       (and_from _ _ (is_argument-escape a.target (second_holds (not (is_empty a.file)) _ w1)) (source_argument a.source named))
 
   are_blocks : AreBlocks (blocks a)
   are_blocks = (
-    one_block 65 (escape a.file ∷ escape a.target ∷ written_if name_text a.source) refl arguments_fit,
+    one_block 65 (escape a.file ∷ escape a.target ∷ written_if ref_text a.source) refl arguments_fit,
     (
       text_block 67 a.comment refl (second_holds (not (is_empty a.file) && not (is_empty a.target)) _ w2),
       (

@@ -6,7 +6,7 @@ use Rattle.std.proofs.lemmas.Bool.{and_from}
 use Rattle.fsl_order.proofs.Booleans.{first_holds, second_holds}
 use Rattle.fsl_text.specs.Bytes.{is_empty}
 use Rattle.fsl_text.specs.Escapes.{escape}
-use Rattle.fsl_name.specs.Name.{IsName}
+use Rattle.fsl_name.specs.Ref.{IsRef}
 use Rattle.fsl_date.specs.Moment.{IsMoment, moment_text}
 use Rattle.fsl_card.specs.declared.types.Card.{Card}
 use Rattle.fsl_card.specs.Cards.{IsTextOf}
@@ -26,7 +26,7 @@ use Rattle.fsl_forms.specs.Writing.{IsControlText, control_cards}
 abbrev blocks : Control → List (ℕ × List Card)
 blocks c = (68, card 68 (moment_text c.date ∷ []) ∷ []) ∷ (84, map tag_card c.tags) ∷ (85, card 85 (escape c.user ∷ []) ∷ []) ∷ []
 
-module _ (c : Control) (named : AllByRecursion (λ t. AllByRecursion IsName (option_to_list t.target)) c.tags) (moment : IsMoment c.date) (w : is_control_well_formed c ≡ true) where
+module _ (c : Control) (named : AllByRecursion (λ t. AllByRecursion IsRef (option_to_list t.target)) c.tags) (moment : IsMoment c.date) (w : is_control_well_formed c ≡ true) where
   front : (not (is_empty c.tags) && list_all is_tag_written c.tags && list_all names_target c.tags) ≡ true
   front = first_holds _ (not (is_empty c.user)) w
 

@@ -9,7 +9,7 @@ use Rattle.fsl_card.specs.declared.types.Card.{Card}
 use Rattle.fsl_card.specs.Cards.{IsCard, are_field_arguments, in_order, is_argument}
 use Rattle.fsl_grammar.specs.declared.TagCard.{TagCard}
 use Rattle.fsl_grammar.specs.Letters.{Letters, cluster_letters, control_letters, has_letters, letter_count, ticket_letters}
-use Rattle.fsl_grammar.specs.Forms.{HasAtMostOne, HasEach, HasOne, arguments, hash_form, is_filled, is_tag_written, tag_form, text_form, user_form}
+use Rattle.fsl_grammar.specs.Forms.{HasAtMostOne, HasEach, HasOne, arguments, ref_form, is_filled, is_tag_written, tag_form, text_form, user_form}
 use Rattle.fsl_grammar.proofs.LetterOrder.{all_of_it, kept_in_order, of_it}
 use Rattle.fsl_grammar.proofs.ReadValues.{all_true, each_given, filled, fit_arguments, optional_filled, some_given, tag_read, text_filled, user_filled}
 use Rattle.fsl_forms.specs.declared.attachment.Attachment.{Attachment}
@@ -21,7 +21,7 @@ use Rattle.fsl_forms.specs.declared.ticket.Ticket.{Ticket}
 use Rattle.fsl_forms.specs.declared.wiki.Wiki.{Wiki}
 use Rattle.fsl_forms.specs.Kinds.{IsAttachment, IsCluster, IsControl, IsForum, IsTechnote, IsTicket, IsWiki, Attached, attached_form, change_form}
 use Rattle.fsl_forms.specs.WellFormed.{is_attachment_well_formed, is_change_written, is_cluster_well_formed, is_control_well_formed, is_forum_well_formed, is_technote_well_formed, is_ticket_well_formed, is_wiki_well_formed}
-use Rattle.fsl_forms.proofs.MemberOrder.{rises_from}
+use Rattle.fsl_forms.proofs.MemberOrder.{rise_from}
 use Rattle.fsl_forms.proofs.FormReadLemmas.{attached_read, change_read}
 
 -- the one letter that a kind has one time or more
@@ -81,5 +81,5 @@ module _ (cards : List Card) (each : AllByRecursion IsCard cards) where
 
   pub cluster_written : (c : Cluster) → IsTrue (in_order cards) → IsCluster cards c → is_cluster_well_formed c ≡ true
   cluster_written c ordered h =
-      and_from _ _ (some_given cards 77 hash_form c.members (some_of cluster_letters 77 cards refl h.letters) h.members)
-      (rises_from (of_it 77 cards) c.members (all_of_it 77 cards) (kept_in_order 77 cards ordered) h.members)
+      and_from _ _ (some_given cards 77 ref_form c.members (some_of cluster_letters 77 cards refl h.letters) h.members)
+      (rise_from (of_it 77 cards) c.members (all_of_it 77 cards) (kept_in_order 77 cards ordered) h.members)

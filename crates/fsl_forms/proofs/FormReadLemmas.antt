@@ -6,7 +6,8 @@ use Rattle.std.proofs.lemmas.Bool.{and_from}
 use Rattle.fsl_order.proofs.Booleans.{first_holds, second_holds}
 use Rattle.fsl_text.specs.Bytes.{is_empty}
 use Rattle.fsl_text.specs.Escapes.{unescape}
-use Rattle.fsl_name.specs.Name.{name_in}
+use Rattle.fsl_name.specs.Ref.{ref_in}
+use Rattle.fsl_name.specs.declared.reference.Ref.{Ref}
 use Rattle.fsl_card.specs.Cards.{are_field_arguments, is_argument}
 use Rattle.fsl_grammar.specs.Forms.{given}
 use Rattle.fsl_grammar.proofs.ReadValues.{given_is, unescape_filled}
@@ -37,8 +38,8 @@ change_read (a ∷ b ∷ d ∷ args) c h e = absurd cc
 
 -- ---- the file and the target of an attachment
 
-abbrev with_source : List ℕ → List ℕ → List ℕ → Attached
-with_source file target name = record { file = unescape file; target = unescape target; source = Some name }
+abbrev with_source : List ℕ → List ℕ → Ref → Attached
+with_source file target r = record { file = unescape file; target = unescape target; source = Some r }
 
 pub attached_read : (args : List (List ℕ)) (a : Attached) → list_all is_argument args ≡ true → attached_form args ≡ Some a → (not (is_empty a.file) && not (is_empty a.target)) ≡ true
 attached_read [] a h e = absurd cc
@@ -47,12 +48,12 @@ attached_read (file ∷ target ∷ []) a h e = subst (λ (a : Attached). (not (i
   where
     inside : Some (record { file = unescape file; target = unescape target; source = None }) ≡ Some a → ◌≡◌ {A = Attached} (record { file = unescape file; target = unescape target; source = None }) a
     inside f = cc
-attached_read (file ∷ target ∷ source ∷ []) a h e = by (name_in source) e
+attached_read (file ∷ target ∷ source ∷ []) a h e = by (ref_in source) e
   where
     two : (not (is_empty (unescape file)) && not (is_empty (unescape target))) ≡ true
     two = and_from _ _ (unescape_filled file (first_holds _ (is_argument target && (is_argument source && true)) h)) (unescape_filled target (first_holds _ (is_argument source && true) (second_holds (is_argument file) _ h)))
 
-    by : (o : Option (List ℕ)) → option_map (with_source file target) o ≡ Some a → (not (is_empty a.file) && not (is_empty a.target)) ≡ true
+    by : (o : Option Ref) → option_map (with_source file target) o ≡ Some a → (not (is_empty a.file) && not (is_empty a.target)) ≡ true
     by None f = absurd cc
     by (Some name) f = subst (λ (a : Attached). (not (is_empty a.file) && not (is_empty a.target)) ≡ true) (inside f) two
       where

@@ -1,6 +1,5 @@
 pub mod OrderLemmas
 pub mod SpellingLemmas
-pub mod NameOrder
 pub mod ClusterAgain
 pub mod ControlAgain
 pub mod WikiAgain

@@ -6,12 +6,12 @@ use Rattle.std.proofs.lemmas.Bool.{and_from}
 use Rattle.fsl_order.proofs.Booleans.{first_holds, second_holds}
 use Rattle.fsl_text.specs.Bytes.{is_empty}
 use Rattle.fsl_text.specs.Escapes.{escape}
-use Rattle.fsl_name.specs.Name.{IsName, name_in}
+use Rattle.fsl_name.specs.Ref.{IsRef, ref_in}
 use Rattle.fsl_date.specs.Moment.{IsMoment, moment_text}
 use Rattle.fsl_card.specs.declared.types.Card.{Card}
 use Rattle.fsl_card.specs.Cards.{IsTextOf}
 use Rattle.fsl_grammar.specs.Letters.{wiki_letters}
-use Rattle.fsl_grammar.specs.Forms.{all_differ, date_form, is_filled, text_form, user_form}
+use Rattle.fsl_grammar.specs.Forms.{date_form, is_filled, refs_differ, text_form, user_form}
 use Rattle.fsl_grammar.specs.Writing.{body_card, card, card_if, parents_card}
 use Rattle.fsl_grammar.proofs.WrittenArguments.{is_argument-date, is_argument-escape}
 use Rattle.fsl_grammar.proofs.Blocks.{AreBlocks, at_most_one_if, single_block}
@@ -34,12 +34,12 @@ blocks w = front w ++ (87, body_card w.text ∷ []) ∷ []
 regroup : (c n p t : List Card) (d l : Card) → c ++ (d ∷ (l ∷ (n ++ (p ++ t)))) ≡ ((c ++ (d ∷ l ∷ n)) ++ p) ++ t
 regroup c n p t d l = simp append_assoc
 
-module _ (w : Wiki) (named : AllByRecursion IsName w.parents) (moment : IsMoment w.date) (long : length w.text < 2 ^ 64) (written : is_wiki_well_formed w ≡ true) where
-  w3 : (is_filled w.comment && not (is_empty w.title) && is_filled w.mime && all_differ w.parents) ≡ true
+module _ (w : Wiki) (named : AllByRecursion IsRef w.parents) (moment : IsMoment w.date) (long : length w.text < 2 ^ 64) (written : is_wiki_well_formed w ≡ true) where
+  w3 : (is_filled w.comment && not (is_empty w.title) && is_filled w.mime && refs_differ w.parents) ≡ true
   w3 = first_holds _ (not (is_empty w.user)) written
 
   w2 : (is_filled w.comment && not (is_empty w.title) && is_filled w.mime) ≡ true
-  w2 = first_holds _ (all_differ w.parents) w3
+  w2 = first_holds _ (refs_differ w.parents) w3
 
   w1 : (is_filled w.comment && not (is_empty w.title)) ≡ true
   w1 = first_holds _ (is_filled w.mime) w2
@@ -56,7 +56,7 @@ module _ (w : Wiki) (named : AllByRecursion IsName w.parents) (moment : IsMoment
           (
             parents_block w.parents named,
             (
-              single_block 85 (escape w.user) refl (is_argument-escape w.user (second_holds (is_filled w.comment && not (is_empty w.title) && is_filled w.mime && all_differ w.parents) _ written)),
+              single_block 85 (escape w.user) refl (is_argument-escape w.user (second_holds (is_filled w.comment && not (is_empty w.title) && is_filled w.mime && refs_differ w.parents) _ written)),
               (body_block w.text long, tt),
             ),
           ),
@@ -82,7 +82,7 @@ module _ (w : Wiki) (named : AllByRecursion IsName w.parents) (moment : IsMoment
         title = by_form (blocks w) b 76 text_form _ (one_read text_form (escape w.title ∷ []) w.title (text_again w.title));
         mime = by_form (blocks w) b 78 text_form _ (text_read 78 w.mime);
         parents = record {
-          names = ap (λ (found : List (List (List ℕ))). map name_in (flat_map (λ args. args) found)) (of_letter (blocks w) b 80) ∙ parents_again w.parents named;
+          names = ap (λ (found : List (List (List ℕ))). map ref_in (flat_map (λ args. args) found)) (of_letter (blocks w) b 80) ∙ parents_again w.parents named;
           differ = second_holds (is_filled w.comment && not (is_empty w.title) && is_filled w.mime) _ w3;
         };
         user = by_form (blocks w) b 85 user_form _ (one_read user_form (escape w.user ∷ []) w.user (user_again w.user));

@@ -4,13 +4,14 @@ use Rattle.std.specs.List.{list_all}
 use Rattle.fsl_text.specs.Bytes.{is_empty}
 use Rattle.fsl_text.specs.Escapes.{unescape}
 use Rattle.fsl_name.specs.Name.{name_in}
+use Rattle.fsl_name.specs.Ref.{ref_in}
 use Rattle.fsl_date.specs.Moment.{date_in}
 use Rattle.fsl_card.specs.declared.types.Card.{Card}
 use Rattle.fsl_grammar.specs.declared.Prefix.{Prefix}
 use Rattle.fsl_grammar.specs.declared.Prefix.TheVariants.{Once}
 use Rattle.fsl_grammar.specs.declared.TagCard.{TagCard}
 use Rattle.fsl_grammar.specs.Letters.{has_letters, cluster_letters, control_letters, wiki_letters, ticket_letters, attachment_letters, technote_letters, forum_letters}
-use Rattle.fsl_grammar.specs.Forms.{HasOne, HasAtMostOne, HasEach, HasParents, HasBody, hash_form, text_form, date_form, user_form, tag_form, given, ◌>>=◌}
+use Rattle.fsl_grammar.specs.Forms.{HasOne, HasAtMostOne, HasEach, HasParents, HasBody, hash_form, ref_form, text_form, date_form, user_form, tag_form, given, ◌>>=◌}
 use Rattle.fsl_forms.specs.declared.cluster.Cluster.{Cluster}
 use Rattle.fsl_forms.specs.declared.control.Control.{Control}
 use Rattle.fsl_forms.specs.declared.wiki.Wiki.{Wiki}
@@ -28,7 +29,7 @@ use Rattle.fsl_forms.specs.declared.forum.Forum.{Forum}
 abbrev pub attached_form : List (List ℕ) → Option Attached
 attached_form (file ∷ target ∷ []) = Some (record { file = unescape file; target = unescape target; source = None })
 attached_form (file ∷ target ∷ source ∷ []) =
-    option_map (λ name. record { file = unescape file; target = unescape target; source = Some name }) (name_in source)
+    option_map (λ r. record { file = unescape file; target = unescape target; source = Some r }) (ref_in source)
 attached_form args = None
 
 -- the time of a technote, and its id
@@ -60,7 +61,7 @@ change_form args = None
 
 pub record IsCluster (cards : List Card) (c : Cluster) : Type 0 where
   pub letters : IsTrue (has_letters cluster_letters cards)
-  pub members : HasEach cards 77 hash_form c.members  -- M
+  pub members : HasEach cards 77 ref_form c.members  -- M
 
 -- each tag of a control artifact names its target
 abbrev pub names_target : TagCard → Bool

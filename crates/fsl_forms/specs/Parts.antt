@@ -1,7 +1,8 @@
 -- Fields that are read, or tested, together.
 use Rattle.std.specs.Prelude.{◌==◌, ◌&&◌, ◌||◌, ℕ, Bool, true, false, not, is_some, Option, Some, None, List, [], ◌∷◌, IsTrue, if◌then◌else◌}
 use Rattle.std.specs.List.{list_all}
-use Rattle.fsl_order.specs.Names.{is_before}
+use Rattle.fsl_name.specs.Ref.{is_written_before}
+use Rattle.fsl_name.specs.declared.reference.Ref.{Ref}
 use Rattle.fsl_text.specs.Bytes.{is_empty}
 use Rattle.fsl_text.specs.Escapes.{unescape}
 use Rattle.fsl_card.specs.declared.types.Card.{Card}
@@ -11,10 +12,10 @@ use Rattle.fsl_forms.specs.declared.attachment.Attached.{Attached}
 use Rattle.fsl_forms.specs.declared.forum.Place.{Place}
 use Rattle.fsl_forms.specs.Kinds.{is_own_tag, names_target}
 
--- a name stands before the first of others, where there is one
-abbrev pub is_before_first : List ℕ → List (List ℕ) → Bool
-is_before_first name [] = true
-is_before_first name (other ∷ others) = is_before name other
+-- a reference is written before the first of others, where there is one
+abbrev pub is_before_first : Ref → List Ref → Bool
+is_before_first r [] = true
+is_before_first r (other ∷ others) = is_written_before r other
 
 -- the tags of the T cards, each of which names its target
 pub record HasTargetedTags (cards : List Card) (found : List TagCard) : Type 0 where
@@ -43,5 +44,5 @@ pub record HasPlace (cards : List Card) (place : Place) : Type 0 where
   pub together : IsTrue (is_place (is_some place.root) (is_some place.title) (is_some place.reply))
 
 -- what an A card says of a file, a target and a source that was read
-abbrev pub attached_of : List ℕ → List ℕ → Option (List ℕ) → Attached
+abbrev pub attached_of : List ℕ → List ℕ → Option Ref → Attached
 attached_of file target source = record { file = unescape file; target = unescape target; source = source }

@@ -1,9 +1,10 @@
 -- Which values of the seven kinds have a text.
-use Rattle.std.specs.Prelude.{◌==◌, ◌&&◌, ◌||◌, Bool, not, slice_index}
+use Rattle.std.specs.Prelude.{◌==◌, ◌&&◌, ◌||◌, Bool, true, not, slice_index, List, [], ◌∷◌}
 use Rattle.std.specs.List.{list_all}
-use Rattle.fsl_order.specs.Rows.{rises}
+use Rattle.fsl_name.specs.Ref.{is_written_before}
+use Rattle.fsl_name.specs.declared.reference.Ref.{Ref}
 use Rattle.fsl_text.specs.Bytes.{is_empty}
-use Rattle.fsl_grammar.specs.Forms.{all_differ, is_filled, is_tag_written}
+use Rattle.fsl_grammar.specs.Forms.{is_filled, is_tag_written, refs_differ}
 use Rattle.fsl_forms.specs.declared.cluster.Cluster.{Cluster}
 use Rattle.fsl_forms.specs.declared.control.Control.{Control}
 use Rattle.fsl_forms.specs.declared.wiki.Wiki.{Wiki}
@@ -14,9 +15,14 @@ use Rattle.fsl_forms.specs.declared.technote.Technote.{Technote}
 use Rattle.fsl_forms.specs.declared.forum.Forum.{Forum}
 use Rattle.fsl_forms.specs.Kinds.{names_target, is_own_tag, begins_or_replies}
 
--- members rise, so that each stands once
+-- references rise as they are written, so that each stands once
+abbrev pub rise_as_written : List Ref → Bool
+rise_as_written [] = true
+rise_as_written (a ∷ []) = true
+rise_as_written (a ∷ b ∷ refs) = is_written_before a b && rise_as_written (b ∷ refs)
+
 abbrev pub is_cluster_well_formed : Cluster → Bool
-is_cluster_well_formed c = not (is_empty c.members) && rises c.members
+is_cluster_well_formed c = not (is_empty c.members) && rise_as_written c.members
 
 abbrev pub is_control_well_formed : Control → Bool
 is_control_well_formed c =
@@ -24,7 +30,7 @@ is_control_well_formed c =
 
 abbrev pub is_wiki_well_formed : Wiki → Bool
 is_wiki_well_formed w =
-    is_filled w.comment && not (is_empty w.title) && is_filled w.mime && all_differ w.parents && not (is_empty w.user)
+    is_filled w.comment && not (is_empty w.title) && is_filled w.mime && refs_differ w.parents && not (is_empty w.user)
 
 -- a field that replaces doesn't begin with `+`
 abbrev pub is_change_written : TicketChange → Bool
@@ -39,7 +45,7 @@ is_attachment_well_formed a =
 
 abbrev pub is_technote_well_formed : Technote → Bool
 is_technote_well_formed n =
-    is_filled n.comment && is_filled n.mime && all_differ n.parents
+    is_filled n.comment && is_filled n.mime && refs_differ n.parents
     && list_all is_tag_written n.tags && list_all is_own_tag n.tags && is_filled n.user
 
 abbrev pub is_forum_well_formed : Forum → Bool

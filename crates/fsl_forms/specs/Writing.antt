@@ -9,6 +9,8 @@ use Rattle.fsl_forms.specs.WellFormed.{is_cluster_well_formed, is_control_well_f
 use Rattle.std.specs.Prelude.{◌≡◌, ◌↔◌, ℕ, ◌<◌, ◌^◌, List, [], ◌∷◌, ◌++◌, length, map, if◌then◌else◌}
 use Rattle.fsl_text.specs.Escapes.{escape}
 use Rattle.fsl_name.specs.Name.{name_text}
+use Rattle.fsl_name.specs.Ref.{IsRef, ref_text}
+use Rattle.fsl_name.specs.declared.reference.Ref.{Ref}
 use Rattle.fsl_date.specs.Moment.{IsMoment, moment_text}
 use Rattle.fsl_card.specs.declared.types.Card.{Card}
 use Rattle.fsl_forms.specs.declared.cluster.Cluster.{Cluster}
@@ -23,7 +25,7 @@ use Rattle.fsl_card.specs.Writing.{sealed_text}
 use Rattle.fsl_grammar.specs.Writing.{card, written_if, card_if, parents_card, body_card, tag_card}
 
 abbrev pub cluster_cards : Cluster → List Card
-cluster_cards c = map (λ name. card 77 (name_text name ∷ [])) c.members
+cluster_cards c = map (λ r. card 77 (ref_text r ∷ [])) c.members
 
 abbrev pub control_cards : Control → List Card
 control_cards c = card 68 (moment_text c.date ∷ []) ∷ map tag_card c.tags ++ card 85 (escape c.user ∷ []) ∷ []
@@ -42,7 +44,7 @@ ticket_cards t =
     card 68 (moment_text t.date ∷ []) ∷ map change_card t.changes ++ card 75 (name_text t.id ∷ []) ∷ card 85 (escape t.user ∷ []) ∷ []
 
 abbrev pub attached_card : Attachment → Card
-attached_card a = card 65 (escape a.file ∷ escape a.target ∷ written_if name_text a.source)
+attached_card a = card 65 (escape a.file ∷ escape a.target ∷ written_if ref_text a.source)
 
 abbrev pub attachment_cards : Attachment → List Card
 attachment_cards a =
@@ -87,31 +89,34 @@ IsTechnoteText text n = text ≡ sealed_text (technote_cards n)
 
 -- ---- laws
 
--- names are names, as their type keeps it, and a text has fewer than 2^64 bytes, as memory does
+-- names are names and references references, as their types keep it, and a text has fewer than 2^64 bytes, as memory does
 abbrev pub AreNames : List (List ℕ) → Type 0
 AreNames names = AllByRecursion IsName names
 
-abbrev pub targets : List TagCard → List (List ℕ)
+abbrev pub AreRefs : List Ref → Type 0
+AreRefs refs = AllByRecursion IsRef refs
+
+abbrev pub targets : List TagCard → List Ref
 targets tags = flat_map (λ t. option_to_list t.target) tags
 
 -- what is written reads back
 pub record AreReadBack : Type 0 where
-  pub cluster : (c : Cluster) (text : List ℕ) → AreNames c.members → IsTrue (is_cluster_well_formed c) → IsClusterText text c → IsTextOf IsCluster text c
-  pub control : (c : Control) (text : List ℕ) → AreNames (targets c.tags) → IsMoment c.date → IsTrue (is_control_well_formed c) → IsControlText text c → IsTextOf IsControl text c
-  pub wiki : (w : Wiki) (text : List ℕ) → AreNames w.parents → IsMoment w.date → length w.text < 2 ^ 64 → IsTrue (is_wiki_well_formed w) → IsWikiText text w → IsTextOf IsWiki text w
+  pub cluster : (c : Cluster) (text : List ℕ) → AreRefs c.members → IsTrue (is_cluster_well_formed c) → IsClusterText text c → IsTextOf IsCluster text c
+  pub control : (c : Control) (text : List ℕ) → AreRefs (targets c.tags) → IsMoment c.date → IsTrue (is_control_well_formed c) → IsControlText text c → IsTextOf IsControl text c
+  pub wiki : (w : Wiki) (text : List ℕ) → AreRefs w.parents → IsMoment w.date → length w.text < 2 ^ 64 → IsTrue (is_wiki_well_formed w) → IsWikiText text w → IsTextOf IsWiki text w
   pub ticket : (t : Ticket) (text : List ℕ) → IsName t.id → IsMoment t.date → IsTrue (is_ticket_well_formed t) → IsTicketText text t → IsTextOf IsTicket text t
-  pub attachment : (a : Attachment) (text : List ℕ) → AreNames (option_to_list a.source) → IsMoment a.date → IsTrue (is_attachment_well_formed a) → IsAttachmentText text a → IsTextOf IsAttachment text a
-  pub technote : (n : Technote) (text : List ℕ) → AreNames (n.id ∷ n.parents ++ targets n.tags) → IsMoment n.date → IsMoment n.time → length n.text < 2 ^ 64 → IsTrue (is_technote_well_formed n) → IsTechnoteText text n → IsTextOf IsTechnote text n
+  pub attachment : (a : Attachment) (text : List ℕ) → AreRefs (option_to_list a.source) → IsMoment a.date → IsTrue (is_attachment_well_formed a) → IsAttachmentText text a → IsTextOf IsAttachment text a
+  pub technote : (n : Technote) (text : List ℕ) → IsName n.id → AreRefs (n.parents ++ targets n.tags) → IsMoment n.date → IsMoment n.time → length n.text < 2 ^ 64 → IsTrue (is_technote_well_formed n) → IsTechnoteText text n → IsTextOf IsTechnote text n
   pub forum : (f : Forum) (text : List ℕ) → AreNames (option_to_list f.root ++ option_to_list f.reply ++ option_to_list f.prior) → IsMoment f.date → length f.text < 2 ^ 64 → IsTrue (is_forum_well_formed f) → IsForumText text f → IsTextOf IsForum text f
 
 -- each value can be written exactly where some text is it
 pub record AreWrittenExactly : Type 0 where
-  pub cluster : (c : Cluster) → AreNames c.members → IsTrue (is_cluster_well_formed c) ↔ ((text : List ℕ) × IsTextOf IsCluster text c)
-  pub control : (c : Control) → AreNames (targets c.tags) → IsMoment c.date → IsTrue (is_control_well_formed c) ↔ ((text : List ℕ) × IsTextOf IsControl text c)
-  pub wiki : (w : Wiki) → AreNames w.parents → IsMoment w.date → length w.text < 2 ^ 64 → IsTrue (is_wiki_well_formed w) ↔ ((text : List ℕ) × IsTextOf IsWiki text w)
+  pub cluster : (c : Cluster) → AreRefs c.members → IsTrue (is_cluster_well_formed c) ↔ ((text : List ℕ) × IsTextOf IsCluster text c)
+  pub control : (c : Control) → AreRefs (targets c.tags) → IsMoment c.date → IsTrue (is_control_well_formed c) ↔ ((text : List ℕ) × IsTextOf IsControl text c)
+  pub wiki : (w : Wiki) → AreRefs w.parents → IsMoment w.date → length w.text < 2 ^ 64 → IsTrue (is_wiki_well_formed w) ↔ ((text : List ℕ) × IsTextOf IsWiki text w)
   pub ticket : (t : Ticket) → IsName t.id → IsMoment t.date → IsTrue (is_ticket_well_formed t) ↔ ((text : List ℕ) × IsTextOf IsTicket text t)
-  pub attachment : (a : Attachment) → AreNames (option_to_list a.source) → IsMoment a.date → IsTrue (is_attachment_well_formed a) ↔ ((text : List ℕ) × IsTextOf IsAttachment text a)
-  pub technote : (n : Technote) → AreNames (n.id ∷ n.parents ++ targets n.tags) → IsMoment n.date → IsMoment n.time → length n.text < 2 ^ 64
+  pub attachment : (a : Attachment) → AreRefs (option_to_list a.source) → IsMoment a.date → IsTrue (is_attachment_well_formed a) ↔ ((text : List ℕ) × IsTextOf IsAttachment text a)
+  pub technote : (n : Technote) → IsName n.id → AreRefs (n.parents ++ targets n.tags) → IsMoment n.date → IsMoment n.time → length n.text < 2 ^ 64
       → IsTrue (is_technote_well_formed n) ↔ ((text : List ℕ) × IsTextOf IsTechnote text n)
   pub forum : (f : Forum) → AreNames (option_to_list f.root ++ option_to_list f.reply ++ option_to_list f.prior) → IsMoment f.date → length f.text < 2 ^ 64
       → IsTrue (is_forum_well_formed f) ↔ ((text : List ℕ) × IsTextOf IsForum text f)

@@ -12,10 +12,10 @@ use fsl_card::{Card, Cards, finish};
 use fsl_date::Moment;
 use fsl_grammar::{
     DateForm, Form, TextForm, Unread, UserForm, at_most_one, begin_card, end_card,
-    has_attachment_letters, is_filled, know_name, one, read_hash, write_card, write_optional_name,
+    has_attachment_letters, is_filled, know_ref, one, read_ref, write_card, write_optional_ref,
     write_optional_text_card, write_text,
 };
-use fsl_name::Name;
+use fsl_name::Ref;
 use fsl_text::{Memory, Text, unescape};
 use std::alloc::Global;
 
@@ -24,7 +24,7 @@ use std::alloc::Global;
 pub struct Attachment {
     pub file: Text,
     pub target: Text,
-    pub source: Option<Name>,
+    pub source: Option<Ref>,
     pub comment: Option<Text>,
     pub date: Moment,
     pub mime: Option<Text>,
@@ -36,7 +36,7 @@ pub struct Attachment {
 struct Attached {
     file: Text,
     target: Text,
-    source: Option<Name>,
+    source: Option<Ref>,
 }
 
 impl Attachment {
@@ -70,7 +70,7 @@ impl Attachment {
         ensures written { IfOk result (λ text. IsAttachmentText text self.now) }
         ensures read { IfOk result (λ text. IsTextOf IsAttachment text self.now) }
     {
-        know_name(&self.source);
+        know_ref(&self.source);
         let mut lines = Text::empty(alloc);
         self.write_cards(&mut lines)?;
         finish(&mut lines)?;
@@ -95,7 +95,7 @@ impl Attachment {
         begin_card(into, b'A')?;
         write_text(into, self.file.bytes())?;
         write_text(into, self.target.bytes())?;
-        write_optional_name(into, &self.source)?;
+        write_optional_ref(into, &self.source)?;
         end_card(into)
     }
 }
@@ -133,7 +133,7 @@ impl Form for AttachedForm {
     fn read(alloc: Global, args: &[Text]) -> Result<Attached, Unread> {
         match args {
             [file, target] => read_attached(alloc, file.bytes(), target.bytes(), None),
-            [file, target, source] => match read_hash(source.bytes()) {
+            [file, target, source] => match read_ref(source.bytes()) {
                 Some(source) => read_attached(alloc, file.bytes(), target.bytes(), Some(source)),
                 None => Err(Unread::Form),
             },
@@ -147,7 +147,7 @@ fn read_attached(
     alloc: Global,
     file: &[u8],
     target: &[u8],
-    source: Option<Name>,
+    source: Option<Ref>,
 ) -> Result<Attached, Unread>
     ensures { IsGiven (Some (attached_of file.now target.now source)) result }
 {

@@ -2,27 +2,26 @@
 ghost use Rattle.std.specs.Prelude.{◌≡◌, ◌++◌, IfOk, IsTrue, OnOk};
 ghost use Rattle.fsl_card.specs.Cards.{IsReading, IsTextOf, text_of};
 ghost use Rattle.fsl_forms.specs.Kinds.{IsCluster};
-ghost use Rattle.fsl_forms.specs.WellFormed.{is_cluster_well_formed};
+ghost use Rattle.fsl_forms.specs.WellFormed.{is_cluster_well_formed, rise_as_written};
 ghost use Rattle.fsl_forms.specs.Writing.{IsClusterText, cluster_cards};
 ghost use Rattle.fsl_forms.specs.Parts.{is_before_first};
 ghost use Rattle.fsl_grammar.specs.Reading.{IsRead};
-ghost use Rattle.fsl_order.specs.Rows.{rises};
 
 use fsl_card::{Card, Cards, finish};
-use fsl_grammar::{HashForm, Unread, each, has_cluster_letters, know_names, write_name_card};
-use fsl_name::Name;
+use fsl_grammar::{RefForm, Unread, each, has_cluster_letters, know_refs, write_ref_card};
+use fsl_name::Ref;
 use fsl_text::{List, Memory, Text};
 use std::alloc::Global;
 
-/// A list of artifacts that are known: the names of its M cards.
+/// A list of artifacts that are known: the references of its M cards.
 #[derive(Drop)]
 pub struct Cluster {
-    pub members: List<Name>,
+    pub members: List<Ref>,
 }
 
 impl Cluster {
     /// The cluster that cards are, or None where they are none: where their letters aren't those of a cluster, one M card or more and
-    /// the Z card, or an M card has another argument than one name. `Memory` is the only error.
+    /// the Z card, or an M card has another argument than one reference. `Memory` is the only error.
     pub fn read(alloc: Global, cards: &Cards) -> Result<Option<Cluster>, Memory>
         ensures { IfOk result (IsReading IsCluster cards.now) }
     {
@@ -33,7 +32,7 @@ impl Cluster {
         }
     }
 
-    /// Whether the cluster can be written: there are members, and they rise by their bytes. It takes no memory.
+    /// Whether the cluster can be written: there are members, and they rise as they are written. It takes no memory.
     pub fn well_formed(&self) -> bool
         ensures { result ≡ is_cluster_well_formed self.now }
     {
@@ -47,7 +46,7 @@ impl Cluster {
         ensures written { IfOk result (λ text. IsClusterText text self.now) }
         ensures read { IfOk result (λ text. IsTextOf IsCluster text self.now) }
     {
-        know_names(self.members.items());
+        know_refs(self.members.items());
         let mut lines = Text::empty(alloc);
         self.write_cards(&mut lines)?;
         finish(&mut lines)?;
@@ -59,7 +58,7 @@ impl Cluster {
         ensures { OnOk result (into.new ≡ into.old ++ text_of (cluster_cards self.now)) }
     {
         for member in self.members.items() {
-            write_name_card(into, b'M', member)?;
+            write_ref_card(into, b'M', member)?;
         }
         Ok(())
     }
@@ -71,15 +70,15 @@ fn read_cards(alloc: Global, cards: &[Card]) -> Result<Cluster, Unread>
     if !has_cluster_letters(cards) {
         return Err(Unread::Form);
     }
-    let members = each::<HashForm>(alloc, cards, b'M')?;
+    let members = each::<RefForm>(alloc, cards, b'M')?;
     Ok(Cluster { members })
 }
 
-/// Whether names rise by their bytes.
-fn rise(names: &[Name]) -> bool
-    ensures { result ≡ rises names.now }
+/// Whether members rise as they are written.
+fn rise(members: &[Ref]) -> bool
+    ensures { result ≡ rise_as_written members.now }
 {
-    let mut rest = names;
+    let mut rest = members;
     while let Some((first, others)) = rest.split_first() {
         if !is_before_first(first, others) {
             return false;
@@ -89,12 +88,12 @@ fn rise(names: &[Name]) -> bool
     true
 }
 
-/// Whether a name stands before the first of others, if there is one.
-fn is_before_first(name: &Name, others: &[Name]) -> bool
-    ensures { result ≡ is_before_first name.now others.now }
+/// Whether a member is written before the first of others, if there is one.
+fn is_before_first(member: &Ref, others: &[Ref]) -> bool
+    ensures { result ≡ is_before_first member.now others.now }
 {
     match others.first() {
-        Some(other) => name.cmp(other).is_lt(),
+        Some(other) => member.is_written_before(other),
         None => true,
     }
 }

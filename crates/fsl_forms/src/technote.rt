@@ -14,12 +14,12 @@ use super::known::know_length;
 use fsl_card::{Card, Cards, finish};
 use fsl_date::Moment;
 use fsl_grammar::{
-    DateForm, Form, Prefix, TagCard, TagForm, TextForm, Unread, UserForm, all_differ, at_most_one,
-    begin_card, body, each, end_card, has_technote_letters, is_filled, know_names, know_tags, one,
-    parents, read_hash, write_argument, write_body, write_card, write_name,
+    DateForm, Form, Prefix, TagCard, TagForm, TextForm, Unread, UserForm, at_most_one, begin_card,
+    body, each, end_card, has_technote_letters, is_filled, know_refs, know_tags, one, parents,
+    read_hash, refs_differ, write_argument, write_body, write_card, write_name,
     write_optional_text_card, write_parents, write_tags,
 };
-use fsl_name::Name;
+use fsl_name::{Name, Ref};
 use fsl_text::{List, Memory, Text};
 use std::alloc::Global;
 
@@ -31,7 +31,7 @@ pub struct Technote {
     pub time: Moment,
     pub id: Name,
     pub mime: Option<Text>,
-    pub parents: List<Name>,
+    pub parents: List<Ref>,
     pub tags: List<TagCard>,
     pub user: Option<Text>,
     pub text: Text,
@@ -65,7 +65,7 @@ impl Technote {
     {
         is_filled(&self.comment)
             && is_filled(&self.mime)
-            && all_differ(self.parents.items())
+            && refs_differ(self.parents.items())
             && all_tags_written(self.tags.items())
             && all_own(self.tags.items())
             && is_filled(&self.user)
@@ -78,7 +78,7 @@ impl Technote {
         ensures read { IfOk result (λ text. IsTextOf IsTechnote text self.now) }
     {
         let _ = self.id.bytes();
-        know_names(self.parents.items());
+        know_refs(self.parents.items());
         know_tags(self.tags.items());
         know_length(&self.text);
         let mut lines = Text::empty(alloc);

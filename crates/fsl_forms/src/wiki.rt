@@ -11,11 +11,11 @@ use super::known::know_length;
 use fsl_card::{Card, Cards, finish};
 use fsl_date::Moment;
 use fsl_grammar::{
-    DateForm, TextForm, Unread, UserForm, all_differ, at_most_one, body, has_wiki_letters,
-    is_filled, know_names, one, parents, write_body, write_card, write_optional_text_card,
+    DateForm, TextForm, Unread, UserForm, at_most_one, body, has_wiki_letters, is_filled,
+    know_refs, one, parents, refs_differ, write_body, write_card, write_optional_text_card,
     write_parents, write_text_card,
 };
-use fsl_name::Name;
+use fsl_name::Ref;
 use fsl_text::{List, Memory, Text};
 use std::alloc::Global;
 
@@ -26,7 +26,7 @@ pub struct Wiki {
     pub date: Moment,
     pub title: Text,
     pub mime: Option<Text>,
-    pub parents: List<Name>,
+    pub parents: List<Ref>,
     pub user: Text,
     pub text: Text,
 }
@@ -52,7 +52,7 @@ impl Wiki {
         is_filled(&self.comment)
             && !self.title.bytes().is_empty()
             && is_filled(&self.mime)
-            && all_differ(self.parents.items())
+            && refs_differ(self.parents.items())
             && !self.user.bytes().is_empty()
     }
 
@@ -62,7 +62,7 @@ impl Wiki {
         ensures written { IfOk result (λ text. IsWikiText text self.now) }
         ensures read { IfOk result (λ text. IsTextOf IsWiki text self.now) }
     {
-        know_names(self.parents.items());
+        know_refs(self.parents.items());
         know_length(&self.text);
         let mut lines = Text::empty(alloc);
         self.write_cards(alloc, &mut lines)?;

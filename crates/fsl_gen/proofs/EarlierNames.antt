@@ -8,6 +8,8 @@ use Rattle.fsl_manifest.specs.Writing.{manifest_cards}
 use Rattle.fsl_forms.specs.declared.control.Control.{Control}
 use Rattle.fsl_forms.specs.declared.forum.Forum.{Forum}
 use Rattle.fsl_forms.specs.Writing.{control_cards, forum_cards}
+use Rattle.fsl_name.specs.declared.reference.Ref.{Ref}
+use Rattle.fsl_name.specs.declared.reference.Ref.TheVariants.{Own}
 use Rattle.fsl_gen.specs.Table.{checkin_at, control_at, mark, numbered, parents_at, placed_at, post_at, text_in_table}
 use Rattle.fsl_gen.specs.Artifacts.{NamesEarlierOnes}
 
@@ -29,12 +31,12 @@ AgreeBelow f g i = (j : ℕ) → j < i → f j ≡ g j
 
 parents_same : (f g : ℕ → List ℕ) (i : ℕ) → AgreeBelow f g i → parents_at f i ≡ parents_at g i
 parents_same f g i same =
-    choose (nat_lt i 4) [] [] (f (i - 4) ∷ []) (g (i - 4) ∷ []) (λ h. refl)
-    (λ h. let k : i - 4 < i = grind (arith, nat_tests) in ap (λ name. name ∷ []) (same (i - 4) k))
+    choose (nat_lt i 4) [] [] (Own (f (i - 4)) ∷ []) (Own (g (i - 4)) ∷ []) (λ h. refl)
+    (λ h. let k : i - 4 < i = grind (arith, nat_tests) in ap (λ (name : List ℕ). Own name ∷ []) (same (i - 4) k))
 
 checkin_same : (f g : ℕ → List ℕ) (i : ℕ) → AgreeBelow f g i → checkin_at f i ≡ checkin_at g i
 checkin_same f g i same =
-    let with_parents : List (List ℕ) → Manifest = λ parents. record (checkin_at f i) { parents = parents } in
+    let with_parents : List Ref → Manifest = λ parents. record (checkin_at f i) { parents = parents } in
     ap with_parents (parents_same f g i same)
 
 control_same : (f g : ℕ → List ℕ) (i : ℕ) → i % 4 ≡ 1 → AgreeBelow f g i → control_at f i ≡ control_at g i

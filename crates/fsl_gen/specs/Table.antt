@@ -1,6 +1,8 @@
 -- What the artifact of a number is. The names of the other artifacts are given by their numbers.
 use Rattle.std.specs.Prelude.{ℕ, ◌+◌, ◌-◌, ◌*◌, ◌/◌, ◌%◌, ◌==◌, nat_lt, List, [], ◌∷◌, ◌++◌, Option, Some, None, true, false, if◌then◌else◌, codes, decimal, slice_index_or}
 use Rattle.fsl_name.specs.Name.{name_of}
+use Rattle.fsl_name.specs.declared.reference.Ref.{Ref}
+use Rattle.fsl_name.specs.declared.reference.Ref.TheVariants.{Own}
 use Rattle.fsl_date.specs.Moment.{civil_ms}
 use Rattle.fsl_card.specs.Writing.{sealed_text}
 use Rattle.fsl_grammar.specs.declared.Prefix.{Prefix}
@@ -32,8 +34,8 @@ user_at i = numbered (codes "u") (i % 3)
 -- ---- check-ins
 
 -- the check-in before it
-abbrev pub parents_at : (ℕ → List ℕ) → ℕ → List (List ℕ)
-parents_at name_at i = if nat_lt i 4 then [] else name_at (i - 4) ∷ []
+abbrev pub parents_at : (ℕ → List ℕ) → ℕ → List Ref
+parents_at name_at i = if nat_lt i 4 then [] else Own (name_at (i - 4)) ∷ []
 
 -- a tag on the artifact itself
 abbrev pub own_tag : Prefix → List ℕ → Option (List ℕ) → TagCard
@@ -71,7 +73,7 @@ checkin_at name_at i =
 -- ---- tags on check-ins
 
 abbrev pub mark : List ℕ → TagCard
-mark target = record { prefix = Once; tag = codes "mark"; target = Some target; value = None }
+mark target = record { prefix = Once; tag = codes "mark"; target = Some (Own target); value = None }
 
 abbrev pub control_at : (ℕ → List ℕ) → ℕ → Control
 control_at name_at i = record { date = date_at i; tags = mark (name_at (i - 1)) ∷ []; user = user_at i }

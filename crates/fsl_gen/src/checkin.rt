@@ -6,7 +6,7 @@ ghost use Rattle.fsl_gen.specs.Table.{begins_branch, checkin_at, name_among, own
 use crate::by_number::{date_of, numbered, user_of};
 use fsl_grammar::{Prefix, TagCard};
 use fsl_manifest::Manifest;
-use fsl_name::Name;
+use fsl_name::{Name, Ref};
 use fsl_text::{List, Memory, Text};
 use std::alloc::Global;
 
@@ -32,13 +32,13 @@ pub fn checkin(alloc: Global, number: u64, names: &[Name]) -> Result<Manifest, M
 }
 
 /// The check-in before it, where there is one.
-fn parents(alloc: Global, number: u64, names: &[Name]) -> Result<List<Name>, Memory>
+fn parents(alloc: Global, number: u64, names: &[Name]) -> Result<List<Ref>, Memory>
     requires { number ≤ length names.now }
     ensures { IfOk result (λ parents. parents ≡ parents_at (name_among names.now) number) }
 {
     let mut parents = List::new(alloc);
     if number >= 4 {
-        parents.append(names[(number - 4) as usize])?;
+        parents.append(Ref::Own(names[(number - 4) as usize]))?;
     }
     Ok(parents)
 }

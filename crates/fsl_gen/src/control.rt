@@ -6,7 +6,7 @@ ghost use Rattle.fsl_gen.specs.Table.{control_at, mark, name_among};
 use crate::by_number::{date_of, user_of};
 use fsl_forms::Control;
 use fsl_grammar::{Prefix, TagCard};
-use fsl_name::Name;
+use fsl_name::{Name, Ref};
 use fsl_text::{List, Memory, Text};
 use std::alloc::Global;
 
@@ -34,7 +34,7 @@ fn mark(alloc: Global, target: Name) -> Result<TagCard, Memory>
     Ok(TagCard {
         prefix: Prefix::Once,
         tag: Text::of(alloc, b"mark")?,
-        target: Some(target),
+        target: Some(Ref::Own(target)),
         value: None,
     })
 }

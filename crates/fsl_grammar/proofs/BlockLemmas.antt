@@ -14,6 +14,7 @@ use Rattle.fsl_grammar.specs.Forms.{HasBody, arguments, hash_form, is_filled, te
 use Rattle.fsl_grammar.specs.Writing.{body_card, card_if, parents_card}
 use Rattle.fsl_text.specs.Escapes.{escape}
 use Rattle.fsl_name.specs.Name.{IsName, name_text}
+use Rattle.fsl_name.specs.declared.reference.Ref.{Ref}
 use Rattle.fsl_grammar.proofs.WrittenArguments.{is_argument-escape, is_argument-name}
 use Rattle.fsl_grammar.proofs.FormsAgain.{hash_again, read_if, text_again, user_again}
 use Rattle.fsl_grammar.proofs.Blocks.{AreBlocks, HaveLetters, IsBlock, arguments-joined, block_if, blocks_rise, given, has_letters-joined, is_plain_letter, joined, joined-push, seal_block, sealed_blocks}
@@ -78,9 +79,9 @@ pub no_bodies-if : {X : Type 0} (letter : ℕ) (written : X → List ℕ) (o : O
 no_bodies-if letter written None = refl
 no_bodies-if letter written (Some x) = refl
 
-pub no_bodies-parents : (names : List (List ℕ)) → filter_map (λ card. card.body) (parents_card names) ≡ []
+pub no_bodies-parents : (refs : List Ref) → filter_map (λ card. card.body) (parents_card refs) ≡ []
 no_bodies-parents [] = refl
-no_bodies-parents (name ∷ names) = refl
+no_bodies-parents (r ∷ refs) = refl
 
 pub no_bodies-each : {X : Type 0} (made : X → Card) → ((x : X) → (made x).body ≡ None) → (xs : List X) → filter_map (λ card. card.body) (map made xs) ≡ []
 no_bodies-each made none [] = refl

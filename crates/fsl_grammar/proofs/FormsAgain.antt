@@ -1,5 +1,5 @@
 -- What is written as an argument is read again.
-use Rattle.std.proofs.Common.{◌≡◌, ℕ, ◌*◌, Bool, true, false, not, eqb, List, [], ◌∷◌, ◌++◌, length, map, flat_map, Option, Some, None, refl, ap, ◌∙◌, arith}
+use Rattle.std.proofs.Common.{◌≡◌, ℕ, ◌*◌, Bool, true, false, not, eqb, List, [], ◌∷◌, ◌++◌, length, map, flat_map, Option, Some, None, refl, sym, ap, ◌∙◌, arith}
 use Rattle.std.specs.Prelude.{nat_le, option_map, option_to_list, codes}
 use Rattle.std.specs.List.{list_all, AllByRecursion}
 use Rattle.std.specs.Str.{bytes_eq}
@@ -10,8 +10,12 @@ use Rattle.fsl_order.proofs.Booleans.{first_holds, second_holds}
 use Rattle.fsl_text.specs.Bytes.{AreBytes, is_empty}
 use Rattle.fsl_text.specs.Escapes.{escape, unescape}
 use Rattle.fsl_text.proofs.Unescaping.{unescape-escape}
-use Rattle.fsl_name.specs.Name.{IsName, name_in, name_text}
+use Rattle.fsl_name.specs.Name.{IsName, name_text}
+use Rattle.fsl_name.specs.Ref.{IsRef, ref_bytes, ref_in, ref_text}
+use Rattle.fsl_name.specs.declared.reference.Ref.{Ref}
+use Rattle.fsl_name.specs.declared.reference.Ref.TheVariants.{Own, Foreign}
 use Rattle.fsl_name.proofs.ReadAgain.{name_again, bytes_again, digits_all, length_digits}
+use Rattle.fsl_name.proofs.RefTexts.{ref_again}
 use Rattle.fsl_date.specs.Moment.{IsMoment, moment_text}
 use Rattle.fsl_date.proofs.MomentTexts.{is_read}
 use Rattle.fsl_card.specs.Cards.{in_order, is_argument}
@@ -19,10 +23,10 @@ use Rattle.fsl_card.specs.declared.types.Card.{Card}
 use Rattle.fsl_grammar.specs.declared.Prefix.{Prefix}
 use Rattle.fsl_grammar.specs.declared.Prefix.TheVariants.{Once, Cancel, Propagate}
 use Rattle.fsl_grammar.specs.declared.TagCard.{TagCard}
-use Rattle.fsl_grammar.specs.Forms.{text_form, hash_form, date_form, checksum_form, user_form, tag_form, tag_in, target_in, prefix_in, is_filled, is_tag_written}
+use Rattle.fsl_grammar.specs.Forms.{text_form, hash_form, ref_form, date_form, checksum_form, user_form, tag_form, tag_in, target_in, prefix_in, is_filled, is_tag_written}
 use Rattle.fsl_grammar.specs.Writing.{written_if, card_if, parents_card, sign_of, tag_card, target_text}
 use Rattle.fsl_grammar.proofs.Blocks.{IsBlock, block_each, no_block, one_block, plain_card}
-use Rattle.fsl_grammar.proofs.WrittenArguments.{is_argument-escape, is_argument-name}
+use Rattle.fsl_grammar.proofs.WrittenArguments.{is_argument-escape, is_argument-ref}
 
 -- ---- single arguments
 
@@ -34,6 +38,9 @@ user_again text = ap Some (unescape-escape text)
 
 pub hash_again : (name : List ℕ) → IsName name → hash_form (name_text name ∷ []) ≡ Some name
 hash_again name h = name_again name h
+
+pub ref_form_again : (r : Ref) → IsRef r → ref_form (ref_text r ∷ []) ≡ Some r
+ref_form_again r h = ref_again r h
 
 pub date_again : (ms : ℕ) → IsMoment ms → date_form (moment_text ms ∷ []) ≡ Some ms
 date_again ms h = is_read ms h (moment_text ms) refl
@@ -59,17 +66,17 @@ read_each made form P again (x ∷ xs) h = let first = again x h.0 in let rest =
 
 -- ---- parents
 
-names_again : (names : List (List ℕ)) → AllByRecursion IsName names → map name_in (map name_text names ++ []) ≡ map Some names
-names_again [] h = refl
-names_again (name ∷ names) h = let first = name_again name h.0 in let rest = names_again names h.1 in λ i. first i ∷ rest i
+refs_again : (refs : List Ref) → AllByRecursion IsRef refs → map ref_in (map ref_text refs ++ []) ≡ map Some refs
+refs_again [] h = refl
+refs_again (r ∷ refs) h = let first = ref_again r h.0 in let rest = refs_again refs h.1 in λ i. first i ∷ rest i
 
-pub parents_again : (names : List (List ℕ)) → AllByRecursion IsName names → map name_in (flat_map (λ args. args) (map (λ card. card.args) (parents_card names) ++ [])) ≡ map Some names
+pub parents_again : (refs : List Ref) → AllByRecursion IsRef refs → map ref_in (flat_map (λ args. args) (map (λ card. card.args) (parents_card refs) ++ [])) ≡ map Some refs
 parents_again [] h = refl
-parents_again (name ∷ names) h = names_again (name ∷ names) h
+parents_again (r ∷ refs) h = refs_again (r ∷ refs) h
 
-pub names_arguments : (names : List (List ℕ)) → AllByRecursion IsName names → list_all is_argument (map name_text names) ≡ true
-names_arguments [] h = refl
-names_arguments (name ∷ names) h = and_from _ _ (is_argument-name name h.0) (names_arguments names h.1)
+pub refs_arguments : (refs : List Ref) → AllByRecursion IsRef refs → list_all is_argument (map ref_text refs) ≡ true
+refs_arguments [] h = refl
+refs_arguments (r ∷ refs) h = and_from _ _ (is_argument-ref r h.0) (refs_arguments refs h.1)
 
 -- ---- tags
 
@@ -78,17 +85,24 @@ prefix_again Once = refl
 prefix_again Cancel = refl
 prefix_again Propagate = refl
 
--- the digits of a name aren't `*`
-name_no_star : (name : List ℕ) → IsName name → bytes_eq (name_text name) (codes "*") ≡ false
-name_no_star name h = by (bytes_eq (name_text name) (codes "*")) refl
+-- the digits of a reference aren't `*`
+ref_no_star : (r : Ref) → IsRef r → bytes_eq (ref_text r) (codes "*") ≡ false
+ref_no_star r h = by (bytes_eq (ref_text r) (codes "*")) refl
   where
-    by : (t : Bool) → bytes_eq (name_text name) (codes "*") ≡ t → t ≡ false
-    by false e = refl
-    by true e = absurd (omega (arith, length_digits name, h.0, ap length ((bytes_decides (name_text name) (codes "*")).0 e)))
+    long : (r : Ref) → IsRef r → length (ref_bytes r) ≡ 1 → ⊥
+    long (Own name) k one = omega (arith, k.0, one)
+    long (Foreign bytes) k one = omega (arith, k.0, one)
 
-target_again : (target : Option (List ℕ)) → AllByRecursion IsName (option_to_list target) → target_in (target_text target) ≡ Some target
+    even : (n : ℕ) → 2 * n ≡ 1 → n ≡ 1
+    even n e = absurd (omega (arith, e))
+
+    by : (t : Bool) → bytes_eq (ref_text r) (codes "*") ≡ t → t ≡ false
+    by false e = refl
+    by true e = absurd (long r h (even _ (sym (length_digits (ref_bytes r)) ∙ ap length ((bytes_decides (ref_text r) (codes "*")).0 e))))
+
+target_again : (target : Option Ref) → AllByRecursion IsRef (option_to_list target) → target_in (target_text target) ≡ Some target
 target_again None h = refl
-target_again (Some name) h = rw (name_no_star name h.0) (ap (option_map Some) (name_again name h.0))
+target_again (Some r) h = rw (ref_no_star r h.0) (ap (option_map Some) (ref_again r h.0))
 
 -- a byte that is no backslash stands for itself
 unescape_plain : (b : ℕ) (rest : List ℕ) → eqb b 92 ≡ false → unescape (b ∷ rest) ≡ b ∷ unescape rest
@@ -101,13 +115,13 @@ unescape_signed Once tag = unescape_plain 43 (escape tag) refl ∙ ap (λ (t : L
 unescape_signed Cancel tag = unescape_plain 45 (escape tag) refl ∙ ap (λ (t : List ℕ). 45 ∷ t) (unescape-escape tag)
 unescape_signed Propagate tag = unescape_plain 42 (escape tag) refl ∙ ap (λ (t : List ℕ). 42 ∷ t) (unescape-escape tag)
 
-tag_in_again : (prefix : Prefix) (tag : List ℕ) (target value : Option (List ℕ)) → AllByRecursion IsName (option_to_list target) → not (is_empty tag) ≡ true
+tag_in_again : (prefix : Prefix) (tag : List ℕ) (target : Option Ref) (value : Option (List ℕ)) → AllByRecursion IsRef (option_to_list target) → not (is_empty tag) ≡ true
     → tag_in (sign_of prefix ∷ tag) (target_text target) value ≡ Some (record { prefix = prefix; tag = tag; target = target; value = value })
 tag_in_again prefix tag target value named filled = rw (prefix_again prefix, target_again target named, filled) refl
 
 -- what a tag that can be written owes
 pub record IsTagFit (t : TagCard) : Type 0 where
-  pub named : AllByRecursion IsName (option_to_list t.target)
+  pub named : AllByRecursion IsRef (option_to_list t.target)
   pub written : is_tag_written t ≡ true
 
 pub tag_again : (t : TagCard) → IsTagFit t → tag_form (tag_card t).args ≡ Some t
@@ -130,9 +144,9 @@ tag_arguments t h =
     signed_argument Cancel tag filled = second_holds (not (is_empty (escape tag))) _ (is_argument-escape tag filled)
     signed_argument Propagate tag filled = second_holds (not (is_empty (escape tag))) _ (is_argument-escape tag filled)
 
-    target_argument : (target : Option (List ℕ)) → AllByRecursion IsName (option_to_list target) → is_argument (target_text target) ≡ true
+    target_argument : (target : Option Ref) → AllByRecursion IsRef (option_to_list target) → is_argument (target_text target) ≡ true
     target_argument None named = refl
-    target_argument (Some name) named = is_argument-name name named.0
+    target_argument (Some r) named = is_argument-ref r named.0
 
     value_argument : (value : Option (List ℕ)) → is_filled value ≡ true → list_all is_argument (written_if escape value) ≡ true
     value_argument None filled = refl
@@ -148,16 +162,16 @@ tags_ordered (a ∷ b ∷ tags) = tags_ordered (b ∷ tags)
 pub tags_block : (tags : List TagCard) → AllByRecursion IsTagFit tags → IsBlock (84, map tag_card tags)
 tags_block tags h = block_each 84 tag_card IsTagFit (λ t. refl) (λ t fit. plain_card 84 (tag_card t).args refl (tag_arguments t fit)) tags h (tags_ordered tags)
 
-pub parents_block : (names : List (List ℕ)) → AllByRecursion IsName names → IsBlock (80, parents_card names)
+pub parents_block : (refs : List Ref) → AllByRecursion IsRef refs → IsBlock (80, parents_card refs)
 parents_block [] h = no_block 80
-parents_block (name ∷ names) h = one_block 80 (map name_text (name ∷ names)) refl (names_arguments (name ∷ names) h)
+parents_block (r ∷ refs) h = one_block 80 (map ref_text (r ∷ refs)) refl (refs_arguments (r ∷ refs) h)
 
-pub at_most_one_parents : (names : List (List ℕ)) → nat_le (length (map (λ card. card.args) (parents_card names) ++ [])) 1 ≡ true
+pub at_most_one_parents : (refs : List Ref) → nat_le (length (map (λ card. card.args) (parents_card refs) ++ [])) 1 ≡ true
 at_most_one_parents [] = refl
-at_most_one_parents (name ∷ names) = refl
+at_most_one_parents (r ∷ refs) = refl
 
--- tags that can be written, whose targets are names
-pub tags_fit : (tags : List TagCard) → AllByRecursion (λ t. AllByRecursion IsName (option_to_list t.target)) tags → list_all is_tag_written tags ≡ true → AllByRecursion IsTagFit tags
+-- tags that can be written, whose targets are references
+pub tags_fit : (tags : List TagCard) → AllByRecursion (λ t. AllByRecursion IsRef (option_to_list t.target)) tags → list_all is_tag_written tags ≡ true → AllByRecursion IsTagFit tags
 tags_fit [] h k = tt
 tags_fit (t ∷ tags) h k =
     (record { named = h.0; written = first_holds _ (list_all is_tag_written tags) k }, tags_fit tags h.1 (second_holds (is_tag_written t) _ k))

@@ -5,7 +5,7 @@ use Rattle.std.specs.List.{list_all}
 use Rattle.std.proofs.lemmas.Bool.{eq-eqb}
 use Rattle.std.proofs.lemmas.List.{map-append}
 use Rattle.fsl_card.specs.declared.types.Card.{Card}
-use Rattle.fsl_name.specs.Name.{name_in}
+use Rattle.fsl_name.specs.Ref.{ref_in}
 use Rattle.fsl_grammar.specs.Forms.{arguments}
 
 -- a card of the letter comes first
@@ -67,10 +67,10 @@ module _ {X : Type 0} where
         let zs = behind_values xs (map f args ++ rest) ys e in
         missing_among args rest zs.0 h zs.1
 
--- the names of the P cards from one of them on
-pub names-at : (cards : List Card) (i : ℕ) (card : Card) → i < length cards → card ≡ get_or cards i card → card.letter ≡ 80
-    → map name_in (flat_map (λ args. args) (arguments (drop i cards) 80)) ≡ map name_in card.args ++ map name_in (flat_map (λ args. args) (arguments (drop (i + 1) cards) 80))
-names-at cards i card lt is same =
+-- the references of the P cards from one of them on
+pub refs-at : (cards : List Card) (i : ℕ) (card : Card) → i < length cards → card ≡ get_or cards i card → card.letter ≡ 80
+    → map ref_in (flat_map (λ args. args) (arguments (drop i cards) 80)) ≡ map ref_in card.args ++ map ref_in (flat_map (λ args. args) (arguments (drop (i + 1) cards) 80))
+refs-at cards i card lt is same =
     let rest = arguments (drop (i + 1) cards) 80 in
-    ap (λ (found : List (List (List ℕ))). map name_in (flat_map (λ args. args) found)) (arguments-at cards 80 i card lt is same)
-    ∙ map-append name_in card.args (flat_map (λ args. args) rest)
+    ap (λ (found : List (List (List ℕ))). map ref_in (flat_map (λ args. args) found)) (arguments-at cards 80 i card lt is same)
+    ∙ map-append ref_in card.args (flat_map (λ args. args) rest)

@@ -3,14 +3,15 @@ use Rattle.std.proofs.Common.{◌≡◌, ℕ, List, [], ◌∷◌, ◌++◌, len
 use Rattle.std.proofs.lemmas.List.{append-nil}
 use Rattle.std.proofs.lemmas.List.Folds.{flat_map-map}
 use Rattle.fsl_card.specs.Cards.{text_of}
-use Rattle.fsl_name.specs.Name.{name_text}
+use Rattle.fsl_name.specs.Ref.{ref_text}
+use Rattle.fsl_name.specs.declared.reference.Ref.{Ref}
 use Rattle.fsl_grammar.specs.Writing.{parents_card}
 
-abbrev pub name_arguments : List (List ℕ) → List ℕ
-name_arguments names = flat_map (λ name. 32 ∷ name_text name) names
+abbrev pub ref_arguments : List Ref → List ℕ
+ref_arguments refs = flat_map (λ r. 32 ∷ ref_text r) refs
 
 -- the P card of some parents
-pub parents_text : (names : List (List ℕ)) → (length names ≡ 0 → ⊥) → text_of (parents_card names) ≡ 80 ∷ name_arguments names ++ 10 ∷ []
+pub parents_text : (refs : List Ref) → (length refs ≡ 0 → ⊥) → text_of (parents_card refs) ≡ 80 ∷ ref_arguments refs ++ 10 ∷ []
 parents_text [] some = absurd (some refl)
-parents_text (name ∷ names) some =
-    append-nil _ ∙ ap (λ (args : List ℕ). 80 ∷ args ++ 10 ∷ []) (flat_map-map (λ arg. 32 ∷ arg) name_text (name ∷ names))
+parents_text (r ∷ refs) some =
+    append-nil _ ∙ ap (λ (args : List ℕ). 80 ∷ args ++ 10 ∷ []) (flat_map-map (λ arg. 32 ∷ arg) ref_text (r ∷ refs))

@@ -9,6 +9,9 @@ use Rattle.fsl_order.proofs.Booleans.{first_holds, second_holds}
 use Rattle.fsl_text.specs.Bytes.{AreBytes, is_empty}
 use Rattle.fsl_text.specs.Escapes.{escape, escaped_byte}
 use Rattle.fsl_name.specs.Name.{IsName, is_name_digit, name_text}
+use Rattle.fsl_name.specs.Ref.{IsRef, ref_text}
+use Rattle.fsl_name.specs.declared.reference.Ref.{Ref}
+use Rattle.fsl_name.specs.declared.reference.Ref.TheVariants.{Own, Foreign}
 use Rattle.fsl_name.proofs.ReadAgain.{digits_all, length_digits}
 use Rattle.fsl_date.specs.Moment.{moment_text}
 use Rattle.fsl_card.specs.Cards.{is_argument, is_argument_byte}
@@ -80,6 +83,10 @@ digits_argument n bytes long each =
 
 pub is_argument-name : (name : List ℕ) → IsName name → is_argument (name_text name) ≡ true
 is_argument-name name h = digits_argument 19 name h.0 h.1
+
+pub is_argument-ref : (r : Ref) → IsRef r → is_argument (ref_text r) ≡ true
+is_argument-ref (Own name) h = digits_argument 19 name h.0 h.1
+is_argument-ref (Foreign bytes) h = digits_argument 31 bytes h.0 h.1
 
 pub is_argument-checksum : (bytes : List ℕ) → length bytes ≡ 16 → AreBytes bytes → is_argument (encode_lower bytes) ≡ true
 is_argument-checksum bytes long each = digits_argument 15 bytes long each

@@ -1,14 +1,15 @@
 //! The forms of arguments that several kinds share.
 ghost use Rattle.std.specs.Prelude.{◌≡◌, option_map};
-ghost use Rattle.fsl_grammar.specs.Forms.{checksum_form, date_form, hash_form, optional, prefix_in, tag_form, tag_in, target_in, text_form, user_form};
+ghost use Rattle.fsl_grammar.specs.Forms.{checksum_form, date_form, hash_form, optional, prefix_in, ref_form, tag_form, tag_in, target_in, text_form, user_form};
 ghost use Rattle.fsl_grammar.specs.Reading.{IsGiven};
 ghost use Rattle.fsl_name.specs.Name.{name_in};
+ghost use Rattle.fsl_name.specs.Ref.{ref_in};
 ghost use Rattle.fsl_text.specs.Escapes.{unescape};
 
 use super::digits::read_checksum;
 use crate::{Prefix, TagCard, Unread};
 use fsl_date::Moment;
-use fsl_name::Name;
+use fsl_name::{Name, Ref};
 use fsl_text::{Text, unescape};
 use std::alloc::Global;
 
@@ -37,6 +38,22 @@ impl Form for HashForm {
     fn read(_alloc: Global, args: &[Text]) -> Result<Name, Unread> {
         match args {
             [arg] => read_hash(arg.bytes()).ok_or(Unread::Form),
+            _ => Err(Unread::Form),
+        }
+    }
+}
+
+/// One argument, the 40 or 64 lower-case digits of a reference.
+pub struct RefForm;
+
+impl Form for RefForm {
+    type Value = Ref;
+
+    ghost form = { ref_form };
+
+    fn read(_alloc: Global, args: &[Text]) -> Result<Ref, Unread> {
+        match args {
+            [arg] => read_ref(arg.bytes()).ok_or(Unread::Form),
             _ => Err(Unread::Form),
         }
     }
@@ -137,15 +154,25 @@ pub fn read_hash(arg: &[u8]) -> Option<Name>
     }
 }
 
-/// The name of an argument that may be missing, or None where it is there and no name.
-pub fn read_optional_hash(arg: Option<&Text>) -> Option<Option<Name>>
-    ensures { result ≡ optional name_in (option_map (λ text. text.now) arg.entry) }
+/// The reference that 40 or 64 lower-case digits are.
+pub fn read_ref(arg: &[u8]) -> Option<Ref>
+    ensures { result ≡ ref_in arg.now }
+{
+    match Ref::read(arg) {
+        Ok(found) => Some(found),
+        Err(_) => None,
+    }
+}
+
+/// The reference of an argument that may be missing, or None where it is there and no reference.
+pub fn read_optional_ref(arg: Option<&Text>) -> Option<Option<Ref>>
+    ensures { result ≡ optional ref_in (option_map (λ text. text.now) arg.entry) }
 {
     let Some(arg) = arg else {
         return Some(None);
     };
-    match read_hash(arg.bytes()) {
-        Some(name) => Some(Some(name)),
+    match read_ref(arg.bytes()) {
+        Some(found) => Some(Some(found)),
         None => None,
     }
 }
@@ -162,14 +189,14 @@ fn read_prefix(byte: u8) -> Option<Prefix>
 }
 
 /// The target of a tag: `*` stands for the artifact itself.
-fn read_target(arg: &[u8]) -> Option<Option<Name>>
+fn read_target(arg: &[u8]) -> Option<Option<Ref>>
     ensures { result ≡ target_in arg.now }
 {
     if arg == b"*".as_slice() {
         return Some(None);
     }
-    match read_hash(arg) {
-        Some(name) => Some(Some(name)),
+    match read_ref(arg) {
+        Some(found) => Some(Some(found)),
         None => None,
     }
 }

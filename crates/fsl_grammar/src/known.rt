@@ -1,11 +1,12 @@
-//! What the types of values keep, for proofs alone: by these calls a caller learns that the names in a value have 20 bytes, as it does by
-//! `Name::bytes`. They change nothing and give nothing.
+//! What the types of values keep, for proofs alone: by these calls a caller learns that the names in a value have 20 bytes, and foreign
+//! names 32, as it does by `Name::bytes` and `Ref::bytes`. They change nothing and give nothing.
 ghost use Rattle.std.specs.Prelude.{option_to_list};
 ghost use Rattle.std.specs.List.{AllByRecursion};
 ghost use Rattle.fsl_name.specs.Name.{IsName};
+ghost use Rattle.fsl_name.specs.Ref.{IsRef};
 
 use crate::TagCard;
-use fsl_name::Name;
+use fsl_name::{Name, Ref};
 
 /// A name that may be missing is a name where it is there.
 pub fn know_name(name: &Option<Name>)
@@ -16,20 +17,29 @@ pub fn know_name(name: &Option<Name>)
     }
 }
 
-/// Names are names.
-pub fn know_names(names: &[Name])
-    ensures { AllByRecursion IsName names.now }
+/// A reference that may be missing is one where it is there.
+pub fn know_ref(reference: &Option<Ref>)
+    ensures { AllByRecursion IsRef (option_to_list reference.now) }
 {
-    for name in names {
-        let _ = name.bytes();
+    if let Some(found) = reference {
+        let _ = found.bytes();
     }
 }
 
-/// The targets of tags are names.
+/// References are references.
+pub fn know_refs(refs: &[Ref])
+    ensures { AllByRecursion IsRef refs.now }
+{
+    for found in refs {
+        let _ = found.bytes();
+    }
+}
+
+/// The targets of tags are references.
 pub fn know_tags(tags: &[TagCard])
-    ensures { AllByRecursion (λ t. AllByRecursion IsName (option_to_list t.target)) tags.now }
+    ensures { AllByRecursion (λ t. AllByRecursion IsRef (option_to_list t.target)) tags.now }
 {
     for tag in tags {
-        know_name(&tag.target);
+        know_ref(&tag.target);
     }
 }

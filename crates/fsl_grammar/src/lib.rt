@@ -13,12 +13,12 @@ mod writing;
 mod written;
 
 pub use forms::{
-    ChecksumForm, DateForm, Form, HashForm, TagForm, TextForm, UserForm, read_hash,
-    read_optional_hash,
+    ChecksumForm, DateForm, Form, HashForm, RefForm, TagForm, TextForm, UserForm, read_hash,
+    read_optional_ref, read_ref,
 };
-use fsl_name::Name;
+use fsl_name::Ref;
 use fsl_text::{Memory, Text};
-pub use known::{know_name, know_names, know_tags};
+pub use known::{know_name, know_ref, know_refs, know_tags};
 pub use letters::{
     has_attachment_letters, has_cluster_letters, has_control_letters, has_forum_letters,
     has_manifest_letters, has_technote_letters, has_ticket_letters, has_wiki_letters,
@@ -26,10 +26,11 @@ pub use letters::{
 pub use reading::{at_most_one, body, each, one, parents};
 pub use writing::{
     begin_card, end_card, write_argument, write_body, write_card, write_name, write_name_card,
-    write_optional_name, write_optional_name_card, write_optional_text, write_optional_text_card,
-    write_parents, write_signed_text, write_tag, write_tags, write_text, write_text_card,
+    write_optional_name_card, write_optional_ref, write_optional_text, write_optional_text_card,
+    write_parents, write_ref, write_ref_card, write_signed_text, write_tag, write_tags, write_text,
+    write_text_card,
 };
-pub use written::{all_differ, is_filled, is_tag_written};
+pub use written::{is_filled, is_tag_written, refs_differ};
 
 /// How an assertion of a tag acts.
 #[derive(Clone, Copy, Debug, PartialEq, Eq)]
@@ -47,7 +48,7 @@ pub enum Prefix {
 pub struct TagCard {
     pub prefix: Prefix,
     pub tag: Text,
-    pub target: Option<Name>,
+    pub target: Option<Ref>,
     pub value: Option<Text>,
 }
 

@@ -1,14 +1,14 @@
 //! The values that the cards of one letter give.
 ghost use Rattle.std.specs.Prelude.{◌≡◌, ◌++◌, IfOk, IsTrue, flat_map, is_some, map};
 ghost use Rattle.std.specs.List.{list_all};
-ghost use Rattle.fsl_grammar.specs.Forms.{HasOne, HasAtMostOne, HasEach, HasParents, HasBody, all_differ, arguments};
+ghost use Rattle.fsl_grammar.specs.Forms.{HasOne, HasAtMostOne, HasEach, HasParents, HasBody, arguments, refs_differ};
 ghost use Rattle.fsl_grammar.specs.Reading.{IsRead};
-ghost use Rattle.fsl_name.specs.Name.{name_in};
+ghost use Rattle.fsl_name.specs.Ref.{ref_bytes, ref_in};
 
-use super::forms::{Form, read_hash};
+use super::forms::{Form, read_ref};
 use crate::Unread;
 use fsl_card::Card;
-use fsl_name::Name;
+use fsl_name::Ref;
 use fsl_text::{List, Memory, Text};
 use std::alloc::Global;
 
@@ -55,40 +55,41 @@ pub fn one<F: Form>(alloc: Global, cards: &[Card], letter: u8) -> Result<F::Valu
     at_most_one::<F>(alloc, cards, letter)?.ok_or(Unread::Form)
 }
 
-/// The names of the P card, or none where there is no such card. `Form` where one of the arguments is no name, or two of them are the same.
-pub fn parents(alloc: Global, cards: &[Card]) -> Result<List<Name>, Unread>
+/// The references of the P card, or none where there is no such card. `Form` where one of the arguments is none, or two of them are the
+/// same.
+pub fn parents(alloc: Global, cards: &[Card]) -> Result<List<Ref>, Unread>
     ensures { IsRead HasParents cards.now result }
 {
-    let names = parent_names(alloc, cards)?;
-    if names_differ(alloc, names.items())? {
-        Ok(names)
+    let refs = parent_refs(alloc, cards)?;
+    if all_differ(alloc, refs.items())? {
+        Ok(refs)
     } else {
         Err(Unread::Form)
     }
 }
 
-/// The names of the P cards. `Form` where one of the arguments is no name.
-fn parent_names(alloc: Global, cards: &[Card]) -> Result<List<Name>, Unread>
-    ensures { IsRead (λ cards names. map name_in (flat_map (λ args. args) (arguments cards 80)) ≡ map Some names) cards.now result }
+/// The references of the P cards. `Form` where one of the arguments is none.
+fn parent_refs(alloc: Global, cards: &[Card]) -> Result<List<Ref>, Unread>
+    ensures { IsRead (λ cards refs. map ref_in (flat_map (λ args. args) (arguments cards 80)) ≡ map Some refs) cards.now result }
 {
-    let mut names = List::new(alloc);
+    let mut refs = List::new(alloc);
     for card in cards {
-        if card.letter == b'P' && !push_names(&mut names, card.args.items())? {
+        if card.letter == b'P' && !push_refs(&mut refs, card.args.items())? {
             return Err(Unread::Form);
         }
     }
-    Ok(names)
+    Ok(refs)
 }
 
-/// Puts the names that arguments are at the end of others, and says whether all of them are names.
-fn push_names(names: &mut List<Name>, args: &[Text]) -> Result<bool, Memory>
-    ensures all { IfOk result (λ all. all ≡ list_all (λ arg. is_some (name_in arg)) args.now) }
-    ensures names { IfOk result (λ all. IsTrue all → map Some names.old ++ map name_in args.now ≡ map Some names.new) }
+/// Puts the references that arguments are at the end of others, and says whether all of them are references.
+fn push_refs(refs: &mut List<Ref>, args: &[Text]) -> Result<bool, Memory>
+    ensures all { IfOk result (λ all. all ≡ list_all (λ arg. is_some (ref_in arg)) args.now) }
+    ensures refs { IfOk result (λ all. IsTrue all → map Some refs.old ++ map ref_in args.now ≡ map Some refs.new) }
 {
     for arg in args {
-        match read_hash(arg.bytes()) {
-            Some(name) => {
-                if names.push(name).is_err() {
+        match read_ref(arg.bytes()) {
+            Some(found) => {
+                if refs.push(found).is_err() {
                     return Err(Memory);
                 }
             }
@@ -98,14 +99,25 @@ fn push_names(names: &mut List<Name>, args: &[Text]) -> Result<bool, Memory>
     Ok(true)
 }
 
-/// Whether all names differ.
-fn names_differ(alloc: Global, names: &[Name]) -> Result<bool, Memory>
-    ensures { IfOk result (λ differ. differ ≡ all_differ names.now) }
+/// Whether all references differ.
+fn all_differ(alloc: Global, refs: &[Ref]) -> Result<bool, Memory>
+    ensures { IfOk result (λ differ. differ ≡ refs_differ refs.now) }
 {
-    let mut sorted = names.to_vec(alloc)?;
+    let mut sorted = bytes_of(alloc, refs)?;
     sorted.sort_unstable();
     sorted.dedup();
-    Ok(sorted.len() == names.len())
+    Ok(sorted.len() == refs.len())
+}
+
+/// The bytes of references, in their order.
+fn bytes_of(alloc: Global, refs: &[Ref]) -> Result<Vec<&[u8]>, Memory>
+    ensures { IfOk result (λ all. map (λ bytes. bytes.now) all.items ≡ map ref_bytes refs.now) }
+{
+    let mut all = Vec::new(alloc);
+    for found in refs {
+        all.push(found.bytes())?;
+    }
+    Ok(all)
 }
 
 /// The body of the one card that has one. `Form` where there isn't one.

@@ -4,10 +4,11 @@ ghost use Rattle.std.specs.Prelude.{◌≡◌, ◌++◌, ◌∷◌, [], OnErr, O
 ghost use Rattle.fsl_card.specs.Cards.{card_text, text_of};
 ghost use Rattle.fsl_grammar.specs.Writing.{body_card, card, card_if, parents_card, sign_of, tag_card, target_text, written_if};
 ghost use Rattle.fsl_name.specs.Name.{name_text};
+ghost use Rattle.fsl_name.specs.Ref.{ref_text};
 ghost use Rattle.fsl_text.specs.Escapes.{escape};
 
 use crate::{Prefix, TagCard};
-use fsl_name::Name;
+use fsl_name::{Name, Ref};
 use fsl_text::{Memory, Text, escape_into};
 use std::alloc::Global;
 
@@ -83,6 +84,16 @@ pub fn write_name(into: &mut Text, name: &Name) -> Result<(), Memory>
     write_argument(into, &name.text())
 }
 
+/// A reference as an argument, in its 40 or 64 digits.
+pub fn write_ref(into: &mut Text, reference: &Ref) -> Result<(), Memory>
+    ensures ok { OnOk result (into.new ≡ into.old ++ 32 ∷ ref_text reference.now) }
+    ensures err { OnErr result (into.new ≡ into.old) }
+{
+    let mut digits = [0u8; 64];
+    let count = reference.write(&mut digits) as usize;
+    write_argument(into, &digits[..count])
+}
+
 /// A sign and a text behind it as one argument.
 pub fn write_signed_text(into: &mut Text, sign: u8, text: &[u8]) -> Result<(), Memory>
     ensures ok { OnOk result (into.new ≡ into.old ++ 32 ∷ sign ∷ escape text.now) }
@@ -112,13 +123,13 @@ pub fn write_optional_text(into: &mut Text, text: &Option<Text>) -> Result<(), M
     }
 }
 
-/// A name as an argument, where there is one.
-pub fn write_optional_name(into: &mut Text, name: &Option<Name>) -> Result<(), Memory>
-    ensures ok { OnOk result (into.new ≡ into.old ++ flat_map (λ arg. 32 ∷ arg) (written_if name_text name.now)) }
+/// A reference as an argument, where there is one.
+pub fn write_optional_ref(into: &mut Text, reference: &Option<Ref>) -> Result<(), Memory>
+    ensures ok { OnOk result (into.new ≡ into.old ++ flat_map (λ arg. 32 ∷ arg) (written_if ref_text reference.now)) }
     ensures err { OnErr result (into.new ≡ into.old) }
 {
-    match name {
-        Some(name) => write_name(into, name),
+    match reference {
+        Some(found) => write_ref(into, found),
         None => Ok(()),
     }
 }
@@ -169,6 +180,16 @@ pub fn write_name_card(into: &mut Text, letter: u8, name: &Name) -> Result<(), M
     write_card(into, letter, &name.text())
 }
 
+/// A card with a reference.
+pub fn write_ref_card(into: &mut Text, letter: u8, reference: &Ref) -> Result<(), Memory>
+    ensures ok { OnOk result (into.new ≡ into.old ++ card_text (card letter (ref_text reference.now ∷ []))) }
+    ensures err { OnErr result (into.new ≡ into.old) }
+{
+    let mut digits = [0u8; 64];
+    let count = reference.write(&mut digits) as usize;
+    write_card(into, letter, &digits[..count])
+}
+
 /// A card with a text, where there is one.
 pub fn write_optional_text_card(
     into: &mut Text,
@@ -200,7 +221,7 @@ pub fn write_optional_name_card(
 }
 
 /// The P card of some parents. Without parents there is none.
-pub fn write_parents(into: &mut Text, parents: &[Name]) -> Result<(), Memory>
+pub fn write_parents(into: &mut Text, parents: &[Ref]) -> Result<(), Memory>
     ensures ok { OnOk result (into.new ≡ into.old ++ text_of (parents_card parents.now)) }
     ensures err { OnErr result (into.new ≡ into.old) }
 {
@@ -209,7 +230,7 @@ pub fn write_parents(into: &mut Text, parents: &[Name]) -> Result<(), Memory>
     whole(into, length, written)
 }
 
-fn add_parents(into: &mut Text, parents: &[Name]) -> Result<(), Memory>
+fn add_parents(into: &mut Text, parents: &[Ref]) -> Result<(), Memory>
     ensures ok { OnOk result (into.new ≡ into.old ++ text_of (parents_card parents.now)) }
     ensures err { OnErr result (take (length into.old) into.new ≡ into.old) }
 {
@@ -217,16 +238,16 @@ fn add_parents(into: &mut Text, parents: &[Name]) -> Result<(), Memory>
         return Ok(());
     }
     begin_card(into, b'P')?;
-    add_names(into, parents)?;
+    add_refs(into, parents)?;
     end_card(into)
 }
 
-fn add_names(into: &mut Text, names: &[Name]) -> Result<(), Memory>
-    ensures ok { OnOk result (into.new ≡ into.old ++ flat_map (λ name. 32 ∷ name_text name) names.now) }
+fn add_refs(into: &mut Text, refs: &[Ref]) -> Result<(), Memory>
+    ensures ok { OnOk result (into.new ≡ into.old ++ flat_map (λ r. 32 ∷ ref_text r) refs.now) }
     ensures err { OnErr result (take (length into.old) into.new ≡ into.old) }
 {
-    for name in names {
-        write_name(into, name)?;
+    for found in refs {
+        write_ref(into, found)?;
     }
     Ok(())
 }
@@ -282,12 +303,12 @@ fn sign_of(prefix: Prefix) -> u8
     }
 }
 
-fn write_target(into: &mut Text, target: &Option<Name>) -> Result<(), Memory>
+fn write_target(into: &mut Text, target: &Option<Ref>) -> Result<(), Memory>
     ensures ok { OnOk result (into.new ≡ into.old ++ 32 ∷ target_text target.now) }
     ensures err { OnErr result (into.new ≡ into.old) }
 {
     match target {
-        Some(name) => write_name(into, name),
+        Some(found) => write_ref(into, found),
         None => write_argument(into, b"*"),
     }
 }

@@ -2,10 +2,11 @@
 ghost use Rattle.std.specs.Prelude.{◌≡◌, not};
 ghost use Rattle.std.specs.List.{list_all};
 ghost use Rattle.std.specs.Str.{bytes_eq};
-ghost use Rattle.fsl_grammar.specs.Forms.{all_differ, is_filled, is_tag_written};
+ghost use Rattle.fsl_name.specs.Ref.{ref_bytes};
+ghost use Rattle.fsl_grammar.specs.Forms.{is_filled, is_tag_written, refs_differ};
 
 use crate::TagCard;
-use fsl_name::Name;
+use fsl_name::Ref;
 use fsl_text::Text;
 
 /// Whether a text that may be missing has a byte where it is there.
@@ -25,11 +26,11 @@ pub fn is_tag_written(tag: &TagCard) -> bool
     !tag.tag.bytes().is_empty() && is_filled(&tag.value)
 }
 
-/// Whether all names differ. It takes no memory, and compares each name with each one behind it.
-pub fn all_differ(names: &[Name]) -> bool
-    ensures { result ≡ all_differ names.now }
+/// Whether all references differ. It takes no memory, and compares each one with each one behind it.
+pub fn refs_differ(refs: &[Ref]) -> bool
+    ensures { result ≡ refs_differ refs.now }
 {
-    let mut rest = names;
+    let mut rest = refs;
     while let Some((first, others)) = rest.split_first() {
         if !differs_from_all(first, others) {
             return false;
@@ -39,8 +40,9 @@ pub fn all_differ(names: &[Name]) -> bool
     true
 }
 
-fn differs_from_all(name: &Name, others: &[Name]) -> bool
-    ensures { result ≡ list_all (λ other. not (bytes_eq name.now other)) others.now }
+fn differs_from_all(found: &Ref, others: &[Ref]) -> bool
+    ensures { result ≡ list_all (λ other. not (bytes_eq (ref_bytes found.now) (ref_bytes other))) others.now }
 {
-    others.iter().all(|other| name != other)
+    let bytes = found.bytes();
+    others.iter().all(|other| bytes != other.bytes())
 }

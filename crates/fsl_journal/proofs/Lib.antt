@@ -1,5 +1,11 @@
 mod Appended
 pub mod Belonging
+pub mod Standing
+mod Kept
+mod Lengths
+mod Placing
+mod Rereading
+mod Versions
 mod Ends
 pub mod Failing
 mod Files

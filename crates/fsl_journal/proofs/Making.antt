@@ -11,7 +11,7 @@ use Rattle.fsl_record.specs.declared.Record.TheVariants as record_of
 use Rattle.fsl_record.specs.Records.{record_bytes, records_bytes, IsFit}
 use Rattle.fsl_journal.specs.Commit.{gated, HeldOrGated, EndsAt, body_of}
 use Rattle.fsl_journal.specs.Create.{new_file, IsShort}
-use Rattle.fsl_journal.specs.File.{header, IsFileOf}
+use Rattle.fsl_journal.specs.File.{header, mark_2, IsFileOf}
 use Rattle.fsl_journal.specs.Journal.{NothingOr}
 use Rattle.fsl_journal.specs.Reading.{group_body}
 use Rattle.fsl_journal.proofs.Files.{laid_file, stands, groups_bytes, records_in}
@@ -21,36 +21,37 @@ use Rattle.fsl_journal.proofs.Unique.{not_shut}
 
 -- a file that stands for records has a group
 long_file : (c : List ℕ) (records : List Record) → IsFileOf c records → 17 ≤ length c
-long_file c records is = let log = laid_file records c is in at log.groups log.gate log.rest (omega (arith, are_some records log.fit, ap length log.all)) log.split
+long_file c records is = let log = laid_file records c is in at is.mark log.groups log.gate log.rest (omega (arith, are_some records log.fit, ap length log.all)) log.split
   where
-    at : (groups : List (List Record)) (gate : ℕ) (rest : List ℕ) → 0 < length (records_in groups) → c ≡ header ++ groups_bytes groups ++ gate ∷ rest → 17 ≤ length c
-    at [] gate rest some is = absurd (omega (arith, some))
-    at (k ∷ ks) gate rest some is = omega (arith, ap length is, length-append (header ++ groups_bytes (k ∷ ks)) (gate ∷ rest), length-append header (groups_bytes (k ∷ ks)), length-append (79 ∷ group_body k) (groups_bytes ks))
+    at : (mark : ℕ) (groups : List (List Record)) (gate : ℕ) (rest : List ℕ) → 0 < length (records_in groups) → c ≡ header mark ++ groups_bytes groups ++ gate ∷ rest → 17 ≤ length c
+    at mark [] gate rest some is = absurd (omega (arith, some))
+    at mark (k ∷ ks) gate rest some is = omega (arith, ap length is, length-append (header mark ++ groups_bytes (k ∷ ks)) (gate ∷ rest), length-append (header mark) (groups_bytes (k ∷ ks)), length-append (79 ∷ group_body k) (groups_bytes ks))
 
 pub short_nothing : (config : Config) (c : List ℕ) → IsShort c → NothingOr config c
 short_nothing config c short = inl (λ records is. omega (arith, short, long_file c records is))
 
-shut_nothing : (config : Config) (c rest : List ℕ) (gate : ℕ) → gate ≢ 79 → c ≡ header ++ gate ∷ rest → NothingOr config c
-shut_nothing config c rest gate shut is = inl (λ records file. not_shut c records gate rest file is shut)
+shut_nothing : (config : Config) (c rest : List ℕ) (gate : ℕ) → gate ≢ 79 → c ≡ header mark_2 ++ gate ∷ rest → NothingOr config c
+shut_nothing config c rest gate shut is = inl (λ records file. not_shut c records gate rest mark_2 file is shut)
 
 module _ (config : Config) (bytes body : List ℕ) (fit : IsFit (record_of.Config config)) (bytes_are : bytes ≡ record_bytes (record_of.Config config)) (fits : length bytes < 2 ^ 64) (is : body ≡ body_of bytes) where
   pub opened_stands : (c : List ℕ) → c ≡ gated new_file 15 79 body → IsFileOf c (record_of.Config config ∷ [])
   opened_stands c c_is =
       let first = record_of.Config config ∷ [] in
       let bytes_is : bytes ≡ records_bytes (record_of.Config config ∷ []) = bytes_are ∙ sym (append-nil (record_bytes (record_of.Config config))) in
-      stands first (length (header ++ groups_bytes (first ∷ []))) c (record {
+      stands first mark_2 (length (header mark_2 ++ groups_bytes (first ∷ []))) c (record {
         groups = first ∷ [];
         gate = 67;
         rest = [];
         split =
             c_is
-            ∙ ap (λ (b : List ℕ). header ++ 79 ∷ b) (is ∙ ap body_of bytes_is)
-            ∙ ap (λ (l : List ℕ). header ++ (79 ∷ (l ++ 67 ∷ []))) (sym (append-nil (group_body (record_of.Config config ∷ []))));
+            ∙ ap (λ (b : List ℕ). header mark_2 ++ 79 ∷ b) (is ∙ ap body_of bytes_is)
+            ∙ ap (λ (l : List ℕ). header mark_2 ++ (79 ∷ (l ++ 67 ∷ []))) (sym (append-nil (group_body (record_of.Config config ∷ []))));
         at = refl;
         shut = λ e. absurd (omega (arith, e));
         whole = ((λ none. absurd (cc), subst (λ (l : List ℕ). length l < 2 ^ 64) bytes_is fits), tt);
         all = refl;
         fit = (λ i. true, λ i. true, (fit, tt));
+        known = (tt, tt);
       })
 
   nothing_or : (c : List ℕ) → HeldOrGated new_file 15 body c → NothingOr config c

@@ -4,7 +4,8 @@ use Rattle.std.specs.List.{AllByRecursion, list_all}
 use Rattle.std.proofs.lemmas.Bool.Decides.{nat_tests}
 use Rattle.std.proofs.lemmas.List.Folds.{list_all-append}
 use Rattle.fsl_record.specs.declared.Record.{Record}
-use Rattle.fsl_record.specs.Records.{is_config, records_bytes, IsFit, AreRecords}
+use Rattle.fsl_record.specs.Records.{is_config, records_bytes, IsFit, IsOfVersion, AreRecords}
+use Rattle.fsl_journal.specs.File.{AreRecordsOf}
 use Rattle.fsl_record.specs.Groups.{IsGroupOf}
 
 module _ {X : Type 0} (P : X → Type 0) where
@@ -61,31 +62,54 @@ are_some (r ∷ rs) _ = omega arith
 not_zero : (n : ℕ) → (suc n == 0) ≡ false
 not_zero n = grind (arith, nat_tests)
 
--- a group that was read goes on with the records before it
-pub are_with : (records group : List Record) (bytes : List ℕ) (first : Bool) → first ≡ (length records == 0) → (records ≡ []) ⊎ AreRecords records → IsGroupOf first bytes group → AreRecords (records ++ group)
-are_with [] [] bytes first is before read = absurd (read.some (λ i. []))
-are_with [] (g ∷ group) bytes first is before read = (read.stand.0 ∙ is, read.stand.1, read.fit)
-are_with (r ∷ rs) [] bytes first is before read = absurd (read.some (λ i. []))
-are_with (r ∷ rs) (g ∷ group) bytes first is before read = elim before [
+are_behind : (v : ℕ) (records group : List Record) (bytes : List ℕ) (first : Bool) → first ≡ (length records == 0) → (records ≡ []) ⊎ AreRecords records → IsGroupOf v first bytes group → AreRecords (records ++ group)
+are_behind v [] [] bytes first is before read = absurd (read.some (λ i. []))
+are_behind v [] (g ∷ group) bytes first is before read = (read.stand.0 ∙ is, read.stand.1, read.fit)
+are_behind v (r ∷ rs) [] bytes first is before read = absurd (read.some (λ i. []))
+are_behind v (r ∷ rs) (g ∷ group) bytes first is before read = elim before [
   | inl none ↦ absurd (cc)
   | inr are ↦
       let other : is_config g ≡ false = read.stand.0 ∙ is ∙ not_zero (length rs) in
       are_more (r ∷ rs) (g ∷ group) are (λ i. not (other i) && read.stand.1 i) read.fit
 ]
 
+-- no records, or those of a repository, in a file of this version
+abbrev pub AreReadSoFar : ℕ → List Record → Type 0
+AreReadSoFar v records = (records ≡ []) ⊎ AreRecordsOf v records
+
+so_far_known : (v : ℕ) (records : List Record) → AreReadSoFar v records → AllByRecursion (IsOfVersion v) records
+so_far_known v [] before = tt
+so_far_known v (r ∷ rs) (inl none) = absurd (cc)
+so_far_known v (r ∷ rs) (inr are) = are.1
+
+so_far_are : (v : ℕ) (records : List Record) → AreReadSoFar v records → (records ≡ []) ⊎ AreRecords records
+so_far_are v records (inl none) = inl none
+so_far_are v records (inr are) = inr are.0
+
+-- a group that was read goes on with the records before it
+pub are_with : (v : ℕ) (records group : List Record) (bytes : List ℕ) (first : Bool) → first ≡ (length records == 0) → AreReadSoFar v records → IsGroupOf v first bytes group → AreRecordsOf v (records ++ group)
+are_with v records group bytes first is before read = (
+  are_behind v records group bytes first is (so_far_are v records before) read,
+  all_append (IsOfVersion v) records group (so_far_known v records before) read.known,
+)
+
 -- and records that go on with those before them are a group
-pub is_group_of : (records group : List Record) (bytes : List ℕ) (first : Bool) → first ≡ (length records == 0) → group ≢ [] → bytes ≡ records_bytes group → AreRecords (records ++ group) → IsGroupOf first bytes group
-is_group_of records [] bytes first is some layout are = absurd (some (λ i. []))
-is_group_of [] (g ∷ group) bytes first is some layout are = record { some = some; layout = layout; stand = (are.0 ∙ sym is, are.1); fit = are.2 }
-is_group_of (r ∷ rs) (g ∷ group) bytes first is some layout are =
-    let others = follow_right rs (g ∷ group) are.1 in
+pub is_group_of : (v : ℕ) (records group : List Record) (bytes : List ℕ) (first : Bool) → first ≡ (length records == 0) → group ≢ [] → bytes ≡ records_bytes group → AreRecordsOf v (records ++ group) → IsGroupOf v first bytes group
+is_group_of v records [] bytes first is some layout are = absurd (some (λ i. []))
+is_group_of v [] (g ∷ group) bytes first is some layout are = record { some = some; layout = layout; stand = (are.0.0 ∙ sym is, are.0.1); fit = are.0.2; known = are.1 }
+is_group_of v (r ∷ rs) (g ∷ group) bytes first is some layout are =
+    let others = follow_right rs (g ∷ group) are.0.1 in
     record {
       some = some;
       layout = layout;
       stand = (other (is_config g) (and_left (may_follow g) (list_all may_follow group) others) ∙ sym (not_zero (length rs)) ∙ sym is, and_right (may_follow g) (list_all may_follow group) others);
-      fit = all_right IsFit (r ∷ rs) (g ∷ group) are.2;
+      fit = all_right IsFit (r ∷ rs) (g ∷ group) are.0.2;
+      known = all_right (IsOfVersion v) (r ∷ rs) (g ∷ group) are.1;
     }
   where
     other : (b : Bool) → IsTrue (not b) → b ≡ false
     other true is_not = absurd (cc)
     other false is_not = λ i. false
+
+pub of_left : (v : ℕ) (rs more : List Record) → rs ≢ [] → AreRecordsOf v (rs ++ more) → AreRecordsOf v rs
+of_left v rs more some are = (are_left rs more some are.0, all_left (IsOfVersion v) rs more are.1)

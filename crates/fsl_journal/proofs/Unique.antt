@@ -1,7 +1,7 @@
 -- A file stands for one list of records at most.
-use Rattle.std.proofs.Common.{◌≡◌, ◌≢◌, ◌⊎◌, inl, inr, ℕ, ◌^◌, ◌<◌, List, [], ◌∷◌, ◌++◌, length, refl, sym, ◌∙◌, ap, subst, arith, append_assoc}
+use Rattle.std.proofs.Common.{◌≡◌, ◌≢◌, ◌⊎◌, inl, inr, ℕ, ◌^◌, ◌<◌, List, [], ◌∷◌, ◌++◌, length, get_or, drop, refl, sym, ◌∙◌, ap, subst, arith, append_assoc}
 use Rattle.std.specs.List.{AllByRecursion}
-use Rattle.std.proofs.lemmas.List.{append_cancel_left, append-nil}
+use Rattle.std.proofs.lemmas.List.{append-nil}
 use Rattle.fsl_record.specs.declared.Record.{Record}
 use Rattle.fsl_record.specs.Records.{records_bytes, IsFit, AreRecords}
 use Rattle.fsl_record.proofs.Unique.{SamePiece, append_same, length_same, records_same}
@@ -64,11 +64,12 @@ shut_nil (k ∷ ks) gate rest b shut same = absurd (shut (gates_same gate 79 res
 pub shut_same : (gs hs : List (List Record)) (g : ℕ) (r b : List ℕ) → g ≢ 79 → GoesOn gs hs (g ∷ r) b → hs ≡ gs
 shut_same gs hs g r b shut on = on.whole ∙ ap (λ (more : List (List Record)). gs ++ more) (shut_nil on.more g r b shut on.bytes) ∙ append-nil gs
 
--- what stands behind the header
-pub behind_header : (file : List ℕ) (groups hs : List (List Record)) (a b : List ℕ) → file ≡ header ++ groups_bytes groups ++ a → file ≡ header ++ groups_bytes hs ++ b → groups_bytes groups ++ a ≡ groups_bytes hs ++ b
-behind_header file groups hs a b one other =
-    append_cancel_left header (groups_bytes groups ++ a) (groups_bytes hs ++ b)
-    (sym (append_assoc header (groups_bytes groups) a) ∙ sym one ∙ other ∙ append_assoc header (groups_bytes hs) b)
+-- what stands behind the header, and the mark in it
+pub behind_header : (file : List ℕ) (m n : ℕ) (groups hs : List (List Record)) (a b : List ℕ) → file ≡ header m ++ groups_bytes groups ++ a → file ≡ header n ++ groups_bytes hs ++ b → groups_bytes groups ++ a ≡ groups_bytes hs ++ b
+behind_header file m n groups hs a b one other = ap (λ (l : List ℕ). drop 15 l) (sym one ∙ other)
+
+pub same_marks : (file : List ℕ) (m n : ℕ) (a b : List ℕ) → file ≡ header m ++ a → file ≡ header n ++ b → m ≡ n
+same_marks file m n a b one other = ap (λ (l : List ℕ). get_or l 13 0) (sym one ∙ other)
 
 pub fit_in : (groups : List (List Record)) (records : List Record) → records_in groups ≡ records → AreRecords records → AllByRecursion IsFit (records_in groups)
 fit_in groups records is are = subst (λ (rs : List Record). AllByRecursion IsFit rs) (sym is) (all_fit records are)
@@ -77,16 +78,16 @@ pub one_file : (c : List ℕ) (es fs : List Record) → IsFileOf c es → IsFile
 one_file c es fs one other =
     let a = laid_file es c one in
     let b = laid_file fs c other in
-    let groups : a.groups ≡ b.groups = elim (compare a.groups b.groups (a.gate ∷ a.rest) (b.gate ∷ b.rest) a.whole b.whole (fit_in a.groups es a.all a.fit) (fit_in b.groups fs b.all b.fit) (behind_header c a.groups b.groups (a.gate ∷ a.rest) (b.gate ∷ b.rest) a.split b.split)) [
+    let groups : a.groups ≡ b.groups = elim (compare a.groups b.groups (a.gate ∷ a.rest) (b.gate ∷ b.rest) a.whole b.whole (fit_in a.groups es a.all a.fit) (fit_in b.groups fs b.all b.fit) (behind_header c one.mark other.mark a.groups b.groups (a.gate ∷ a.rest) (b.gate ∷ b.rest) a.split b.split)) [
       | inl on ↦ sym (shut_same a.groups b.groups a.gate a.rest (b.gate ∷ b.rest) a.shut on)
       | inr on ↦ shut_same b.groups a.groups b.gate b.rest (a.gate ∷ a.rest) b.shut on
     ] in
     sym a.all ∙ ap records_in groups ∙ b.all
 
 -- a file whose first gate is closed stands for nothing
-pub not_shut : (c : List ℕ) (records : List Record) (gate : ℕ) (rest : List ℕ) → IsFileOf c records → c ≡ header ++ gate ∷ rest → gate ≢ 79 → ⊥
-not_shut c records gate rest file is shut =
+pub not_shut : (c : List ℕ) (records : List Record) (gate : ℕ) (rest : List ℕ) (mark : ℕ) → IsFileOf c records → c ≡ header mark ++ gate ∷ rest → gate ≢ 79 → ⊥
+not_shut c records gate rest mark file is shut =
     let log = laid_file records c file in
-    let same : gate ∷ rest ≡ groups_bytes log.groups ++ log.gate ∷ log.rest = behind_header c [] log.groups (gate ∷ rest) (log.gate ∷ log.rest) is log.split in
+    let same : gate ∷ rest ≡ groups_bytes log.groups ++ log.gate ∷ log.rest = behind_header c mark file.mark [] log.groups (gate ∷ rest) (log.gate ∷ log.rest) is log.split in
     let none : log.groups ≡ [] = shut_nil log.groups gate rest (log.gate ∷ log.rest) shut same in
     omega (arith, are_some records log.fit, ap length (sym log.all ∙ ap records_in none))

@@ -4,11 +4,11 @@ use Rattle.fsl_record.specs.declared.Config.{Config}
 use Rattle.fsl_record.specs.declared.Record.TheVariants as record_of
 use Rattle.fsl_record.specs.Records.{record_bytes}
 use Rattle.fsl_journal.specs.Commit.{body_of, gated}
-use Rattle.fsl_journal.specs.File.{header, open_gate}
+use Rattle.fsl_journal.specs.File.{header, mark_2, open_gate}
 
--- the header and a closed gate
+-- the header of version 2 and a closed gate
 abbrev pub new_file : List ℕ
-new_file = header ++ 0x43 ∷ []
+new_file = header mark_2 ++ 0x43 ∷ []
 
 -- no longer than these
 abbrev pub IsShort : List ℕ → Type 0

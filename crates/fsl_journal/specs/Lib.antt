@@ -5,4 +5,5 @@ pub mod Inside
 pub mod Journal
 pub mod Laws
 pub mod Log
+pub mod Places
 pub mod Reading

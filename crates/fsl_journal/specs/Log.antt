@@ -1,5 +1,5 @@
 -- What clauses see of a journal, and of a file that it reads.
-use Rattle.std.specs.Prelude.{◌≡◌, ◌⊎◌, ℕ, ◌+◌, Option, None, List, [], ◌++◌, length, take, flat_map}
+use Rattle.std.specs.Prelude.{◌≡◌, ◌⊎◌, ℕ, ◌+◌, Option, None, List, [], ◌++◌, length, take, drop, flat_map}
 use Rattle.fsl_disk.specs.Disk.{DiskState, IsModelled}
 use Rattle.fsl_record.specs.declared.Record.{Record}
 use Rattle.fsl_record.specs.Records.{AreRecords}
@@ -9,16 +9,23 @@ use Rattle.fsl_journal.specs.File.{IsFileOf, group_bytes}
 pub record Log : Type 0 where
   -- all records, loaded, committed and appended, in order
   pub records : List Record
+  -- for each of them the place in the file where its content begins, and 0 where it is no Blob
+  pub places : List ℕ
   -- how many of them are committed, from the front
   pub stable : ℕ
   -- the disk's count of faults when a commit failed
   pub stopped : Option ℕ
+  -- the byte of the header that tells the version
+  pub mark : ℕ
   -- where the closed gate stands in the file
   pub place : ℕ
 
--- the committed records
+-- the committed records, and the others
 abbrev pub committed : Log → List Record
 committed log = take log.stable log.records
+
+abbrev pub uncommitted : Log → List Record
+uncommitted log = drop log.stable log.records
 
 -- a journal that was loaded: its records are these, and each is committed
 pub record IsLoaded (log : Log) (loaded : List Record) : Type 0 where
@@ -27,9 +34,10 @@ pub record IsLoaded (log : Log) (loaded : List Record) : Type 0 where
   pub runs : log.stopped ≡ None
   pub fit : AreRecords loaded
 
--- the file stands for these records, and the closed gate behind their groups stands at this place
-pub record IsLog (records : List Record) (place : ℕ) (bytes : List ℕ) : Type 0 where
+-- the file stands for these records, has this mark, and the closed gate behind their groups stands at this place
+pub record IsLog (records : List Record) (mark place : ℕ) (bytes : List ℕ) : Type 0 where
   pub file : IsFileOf bytes records
+  pub marked : file.mark ≡ mark
   pub at : place ≡ 15 + length (flat_map group_bytes file.groups)
 
 -- the bytes stand for no records

@@ -3,9 +3,9 @@ use Rattle.std.specs.Prelude.{◌≡◌, ◌≢◌, ◌<◌, ℕ, List, ◌++◌
 use Rattle.fsl_disk.specs.Disk.{DiskState}
 use Rattle.fsl_order.specs.Causes.{Rose}
 use Rattle.fsl_record.specs.declared.Record.{Record}
-use Rattle.fsl_record.specs.Records.{records_bytes, AreRecords}
+use Rattle.fsl_record.specs.Records.{records_bytes}
 use Rattle.fsl_journal.specs.Commit.{eight}
-use Rattle.fsl_journal.specs.File.{IsGroup, FailsAt}
+use Rattle.fsl_journal.specs.File.{IsGroup, AreRecordsOf, FailsAt}
 use Rattle.fsl_journal.specs.declared.LoadFault.{LoadFault}
 use Rattle.fsl_journal.specs.declared.LoadFault.TheVariants.{Disk, NotRepository, Memory}
 
@@ -14,14 +14,14 @@ abbrev pub group_body : List Record → List ℕ
 group_body records = eight (length (records_bytes records)) ++ records_bytes records
 
 -- no group and a byte more stand there that go on with these records, and the place is this
-pub record NoGroup (at : ℕ) (records : List Record) (behind : List ℕ) (found : ℕ) : Type 0 where
+pub record NoGroup (version at : ℕ) (records : List Record) (behind : List ℕ) (found : ℕ) : Type 0 where
   pub place : found ≡ at
-  pub none : (group : List Record) (more : List ℕ) → IsGroup group → AreRecords (records ++ group) → 0 < length more → behind ≢ group_body group ++ more
+  pub none : (group : List Record) (more : List ℕ) → IsGroup group → AreRecordsOf version (records ++ group) → 0 < length more → behind ≢ group_body group ++ more
 
-abbrev pub GroupFailed : ℕ → List Record → List ℕ → LoadFault → Type 0
-GroupFailed at records behind Disk = ⊥
-GroupFailed at records behind (NotRepository found) = NoGroup at records behind found
-GroupFailed at records behind Memory = ⊤
+abbrev pub GroupFailed : ℕ → ℕ → List Record → List ℕ → LoadFault → Type 0
+GroupFailed version at records behind Disk = ⊥
+GroupFailed version at records behind (NotRepository found) = NoGroup version at records behind found
+GroupFailed version at records behind Memory = ⊤
 
 abbrev pub FileFailed : List ℕ → LoadFault → Type 0
 FileFailed file Disk = ⊥

@@ -1,11 +1,11 @@
 //! Makes a repository's file: the header and a closed gate, and then a group with the Config.
-ghost use Rattle.std.specs.Prelude.{◌≡◌, ◌≢◌, ◌⊎◌, ◌∷◌, ◌++◌, [], ◌≤◌, ◌<◌, ◌^◌, ℕ, List, length, Some, IsTrue, IfErr, IfOk, OnOk};
+ghost use Rattle.std.specs.Prelude.{◌≡◌, ◌≢◌, ◌⊎◌, ◌∷◌, ◌++◌, [], ◌≤◌, ◌<◌, ◌^◌, ℕ, List, length, Some, IsTrue, IfErr, IfOk, OnOk, slice_index};
 ghost use Rattle.fsl_order.specs.Causes.{HasCause};
 ghost use Rattle.fsl_disk.specs.Disk.{DiskState, IsModelled, Told, Keeps, Quiet, Only, LeavesOnly};
 ghost use Rattle.fsl_record.specs.Records.{AreFields, record_bytes, IsFit};
 ghost use Rattle.fsl_record.specs.declared.Record.TheVariants as record_of;
 ghost use Rattle.fsl_journal.specs.Create.{new_file, IsShort, config_file};
-ghost use Rattle.fsl_journal.specs.File.{IsFileOf};
+ghost use Rattle.fsl_journal.specs.File.{IsFileOf, mark_2};
 ghost use Rattle.fsl_journal.specs.Journal.{NothingOr, CreateFailed, IsMade};
 ghost use Rattle.fsl_journal.specs.Log.{WhereEmpty};
 
@@ -18,8 +18,8 @@ use fsl_record::{Config, write_config};
 use fsl_text::Text;
 use std::alloc::Global;
 
-/// The header and a closed gate.
-const NEW_FILE: [u8; 16] = *b"fossil-blobs-1\nC";
+/// The header of version 2 and a closed gate.
+const NEW_FILE: [u8; 16] = *b"fossil-blobs-2\nC";
 
 /// Writes the header and a closed gate into an empty file, and makes them stable.
 fn write_header<D: Disk>(disk: &mut D) -> Result<(), Failed>
@@ -41,6 +41,7 @@ fn write_file<D: Disk>(disk: &mut D, config: &Config, bytes: &[u8]) -> Result<()
     requires fit { IsFit (record_of.Config config.now) }
     requires fits { length bytes.now < 2 ^ 64 }
     ensures file { OnOk result (Told (D.state disk.old) (λ _. (held : List ℕ) × ((D.state disk.new).contents ≡ Some held) × IsFileOf held (record_of.Config config.now ∷ []))) }
+    ensures mark { OnOk result (Told (D.state disk.old) (λ _. (held : List ℕ) × ((D.state disk.new).contents ≡ Some held) × (slice_index held 13 ≡ mark_2))) }
     ensures durable { OnOk result (IsModelled (D.state disk.old) → (c : List ℕ) → (D.state disk.new).images c → IsFileOf c (record_of.Config config.now ∷ [])) }
     ensures written { OnOk result (Told (D.state disk.old) (λ _. (D.state disk.new).contents ≡ Some (config_file config.now))) }
     ensures any_moment { WhereEmpty (D.state disk.old) (LeavesOnly (D.state disk.old) (D.state disk.new) (NothingOr config.now)) }
@@ -52,7 +53,7 @@ fn write_file<D: Disk>(disk: &mut D, config: &Config, bytes: &[u8]) -> Result<()
     write_group(disk, 15, bytes)
 }
 
-/// Makes the file of a repository with this Config on an empty disk, stable when it answers Ok. The configured fields
+/// Makes the file of a repository with this Config on an empty disk, of version 2 and stable when it answers Ok. The configured fields
 /// are in their form.
 ///
 /// Errors: `NotEmpty` with the disk's length where it isn't 0; `Disk` where a call of the disk failed; `Memory`, before

@@ -1,16 +1,20 @@
 //! A journal: the records of a repository, and how many of them are committed.
-ghost use Rattle.std.specs.Prelude.{◌≡◌, ◌⊎◌, IsSome, ◌++◌, ◌∷◌, [], ◌<◌, ◌≤◌, ◌-◌, ◌^◌, List, ℕ, None, Some, Ok, length, take, IfOk, IfErr, OnOk, OnErr, false};
-ghost use Rattle.fsl_disk.specs.Disk.{IsModelled, Keeps, LeavesOnly};
+ghost use Rattle.std.specs.Prelude.{◌≡◌, ◌⊎◌, IsSome, ◌++◌, ◌∷◌, [], ◌<◌, ◌≤◌, ◌+◌, ◌-◌, map, ◌^◌, List, ℕ, None, Some, Ok, length, take, IfOk, IfErr, OnOk, OnErr, false};
+ghost use Rattle.fsl_disk.specs.Disk.{IsModelled, Keeps, LeavesOnly, Quiet};
 ghost use Rattle.fsl_record.specs.Records.{AreRecords, IsWritable, is_config};
 ghost use Rattle.fsl_journal.specs.File.{IsFileOf};
-ghost use Rattle.fsl_journal.specs.Journal.{Belongs, Committed, CommitFailed, IsWritten};
+ghost use Rattle.fsl_journal.specs.Journal.{Belongs, Unspoilt, BytesFailed, Committed, CommitFailed, WritesGroup};
 ghost use Rattle.fsl_journal.specs.Log.{Log, BeforeOrAll};
+ghost use Rattle.fsl_journal.specs.Places.{HasContent, HasAppended, HasPending, IsAppendedText, IsPendingText, next_place, with_record, without_last};
+ghost use Rattle.fsl_journal.specs.declared.BytesFault.TheVariants.{Memory as MemoryFault};
 
-use crate::CommitFault;
-use crate::commit::write_group;
+use crate::commit::{carried_mark, write_commit};
+use crate::contents::{copy_part, read_if_there, read_text};
 use crate::names::know_names;
+use crate::places::write_behind;
+use crate::{BytesFault, CommitFault};
 use fsl_disk::Disk;
-use fsl_record::{Record, write};
+use fsl_record::Record;
 use fsl_text::{Memory, Text};
 use std::alloc::{AllocError, Global};
 use std::marker::Model;
@@ -22,13 +26,16 @@ use std::snapshot::Snapshot;
 /// `commit` takes the disk that `load` took, and nothing else may write to it in between.
 #[derive(Drop)]
 pub struct Journal {
-    // no bytes: clauses alone see them
+    // no bytes: clauses alone see them, and where their contents begin in the file
     records: Vec<Snapshot<Record>>,
+    places: Vec<Snapshot<u64>>,
     // the bytes of the records that aren't committed
     pending: Text,
     // where each of these records begins in them
     starts: Vec<usize>,
     stable: u64,
+    // the byte of the header that tells the file's version
+    mark: u8,
     place: u64,
     stopped: Option<u64>,
 }
@@ -43,6 +50,26 @@ impl Model for Journal {
     ghost view = { log_of };
 
     ghost invariant = { IsSound };
+}
+
+fn kept_records(alloc: Global, loaded: &[Record]) -> Result<Vec<Snapshot<Record>>, AllocError>
+    ensures { IfOk result (λ kept. map (λ s. s.value) kept.items ≡ loaded.now) }
+{
+    let mut records = Vec::new(alloc);
+    for record in loaded {
+        records.push(Snapshot::of(record))?;
+    }
+    Ok(records)
+}
+
+fn kept_places(alloc: Global, places: &[u64]) -> Result<Vec<Snapshot<u64>>, AllocError>
+    ensures { IfOk result (λ kept. map (λ s. s.value) kept.items ≡ places.now) }
+{
+    let mut kept = Vec::new(alloc);
+    for place in places {
+        kept.push(Snapshot::of(place))?;
+    }
+    Ok(kept)
 }
 
 impl Journal {
@@ -67,48 +94,57 @@ impl Journal {
         self.stopped
     }
 
-    /// A journal whose records are all committed, with the closed gate at this place.
+    /// A journal whose records are all committed, with these places of their contents, in a file with this mark and with
+    /// the closed gate at this place.
     pub(crate) fn resumed(
         alloc: Global,
         loaded: &[Record],
+        places: &[u64],
+        mark: u8,
         place: u64,
     ) -> Result<Journal, AllocError>
         requires fit { AreRecords loaded.now }
         requires place { place < 2 ^ 63 }
-        ensures { IfOk result (λ journal. journal ≡ record { records = loaded.now; stable = length loaded.now; stopped = None; place = place }) }
+        requires header { 15 ≤ place }
+        requires as_many { length places.now ≡ length loaded.now }
+        requires inside { (at : ℕ) (content : List ℕ) → HasContent loaded.now places.now at content → (at + length content ≤ place) × (15 ≤ at) }
+        ensures { IfOk result (λ journal. journal ≡ record { records = loaded.now; places = places.now; stable = length loaded.now; stopped = None; mark = mark; place = place }) }
     {
-        let mut records = Vec::new(alloc);
-        for record in loaded {
-            records.push(Snapshot::of(record))?;
-        }
+        let records = kept_records(alloc, loaded)?;
+        let places = kept_places(alloc, places)?;
         Ok(Journal {
             records,
+            places,
             pending: Text::empty(alloc),
             starts: Vec::new(alloc),
             stable: loaded.len() as u64,
+            mark,
             place,
             stopped: None,
         })
     }
 
-    /// Adds a record, in memory alone, and makes all the room that `commit` needs. It is not for a stopped journal, nor
-    /// for a Config.
-    pub fn append(&mut self, entry: &Record) -> Result<(), Memory>
+    /// Adds a record, in memory alone, and makes all the room that `commit` needs. Answers the place in the file where the
+    /// content of a Blob will begin, and 0 for another record. It is not for a stopped journal, nor for a Config.
+    pub fn append(&mut self, entry: &Record) -> Result<u64, Memory>
         requires runs { self.old.stopped ≡ None }
         requires place { is_config entry.now ≡ false }
         requires fit { IsWritable entry.now }
-        ensures ok { OnOk result (self.new ≡ record self.old { records = self.old.records ++ entry.now ∷ [] }) }
+        ensures at { IfOk result (λ at. at ≡ next_place self.old entry.now) }
+        ensures ok { IfOk result (λ at. self.new ≡ with_record self.old entry.now at) }
         ensures err { OnErr result (self.new ≡ self.old) }
         ensures fit { AreRecords self.new.records }
     {
         self.records.reserve(1)?;
+        self.places.reserve(1)?;
         self.starts.reserve(1)?;
         let start = self.pending.bytes().len();
         know_names(entry);
-        write(entry, &mut self.pending)?;
+        let at = write_behind(entry, self.place + 9, &mut self.pending)?;
         self.starts.push(start).unwrap();
+        self.places.push(Snapshot::of(&at)).unwrap();
         self.records.push(Snapshot::of(entry)).unwrap();
-        Ok(())
+        Ok(at)
     }
 
     /// Takes the last appended record out again. It takes no memory, and is for a journal that isn't stopped and has a
@@ -116,16 +152,18 @@ impl Journal {
     pub fn take_back(&mut self)
         requires runs { self.old.stopped ≡ None }
         requires appended { self.old.stable < length self.old.records }
-        ensures value { self.new ≡ record self.old { records = take (length self.old.records - 1) self.old.records } }
+        ensures value { self.new ≡ without_last self.old }
         ensures fit { AreRecords self.new.records }
     {
         let start = self.starts.pop().unwrap();
         self.pending.truncate(start);
+        let _ = self.places.pop();
         let _ = self.records.pop();
     }
 
     /// Puts the appended records on the disk, all of them or none, and answers how many records are committed. It takes
-    /// no memory. The disk is the one that this journal was loaded from, as this journal left it.
+    /// no memory. Where something is appended it first carries a file of version 1 over to version 2. The disk is the one
+    /// that this journal was loaded from, as this journal left it.
     ///
     /// Errors: `Stopped` with the disk's count of faults when an earlier commit failed; `Disk` where a call of the disk
     /// failed, after which the journal is stopped.
@@ -146,8 +184,8 @@ impl Journal {
         ensures any_moment { IsModelled (D.state disk.old) → LeavesOnly (D.state disk.old) (D.state disk.new) (BeforeOrAll self.old) }
         // After Ok each stands for all.
         ensures durable { OnOk result (IsModelled (D.state disk.old) → (c : List ℕ) → (D.state disk.new).images c → IsFileOf c self.old.records) }
-        // The appended records are one group, byte for byte, with a new closed gate behind it.
-        ensures written { OnOk result (IsWritten self.old (D.state disk.old) (D.state disk.new)) }
+        // The appended records are one group in a file of version 2, byte for byte, with a new closed gate behind it.
+        ensures written { OnOk result (WritesGroup self.old (D.state disk.old) (D.state disk.new)) }
     {
         if let Some(faults) = self.stopped {
             return Err(CommitFault::Stopped { faults });
@@ -158,10 +196,11 @@ impl Journal {
         }
         let bytes = self.pending.bytes();
         let size = bytes.len() as u64;
-        match write_group(disk, self.place, bytes) {
+        match write_commit(disk, self.mark, self.place, bytes) {
             Ok(()) => {
                 self.pending.truncate(0);
                 self.starts.clear();
+                self.mark = carried_mark(self.mark);
                 self.place += size + 9;
                 self.stable = count;
                 Ok(count)
@@ -171,5 +210,46 @@ impl Journal {
                 Err(CommitFault::Disk)
             }
         }
+    }
+
+    /// The content of this size that begins at this place, as `append` or `load` answered it. One that isn't committed
+    /// comes from memory, also after a commit that failed. The disk is the one that this journal was loaded from, as this
+    /// journal left it.
+    ///
+    /// Over a disk that tells its contents and meets the disk model these are the appended bytes. Over another disk they
+    /// are as many bytes as it gives.
+    ///
+    /// Errors: `Disk` where a call of the disk failed; `Memory`, which also says that a disk that doesn't meet the disk
+    /// model lost these bytes in a commit that failed.
+    pub fn bytes<D: Disk>(
+        &self,
+        alloc: Global,
+        disk: &mut D,
+        at: u64,
+        size: u64,
+    ) -> Result<Text, BytesFault>
+        requires belongs { Belongs self.now (D.state disk.old) }
+        requires appended { HasAppended self.now at size }
+
+        ensures sized { IfOk result (λ text. length text ≡ size) }
+        ensures held { IfOk result (λ text. Unspoilt self.now (D.state disk.old) (λ _. IsAppendedText self.now at size text)) }
+        ensures pending { IfOk result (IsPendingText self.now at size) }
+        ensures count { OnOk result ((D.state disk.new).faults ≡ (D.state disk.old).faults) }
+        ensures later { (D.state disk.old).faults ≤ (D.state disk.new).faults }
+        ensures fault { IfErr result (λ fault. BytesFailed fault (D.state disk.old) (D.state disk.new)) }
+        // What isn't committed comes from memory.
+        ensures memory { HasPending self.now at size → (disk.new ≡ disk.old) × IfErr result (λ fault. fault ≡ MemoryFault) }
+        // It only reads.
+        ensures quiet { Quiet (D.state disk.old) (D.state disk.new) }
+        ensures belongs { Belongs self.now (D.state disk.new) }
+    {
+        if at > self.place {
+            let start = (at - self.place - 9) as usize;
+            return copy_part(alloc, self.pending.bytes(), start, size as usize);
+        }
+        if self.stopped.is_some() {
+            return read_if_there(alloc, disk, at, size);
+        }
+        read_text(alloc, disk, at, size)
     }
 }

@@ -1,23 +1,29 @@
 //! The repository file: groups of records, each group whole or not there after a crash.
 //!
-//! The file is the bytes of `fossil-blobs-1` and a newline, and then groups. A group is a gate byte, a length of
-//! 8 bytes with the greatest first, and as many bytes of records. An open gate is 0x4F, every other byte is closed,
-//! and 0x43 is written. The file stands for the records of its open groups up to the first closed gate.
+//! The file is the bytes of `fossil-blobs-2` and a newline, and then groups. The byte at 13 may be any: where it is the
+//! digit 1 the file has version 1, in which a Blob with a receipt and an Unshun are no records, and else version 2. A
+//! group is a gate byte, a length of 8 bytes with the greatest first, and as many bytes of records. An open gate is 0x4F,
+//! every other byte is closed, and 0x43 is written. The file stands for the records of its open groups up to the first
+//! closed gate.
 //!
-//! A commit writes a group and a closed gate behind the last gate, which is closed, and makes them stable. Then it
+//! A commit into a file of version 1 first writes the digit 2 at 13, and makes it stable: the records of version 1 are
+//! records of version 2 too. Then it goes on as every commit does. A commit writes a group and a closed gate behind the last gate, which is closed, and makes them stable. Then it
 //! opens that gate and makes this stable too. So whatever moment a crash comes at, what it leaves stands for the
 //! records that were committed before or for all of them, and after the answer for all.
 #![tactic(auto)]
 
 mod commit;
+mod contents;
 mod creating;
 mod journal;
 mod laws;
 mod loading;
 mod names;
+mod places;
 mod reading;
 
 ghost use Rattle.std.specs.Prelude.{◌≡◌};
+ghost use Rattle.fsl_journal.specs.declared.BytesFault.TheVariants as bytes_fault;
 ghost use Rattle.fsl_journal.specs.declared.CreateFault.TheVariants as create_fault;
 ghost use Rattle.fsl_journal.specs.declared.LoadFault.TheVariants as load_fault;
 
@@ -55,6 +61,15 @@ pub enum LoadFault {
     NotRepository { at: u64 },
     /// There was no memory.
     #[error("out of memory")]
+    Memory,
+}
+
+/// Why a content wasn't read.
+#[derive(Clone, Copy, PartialEq, Eq, Debug, Drop)]
+pub enum BytesFault {
+    /// A call of the disk failed.
+    Disk,
+    /// There was no memory.
     Memory,
 }
 
@@ -98,5 +113,29 @@ impl From<Failed> for LoadFault {
 
     fn from(_: Failed) -> Self {
         LoadFault::Disk
+    }
+}
+
+impl From<Memory> for BytesFault {
+    ghost from_gives = { λ _ fault. fault ≡ bytes_fault.Memory };
+
+    fn from(_: Memory) -> Self {
+        BytesFault::Memory
+    }
+}
+
+impl From<AllocError> for BytesFault {
+    ghost from_gives = { λ _ fault. fault ≡ bytes_fault.Memory };
+
+    fn from(_: AllocError) -> Self {
+        BytesFault::Memory
+    }
+}
+
+impl From<Failed> for BytesFault {
+    ghost from_gives = { λ _ fault. fault ≡ bytes_fault.Disk };
+
+    fn from(_: Failed) -> Self {
+        BytesFault::Disk
     }
 }

@@ -4,6 +4,7 @@ ghost use Rattle.fsl_order.specs.Causes.{HasCause};
 ghost use Rattle.fsl_disk.specs.Disk.{DiskState, IsModelled, Told, Keeps, Calls, CutShort, Quiet, Only, LeavesOnly};
 ghost use Rattle.fsl_journal.specs.File.{IsFileOf, FailsAt};
 ghost use Rattle.fsl_journal.specs.Log.{Log, IsBetween, StandsBetween, WhereBetween, IsLoaded};
+ghost use Rattle.fsl_journal.specs.Places.{AreNumbered, IsPlacedFile};
 ghost use Rattle.fsl_journal.specs.Journal.{Belongs, OfBytes, LoadFailed, HeldOrSame, IsSpared};
 ghost use Rattle.fsl_journal.specs.Reading.{ReadFailed};
 ghost use Rattle.fsl_journal.specs.declared.LoadFault.TheVariants as load_fault;
@@ -13,6 +14,7 @@ use crate::{Journal, LoadFault};
 use fsl_disk::Disk;
 use fsl_outside::Failed;
 use fsl_record::Record;
+use fsl_text::List;
 use std::alloc::Global;
 
 /// The whole contents, in one read.
@@ -45,17 +47,21 @@ fn cut_behind<D: Disk>(disk: &mut D, place: u64, len: u64) -> Result<(), Failed>
 }
 
 impl Journal {
-    /// Opens the journal of a disk, and answers its records. It makes what the disk holds stable, reads the file, and
-    /// cuts what stands behind the closed gate. It may be stopped at any moment.
+    /// Opens the journal of a disk, and answers the places of its records' contents, with 0 for a record that is no Blob,
+    /// and its records. It makes what the disk holds stable, reads the file, of either version, and cuts what stands
+    /// behind the closed gate. It may be stopped at any moment.
     ///
     /// Errors: `Disk` where a call of the disk failed; `NotRepository` with the place at which the file fails to stand
     /// for records; `Memory`.
     pub fn load<D: Disk>(
         alloc: Global,
         disk: &mut D,
-    ) -> Result<(Journal, fsl_text::List<Record>), LoadFault>
-        ensures loaded { IfOk result (λ loaded. IsLoaded loaded.0 loaded.1) }
-        ensures stands { IfOk result (λ loaded. OfBytes (D.state disk.old) (λ bytes. IsFileOf bytes loaded.1)) }
+    ) -> Result<(Journal, List<u64>, List<Record>), LoadFault>
+        ensures loaded { IfOk result (λ loaded. IsLoaded loaded.0 loaded.2) }
+        ensures places { IfOk result (λ loaded. (loaded.0.places ≡ loaded.1) × AreNumbered loaded.2 loaded.1) }
+        // They are those of the groups of the bytes that were read.
+        ensures numbered { IfOk result (λ loaded. OfBytes (D.state disk.old) (λ bytes. IsPlacedFile bytes loaded.2 loaded.1)) }
+        ensures stands { IfOk result (λ loaded. OfBytes (D.state disk.old) (λ bytes. IsFileOf bytes loaded.2)) }
         ensures cut { IfOk result (λ loaded. Told (D.state disk.old) (λ held. (D.state disk.new).contents ≡ Some (take (loaded.0.place + 1) held))) }
         ensures belongs { IfOk result (λ loaded. Belongs loaded.0 (D.state disk.new)) }
         ensures count { OnOk result ((D.state disk.new).faults ≡ (D.state disk.old).faults) }
@@ -69,9 +75,9 @@ impl Journal {
         // Whatever it holds, a crash at each moment leaves what one before the call might have left, or a file of the records that it stood for.
         ensures harmless { IsModelled (D.state disk.old) → LeavesOnly (D.state disk.old) (D.state disk.new) (HeldOrSame (D.state disk.old)) }
         ensures spared { IsSpared (D.state disk.old) (D.state disk.new) }
-        ensures between { IfOk result (λ loaded. WhereBetween (D.state disk.old) (λ low high. IsBetween low high loaded.1)) }
+        ensures between { IfOk result (λ loaded. WhereBetween (D.state disk.old) (λ low high. IsBetween low high loaded.2)) }
         // And each image then stands for exactly these records.
-        ensures durable { IfOk result (λ loaded. IsModelled (D.state disk.old) → (c : List ℕ) → (D.state disk.new).images c → IsFileOf c loaded.1) }
+        ensures durable { IfOk result (λ loaded. IsModelled (D.state disk.old) → (c : List ℕ) → (D.state disk.new).images c → IsFileOf c loaded.2) }
         // It isn't `NotRepository` then.
         ensures stays { IfErr result (λ fault. (at : ℕ) → fault ≡ load_fault.NotRepository at → WhereBetween (D.state disk.old) (λ _ _. ⊥)) }
     {
@@ -79,10 +85,10 @@ impl Journal {
         let file = read_all(alloc, disk)?;
         match read_file(alloc, &file) {
             Err(fault) => Err(fault),
-            Ok((records, place)) => {
-                let journal = Journal::resumed(alloc, &records, place as u64)?;
+            Ok((records, places, mark, place)) => {
+                let journal = Journal::resumed(alloc, &records, &places, mark, place as u64)?;
                 cut_behind(disk, place as u64, file.len() as u64)?;
-                Ok((journal, fsl_text::List::from_vec(records)))
+                Ok((journal, List::from_vec(places), List::from_vec(records)))
             }
         }
     }

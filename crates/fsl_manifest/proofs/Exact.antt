@@ -8,7 +8,8 @@ use Rattle.fsl_order.specs.Names.{is_before}
 use Rattle.fsl_order.proofs.Booleans.{first_holds, second_holds}
 use Rattle.fsl_text.specs.Escapes.{unescape}
 use Rattle.fsl_text.specs.Paths.{path_ok}
-use Rattle.fsl_name.specs.Name.{name_in}
+use Rattle.fsl_name.specs.Ref.{ref_in}
+use Rattle.fsl_name.specs.declared.reference.Ref.{Ref}
 use Rattle.fsl_card.specs.declared.types.Card.{Card}
 use Rattle.fsl_card.specs.Cards.{IsCards, in_order, is_argument, may_follow, may_repeat, first_of, first_argument}
 use Rattle.fsl_card.specs.Writing.{sealed_text}
@@ -93,19 +94,19 @@ record IsFileOf (path : List ℕ) (f : FileCard) : Type 0 where
 file_of : (path : List ℕ) (hash perm former : Option (List ℕ)) (f : FileCard) → (is_some perm ≡ true → is_some hash ≡ true) → (is_some perm ≡ false → is_some former ≡ false) → file_in path hash perm former ≡ Some f → IsFileOf path f
 file_of path hash perm former f needs none e =
     let p = step (path_in path) _ f e in
-    let h = step (optional name_in hash) _ f p.2 in
+    let h = step (optional ref_in hash) _ f p.2 in
     let m = step (optional perm_in perm) _ f h.2 in
     let o = step (optional path_in former) _ f m.2 in
     let ok = path_of path p.0 p.1 in
     let is : ◌≡◌ {A = FileCard} (record { path = p.0; hash = h.0; perm = perm_or_plain m.0; former = o.0 }) f = inside p.0 h.0 (perm_or_plain m.0) o.0 o.2 in
-    let hashed = optional_some name_in hash h.0 h.1 in
+    let hashed = optional_some ref_in hash h.0 h.1 in
     let renamed = optional_some path_in former o.0 o.1 in
     subst (IsFileOf path) is (record {
       written = and_from _ _ (and_from _ _ ok.0 (former_ok former o.0 o.1)) (perm_placed perm m.0 (is_some h.0) (is_some o.0) m.1 (λ k. hashed ∙ needs k) (λ k. renamed ∙ none k));
       path_is = ok.1;
     })
   where
-    inside : (p : List ℕ) (h : Option (List ℕ)) (m : Perm) (o : Option (List ℕ)) → Some (record { path = p; hash = h; perm = m; former = o }) ≡ Some f → ◌≡◌ {A = FileCard} (record { path = p; hash = h; perm = m; former = o }) f
+    inside : (p : List ℕ) (h : Option Ref) (m : Perm) (o : Option (List ℕ)) → Some (record { path = p; hash = h; perm = m; former = o }) ≡ Some f → ◌≡◌ {A = FileCard} (record { path = p; hash = h; perm = m; former = o }) f
     inside p h m o g = cc
 
 file_read : (args : List (List ℕ)) (f : FileCard) → file_form args ≡ Some f → IsFileOf (first_of args) f
@@ -157,8 +158,8 @@ well_formed_from text cards m is h =
     let files = each_given (λ args. list_all is_argument args ≡ true) file_form (λ f. is_file_written f ≡ true) (λ args f fit e. (file_read args f e).written) (arguments cards 70) m.files (fit_arguments cards 70 is.each) h.files in
     let tags = each_given (λ args. list_all is_argument args ≡ true) tag_form (λ t. is_tag_written t ≡ true) tag_read (arguments cards 84) m.tags (fit_arguments cards 84 is.each) h.tags in
     let rise = rise_from (of_it 70 cards) m.files (all_of_it 70 cards) (kept_in_order 70 cards is.ordered) h.files in
-    and_from _ _ (and_from _ _ (and_from _ _ (and_from _ _ (and_from _ _ (and_from _ _ (and_from _ _
-    comment.0 user.0) (optional_filled m.mime mime)) (all_true is_file_written m.files files)) rise) h.hashes) h.parents.differ) (all_true is_tag_written m.tags tags)
+    and_from _ _ (and_from _ _ (and_from _ _ (and_from _ _ (and_from _ _ (and_from _ _ (and_from _ _ (and_from _ _
+    comment.0 user.0) (optional_filled m.mime mime)) (all_true is_file_written m.files files)) rise) h.hashes) h.primary) h.parents.differ) (all_true is_tag_written m.tags tags)
 
 -- a manifest can be written exactly where some text is it
 pub is_exact : IsWrittenExactly

@@ -1,6 +1,7 @@
 -- Cards give the fields of one manifest at most, and none where they lack one.
 use Rattle.std.proofs.Common.{◌≡◌, true, List, Result, Ok, Err, sym, ◌∙◌}
-use Rattle.std.specs.Prelude.{IsErrAnd, MatchResult}
+use Rattle.std.specs.Prelude.{◌&&◌, IsErrAnd, MatchResult}
+use Rattle.fsl_order.proofs.Booleans.{first_holds, second_holds}
 use Rattle.fsl_grammar.specs.declared.Unread.{Unread}
 use Rattle.fsl_grammar.specs.declared.Unread.TheVariants.{Form}
 use Rattle.fsl_grammar.specs.Letters.{has_letters, manifest_letters}
@@ -8,7 +9,7 @@ use Rattle.fsl_card.specs.declared.types.Card.{Card}
 use Rattle.fsl_grammar.specs.Forms.{hash_form, text_form, date_form, checksum_form, user_form, tag_form}
 use Rattle.fsl_grammar.proofs.Determined.{one_is, at_most_one_is, each_is, parents_are}
 use Rattle.fsl_manifest.specs.declared.Manifest.{Manifest}
-use Rattle.fsl_manifest.specs.Manifests.{IsManifest, file_form, has_hashes, pick_form}
+use Rattle.fsl_manifest.specs.Manifests.{IsManifest, begins_own, file_form, has_hashes, pick_form}
 use Rattle.fsl_manifest.specs.Parts.{HasFields}
 
 pub fields_of : (cards : List Card) (m : Manifest) → IsManifest cards m → HasFields cards m
@@ -39,8 +40,8 @@ fields_are cards a b h k = λ i. record {
   user = one_is cards 85 user_form a.user b.user h.user k.user i;
 }
 
-pub manifest_of : (cards : List Card) (m : Manifest) → has_letters manifest_letters cards ≡ true → HasFields cards m → has_hashes m ≡ true → IsManifest cards m
-manifest_of cards m letters h hashes = record {
+pub manifest_of : (cards : List Card) (m : Manifest) → has_letters manifest_letters cards ≡ true → HasFields cards m → (has_hashes m && begins_own m.parents) ≡ true → IsManifest cards m
+manifest_of cards m letters h whole = record {
   letters = letters;
   baseline = h.baseline;
   comment = h.comment;
@@ -52,7 +53,8 @@ manifest_of cards m letters h hashes = record {
   checksum = h.checksum;
   tags = h.tags;
   user = h.user;
-  hashes = hashes;
+  hashes = first_holds _ (begins_own m.parents) whole;
+  primary = second_holds (has_hashes m) _ whole;
 }
 
 -- fields have that part, so where it can't be read they can't be either

@@ -5,3 +5,4 @@ pub mod ReadBack
 pub mod TypeLemmas
 pub mod Exact
 mod ItemLemmas
+pub mod FirstParent

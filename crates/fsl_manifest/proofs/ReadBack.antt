@@ -7,11 +7,12 @@ use Rattle.hex.specs.Hex.{encode_lower}
 use Rattle.fsl_order.proofs.Booleans.{first_holds, second_holds}
 use Rattle.fsl_text.specs.Bytes.{is_empty}
 use Rattle.fsl_text.specs.Escapes.{escape}
-use Rattle.fsl_name.specs.Name.{IsName, name_in, name_text}
+use Rattle.fsl_name.specs.Name.{IsName, name_text}
+use Rattle.fsl_name.specs.Ref.{IsRef, ref_in}
 use Rattle.fsl_date.specs.Moment.{IsMoment, moment_text}
 use Rattle.fsl_card.specs.declared.types.Card.{Card}
 use Rattle.fsl_grammar.specs.Letters.{manifest_letters}
-use Rattle.fsl_grammar.specs.Forms.{all_differ, checksum_form, date_form, hash_form, is_filled, is_tag_written, tag_form, text_form, user_form}
+use Rattle.fsl_grammar.specs.Forms.{checksum_form, date_form, hash_form, is_filled, is_tag_written, refs_differ, tag_form, text_form, user_form}
 use Rattle.fsl_grammar.specs.Writing.{card, card_if, parents_card, tag_card}
 use Rattle.fsl_grammar.proofs.WrittenArguments.{is_argument-checksum, is_argument-date, is_argument-escape}
 use Rattle.fsl_grammar.proofs.Blocks.{AreBlocks, at_most_one_if, block_if, joined, single_block}
@@ -19,7 +20,7 @@ use Rattle.fsl_grammar.proofs.BlockLemmas.{all_cards, by_form, letters_are, name
 use Rattle.fsl_grammar.proofs.NameLists.{each_holds, front_holds, rest_holds}
 use Rattle.fsl_grammar.proofs.FormsAgain.{IsTagFit, at_most_one_parents, checksum_again, date_again, parents_again, parents_block, read_each, read_if, tag_again, tags_block, tags_fit, text_again, user_again}
 use Rattle.fsl_manifest.specs.declared.Manifest.{Manifest}
-use Rattle.fsl_manifest.specs.Manifests.{IsManifest, file_form, files_rise, has_hashes, is_file_written, is_well_formed, pick_form}
+use Rattle.fsl_manifest.specs.Manifests.{IsManifest, begins_own, file_form, files_rise, has_hashes, is_file_written, is_well_formed, pick_form}
 use Rattle.fsl_manifest.specs.Parts.{IsChecksum}
 use Rattle.fsl_manifest.specs.Writing.{IsOfType, IsReadBack, file_card, manifest_cards, pick_card}
 use Rattle.fsl_manifest.proofs.FormsAgain.{IsFileFit, IsPickFit, file_again, files_block, files_fit, pick_again, picks_block}
@@ -31,8 +32,9 @@ record IsFit (m : Manifest) : Type 0 where
   files : AllByRecursion IsFileFit m.files
   rise : files_rise m.files ≡ true
   mime : is_filled m.mime ≡ true
-  parents : AllByRecursion IsName m.parents
-  differ : all_differ m.parents ≡ true
+  parents : AllByRecursion IsRef m.parents
+  primary : begins_own m.parents ≡ true
+  differ : refs_differ m.parents ≡ true
   picks : AllByRecursion IsPickFit m.picks
   checksum : AllByRecursion IsChecksum (option_to_list m.checksum)
   tags : AllByRecursion IsTagFit m.tags
@@ -43,30 +45,31 @@ record IsFit (m : Manifest) : Type 0 where
 
 fit_from : (m : Manifest) → IsOfType m → is_well_formed m ≡ true → IsFit m
 fit_from m h w =
-    let baseline = option_to_list m.baseline in
     let files = flat_map (λ file. option_to_list file.hash) m.files in
     let picks = flat_map (λ pick. pick.target ∷ option_to_list pick.other) m.picks in
     let tags = flat_map (λ t. option_to_list t.target) m.tags in
-    let n4 = front_holds IsName (baseline ++ files ++ m.parents ++ picks) tags h.0 in
-    let n3 = front_holds IsName (baseline ++ files ++ m.parents) picks n4 in
-    let n2 = front_holds IsName (baseline ++ files) m.parents n3 in
-    let w7 = first_holds _ (list_all is_tag_written m.tags) w in
-    let w6 = first_holds _ (all_differ m.parents) w7 in
+    let refs = h.1 in
+    let n3 = front_holds IsRef (files ++ m.parents ++ picks) tags refs in
+    let n2 = front_holds IsRef (files ++ m.parents) picks n3 in
+    let w8 = first_holds _ (list_all is_tag_written m.tags) w in
+    let w7 = first_holds _ (refs_differ m.parents) w8 in
+    let w6 = first_holds _ (begins_own m.parents) w7 in
     let w5 = first_holds _ (has_hashes m) w6 in
     let w4 = first_holds _ (files_rise m.files) w5 in
     let w3 = first_holds _ (list_all is_file_written m.files) w4 in
     let w2 = first_holds _ (is_filled m.mime) w3 in
     record {
-      baseline = front_holds IsName baseline files n2;
+      baseline = h.0;
       comment = first_holds _ (not (is_empty m.user)) w2;
-      files = files_fit m.files (each_holds IsName (λ file. option_to_list file.hash) m.files (rest_holds IsName baseline files n2)) (second_holds _ (list_all is_file_written m.files) w4);
+      files = files_fit m.files (each_holds IsRef (λ file. option_to_list file.hash) m.files (front_holds IsRef files m.parents n2)) (second_holds _ (list_all is_file_written m.files) w4);
       rise = second_holds _ (files_rise m.files) w5;
       mime = second_holds _ (is_filled m.mime) w3;
-      parents = rest_holds IsName (baseline ++ files) m.parents n3;
-      differ = second_holds _ (all_differ m.parents) w7;
-      picks = each_holds IsName (λ pick. pick.target ∷ option_to_list pick.other) m.picks (rest_holds IsName (baseline ++ files ++ m.parents) picks n4);
-      checksum = h.1;
-      tags = tags_fit m.tags (each_holds IsName (λ t. option_to_list t.target) m.tags (rest_holds IsName (baseline ++ files ++ m.parents ++ picks) tags h.0)) (second_holds _ (list_all is_tag_written m.tags) w);
+      parents = rest_holds IsRef files m.parents n2;
+      primary = second_holds _ (begins_own m.parents) w7;
+      differ = second_holds _ (refs_differ m.parents) w8;
+      picks = each_holds IsRef (λ pick. pick.target ∷ option_to_list pick.other) m.picks (rest_holds IsRef (files ++ m.parents) picks n3);
+      checksum = h.2;
+      tags = tags_fit m.tags (each_holds IsRef (λ t. option_to_list t.target) m.tags (rest_holds IsRef (files ++ m.parents ++ picks) tags refs)) (second_holds _ (list_all is_tag_written m.tags) w);
       user = second_holds (not (is_empty m.comment)) _ w2;
       hashes = second_holds _ (has_hashes m) w6;
     }
@@ -135,12 +138,13 @@ manifest_again m moment h =
       date = by_form (blocks m) b 68 date_form _ (one_read date_form (moment_text m.date ∷ []) m.date (date_again m.date moment));
       files = by_form (blocks m) b 70 file_form _ (read_each file_card file_form IsFileFit file_again m.files h.files);
       mime = by_form (blocks m) b 78 text_form _ (text_read 78 m.mime);
-      parents = record { names = ap (λ (found : List (List (List ℕ))). map name_in (flat_map (λ args. args) found)) (of_letter (blocks m) b 80) ∙ parents_again m.parents h.parents; differ = h.differ };
+      parents = record { names = ap (λ (found : List (List (List ℕ))). map ref_in (flat_map (λ args. args) found)) (of_letter (blocks m) b 80) ∙ parents_again m.parents h.parents; differ = h.differ };
       picks = by_form (blocks m) b 81 pick_form _ (read_each pick_card pick_form IsPickFit pick_again m.picks h.picks);
       checksum = by_form (blocks m) b 82 checksum_form _ (read_if 82 encode_lower checksum_form m.checksum (λ bytes e. let c = of_some IsChecksum m.checksum bytes e h.checksum in checksum_again bytes c.0 c.1));
       tags = by_form (blocks m) b 84 tag_form _ (read_each tag_card tag_form IsTagFit tag_again m.tags h.tags);
       user = by_form (blocks m) b 85 user_form _ (one_read user_form (escape m.user ∷ []) m.user (user_again m.user));
       hashes = h.hashes;
+      primary = h.primary;
     }
 
 pub is_read_back : IsReadBack

@@ -6,10 +6,12 @@ use Rattle.fsl_order.specs.Names.{is_before}
 use Rattle.fsl_text.specs.Bytes.{is_empty}
 use Rattle.fsl_text.specs.Escapes.{unescape}
 use Rattle.fsl_text.specs.Paths.{path_ok}
-use Rattle.fsl_name.specs.Name.{name_in}
+use Rattle.fsl_name.specs.Ref.{ref_in}
+use Rattle.fsl_name.specs.declared.reference.Ref.{Ref}
+use Rattle.fsl_name.specs.declared.reference.Ref.TheVariants.{Own, Foreign}
 use Rattle.fsl_card.specs.declared.types.Card.{Card}
 use Rattle.fsl_grammar.specs.Letters.{has_letters, manifest_letters}
-use Rattle.fsl_grammar.specs.Forms.{HasOne, HasAtMostOne, HasEach, HasParents, all_differ, is_filled, is_tag_written, hash_form, text_form, date_form, checksum_form, user_form, tag_form, given, optional, ◌>>=◌}
+use Rattle.fsl_grammar.specs.Forms.{HasOne, HasAtMostOne, HasEach, HasParents, is_filled, is_tag_written, refs_differ, hash_form, text_form, date_form, checksum_form, user_form, tag_form, given, optional, ◌>>=◌}
 use Rattle.fsl_manifest.specs.declared.Perm.{Perm}
 use Rattle.fsl_manifest.specs.declared.Perm.TheVariants.{Plain, Writable, Exec, Symlink}
 use Rattle.fsl_manifest.specs.declared.FileCard.{FileCard}
@@ -35,7 +37,7 @@ perm_or_plain (Some perm) = perm
 abbrev pub file_in : List ℕ → Option (List ℕ) → Option (List ℕ) → Option (List ℕ) → Option FileCard
 file_in path hash perm former = do
   p ← path_in path
-  h ← optional name_in hash
+  h ← optional ref_in hash
   m ← optional perm_in perm
   f ← optional path_in former
   Some (record { path = p; hash = h; perm = perm_or_plain m; former = f })
@@ -56,8 +58,8 @@ abbrev pub pick_in : List ℕ → Option (List ℕ) → Option Pick
 pick_in [] other = None
 pick_in (sign ∷ hash) other = do
   back ← back_in sign
-  target ← name_in hash
-  o ← optional name_in other
+  target ← ref_in hash
+  o ← optional ref_in other
   Some (record { back = back; target = target; other = o })
 
 -- Q +hash ?hash? or Q -hash ?hash?
@@ -69,6 +71,12 @@ pick_form args = None
 -- each file has a hash, unless there is a baseline
 abbrev pub has_hashes : Manifest → Bool
 has_hashes m = is_some m.baseline || list_all (λ file. is_some file.hash) m.files
+
+-- the first parent, where there is one, isn't foreign
+abbrev pub begins_own : List Ref → Bool
+begins_own [] = true
+begins_own (Own name ∷ refs) = true
+begins_own (Foreign bytes ∷ refs) = false
 
 -- the cards are this manifest
 pub record IsManifest (cards : List Card) (m : Manifest) : Type 0 where
@@ -84,6 +92,7 @@ pub record IsManifest (cards : List Card) (m : Manifest) : Type 0 where
   pub tags : HasEach cards 84 tag_form m.tags  -- T
   pub user : HasOne cards 85 user_form m.user  -- U
   pub hashes : IsTrue (has_hashes m)
+  pub primary : IsTrue (begins_own m.parents)
 
 -- ---- what can be written
 
@@ -114,5 +123,5 @@ abbrev pub is_well_formed : Manifest → Bool
 is_well_formed m =
     not (is_empty m.comment) && not (is_empty m.user) && is_filled m.mime
     && list_all is_file_written m.files && files_rise m.files && has_hashes m
-    && all_differ m.parents
+    && begins_own m.parents && refs_differ m.parents
     && list_all is_tag_written m.tags

@@ -5,7 +5,7 @@ ghost use Rattle.fsl_grammar.specs.Reading.{IsGiven};
 ghost use Rattle.fsl_manifest.specs.Manifests.{back_in, file_form, file_in, path_in, perm_in, perm_or_plain, pick_form, pick_in};
 
 use crate::{FileCard, Perm, Pick};
-use fsl_grammar::{Form, Unread, read_hash, read_optional_hash};
+use fsl_grammar::{Form, Unread, read_optional_ref, read_ref};
 use fsl_text::{Text, path_ok, unescape};
 use std::alloc::Global;
 
@@ -57,7 +57,7 @@ fn read_file(
     ensures { IsGiven (file_in path.now (option_map (λ text. text.now) hash.entry) (option_map (λ text. text.now) perm.entry) (option_map (λ text. text.now) former.entry)) result }
 {
     let path = read_path(alloc, path.bytes())?;
-    let hash = read_optional_hash(hash).ok_or(Unread::Form)?;
+    let hash = read_optional_ref(hash).ok_or(Unread::Form)?;
     let perm = read_optional_perm(perm).ok_or(Unread::Form)?;
     let former = read_optional_path(alloc, former)?;
     Ok(FileCard {
@@ -128,8 +128,8 @@ fn read_pick(target: &[u8], other: Option<&Text>) -> Result<Pick, Unread>
 {
     let (sign, hash) = target.split_first().ok_or(Unread::Form)?;
     let back = read_back(*sign).ok_or(Unread::Form)?;
-    let target = read_hash(hash).ok_or(Unread::Form)?;
-    let other = read_optional_hash(other).ok_or(Unread::Form)?;
+    let target = read_ref(hash).ok_or(Unread::Form)?;
+    let other = read_optional_ref(other).ok_or(Unread::Form)?;
     Ok(Pick {
         back,
         target,

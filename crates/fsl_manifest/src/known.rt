@@ -1,12 +1,12 @@
-//! What the type of a manifest keeps, for proofs alone: its names have 20 bytes each, and its checksum has 16.
+//! What the type of a manifest keeps, for proofs alone: its own names have 20 bytes each, foreign ones 32, and its checksum has 16.
 ghost use Rattle.std.specs.Prelude.{◌∷◌, option_to_list};
 ghost use Rattle.std.specs.List.{AllByRecursion};
-ghost use Rattle.fsl_name.specs.Name.{IsName};
+ghost use Rattle.fsl_name.specs.Ref.{IsRef};
 ghost use Rattle.fsl_manifest.specs.Parts.{IsChecksum};
 ghost use Rattle.fsl_manifest.specs.Writing.{IsOfType};
 
 use crate::{FileCard, Manifest, Pick};
-use fsl_grammar::{know_name, know_names, know_tags};
+use fsl_grammar::{know_name, know_ref, know_refs, know_tags};
 
 impl Manifest {
     pub(crate) fn know_type(&self)
@@ -14,7 +14,7 @@ impl Manifest {
     {
         know_name(&self.baseline);
         know_files(self.files.items());
-        know_names(self.parents.items());
+        know_refs(self.parents.items());
         know_picks(self.picks.items());
         know_checksum(&self.checksum);
         know_tags(self.tags.items());
@@ -22,19 +22,19 @@ impl Manifest {
 }
 
 fn know_files(files: &[FileCard])
-    ensures { AllByRecursion (λ file. AllByRecursion IsName (option_to_list file.hash)) files.now }
+    ensures { AllByRecursion (λ file. AllByRecursion IsRef (option_to_list file.hash)) files.now }
 {
     for file in files {
-        know_name(&file.hash);
+        know_ref(&file.hash);
     }
 }
 
 fn know_picks(picks: &[Pick])
-    ensures { AllByRecursion (λ pick. AllByRecursion IsName (pick.target ∷ option_to_list pick.other)) picks.now }
+    ensures { AllByRecursion (λ pick. AllByRecursion IsRef (pick.target ∷ option_to_list pick.other)) picks.now }
 {
     for pick in picks {
         let _ = pick.target.bytes();
-        know_name(&pick.other);
+        know_ref(&pick.other);
     }
 }
 

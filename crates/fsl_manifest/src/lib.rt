@@ -10,9 +10,9 @@ mod written;
 
 use fsl_date::Moment;
 use fsl_grammar::TagCard;
-use fsl_name::Name;
+use fsl_name::{Name, Ref};
 use fsl_text::{List, Text};
-pub use laws::{well_formed_have_a_text, written_text_reads_back};
+pub use laws::{first_parent_is_own, well_formed_have_a_text, written_text_reads_back};
 
 /// The permission of a file.
 #[derive(Clone, Copy, Debug, PartialEq, Eq)]
@@ -30,7 +30,7 @@ pub enum Perm {
 #[derive(Drop)]
 pub struct FileCard {
     pub path: Text,
-    pub hash: Option<Name>,
+    pub hash: Option<Ref>,
     pub perm: Perm,
     pub former: Option<Text>,
 }
@@ -39,11 +39,11 @@ pub struct FileCard {
 #[derive(Clone, Copy, Debug)]
 pub struct Pick {
     pub back: bool,
-    pub target: Name,
-    pub other: Option<Name>,
+    pub target: Ref,
+    pub other: Option<Ref>,
 }
 
-/// A check-in. Its fields are its B, C, D, F, N, P, Q, R, T and U cards.
+/// A check-in. Its fields are its B, C, D, F, N, P, Q, R, T and U cards. Its first parent, where there is one, is no foreign name.
 #[derive(Drop)]
 pub struct Manifest {
     pub baseline: Option<Name>,
@@ -51,7 +51,7 @@ pub struct Manifest {
     pub date: Moment,
     pub files: List<FileCard>,
     pub mime: Option<Text>,
-    pub parents: List<Name>,
+    pub parents: List<Ref>,
     pub picks: List<Pick>,
     pub checksum: Option<[u8; 16]>,
     pub tags: List<TagCard>,

@@ -17,7 +17,8 @@ use std::alloc::Global;
 
 impl Manifest {
     /// The manifest that cards are, or None where they are none: where their letters aren't those of a manifest, an argument hasn't
-    /// its form, two parents are the same, or a file has no hash and there is no baseline. `Memory` is the only error.
+    /// its form, two parents are the same or the first is foreign, or a file has no hash and there is no baseline. `Memory` is the only
+    /// error.
     pub fn read(alloc: Global, cards: &Cards) -> Result<Option<Manifest>, Memory>
         ensures { IfOk result (IsReading IsManifest cards.now) }
     {
@@ -36,7 +37,7 @@ fn read_cards(alloc: Global, cards: &[Card]) -> Result<Manifest, Unread>
         return Err(Unread::Form);
     }
     let manifest = read_fields(alloc, cards)?;
-    if manifest.has_hashes() {
+    if manifest.is_whole() {
         Ok(manifest)
     } else {
         Err(Unread::Form)

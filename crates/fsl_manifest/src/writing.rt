@@ -5,15 +5,17 @@ ghost use Rattle.fsl_date.specs.Moment.{IsMoment};
 ghost use Rattle.fsl_grammar.specs.Writing.{card_if};
 ghost use Rattle.fsl_manifest.specs.Manifests.{IsManifest, is_well_formed};
 ghost use Rattle.fsl_manifest.specs.Writing.{IsManifestText, file_card, manifest_cards, perm_arguments, pick_card};
+ghost use Rattle.fsl_name.specs.Ref.{ref_text};
 ghost use Rattle.hex.specs.Hex.{encode_lower};
 
 use crate::{FileCard, Manifest, Perm, Pick};
 use fsl_card::finish;
 use fsl_grammar::{
-    begin_card, end_card, write_argument, write_card, write_optional_name,
-    write_optional_name_card, write_optional_text, write_optional_text_card, write_parents,
-    write_tags, write_text, write_text_card,
+    begin_card, end_card, write_argument, write_card, write_optional_name_card, write_optional_ref,
+    write_optional_text, write_optional_text_card, write_parents, write_tags, write_text,
+    write_text_card,
 };
+use fsl_name::Ref;
 use fsl_text::{Memory, Text};
 use std::alloc::Global;
 
@@ -62,7 +64,7 @@ fn write_file(into: &mut Text, file: &FileCard) -> Result<(), Memory>
 {
     begin_card(into, b'F')?;
     write_text(into, file.path.bytes())?;
-    write_optional_name(into, &file.hash)?;
+    write_optional_ref(into, &file.hash)?;
     write_perm(into, file.perm, &file.former)?;
     end_card(into)
 }
@@ -93,10 +95,19 @@ fn write_pick(into: &mut Text, pick: &Pick) -> Result<(), Memory>
     ensures { OnOk result (into.new ≡ into.old ++ card_text (pick_card pick.now)) }
 {
     begin_card(into, b'Q')?;
-    into.append(&[b' ', if pick.back { b'-' } else { b'+' }])?;
-    into.append(&pick.target.text())?;
-    write_optional_name(into, &pick.other)?;
+    write_signed_ref(into, if pick.back { b'-' } else { b'+' }, &pick.target)?;
+    write_optional_ref(into, &pick.other)?;
     end_card(into)
+}
+
+/// A sign and a reference behind it as one argument.
+fn write_signed_ref(into: &mut Text, sign: u8, target: &Ref) -> Result<(), Memory>
+    ensures { OnOk result (into.new ≡ into.old ++ 32 ∷ sign ∷ ref_text target.now) }
+{
+    let mut digits = [0u8; 64];
+    let count = target.write(&mut digits) as usize;
+    into.append(&[b' ', sign])?;
+    into.append(&digits[..count])
 }
 
 fn write_checksum(into: &mut Text, checksum: &Option<[u8; 16]>) -> Result<(), Memory>

@@ -1,18 +1,19 @@
 //! Which manifests have a text.
-ghost use Rattle.std.specs.Prelude.{◌≡◌, is_some, option_to_list};
+ghost use Rattle.std.specs.Prelude.{◌≡◌, ◌&&◌, is_some, option_to_list};
 ghost use Rattle.std.specs.List.{list_all};
 ghost use Rattle.fsl_grammar.specs.Forms.{is_tag_written};
 ghost use Rattle.fsl_text.specs.Paths.{path_ok};
-ghost use Rattle.fsl_manifest.specs.Manifests.{files_rise, has_hashes, is_before_first, is_file_written, is_perm_placed, is_well_formed};
+ghost use Rattle.fsl_manifest.specs.Manifests.{begins_own, files_rise, has_hashes, is_before_first, is_file_written, is_perm_placed, is_well_formed};
 
 use crate::{FileCard, Manifest, Perm};
-use fsl_grammar::{TagCard, all_differ, is_filled, is_tag_written};
+use fsl_grammar::{TagCard, is_filled, is_tag_written, refs_differ};
+use fsl_name::Ref;
 use fsl_text::{Text, path_ok};
 
 impl Manifest {
     /// Whether the manifest can be written: the comment, the user and each text that is there have a byte; paths are good and rise;
     /// a permission has a hash before it and a former path a permission; each file has a hash unless there is a baseline; the
-    /// parents differ. It takes no memory, and compares each parent with each one behind it.
+    /// parents differ, and the first isn't foreign. It takes no memory, and compares each parent with each one behind it.
     pub fn well_formed(&self) -> bool
         ensures { result ≡ is_well_formed self.now }
     {
@@ -22,15 +23,33 @@ impl Manifest {
             && all_files_written(self.files.items())
             && files_rise(self.files.items())
             && self.has_hashes()
-            && all_differ(self.parents.items())
+            && begins_own(self.parents.items())
+            && refs_differ(self.parents.items())
             && all_tags_written(self.tags.items())
     }
 
+    /// Whether each file has a hash or there is a baseline, and the first parent isn't foreign.
+    pub(crate) fn is_whole(&self) -> bool
+        ensures { result ≡ (has_hashes self.now && begins_own self.now.parents) }
+    {
+        self.has_hashes() && begins_own(self.parents.items())
+    }
+
     /// Whether each file has a hash, or there is a baseline.
-    pub(crate) fn has_hashes(&self) -> bool
+    fn has_hashes(&self) -> bool
         ensures { result ≡ has_hashes self.now }
     {
         self.baseline.is_some() || all_hashed(self.files.items())
+    }
+}
+
+/// Whether the first parent, where there is one, isn't foreign.
+fn begins_own(parents: &[Ref]) -> bool
+    ensures { result ≡ begins_own parents.now }
+{
+    match parents {
+        [Ref::Foreign(_), ..] => false,
+        _ => true,
     }
 }
 

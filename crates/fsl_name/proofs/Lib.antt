@@ -4,3 +4,5 @@ pub mod Reading
 pub mod OrderLemmas
 pub mod OrderedNames
 pub mod NameTexts
+pub mod WrittenOrder
+pub mod RefTexts

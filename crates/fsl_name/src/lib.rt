@@ -1,5 +1,5 @@
 //! Names of artifacts. A name is the SHA-1 of an artifact's bytes, and is written as its 40 digits in lower case. It is read from these
-//! and from nothing else, and names are ordered by their bytes.
+//! and from nothing else, and names are ordered by their bytes. A reference is such a name, or a foreign one of 64 digits.
 #![tactic(auto)]
 
 ghost use Rattle.std.specs.Prelude.{◌≡◌, ℕ, length, List, not, position, IsTrue, IfOk, IfErr};
@@ -20,8 +20,10 @@ ghost use Rattle.fsl_name.specs.Name.{
   IsNameFault,
 };
 
+mod reference;
 mod sorting;
 
+pub use reference::Ref;
 use sha1::Sha1;
 pub use sorting::{ordered, stands};
 use std::cmp::Ordering;
@@ -82,12 +84,12 @@ impl Ord for Name {
     }
 }
 
-/// Why a text is no name.
+/// Why a text is no name, or no reference.
 #[derive(Clone, Copy, Debug, PartialEq, Eq)]
 pub enum NameFault {
-    /// It has so many bytes, and not 40.
+    /// It has so many bytes, and not 40, nor, for a reference, 64.
     Length { found: u64 },
-    /// It has 40 bytes, and the one at this place, counted from 0, is the first that is no digit of `0` to `9` and `a` to `f`.
+    /// It has as many bytes as it may, and the one at this place, counted from 0, is the first that is no digit of `0` to `9` and `a` to `f`.
     Digit { at: u64 },
 }
 

@@ -18,7 +18,7 @@ use Rattle.fsl_pull.specs.Turns.{commits_of, IsMade}
 use Rattle.fsl_pull.specs.Clones.{Cloning, CloneAsks, clone_start}
 use Rattle.fsl_pull.specs.Calls.{Dialled, dialled}
 use Rattle.fsl_pull.specs.CloneCalls.{CloneOf, round_of, IsCloneEnd, AreBegun, IsUnmade, committed_before, commits_before, IsCloneFailed, IsCloneAnswer, AreCloneCommits, IsCloneCall, UnlessDisk}
-use Rattle.fsl_pull.proofs.OneEnd.{IsDetermined, clone_determined}
+use Rattle.fsl_pull.proofs.OneEnd.{IsDecided, decided, clone_determined}
 use Rattle.fsl_pull.proofs.RoundLemmas.{end_behind, length_behind, CommitsFrom, front_commits, step_commits, known_commits}
 use Rattle.fsl_pull.proofs.DialLemmas.{all_of, BreaksIn, grown, none_joined}
 
@@ -27,13 +27,13 @@ module _ (k : CloneOf) (IsKept : List (List Record) → Type 0) (l0 l l2 : LinkS
   R = round_of k
 
   abbrev start : Point Cloning
-  start = clone_start k.faults
+  start = clone_start k.faults k.honest
 
   abbrev pub Call : Result Pulled PullFault → Type 0
   Call result = IsCloneCall k (dialled l0 l2) faults IsKept result
 
-  one : IsDetermined R
-  one = clone_determined k.server k.fields k.login
+  one : IsDecided R
+  one = decided R (clone_determined k.server k.fields k.login)
 
   from_start : (rounds : Rounds) (commits : List (List Record)) → AreCloneCommits k rounds commits → CommitsFrom R start rounds commits
   from_start rounds commits (inl (e, h, is)) = inl (e, h, is)
@@ -50,6 +50,7 @@ module _ (k : CloneOf) (IsKept : List (List Record) → Type 0) (l0 l l2 : LinkS
   refused_answer (fault.TooLarge name size) d rounds r w = w
   refused_answer (fault.Full name) d rounds r w = w
   refused_answer (fault.Missing name) d rounds r w = w
+  refused_answer (fault.Damaged name found) d rounds r w = absurd r
   refused_answer fault.Rounds d rounds r w = w
   refused_answer fault.Memory d rounds r w = absurd r
 
@@ -228,6 +229,7 @@ unless_on P Q (Err (fault.Peer why)) f h = f h
 unless_on P Q (Err (fault.TooLarge name size)) f h = f h
 unless_on P Q (Err (fault.Full name)) f h = f h
 unless_on P Q (Err (fault.Missing name)) f h = f h
+unless_on P Q (Err (fault.Damaged name found)) f h = f h
 unless_on P Q (Err fault.Rounds) f h = f h
 unless_on P Q (Err fault.Memory) f h = f h
 
@@ -243,6 +245,7 @@ unless_all P (Err (fault.Peer why)) h = h
 unless_all P (Err (fault.TooLarge name size)) h = h
 unless_all P (Err (fault.Full name)) h = h
 unless_all P (Err (fault.Missing name)) h = h
+unless_all P (Err (fault.Damaged name found)) h = h
 unless_all P (Err fault.Rounds) h = h
 unless_all P (Err fault.Memory) h = h
 
@@ -316,6 +319,7 @@ module _ (k : CloneOf) (Length : ℕ → Type 0) (Leaves : List (List Record) �
   answer_on IsKept IsKeptToo d faults (Err (fault.TooLarge name size)) rounds broken on kept_on h = end_on (Some (fault.TooLarge name size)) None rounds broken on h
   answer_on IsKept IsKeptToo d faults (Err (fault.Full name)) rounds broken on kept_on h = end_on (Some (fault.Full name)) None rounds broken on h
   answer_on IsKept IsKeptToo d faults (Err (fault.Missing name)) rounds broken on kept_on h = end_on (Some (fault.Missing name)) None rounds broken on h
+  answer_on IsKept IsKeptToo d faults (Err (fault.Damaged name found)) rounds broken on kept_on h = end_on (Some (fault.Damaged name found)) None rounds broken on h
   answer_on IsKept IsKeptToo d faults (Err fault.Rounds) rounds broken on kept_on h = end_on (Some fault.Rounds) None rounds broken on h
 
   pub call_on : (IsKept IsKeptToo : List (List Record) → Type 0) (d : Dialled) (faults : ℕ) (result : Result Pulled PullFault) → UnlessDisk LeavesOn result → ((commits : List (List Record)) → IsKept commits → IsKeptToo commits) → IsCloneCall k d faults IsKept result → IsCloneCall q d faults IsKeptToo result

@@ -40,10 +40,10 @@ abbrev pub Begins : List Record → List (List Record) → Type 0
 Begins first commits = (more : List (List Record)) × (commits ≡ first ∷ more)
 
 -- where a clone stands behind n rounds, of which none was the end
-pub record IsAt {D : Type 0} (disk : D → DiskState) (server : List ℕ) (fields : List (List ℕ)) (login : Option Login) (project : List ℕ) (first : Round (List ℕ) Exchanged) (faults : ℕ) (l0 l : LinkState) (mid d : D) (s : Seen) (from n : ℕ) : Type 0 where
+pub record IsAt {D : Type 0} (disk : D → DiskState) (server : List ℕ) (fields : List (List ℕ)) (login : Option Login) (project : List ℕ) (first : Round (List ℕ) Exchanged) (faults : ℕ) (honest : Bool) (l0 l : LinkState) (mid d : D) (s : Seen) (from n : ℕ) : Type 0 where
   pub rest : Rounds
   pub point : Point Cloning
-  pub go : GoOn (CloneRound server fields login) (clone_start faults) (first ∷ rest) point
+  pub go : GoOn (CloneRound server fields login) (clone_start faults honest) (first ∷ rest) point
   pub state : point.state ≡ s.state
   pub memory : point.memory ≡ cloning from
   pub many : length (first ∷ rest) ≡ n
@@ -78,12 +78,12 @@ behind_first first more c ([], left, e, file) = absurd (file.fit)
 behind_first first more c (d ∷ done, left, e, file) =
     (done, left, same_tail first d more (done ++ left) e, subst (λ (x : List Record). IsFileOf c (x ++ all_of_them done)) (same_head first d more (done ++ left) e) file)
 
-module _ {D : Type 0} (disk : D → DiskState) (server : List ℕ) (fields : List (List ℕ)) (login : Option Login) (project : List ℕ) (first : Round (List ℕ) Exchanged) (l0 : LinkState) (mid : D) (n : ℕ) where
+module _ {D : Type 0} (disk : D → DiskState) (server : List ℕ) (fields : List (List ℕ)) (login : Option Login) (project : List ℕ) (first : Round (List ℕ) Exchanged) (l0 : LinkState) (mid : D) (n : ℕ) (honest : Bool) where
   abbrev R : Course Cloning (List ℕ) Exchanged
   R = CloneRound server fields login
 
   abbrev start : Point Cloning
-  start = clone_start n
+  start = clone_start n honest
 
   abbrev config : Record
   config = first_record project server fields
@@ -95,7 +95,7 @@ module _ {D : Type 0} (disk : D → DiskState) (server : List ℕ) (fields : Lis
   F = config ∷ []
 
   abbrev pub The : Seen → CloneOf
-  The s = clone_within server fields login n (HasCommitted s.state) (HasLost s.state)
+  The s = clone_within server fields login n honest (HasCommitted s.state) (HasLost s.state)
 
   abbrev Kept : D → List (List Record) → Type 0
   Kept x commits = IsKeptFrom (disk mid) (disk x) F commits
@@ -129,7 +129,7 @@ module _ {D : Type 0} (disk : D → DiskState) (server : List ℕ) (fields : Lis
       subst (Images x) (sym same) (subst (λ (y : D). Images y p.commits) (sym still) images)
   step_images d x p step are images keeps w (inr k) = λ model.
       and_then (disk mid) (disk d) (disk x) (StandsForSome [] (commits_of step)) (longer_images d p.commits (commits_of step) w images model)
-      (k [] are (modelled_after (disk mid) (disk d) keeps model))
+      (k [] are (modelled_after (disk mid) (disk d) keeps model) (λ c left. (images model).now c left))
 
   leaves_by : (s : Seen) (state : State) (commits : List (List Record)) → Begins F commits → AreCommitted [] state commits → state ≡ s.state → HasCommitted s.state commits
   leaves_by s state commits b are same = (begins_some F commits b, subst (λ (t : State). front t ≡ all_of_them commits) same are)
@@ -147,9 +147,9 @@ module _ {D : Type 0} (disk : D → DiskState) (server : List ℕ) (fields : Lis
 
   -- ---- the first round
 
-  module _ (l1 : LinkState) (old : Seen) (reply : List WireCard) (h : IsFirst server fields login l0 l1 reply project first old) (is_n : old.state.faults ≡ n) (only_now : (c : List ℕ) → IsTrue (disk mid).is_model → (disk mid).since (disk mid).moment c → (disk mid).images c) (exact : IsModelled (disk mid) → (c : List ℕ) → (disk mid).images c → IsFileOf c (front old.state)) where
+  module _ (l1 : LinkState) (old : Seen) (reply : List WireCard) (h : IsFirst server fields login l0 l1 reply project first old) (is_n : old.state.faults ≡ n) (is_kind : old.state.honest ≡ honest) (only_now : (c : List ℕ) → IsTrue (disk mid).is_model → (disk mid).since (disk mid).moment c → (disk mid).images c) (exact : IsModelled (disk mid) → (c : List ℕ) → (disk mid).images c → IsFileOf c (front old.state)) where
     first_is : begun.state ≡ old.state
-    first_is = sym ((h.made).state ∙ ap (λ (m : ℕ). (begun_with (clone_start m) config).state) is_n)
+    first_is = sym ((h.made).state ∙ (λ i. (begun_with (clone_start (is_n i) (is_kind i)) config).state))
 
     none_stored : stored old ≡ 0
     none_stored = λ i. blobs (drop ((h.made).loaded i) (((h.made).state i).records))
@@ -197,7 +197,7 @@ module _ {D : Type 0} (disk : D → DiskState) (server : List ℕ) (fields : Lis
     few : 0 + 1 ≤ most_rounds
     few = omega arith
 
-    pub first_goes : (x : D) (s : Seen) (next : ℕ) → FirstTurn x s (Ok (Some next)) → Keeps (disk mid) (disk x) → s.state.faults ≡ old.state.faults → IsAt disk server fields login project first n l0 l1 mid x s next 1
+    pub first_goes : (x : D) (s : Seen) (next : ℕ) → FirstTurn x s (Ok (Some next)) → Keeps (disk mid) (disk x) → s.state.faults ≡ old.state.faults → IsAt disk server fields login project first n honest l0 l1 mid x s next 1
     first_goes x s next turned keeps counted =
         let t = turned begun first_is refl in
         let q = t.0 in
@@ -257,7 +257,7 @@ module _ {D : Type 0} (disk : D → DiskState) (server : List ℕ) (fields : Lis
 
   -- ---- one round more
 
-  module _ (l : LinkState) (d : D) (s : Seen) (from m : ℕ) (h : IsAt disk server fields login project first n l0 l mid d s from m) where
+  module _ (l : LinkState) (d : D) (s : Seen) (from m : ℕ) (h : IsAt disk server fields login project first n honest l0 l mid d s from m) where
     abbrev rounds : Rounds
     rounds = first ∷ h.rest
 
@@ -282,7 +282,7 @@ module _ {D : Type 0} (disk : D → DiskState) (server : List ℕ) (fields : Lis
     abbrev Turn : LinkState → D → Seen → Result (Option ℕ) PullFault → Type 0
     Turn l2 x s2 result = IsCloneTurned login from l l2 (disk d) (disk x) s s2 (x ≡ d) result
 
-    pub goes : (l2 : LinkState) (x : D) (s2 : Seen) (next : ℕ) → Turn l2 x s2 (Ok (Some next)) → Keeps (disk d) (disk x) → s2.state.faults ≡ s.state.faults → l.faults ≤ l2.faults → IsAt disk server fields login project first n l0 l2 mid x s2 next (m + 1)
+    pub goes : (l2 : LinkState) (x : D) (s2 : Seen) (next : ℕ) → Turn l2 x s2 (Ok (Some next)) → Keeps (disk d) (disk x) → s2.state.faults ≡ s.state.faults → l.faults ≤ l2.faults → IsAt disk server fields login project first n honest l0 l2 mid x s2 next (m + 1)
     goes l2 x s2 next turned keeps counted dial =
         let t = turned server fields h.point h.state h.memory in
         let q = t.0 in

@@ -1,5 +1,5 @@
 -- The making of a clone's repository, and its opening.
-use Rattle.std.specs.Prelude.{◌≡◌, ℕ, ◌+◌, ◌<◌, ◌⊎◌, List, [], ◌∷◌, ◌++◌, length, take, Option, Some, None, Result, Ok, Err, IfOk, IfErr, IsTrue}
+use Rattle.std.specs.Prelude.{◌≡◌, ℕ, ◌+◌, ◌<◌, ◌⊎◌, ◌&&◌, Bool, List, [], ◌∷◌, ◌++◌, length, take, flat_map, Option, Some, None, Result, Ok, Err, IfOk, IfErr, IsTrue}
 use Rattle.std.proofs.Common.{refl, sym, ap, subst, ◌∙◌, inl, inr, arith, length-append}
 use Rattle.std.proofs.lemmas.Bool.{false≢true}
 use Rattle.std.proofs.lemmas.List.{append-nil}
@@ -10,7 +10,7 @@ use Rattle.fsl_record.specs.declared.Config.{Config}
 use Rattle.fsl_record.specs.declared.Record.{Record}
 use Rattle.fsl_record.specs.declared.Record.TheVariants as record_of
 use Rattle.fsl_record.specs.Records.{AreRecords}
-use Rattle.fsl_journal.specs.File.{IsFileOf, FailsAt, header}
+use Rattle.fsl_journal.specs.File.{IsFileOf, FailsAt, header, group_bytes}
 use Rattle.fsl_journal.specs.Log.{IsNoFile, StandsBetween}
 use Rattle.fsl_journal.specs.Journal.{OfBytes, IsMade, CreateFailed, NothingOr}
 use Rattle.fsl_journal.proofs.Unique.{one_file}
@@ -22,7 +22,8 @@ use Rattle.fsl_journal.specs.declared.CreateFault.TheVariants as create_fault
 use Rattle.fsl_journal.specs.declared.LoadFault.{LoadFault}
 use Rattle.fsl_journal.specs.declared.LoadFault.TheVariants as load_fault
 use Rattle.fsl_repo.specs.Opening.{IsOpened, IsCutAtMost, OpenFailed}
-use Rattle.fsl_repo.specs.Whole.{Whole, Seen, opened}
+use Rattle.fsl_repo.specs.Whole.{Whole, Seen, opened, is_modelled}
+use Rattle.fsl_pull.proofs.KeptLemmas.{itself_quiet}
 use Rattle.fsl_pull.specs.CloneCalls.{IsEmptied, NoneOr}
 use Rattle.fsl_pull.specs.declared.PullFault.{PullFault}
 use Rattle.fsl_pull.specs.declared.PullFault.TheVariants as fault
@@ -41,9 +42,10 @@ some_is a b e = cc
 pub is_alone : (records : List Record) (found config : Config) → AreRecords records → length records ≡ 1 → (contents records).config ≡ Some found → found ≡ config → records ≡ alone config
 is_alone [] found config are one has same = absurd are
 is_alone (record_of.Config c ∷ []) found config are one has same = ap (λ (x : Config). alone x) (some_is c found has ∙ same)
-is_alone (record_of.Blob private name bytes ∷ []) found config are one has same = absurd (false≢true are.0)
+is_alone (record_of.Blob private name receipt bytes ∷ []) found config are one has same = absurd (false≢true are.0)
 is_alone (record_of.Publish name ∷ []) found config are one has same = absurd (false≢true are.0)
 is_alone (record_of.Shun name ∷ []) found config are one has same = absurd (false≢true are.0)
+is_alone (record_of.Unshun name ∷ []) found config are one has same = absurd (false≢true are.0)
 is_alone (r ∷ other ∷ records) found config are one has same = absurd (omega (arith, one))
 
 pub found_alone : (records : List Record) (found config : Config) → records ≡ alone config → (contents records).config ≡ Some found → found ≡ config
@@ -53,10 +55,10 @@ found_alone records found config is has = sym (some_is config found (sym (ap (λ
 
 -- empty bytes stand for no records
 pub empty_is_none : IsNoFile []
-empty_is_none records file = none file.layout
+empty_is_none records file = none file.mark (flat_map group_bytes file.groups ++ file.gate ∷ file.rest) file.layout
   where
-    none : {rest : List ℕ} → [] ≡ header ++ rest → ⊥
-    none e = cc
+    none : (mark : ℕ) (rest : List ℕ) → [] ≡ header mark ++ rest → ⊥
+    none mark rest e = cc
 
 pub untold : (o : Option (List ℕ)) → ((held : List ℕ) → o ≡ Some held → ⊥) → o ≡ None
 untold None h = refl
@@ -64,17 +66,6 @@ untold (Some held) h = absurd (h held refl)
 
 told_is : (a b : List ℕ) → Some a ≡ Some b → a ≡ b
 told_is a b e = cc
-
--- nothing was called
-pub itself_quiet : (s : DiskState) → Quiet s s
-itself_quiet s =
-    record {
-      keeps = record { tells = refl; model = refl };
-      contents = refl;
-      later = λ model. omega arith;
-      images = λ model c left. left;
-      since = λ model t c le left. inl left;
-    }
 
 -- what stands between records and themselves
 no_rest : (records more rest : List Record) → records ≡ (records ++ more) ++ rest → more ≡ []
@@ -127,16 +118,16 @@ pub stays_alone : (records : List Record) (before after : DiskState)
 stays_alone records before after moments images =
     weaker before after (StandsBetween records records) (λ c. IsFileOf c records) (between_same records) (moments records records (λ c left. same_between records c (images c left)))
 
-made_by : (config : Config) (faults : ℕ) (old new : Seen) → old.state ≡ opened old.state.records faults → old.loaded ≡ length old.state.records → IsOnly config old new → IsMadeBy config faults new
-made_by config faults old new state loaded is =
+made_by : (config : Config) (faults : ℕ) (honest : Bool) (old new : Seen) → old.state ≡ opened old.state.records faults honest → old.loaded ≡ length old.state.records → IsOnly config old new → IsMadeBy config faults honest new
+made_by config faults honest old new state loaded is =
     record {
-      state = is.state ∙ state ∙ ap (λ (rs : List Record). opened rs faults) is.alone;
+      state = is.state ∙ state ∙ ap (λ (rs : List Record). opened rs faults honest) is.alone;
       loaded = is.loaded ∙ loaded ∙ ap length is.alone;
     }
 
-pub opened_ok : {D : Type 0} (config : Config) (faults : ℕ) (old : Seen) (r : Result (Whole D) (D × PullFault)) → old.state ≡ opened old.state.records faults → old.loaded ≡ length old.state.records → IfOk r (λ made. IsOnly config old made.seen) → IfOk r (λ made. IsMadeBy config faults made.seen)
-opened_ok config faults old (Ok new) state loaded is = made_by config faults old new.seen state loaded is
-opened_ok config faults old (Err failed) state loaded is = tt
+pub opened_ok : {D : Type 0} (config : Config) (faults : ℕ) (honest : Bool) (old : Seen) (r : Result (Whole D) (D × PullFault)) → old.state ≡ opened old.state.records faults honest → old.loaded ≡ length old.state.records → IfOk r (λ made. IsOnly config old made.seen) → IfOk r (λ made. IsMadeBy config faults honest made.seen)
+opened_ok config faults honest old (Ok new) state loaded is = made_by config faults honest old new.seen state loaded is
+opened_ok config faults honest old (Err failed) state loaded is = tt
 
 pub opened_err : {D : Type 0} (disk : D → DiskState) (config : Config) (before : DiskState) (old : Whole D) (r : Result (Whole D) (D × PullFault)) → IsOpened before (disk old.disk) old → made_disk r ≡ old.disk
     → IfErr r (λ failed. (failed.1 ≡ fault.NotRepository 0) × (old.seen.state.records ≡ alone config → ⊥)) → IfErr r (λ failed. IsUnopened config before (disk failed.0) failed.1)
@@ -203,6 +194,7 @@ module _ {D : Type 0} (disk : D → DiskState) (config : Config) (before mid : D
   unmade_why after (fault.TooLarge name size) keeps images h = absurd h
   unmade_why after (fault.Full name) keeps images h = absurd h
   unmade_why after (fault.Missing name) keeps images h = absurd h
+  unmade_why after (fault.Damaged name found) keeps images h = absurd h
   unmade_why after fault.Rounds keeps images h = absurd h
 
   pub unmade_by : (r : Result (Whole D) (D × PullFault)) → Keeps before (disk (made_disk r)) → AreImages (made_disk r) → IfErr r (λ failed. IsUnopened config mid (disk failed.0) failed.1)
@@ -224,15 +216,16 @@ module _ {D : Type 0} (disk : D → DiskState) (server : List ℕ) (fields : Lis
   unbegun_why after (fault.TooLarge name size) h = absurd h
   unbegun_why after (fault.Full name) h = absurd h
   unbegun_why after (fault.Missing name) h = absurd h
+  unbegun_why after (fault.Damaged name found) h = absurd h
   unbegun_why after fault.Rounds h = absurd h
 
   pub unbegun_by : (r : Result (Whole D) (D × PullFault)) → IfErr r (λ failed. IsUnmadeBy (config_of project server fields) (disk before) (disk failed.0) failed.1) → IfErr r (λ failed. IsUnbegun disk server fields reply before failed.0 failed.1)
   unbegun_by (Ok repo) h = tt
   unbegun_by (Err failed) h = unbegun_why failed.0 failed.1 h
 
-  pub begun_by : (faults : ℕ) (r : Result (Whole D) (D × PullFault)) → IfOk r (λ repo. IsMadeBy (config_of project server fields) faults repo.seen) → IfOk r (λ repo. IsBegunBy server fields reply faults repo.seen)
-  begun_by faults (Ok repo) h = (project, pushes, h)
-  begun_by faults (Err failed) h = tt
+  pub begun_by : (faults : ℕ) (honest : Bool) (r : Result (Whole D) (D × PullFault)) → IfOk r (λ repo. IsMadeBy (config_of project server fields) faults honest repo.seen) → IfOk r (λ repo. IsBegunBy server fields reply faults honest repo.seen)
+  begun_by faults honest (Ok repo) h = (project, pushes, h)
+  begun_by faults honest (Err failed) h = tt
 
 -- a disk that nothing was written to
 pub untouched_moments : (s : DiskState) (first : List Record) → ((c : List ℕ) → IsTrue s.is_model → s.since s.moment c → s.images c) → IsEmptied s → LeavesOnly s s (NoneOr first)
@@ -241,3 +234,7 @@ untouched_moments s first only emptied =
 
 pub untouched_left : (s : DiskState) → IsLeftBy s s []
 untouched_left s = record { faults = refl; left = itself_quiet s }
+
+-- a disk stays of its kind
+pub same_kind : (before after : DiskState) → Keeps before after → is_modelled after ≡ is_modelled before
+same_kind before after keeps = λ i. keeps.tells i && keeps.model i

@@ -53,6 +53,7 @@ module _ (login : Option Login) (from : ℕ) (d e : LinkState) (before after : D
   unreplied_turn (fault.TooLarge name size) h same still server fields p at m = absurd h
   unreplied_turn (fault.Full name) h same still server fields p at m = absurd h
   unreplied_turn (fault.Missing name) h same still server fields p at m = absurd h
+  unreplied_turn (fault.Damaged name found) h same still server fields p at m = absurd h
   unreplied_turn fault.Rounds h same still server fields p at m = absurd h
 
   -- a round of a clone that was begun

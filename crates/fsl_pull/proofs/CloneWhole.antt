@@ -14,7 +14,7 @@ use Rattle.fsl_wire.specs.declared.WireCard.{WireCard}
 use Rattle.fsl_http.specs.Responses.{Exchanged, IsBrokenOff, IsLeft}
 use Rattle.fsl_http.specs.Exchanges.{IsExchangeOf}
 use Rattle.fsl_repo.specs.Machine.{State}
-use Rattle.fsl_repo.specs.Whole.{Whole, Seen, front, log_of, IsWholeOn}
+use Rattle.fsl_repo.specs.Whole.{Whole, Seen, front, opened, is_modelled, log_of, IsWholeOn}
 use Rattle.fsl_pull.specs.declared.Login.{Login}
 use Rattle.fsl_pull.specs.declared.PeerFault.{PeerFault}
 use Rattle.fsl_pull.specs.declared.PeerFault.TheVariants as peer
@@ -37,7 +37,8 @@ use Rattle.fsl_pull.proofs.DialCounts.{counts_on}
 use Rattle.fsl_pull.proofs.DialLemmas.{all_of, cut_off, idle, none_joined}
 use Rattle.fsl_pull.proofs.CloneAnswers.{cut, left_off, refused, in_part, unmade_by_disk, differs, forestalled, no_round, unless_on, unless_all, call_on}
 use Rattle.fsl_pull.proofs.CloneTurnLemmas.{cloned_longer}
-use Rattle.fsl_pull.proofs.CloneMaking.{empty_is_none, itself_quiet}
+use Rattle.fsl_pull.proofs.CloneMaking.{empty_is_none, same_kind}
+use Rattle.fsl_pull.proofs.KeptLemmas.{itself_quiet}
 
 -- ---- the repository is closed
 
@@ -61,9 +62,10 @@ pub closed : {D : Type 0} (login : Option Login) (reply : List WireCard) (d e : 
     → IsClonedOn login reply d e before after old r.seen result → IsClosedOn login reply d e before after old result
 closed login reply d e before after old r result whole runs call server fields l0 project first is =
     let n = old.state.faults in
+    let kind = old.state.honest in
     let Kept : List (List Record) → Type 0 = IsKeptFrom before after (first_record project server fields ∷ []) in
-    let k = clone_within server fields login n (HasCommitted r.seen.state) (HasLost r.seen.state) in
-    subst (λ (faults : ℕ). IsCloneCall (clone_within server fields login n (StandsFor after) (StandsForEither after)) (dialled l0 e) faults Kept result) whole.faults
+    let k = clone_within server fields login n kind (HasCommitted r.seen.state) (HasLost r.seen.state) in
+    subst (λ (faults : ℕ). IsCloneCall (clone_within server fields login n kind (StandsFor after) (StandsForEither after)) (dialled l0 e) faults Kept result) whole.faults
     (call_on k (λ len. len ≡ 0) (StandsFor after) (StandsForEither after) ⊥ (λ len h. h) (lost_by after r whole) (λ h. h) Kept Kept (dialled l0 e) r.seen.state.faults result
     (unless_on (r.seen.state.stopped ≡ None) ((commits : List (List Record)) → HasCommitted r.seen.state commits → StandsFor after commits) result (λ running. stands_by after r whole running) runs)
     (λ commits h. h) (call server fields l0 project first is))
@@ -89,6 +91,9 @@ module _ {D : Type 0} (disk : D → DiskState) (server : List ℕ) (fields : Lis
   abbrev n : ℕ
   n = (disk before).faults
 
+  abbrev kind : Bool
+  kind = is_modelled (disk before)
+
   abbrev The : D → CloneOf
   The x = clone_onto server fields login (disk before) (disk x)
 
@@ -112,24 +117,24 @@ module _ {D : Type 0} (disk : D → DiskState) (server : List ℕ) (fields : Lis
   pub unreplied : (l : LinkState) (x : D) (why : PullFault) → x ≡ before → l0.faults ≤ l.faults → IsUnreplied l0 l (clone_bytes login 1) why → Tells l x (Err why)
   unreplied l x (fault.Peer why) same later (came, exchange, read) =
       let none = nothing x same in
-      refused (The x) (Kept x) l0 l0 l (disk x).faults long [] (clone_start n) refl (none_joined (all_of l0)) (unread (clone_start n) why)
+      refused (The x) (Kept x) l0 l0 l (disk x).faults long [] (clone_start n kind) refl (none_joined (all_of l0)) (unread (clone_start n kind) why)
       (record { request = clone_bytes login 1; reply = came }, exchange, (refl, (Err why, read, refl))) (fault.Peer why) few tt refl none none
   unreplied l x fault.Link same later (rose, inl idles) =
       let none = nothing x same in
-      cut (The x) (Kept x) l0 l0 l (disk x).faults long [] (clone_start n) refl (none_joined (all_of l0)) rose few
-      (idle l0 l0 l [] (none_joined (all_of l0)) IsBrokenOff (CloneAsks login (clone_start n)) idles) none none
+      cut (The x) (Kept x) l0 l0 l (disk x).faults long [] (clone_start n kind) refl (none_joined (all_of l0)) rose few
+      (idle l0 l0 l [] (none_joined (all_of l0)) IsBrokenOff (CloneAsks login (clone_start n kind)) idles) none none
   unreplied l x fault.Link same later (rose, inr joins) =
       let none = nothing x same in
-      cut (The x) (Kept x) l0 l0 l (disk x).faults long [] (clone_start n) refl (none_joined (all_of l0)) rose few
-      (cut_off l0 l0 l [] (none_joined (all_of l0)) IsBrokenOff (CloneAsks login (clone_start n)) (clone_bytes login 1) joins refl) none none
+      cut (The x) (Kept x) l0 l0 l (disk x).faults long [] (clone_start n kind) refl (none_joined (all_of l0)) rose few
+      (cut_off l0 l0 l [] (none_joined (all_of l0)) IsBrokenOff (CloneAsks login (clone_start n kind)) (clone_bytes login 1) joins refl) none none
   unreplied l x fault.Memory same later (inl idles) =
       let none = nothing x same in
-      left_off (The x) (Kept x) l0 l0 l (disk x).faults long [] (clone_start n) refl (none_joined (all_of l0)) few
-      (idle l0 l0 l [] (none_joined (all_of l0)) IsLeft (CloneAsks login (clone_start n)) idles) none none
+      left_off (The x) (Kept x) l0 l0 l (disk x).faults long [] (clone_start n kind) refl (none_joined (all_of l0)) few
+      (idle l0 l0 l [] (none_joined (all_of l0)) IsLeft (CloneAsks login (clone_start n kind)) idles) none none
   unreplied l x fault.Memory same later (inr joins) =
       let none = nothing x same in
-      left_off (The x) (Kept x) l0 l0 l (disk x).faults long [] (clone_start n) refl (none_joined (all_of l0)) few
-      (cut_off l0 l0 l [] (none_joined (all_of l0)) IsLeft (CloneAsks login (clone_start n)) (clone_bytes login 1) joins refl) none none
+      left_off (The x) (Kept x) l0 l0 l (disk x).faults long [] (clone_start n kind) refl (none_joined (all_of l0)) few
+      (cut_off l0 l0 l [] (none_joined (all_of l0)) IsLeft (CloneAsks login (clone_start n kind)) (clone_bytes login 1) joins refl) none none
   unreplied l x (fault.NotEmpty len) same later h = absurd h
   unreplied l x (fault.NotRepository place) same later h = absurd h
   unreplied l x (fault.Project found) same later h = absurd h
@@ -138,6 +143,7 @@ module _ {D : Type 0} (disk : D → DiskState) (server : List ℕ) (fields : Lis
   unreplied l x (fault.TooLarge name size) same later h = absurd h
   unreplied l x (fault.Full name) same later h = absurd h
   unreplied l x (fault.Missing name) same later h = absurd h
+  unreplied l x (fault.Damaged name found) same later h = absurd h
   unreplied l x fault.Rounds same later h = absurd h
 
   -- ---- a first reply
@@ -147,11 +153,11 @@ module _ {D : Type 0} (disk : D → DiskState) (server : List ℕ) (fields : Lis
     first = record { request = clone_bytes login 1; reply = came }
 
     -- whatever is said of it, the commits begin with that of the Config
-    begins_so : (project : List ℕ) → project_in reply ≡ Some project → (step : Then Cloning) → CloneRound server fields login (clone_start n) first step
+    begins_so : (project : List ℕ) → project_in reply ≡ Some project → (step : Then Cloning) → CloneRound server fields login (clone_start n kind) first step
         → (more : List (List Record)) × (commits_of step ≡ (first_record project server fields ∷ []) ∷ more)
     begins_so project pushes step (asks, (found, reads, k)) =
         let same : found ≡ Ok reply = read_one came (Ok reply) found read reads in
-        let start = clone_start n in
+        let start = clone_start n kind in
         let cloned : IsCloned (begun_with start (first_record project server fields)) reply step =
         subst (λ (o : Option (List ℕ)). MatchOption o (step ≡ ends (unread start peer.NoPush)) (λ project. IsCloned (begun_with start (first_record project server fields)) reply step)) pushes
         (subst (λ (x : Result (List WireCard) PeerFault). IsCloneReply server fields start x step) same k) in
@@ -161,7 +167,7 @@ module _ {D : Type 0} (disk : D → DiskState) (server : List ℕ) (fields : Lis
     some_project project is = subst (λ (o : Option (List ℕ)). IsSome o) (sym is) refl
 
     module _ (x : D) (project : List ℕ) (pushes : project_in reply ≡ Some project) (moments : IsEmptied (disk before) → LeavesOnly (disk before) (disk x) (NoneOr (first_record project server fields ∷ []))) where
-      kept_so : (step : Then Cloning) → CloneRound server fields login (clone_start n) first step → Kept x (commits_of step)
+      kept_so : (step : Then Cloning) → CloneRound server fields login (clone_start n kind) first step → Kept x (commits_of step)
       kept_so step k = let b = begins_so project pushes step k in subst (Kept x) (sym b.1) (λ emptied. inl (moments emptied))
 
       unmade : IsUnmade (The x) (first ∷ [])
@@ -170,9 +176,9 @@ module _ {D : Type 0} (disk : D → DiskState) (server : List ℕ) (fields : Lis
       unmade_answer : (why : PullFault) → Keeps (disk before) (disk x) → IsUnmadeBy (config_of project server fields) (disk before) (disk x) why → Tells l1 x (Err why)
       unmade_answer fault.Disk keeps rose = unmade_by_disk (The x) (Kept x) l0 l0 l1 (disk x).faults first exchange unmade kept_so rose
       unmade_answer fault.Memory keeps (inl left) =
-          in_part (The x) (Kept x) l0 l0 l1 (disk x).faults long [] (clone_start n) refl (none_joined (all_of l0)) first reply [] exchange few refl read (as_before refl) left.left left.left kept_so
+          in_part (The x) (Kept x) l0 l0 l1 (disk x).faults long [] (clone_start n kind) refl (none_joined (all_of l0)) first reply [] exchange few refl read (as_before refl) left.left left.left kept_so
       unmade_answer fault.Memory keeps (inr left) =
-          in_part (The x) (Kept x) l0 l0 l1 (disk x).faults long [] (clone_start n) refl (none_joined (all_of l0)) first reply ((first_record project server fields ∷ []) ∷ []) exchange few refl read (made project refl pushes refl)
+          in_part (The x) (Kept x) l0 l0 l1 (disk x).faults long [] (clone_start n kind) refl (none_joined (all_of l0)) first reply ((first_record project server fields ∷ []) ∷ []) exchange few refl read (made project refl pushes refl)
           left.left (λ emptied. inl (moments emptied)) kept_so
       unmade_answer (fault.NotRepository place) keeps (same, none) =
           differs (The x) (Kept x) l0 l0 l1 (disk x).faults first exchange unmade kept_so place (none_told (disk before) (disk x) keeps none)
@@ -185,13 +191,14 @@ module _ {D : Type 0} (disk : D → DiskState) (server : List ℕ) (fields : Lis
       unmade_answer (fault.TooLarge name size) keeps h = absurd h
       unmade_answer (fault.Full name) keeps h = absurd h
       unmade_answer (fault.Missing name) keeps h = absurd h
+      unmade_answer (fault.Damaged name found) keeps h = absurd h
       unmade_answer fault.Rounds keeps h = absurd h
 
     -- the reply has no project
     no_push : (x : D) → x ≡ before → project_in reply ≡ None → Tells l1 x (Err (fault.Peer peer.NoPush))
     no_push x same without =
         let none = nothing x same in
-        let start = clone_start n in
+        let start = clone_start n kind in
         let e : Then Cloning = ends (unread start peer.NoPush) in
         let said : IsCloneReply server fields start (Ok reply) e =
         subst (λ (o : Option (List ℕ)). MatchOption o (e ≡ ends (unread start peer.NoPush)) (λ project. IsCloned (begun_with start (first_record project server fields)) reply e)) (sym without) refl in
@@ -214,16 +221,20 @@ module _ {D : Type 0} (disk : D → DiskState) (server : List ℕ) (fields : Lis
     unbegun x (fault.TooLarge name size) keeps moments (project, pushes, h) = absurd h
     unbegun x (fault.Full name) keeps moments (project, pushes, h) = absurd h
     unbegun x (fault.Missing name) keeps moments (project, pushes, h) = absurd h
+    unbegun x (fault.Damaged name found) keeps moments (project, pushes, h) = absurd h
     unbegun x fault.Rounds keeps moments (project, pushes, h) = absurd h
 
     -- ---- the repository was begun
 
-    module _ (mid x : D) (old : Seen) (project : List ℕ) (pushes : project_in reply ≡ Some project) (is : IsMadeBy (config_of project server fields) n old) (moments : Moments mid) (stands : (c : List ℕ) → IsModelled (disk mid) → (disk mid).images c → IsFileOf c (front old.state)) (first_keeps : Keeps (disk before) (disk mid)) (keeps : Keeps (disk mid) (disk x)) where
+    module _ (mid x : D) (old : Seen) (project : List ℕ) (pushes : project_in reply ≡ Some project) (is : IsMadeBy (config_of project server fields) n kind old) (moments : Moments mid) (stands : (c : List ℕ) → IsModelled (disk mid) → (disk mid).images c → IsFileOf c (front old.state)) (first_keeps : Keeps (disk before) (disk mid)) (keeps : Keeps (disk mid) (disk x)) where
       abbrev F : List Record
       F = first_record project server fields ∷ []
 
       is_n : old.state.faults ≡ n
       is_n = ap (λ (t : State). t.faults) is.state
+
+      is_kind : old.state.honest ≡ kind
+      is_kind = ap (λ (t : State). t.honest) is.state
 
       modelled_on : IsModelled (disk before) → IsModelled (disk x)
       modelled_on model = modelled_after (disk mid) (disk x) keeps (modelled_after (disk before) (disk mid) first_keeps model)
@@ -243,14 +254,17 @@ module _ {D : Type 0} (disk : D → DiskState) (server : List ℕ) (fields : Lis
 
       pub begun_answer : (l : LinkState) (result : Result Pulled PullFault) → l0.faults ≤ l1.faults → IsClosedOn login reply l1 l (disk mid) (disk x) old result → Tells l x result
       begun_answer l result later call =
-          let k = clone_within server fields login n (StandsFor (disk x)) (StandsForEither (disk x)) in
-          let told : IsCloneCall (clone_within server fields login old.state.faults (StandsFor (disk x)) (StandsForEither (disk x))) (dialled l0 l) (disk x).faults (IsKeptFrom (disk mid) (disk x) F) result =
+          let k = clone_within server fields login n kind (StandsFor (disk x)) (StandsForEither (disk x)) in
+          let told : IsCloneCall (clone_within server fields login old.state.faults old.state.honest (StandsFor (disk x)) (StandsForEither (disk x))) (dialled l0 l) (disk x).faults (IsKeptFrom (disk mid) (disk x) F) result =
           call server fields l0 project first
-          (record { exchange = exchange; later = later; asked = refl; read = read; pushes = pushes; made = subst (λ (m : ℕ). IsMadeBy (config_of project server fields) m old) (sym is_n) is }) in
+          (record { exchange = exchange; later = later; asked = refl; read = read; pushes = pushes; made = record { state = is.state ∙ (λ i. opened F (sym is_n i) (sym is_kind i)); loaded = is.loaded } }) in
           call_on k (HasLength (disk before).contents) (IsLeftAs (disk before) (disk x)) (IsLostAs (disk before) (disk x)) ((disk x).contents ≡ None)
           (λ len zeroes. subst (HasLength (disk before).contents) (sym zeroes) long) loses_on (λ never. absurd never) (IsKeptFrom (disk mid) (disk x) F) (Kept x) (dialled l0 l) (disk x).faults result
           (unless_all ((commits : List (List Record)) → StandsFor (disk x) commits → IsLeftAs (disk before) (disk x) commits) result leaves_on)
-          kept_on (subst (λ (m : ℕ). IsCloneCall (clone_within server fields login m (StandsFor (disk x)) (StandsForEither (disk x))) (dialled l0 l) (disk x).faults (IsKeptFrom (disk mid) (disk x) F) result) is_n told)
+          kept_on (
+          subst (λ (b : Bool). IsCloneCall (clone_within server fields login n b (StandsFor (disk x)) (StandsForEither (disk x))) (dialled l0 l) (disk x).faults (IsKeptFrom (disk mid) (disk x) F) result) is_kind
+          (subst (λ (m : ℕ). IsCloneCall (clone_within server fields login m old.state.honest (StandsFor (disk x)) (StandsForEither (disk x))) (dialled l0 l) (disk x).faults (IsKeptFrom (disk mid) (disk x) F) result) is_n told)
+          )
 
 -- what wasn't begun left the count, but for a fault of the disk
 unmade_same : (config : Config) (before after : DiskState) (why : PullFault) → IsUnmadeBy config before after why → UnlessDisk {A = Pulled} (after.faults ≡ before.faults) (Err why)
@@ -266,6 +280,7 @@ unmade_same config before after (fault.Peer why) h = absurd h
 unmade_same config before after (fault.TooLarge name size) h = absurd h
 unmade_same config before after (fault.Full name) h = absurd h
 unmade_same config before after (fault.Missing name) h = absurd h
+unmade_same config before after (fault.Damaged name found) h = absurd h
 unmade_same config before after fault.Rounds h = absurd h
 
 pub unbegun_same : {D : Type 0} (disk : D → DiskState) (server : List ℕ) (fields : List (List ℕ)) (reply : List WireCard) (before after : D) (why : PullFault) → IsUnbegun disk server fields reply before after why → UnlessDisk {A = Pulled} ((disk after).faults ≡ (disk before).faults) (Err why)
@@ -280,6 +295,7 @@ unbegun_same disk server fields reply before after fault.Link (project, pushes, 
 unbegun_same disk server fields reply before after (fault.TooLarge name size) (project, pushes, h) = absurd h
 unbegun_same disk server fields reply before after (fault.Full name) (project, pushes, h) = absurd h
 unbegun_same disk server fields reply before after (fault.Missing name) (project, pushes, h) = absurd h
+unbegun_same disk server fields reply before after (fault.Damaged name found) (project, pushes, h) = absurd h
 unbegun_same disk server fields reply before after fault.Rounds (project, pushes, h) = absurd h
 
 -- and the dial wasn't called
@@ -295,6 +311,7 @@ unbegun_counts disk server fields reply before after (fault.Stopped faults) d e 
 unbegun_counts disk server fields reply before after (fault.TooLarge name size) d e h same = same
 unbegun_counts disk server fields reply before after (fault.Full name) d e h same = same
 unbegun_counts disk server fields reply before after (fault.Missing name) d e h same = same
+unbegun_counts disk server fields reply before after (fault.Damaged name found) d e h same = same
 unbegun_counts disk server fields reply before after fault.Rounds d e h same = same
 
 -- rounds behind a first request that left the dial's count
@@ -320,10 +337,11 @@ module _ {D : Type 0} (disk : D → DiskState) (server : List ℕ) (fields : Lis
   pub has_bytes : (len : ℕ) → (len == 0) ≡ false → Told (disk d0) (λ held. len ≡ length held) → Quiet (disk d0) (disk d1) → Over l0 d0 d1 (Err (fault.NotEmpty len))
   has_bytes len some is quiet =
       let n = (disk d0).faults in
+      let kind = is_modelled (disk d0) in
       let none : Rounds = [] in
-      let end : End = not_empty_end n len in
-      let is_end : IsClone server fields login len n none end =
-      subst (λ (b : Bool). MatchBool b (IsSync (CloneRound server fields login) (clone_start n) none end) ((none ≡ []) × (end ≡ not_empty_end n len))) (sym some) (refl, refl) in
+      let end : End = not_empty_end n kind len in
+      let is_end : IsClone server fields login len n kind none end =
+      subst (λ (b : Bool). MatchBool b (IsSync (CloneRound server fields login) (clone_start n kind) none end) ((none ≡ []) × (end ≡ not_empty_end n kind len))) (sym some) (refl, refl) in
       no_round (clone_onto server fields login (disk d0) (disk d1)) (IsKeptSince disk d0 d1) l0 l0 l0 (disk d1).faults (Err (fault.NotEmpty len)) refl quiet (inl (
         refl,
         (
@@ -380,8 +398,9 @@ module _ {D : Type 0} (disk : D → DiskState) (server : List ℕ) (fields : Lis
     over_on l x result call =
         let q : CloneOf = clone_onto server fields login (disk d0) (disk x) in
         let k : CloneOf = clone_onto server fields login (disk d1) (disk x) in
-        subst (λ (n : ℕ). IsCloneCall (record q { faults = n }) (dialled l0 l) (disk x).faults (IsKeptSince disk d0 x) result) same
+        subst (λ (b : Bool). IsCloneCall (record q { honest = b }) (dialled l0 l) (disk x).faults (IsKeptSince disk d0 x) result) (same_kind (disk d0) (disk d1) quiet.keeps)
+        (subst (λ (n : ℕ). IsCloneCall (record q { faults = n; honest = is_modelled (disk d1) }) (dialled l0 l) (disk x).faults (IsKeptSince disk d0 x) result) same
         (call_on k (HasLength (disk d0).contents) (IsLeftAs (disk d0) (disk x)) (IsLostAs (disk d0) (disk x)) ((disk x).contents ≡ None)
         (λ len h. subst (λ (o : Option (List ℕ)). HasLength o len) quiet.contents h) (loses_since x) (λ h. h) (IsKeptSince disk d1 x) (IsKeptSince disk d0 x) (dialled l0 l) (disk x).faults result
         (unless_all ((commits : List (List Record)) → IsLeftAs (disk d1) (disk x) commits → IsLeftAs (disk d0) (disk x) commits) result (leaves_since x))
-        (kept_since x) call)
+        (kept_since x) call))

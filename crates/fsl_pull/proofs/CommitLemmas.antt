@@ -69,7 +69,7 @@ module _ {M : Type 0} (p : Point M) (before after : DiskState) (old mid new : Se
 
   pub kept : {result : Result (Unit {0}) CommitFault} (Still : Type 0) (step : Then M) → commits_of step ≡ commits_with p.commits mid.state → IsCommitted before after mid new result → IsKeptBy before after Still p step
   kept Still step is_commits k =
-      inr (λ base are model.
+      inr (λ base are model here.
       subst (λ (m : List (List Record)). LeavesOnly before after (StandsForSome base m)) (sym is_commits)
       (weaker before after (BeforeOrAll (log_in mid.state)) (StandsForSome base (commits_with p.commits mid.state)) (λ c. stands base c are) (k.moments model)))
 

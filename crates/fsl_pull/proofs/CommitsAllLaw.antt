@@ -105,8 +105,8 @@ pushes login s rounds e h = by_stop s.stopped h
 
 -- ---- a pull from another repository
 
-local_one : (there : Contents) (unclustered : Names) (p : Point Names) (r : Round Names (List WireCard)) (step : Then Names) → LocalRound there unclustered p r step → IsDone step
-local_one there unclustered p r step (request, gives, told) = by_fault (told.0).fault told.2
+local_one : (peer : State) (unclustered : Names) (p : Point Names) (r : Round Names (List WireCard)) (step : Then Names) → LocalRound peer unclustered p r step → IsDone step
+local_one peer unclustered p r step (request, gives, told) = by_fault (told.0).fault told.2
   where
     by_fault : (o : Option PullFault) → MatchOption o ((wanted : Names) × AreWants (told.0).state wanted × (step ≡ local_then p r.reply told.0 wanted)) (λ why. step ≡ ends (uncommitted p told.0 why)) → IsDone step
     by_fault None h = subst (λ (s : Then Names). IsDone s) (sym h.2) (pull_step p told.0 _ _ _)
@@ -116,7 +116,7 @@ locals : (s peer : State) (rounds : List (Round Names (List WireCard))) (e : End
 locals s peer rounds e h = by_project (bytes_eq (project_code (now s)) (project_code (now peer))) h
   where
     by_stop : (o : Option ℕ) → MatchOption o (AreLocalRounds s peer rounds e) (λ faults. (rounds ≡ []) × (e ≡ stopped_end s faults)) → AreAllCommitted e
-    by_stop None k = end (LocalRound (now peer) k.0) (local_one (now peer) k.0) (pull_start s k.2.0) rounds e k.2.2
+    by_stop None k = end (LocalRound peer k.0) (local_one peer k.0) (pull_start s k.2.0) rounds e k.2.2
     by_stop (Some faults) k = stopped s faults e k.1
 
     by_project : (b : Bool) → MatchBool b (MatchOption s.stopped (AreLocalRounds s peer rounds e) (λ faults. (rounds ≡ []) × (e ≡ stopped_end s faults))) ((rounds ≡ []) × (e ≡ other_project_end s (project_code (now peer)))) → AreAllCommitted e
@@ -151,11 +151,11 @@ clone_one server fields login p r step (asks, told) = by_read told.0 told.2
     by_read (Ok reply) h = by_begun reply p.memory.begun h
     by_read (Err why) h = subst (λ (s : Then Cloning). IsDone s) (sym h) (λ well. absurd (some_none (fault.Peer why) well))
 
-clones : (server : List ℕ) (fields : Names) (login : Option Login) (len faults : ℕ) (rounds : List (Round (List ℕ) Exchanged)) (e : End) → IsClone server fields login len faults rounds e → AreAllCommitted e
-clones server fields login len faults rounds e h = by_length (len == 0) h
+clones : (server : List ℕ) (fields : Names) (login : Option Login) (len faults : ℕ) (honest : Bool) (rounds : List (Round (List ℕ) Exchanged)) (e : End) → IsClone server fields login len faults honest rounds e → AreAllCommitted e
+clones server fields login len faults honest rounds e h = by_length (len == 0) h
   where
-    by_length : (b : Bool) → MatchBool b (IsSync (CloneRound server fields login) (clone_start faults) rounds e) ((rounds ≡ []) × (e ≡ not_empty_end faults len)) → AreAllCommitted e
-    by_length true k = whole (CloneRound server fields login) (clone_one server fields login) (clone_start faults) rounds e k
+    by_length : (b : Bool) → MatchBool b (IsSync (CloneRound server fields login) (clone_start faults honest) rounds e) ((rounds ≡ []) × (e ≡ not_empty_end faults honest len)) → AreAllCommitted e
+    by_length true k = whole (CloneRound server fields login) (clone_one server fields login) (clone_start faults honest) rounds e k
     by_length false k = subst AreAllCommitted (sym k.1) (λ well. absurd (some_none (fault.NotEmpty len) well))
 
 pub syncs_commit_all : SyncsCommitAll

@@ -42,9 +42,9 @@ record Longer (s t : State) : Type 0 where
 same_long : (s : State) → Longer s s
 same_long s = record { more = []; records = sym (append-nil s.records); committed = refl }
 
-arrived_long : (s : State) (name bytes : List ℕ) (answer : Result Arrival ArriveFault) → Longer s (arrived s name bytes false answer)
+arrived_long : (s : State) (name bytes : List ℕ) (answer : Result Arrival ArriveFault) → Longer s (arrived s name None bytes false answer)
 arrived_long s name bytes (Ok arrival.Published) = record { more = record_of.Publish name ∷ []; records = refl; committed = refl }
-arrived_long s name bytes (Ok arrival.Stored) = record { more = record_of.Blob false name bytes ∷ []; records = refl; committed = refl }
+arrived_long s name bytes (Ok arrival.Stored) = record { more = record_of.Blob false name None bytes ∷ []; records = refl; committed = refl }
 arrived_long s name bytes (Ok arrival.Shunned) = same_long s
 arrived_long s name bytes (Ok arrival.Present) = same_long s
 arrived_long s name bytes (Err e) = same_long s
@@ -60,12 +60,12 @@ long_on a b c h k =
 -- what the rest of the cards says of the file before it
 abbrev FileTaken : State → List ℕ → List ℕ → Option ℕ → List WireCard → Taken → Result Arrival ArriveFault → Type 0
 FileTaken s name bytes due rest t answer =
-    MatchResult answer (λ a. (more : Taken) × Takes (arrived s name bytes false answer) due rest more × (t ≡ record more { arrivals = a ∷ more.arrivals }))
+    MatchResult answer (λ a. (more : Taken) × Takes (arrived s name None bytes false answer) due rest more × (t ≡ record more { arrivals = a ∷ more.arrivals }))
     (λ why. t ≡ stopped_by s (arrival_fault name why))
 
 by_answer : (s : State) (name bytes : List ℕ) (due : Option ℕ) (rest : List WireCard) (t : Taken) (answer : Result Arrival ArriveFault) → ((s2 : State) (more : Taken) → Takes s2 due rest more → Longer s2 more.state) → FileTaken s name bytes due rest t answer → Longer s t.state
 by_answer s name bytes due rest t (Ok a) others h =
-    let after = arrived s name bytes false (Ok a) in
+    let after = arrived s name None bytes false (Ok a) in
     subst (λ (x : Taken). Longer s x.state) (sym h.2) (long_on s after (h.0).state (arrived_long s name bytes (Ok a)) (others after h.0 h.1))
 by_answer s name bytes due rest t (Err why) others h = subst (λ (x : Taken). Longer s x.state) (sym h) (same_long s)
 
@@ -207,8 +207,8 @@ pushes login s rounds e within h = by_stop s.stopped h
 
 -- ---- a pull from another repository
 
-local_one : (there : _) (unclustered : List (List ℕ)) (base : List Record) (p : Point (List (List ℕ))) (r : Round (List (List ℕ)) (List WireCard)) (step : Then (List (List ℕ))) → LocalRound there unclustered p r step → Stands base p.state p.commits → StandsBehind base step
-local_one there unclustered base p r step (request, gives, told) k = by_fault (told.0).fault told.2
+local_one : (peer : State) (unclustered : List (List ℕ)) (base : List Record) (p : Point (List (List ℕ))) (r : Round (List (List ℕ)) (List WireCard)) (step : Then (List (List ℕ))) → LocalRound peer unclustered p r step → Stands base p.state p.commits → StandsBehind base step
+local_one peer unclustered base p r step (request, gives, told) k = by_fault (told.0).fault told.2
   where
     long : Longer p.state (told.0).state
     long = longer p.state None r.reply told.0 told.1
@@ -223,7 +223,7 @@ locals : (s peer : State) (rounds : List (Round (List (List ℕ)) (List WireCard
 locals s peer rounds e within h = by_project (bytes_eq (project_code (now s)) (project_code (now peer))) h
   where
     by_stop : (o : Option ℕ) → MatchOption o (AreLocalRounds s peer rounds e) (λ faults. (rounds ≡ []) × (e ≡ stopped_end s faults)) → Commits s e
-    by_stop None k = (end (LocalRound (now peer) k.0) (front s) (local_one (now peer) k.0 (front s)) (pull_start s k.2.0) rounds e k.2.2 (begins s within)).are
+    by_stop None k = (end (LocalRound peer k.0) (front s) (local_one peer k.0 (front s)) (pull_start s k.2.0) rounds e k.2.2 (begins s within)).are
     by_stop (Some faults) k = subst (λ (x : End). Commits s x) (sym k.1) (none s)
 
     by_project : (b : Bool) → MatchBool b (MatchOption s.stopped (AreLocalRounds s peer rounds e) (λ faults. (rounds ≡ []) × (e ≡ stopped_end s faults))) ((rounds ≡ []) × (e ≡ other_project_end s (project_code (now peer)))) → Commits s e
@@ -269,11 +269,11 @@ clone_one server fields login p r step (asks, told) k = by_read told.0 told.2
     by_read (Ok reply) h = by_begun reply p.memory.begun h
     by_read (Err why) h = subst (λ (s : Then Cloning). StandsBehind [] s) (sym h) k
 
-clones : (server : List ℕ) (fields : List (List ℕ)) (login : Option Login) (len faults : ℕ) (rounds : List (Round (List ℕ) Exchanged)) (e : End) → IsClone server fields login len faults rounds e → front e.state ≡ all_of_them e.commits
-clones server fields login len faults rounds e h = by_length (len == 0) h
+clones : (server : List ℕ) (fields : List (List ℕ)) (login : Option Login) (len faults : ℕ) (honest : Bool) (rounds : List (Round (List ℕ) Exchanged)) (e : End) → IsClone server fields login len faults honest rounds e → front e.state ≡ all_of_them e.commits
+clones server fields login len faults honest rounds e h = by_length (len == 0) h
   where
-    by_length : (b : Bool) → MatchBool b (IsSync (CloneRound server fields login) (clone_start faults) rounds e) ((rounds ≡ []) × (e ≡ not_empty_end faults len)) → front e.state ≡ all_of_them e.commits
-    by_length true k = (whole (CloneRound server fields login) [] (clone_one server fields login) (clone_start faults) rounds e k (record { are = refl; within = omega arith })).are
+    by_length : (b : Bool) → MatchBool b (IsSync (CloneRound server fields login) (clone_start faults honest) rounds e) ((rounds ≡ []) × (e ≡ not_empty_end faults honest len)) → front e.state ≡ all_of_them e.commits
+    by_length true k = (whole (CloneRound server fields login) [] (clone_one server fields login) (clone_start faults honest) rounds e k (record { are = refl; within = omega arith })).are
     by_length false k = subst (λ (x : End). front x.state ≡ all_of_them x.commits) (sym k.1) refl
 
 pub syncs_commit : SyncsCommit

@@ -35,6 +35,7 @@ no_dial Remembers p Says Carries InPart new (Err (fault.Peer why)) d e h same = 
 no_dial Remembers p Says Carries InPart new (Err (fault.TooLarge name size)) d e h same = same
 no_dial Remembers p Says Carries InPart new (Err (fault.Full name)) d e h same = same
 no_dial Remembers p Says Carries InPart new (Err (fault.Missing name)) d e h same = same
+no_dial Remembers p Says Carries InPart new (Err (fault.Damaged name found)) d e h same = same
 no_dial Remembers p Says Carries InPart new (Err fault.Rounds) d e h same = same
 no_dial Remembers p Says Carries InPart new (Err fault.Memory) d e h same = same
 
@@ -50,6 +51,7 @@ counts_on A B old before after (fault.Peer why) e h = h ∙ e
 counts_on A B old before after (fault.TooLarge name size) e h = h ∙ e
 counts_on A B old before after (fault.Full name) e h = h ∙ e
 counts_on A B old before after (fault.Missing name) e h = h ∙ e
+counts_on A B old before after (fault.Damaged name found) e h = h ∙ e
 counts_on A B old before after fault.Rounds e h = h ∙ e
 counts_on A B old before after fault.Memory e h = h ∙ e
 

@@ -2,6 +2,7 @@ pub mod Settled
 pub mod TakesLemmas
 pub mod NextLemmas
 pub mod EndsWell
+pub mod ReadLemmas
 pub mod OneEnd
 pub mod PublicNames
 pub mod LocalLaw

@@ -1,23 +1,24 @@
 -- What a peer gives was taken, and what was announced before it.
-use Rattle.std.specs.Prelude.{◌≡◌, ℕ, ◌||◌, Bool, true, false, List, [], ◌∷◌, ◌++◌, map, filter_map, Option, Some, None, Result, Ok, Err}
-use Rattle.std.specs.List.{cons_option}
+use Rattle.std.specs.Prelude.{◌≡◌, ℕ, ◌+◌, ◌<◌, ◌≤◌, ◌||◌, Bool, true, false, length, take, drop, get_or, List, [], ◌∷◌, ◌++◌, map, option_to_list, Option, Some, None, Result, Ok, Err}
 use Rattle.std.proofs.Common.{refl, sym, ap, subst, ◌∙◌, inl, inr, append_assoc}
-use Rattle.std.proofs.lemmas.List.{append-nil}
-use Rattle.std.proofs.lemmas.List.Elements.{filter_map-append}
+use Rattle.std.proofs.lemmas.List.{append-nil, take_all}
 use Rattle.fsl_wire.specs.declared.WireCard.{WireCard}
-use Rattle.fsl_blobs.specs.Fold.{Contents}
 use Rattle.fsl_repo.specs.Machine.{State}
 use Rattle.fsl_repo.specs.Whole.{Seen}
 use Rattle.fsl_pull.specs.declared.PullFault.{PullFault}
-use Rattle.fsl_pull.specs.declared.PullFault.TheVariants as fault
 use Rattle.fsl_pull.specs.Requests.{igot_card, file_card}
 use Rattle.fsl_pull.specs.Replies.{announced_in}
-use Rattle.fsl_pull.specs.Arrivals.{Taken, Takes}
-use Rattle.fsl_pull.specs.Pushes.{public_file}
+use Rattle.fsl_repo.specs.declared.Arrival.{Arrival}
+use Rattle.fsl_repo.specs.declared.ArriveFault.{ArriveFault}
+use Rattle.fsl_pull.specs.Reads.{IsPublicRead}
+use Rattle.fsl_pull.specs.Arrivals.{Taken, Takes, arrival_fault, has_moved}
+use Rattle.fsl_pull.specs.Pushes.{AreRead}
 use Rattle.fsl_pull.specs.Locals.{local_reply}
-use Rattle.fsl_pull.specs.Taking.{TakesSome, TakesAll}
-use Rattle.fsl_pull.specs.LocalTurns.{TakesGiven}
-use Rattle.fsl_pull.proofs.TakingLemmas.{some_on, stops_there}
+use Rattle.fsl_pull.specs.Taking.{IsArrived, TakesSome, TakesFront, TakesAll}
+use Rattle.fsl_pull.specs.Reading.{CantRead}
+use Rattle.fsl_pull.specs.LocalTurns.{TakesOne, TakesGiven, TakesAsked}
+use Rattle.fsl_pull.proofs.ReadLemmas.{held_of, held_read, more_read, around_name, name_on}
+use Rattle.fsl_pull.proofs.TakingLemmas.{some_none, some_on, stops_there, file_ok, file_wrong}
 
 -- ---- announced names change nothing
 
@@ -69,26 +70,29 @@ files_say_nothing [] = refl
 files_say_nothing (f ∷ files) = files_say_nothing files
 
 -- what a peer's reply announces
-pub announced_are : (there : Contents) (names asked : List (List ℕ)) → announced_in (local_reply there names asked) ≡ names
-announced_are there [] asked = files_say_nothing (filter_map (public_file there) asked)
-announced_are there (n ∷ names) asked = ap (λ (ns : List (List ℕ)). n ∷ ns) (announced_are there names asked)
+pub announced_are : (names : List (List ℕ)) (files : List (List ℕ × List ℕ)) → announced_in (local_reply names files) ≡ names
+announced_are [] files = files_say_nothing files
+announced_are (n ∷ names) files = ap (λ (ns : List (List ℕ)). n ∷ ns) (announced_are names files)
 
 -- ---- a file more
 
-abbrev pub given : Contents → List (List ℕ) → List WireCard
-given there asked = map file_card (filter_map (public_file there) asked)
+abbrev Names : Type 0
+Names = List (List ℕ)
+
+abbrev Files : Type 0
+Files = List (List ℕ × List ℕ)
 
 abbrev card_of : Option (List ℕ × List ℕ) → List WireCard
 card_of None = []
 card_of (Some f) = file_card f ∷ []
 
-one_more : (fs : List (List ℕ × List ℕ)) (o : Option (List ℕ × List ℕ)) → map file_card (fs ++ cons_option o []) ≡ map file_card fs ++ card_of o
-one_more [] None = refl
-one_more [] (Some f) = refl
-one_more (g ∷ fs) o = ap (λ (cs : List WireCard). file_card g ∷ cs) (one_more fs o)
+one_card : (o : Option (List ℕ × List ℕ)) → map file_card (option_to_list o) ≡ card_of o
+one_card None = refl
+one_card (Some f) = refl
 
-given_more : (there : Contents) (xs : List (List ℕ)) (name : List ℕ) → given there (xs ++ name ∷ []) ≡ given there xs ++ card_of (public_file there name)
-given_more there xs name = ap (map file_card) (filter_map-append (public_file there) xs (name ∷ [])) ∙ one_more (filter_map (public_file there) xs) (public_file there name)
+files_both : (fs gs : Files) → map file_card (fs ++ gs) ≡ map file_card fs ++ map file_card gs
+files_both [] gs = refl
+files_both (f ∷ fs) gs = ap (λ (cs : List WireCard). file_card f ∷ cs) (files_both fs gs)
 
 abbrev ok_bool : Bool → Result Bool PullFault
 ok_bool b = Ok b
@@ -100,46 +104,107 @@ or_false : (a : Bool) → a ≡ (a || false)
 or_false true = refl
 or_false false = refl
 
-given_by : (old : Seen) (front : List WireCard) (a : Bool) (mid : Seen) (o : Option (List ℕ × List ℕ)) (b : Bool) (new : Seen) → TakesSome old None front a mid None → TakesGiven mid o (Ok b) new → TakesSome old None (front ++ card_of o) (a || b) new None
+given_by : (old : Seen) (front : List WireCard) (a : Bool) (mid : Seen) (o : Option (List ℕ × List ℕ)) (b : Bool) (new : Seen) → TakesSome old None front a mid None → TakesOne mid o (Ok b) new → TakesSome old None (front ++ card_of o) (a || b) new None
 given_by old front a mid None b new h k =
     subst (λ (s : Seen). TakesSome old None (front ++ []) (a || b) s None) (sym k.1)
     (subst (λ (cs : List WireCard). TakesSome old None cs (a || b) mid None) (sym (append-nil front))
     (subst (λ (m : Bool). TakesSome old None front m mid None) (or_false a ∙ ap (λ (x : Bool). a || x) (sym (is_false b false k.0))) h))
 given_by old front a mid (Some f) b new h k = some_on old None front a mid None (file_card f ∷ []) b new None h k
 
-pub given_on : (there : Contents) (old : Seen) (xs : List (List ℕ)) (name : List ℕ) (a : Bool) (mid : Seen) (b : Bool) (new : Seen) (more : List (List ℕ)) → more ≡ xs ++ name ∷ [] → TakesSome old None (given there xs) a mid None → TakesGiven mid (public_file there name) (Ok b) new
-    → TakesSome old None (given there more) (a || b) new None
-given_on there old xs name a mid b new more is h k =
-    subst (λ (cs : List WireCard). TakesSome old None cs (a || b) new None) (sym (ap (given there) is ∙ given_more there xs name))
-    (given_by old (given there xs) a mid (public_file there name) b new h k)
-
 abbrev wrong_of : PullFault → Result Bool PullFault
 wrong_of why = Err why
 
-not_ok : (why : PullFault) → wrong_of why ≡ Ok false → ⊥
-not_ok why e = cc
+not_ok : (why : PullFault) (b : Bool) → wrong_of why ≡ Ok b → ⊥
+not_ok why b e = cc
+
+not_wrong : (b : Bool) (why : PullFault) → ok_bool b ≡ Err why → ⊥
+not_wrong b why e = cc
+
+why_is : (a b : PullFault) → wrong_of a ≡ Err b → a ≡ b
+why_is a b e = cc
 
 -- a file that is wrong
-given_wrong : (old : Seen) (front : List WireCard) (a : Bool) (mid : Seen) (o : Option (List ℕ × List ℕ)) (rest all : List WireCard) (why : PullFault) (new : Seen) → all ≡ front ++ (card_of o ++ rest) → TakesSome old None front a mid None → TakesGiven mid o (Err why) new → TakesAll old None all (Err why) new
-given_wrong old front a mid None rest all why new whole h k = absurd (not_ok why k.0)
+given_wrong : (old : Seen) (front : List WireCard) (a : Bool) (mid : Seen) (o : Option (List ℕ × List ℕ)) (rest all : List WireCard) (why : PullFault) (new : Seen) → all ≡ front ++ (card_of o ++ rest) → TakesSome old None front a mid None → TakesOne mid o (Err why) new → TakesAll old None all (Err why) new
+given_wrong old front a mid None rest all why new whole h k = absurd (not_ok why false k.0)
 given_wrong old front a mid (Some f) rest all why new whole h k = stops_there old None front a mid None (file_card f) rest all why new None whole h k
 
-files_both : (fs gs : List (List ℕ × List ℕ)) → map file_card (fs ++ gs) ≡ map file_card fs ++ map file_card gs
-files_both [] gs = refl
-files_both (f ∷ fs) gs = ap (λ (cs : List WireCard). file_card f ∷ cs) (files_both fs gs)
+-- ---- the files of some names
 
-given_both : (there : Contents) (xs ys : List (List ℕ)) → given there (xs ++ ys) ≡ given there xs ++ given there ys
-given_both there xs ys = ap (map file_card) (filter_map-append (public_file there) xs ys) ∙ files_both (filter_map (public_file there) xs) (filter_map (public_file there) ys)
+-- those of some first names were taken as they were read
+abbrev pub TakenSoFar : State → Names → Seen → Bool → Seen → Type 0
+TakenSoFar peer names old moved new = (files : Files) × AreRead peer names files × TakesSome old None (map file_card files) moved new None
 
-one_given : (there : Contents) (name : List ℕ) → given there (name ∷ []) ≡ card_of (public_file there name)
-one_given there name = by (public_file there name)
-  where
-    by : (o : Option (List ℕ × List ℕ)) → map file_card (cons_option o []) ≡ card_of o
-    by None = refl
-    by (Some f) = refl
+pub none_so_far : (peer : State) (old : Seen) → TakenSoFar peer [] old false old
+none_so_far peer old = ([], tt, some_none old None)
 
-pub given_stops : (there : Contents) (old : Seen) (all xs : List (List ℕ)) (name : List ℕ) (ys : List (List ℕ)) (a : Bool) (mid : Seen) (why : PullFault) (new : Seen) → all ≡ xs ++ name ∷ ys → TakesSome old None (given there xs) a mid None → TakesGiven mid (public_file there name) (Err why) new
-    → TakesAll old None (given there all) (Err why) new
-given_stops there old all xs name ys a mid why new is h k =
-    given_wrong old (given there xs) a mid (public_file there name) (given there ys) (given there all) why new
-    (ap (given there) is ∙ given_both there xs (name ∷ ys) ∙ ap (λ (cs : List WireCard). given there xs ++ cs) (given_both there (name ∷ []) ys ∙ ap (λ (cs : List WireCard). cs ++ given there ys) (one_given there name))) h k
+module _ (peer : State) (old : Seen) (asked : Names) (i : ℕ) (name : List ℕ) (lt : i < length asked) (is : name ≡ get_or asked i name) (a : Bool) (mid : Seen) (h : TakenSoFar peer (take i asked) old a mid) where
+  pub given_on : (b : Bool) (new : Seen) (peer_new : State) → TakesGiven peer name mid (Ok b) new peer_new → TakenSoFar peer (take (i + 1) asked) old (a || b) new × (peer_new ≡ peer)
+  given_on b new peer_new (inl (o, read, one, same)) =
+      let files = h.0 ++ option_to_list o in (
+        (
+          files,
+          subst (λ (ns : Names). AreRead peer ns files) (sym (name_on asked i name lt is)) (more_read peer (take i asked) (name ∷ []) h.0 (option_to_list o) h.1 read),
+          subst (λ (cs : List WireCard). TakesSome old None cs (a || b) new None) (sym (files_both h.0 (option_to_list o) ∙ ap (λ (cs : List WireCard). map file_card h.0 ++ cs) (one_card o)))
+              (given_by old (map file_card h.0) a mid o b new h.2 one),
+        ),
+        same,
+      )
+  given_on b new peer_new (inr (why, is_why, fails, same)) = absurd (not_wrong b why is_why)
+
+  abbrev behind : Names
+  behind = drop (i + 1) asked
+
+  pub given_stops : (why : PullFault) (new : Seen) (peer_new : State) → TakesGiven peer name mid (Err why) new peer_new → TakesAsked peer asked old (Err why) new peer_new
+  given_stops why new peer_new (inl (o, read, one, same)) =
+      let held = held_of peer behind in
+      let files = h.0 ++ (option_to_list o ++ held) in
+      inl (
+        files,
+        subst (λ (ns : Names). AreRead peer ns files) (sym (around_name asked i name lt is))
+            (more_read peer (take i asked) (name ∷ behind) h.0 (option_to_list o ++ held) h.1 (more_read peer (name ∷ []) behind (option_to_list o) held read (held_read peer behind))),
+        given_wrong old (map file_card h.0) a mid o (map file_card held) (map file_card files) why new
+            (files_both h.0 (option_to_list o ++ held) ∙ ap (λ (cs : List WireCard). map file_card h.0 ++ cs) (files_both (option_to_list o) held ∙ ap (λ (cs : List WireCard). cs ++ map file_card held) (one_card o))) h.2 one,
+        same,
+      )
+  given_stops why new peer_new (inr (other, is_why, inl (memory, stays), same)) =
+      let held = held_of peer (name ∷ behind) in
+      let files = h.0 ++ held in
+      let front : TakesFront old None (map file_card files) mid =
+      record { front = map file_card h.0; rest = map file_card held; whole = files_both h.0 held; due_left = None; done = (h.2).done; takes = (h.2).takes; appends = (h.2).appends } in
+      inl (
+        files,
+        subst (λ (ns : Names). AreRead peer ns files) (sym (around_name asked i name lt is)) (more_read peer (take i asked) (name ∷ behind) h.0 held h.1 (held_read peer (name ∷ behind))),
+        inr (why_is why other is_why ∙ memory, subst (TakesFront old None (map file_card files)) (sym same) front),
+        stays,
+      )
+  given_stops why new peer_new (inr (other, is_why, inr (public, cant), same)) =
+      inr (
+        why,
+        refl,
+        record {
+          front = take i asked;
+          name = name;
+          rest = behind;
+          whole = around_name asked i name lt is;
+          public = public;
+          files = h.0;
+          read = h.1;
+          moved = a;
+          takes = subst (λ (s : Seen). TakesSome old None (map file_card h.0) a s None) (sym same) h.2;
+          cant = subst (λ (w : PullFault). CantRead w peer name peer_new) (sym (why_is why other is_why)) cant;
+        },
+      )
+
+pub all_given : (peer : State) (old : Seen) (asked : Names) (i : ℕ) (a : Bool) (new : Seen) (peer_new : State) → length asked ≤ i → TakenSoFar peer (take i asked) old a new → peer_new ≡ peer → TakesAsked peer asked old (Ok a) new peer_new
+all_given peer old asked i a new peer_new le (files, read, takes) same = inl (files, subst (λ (ns : Names). AreRead peer ns files) (take_all i asked le) read, takes, same)
+
+-- what the code takes of one name
+pub one_taken : (peer : State) (name bytes b : List ℕ) (old new : Seen) (a : Arrival) (m : Bool) (peer_new : State) → IsPublicRead peer name (Some bytes) → b ≡ bytes → m ≡ has_moved a → IsArrived old name b (Ok a) new → peer_new ≡ peer → TakesGiven peer name old (Ok m) new peer_new
+one_taken peer name bytes b old new a m peer_new read same moves arrived stays =
+    let f : List ℕ × List ℕ = (name, bytes) in
+    inl (Some f, read.read, file_ok old new None (file_card f) name bytes b a m refl same moves arrived, stays)
+
+pub one_wrong : (peer : State) (name bytes b : List ℕ) (old new : Seen) (e : ArriveFault) (why : PullFault) (peer_new : State) → IsPublicRead peer name (Some bytes) → b ≡ bytes → why ≡ arrival_fault name e → IsArrived old name b (Err e) new → peer_new ≡ peer → TakesGiven peer name old (Err why) new peer_new
+one_wrong peer name bytes b old new e why peer_new read same fails arrived stays =
+    let f : List ℕ × List ℕ = (name, bytes) in
+    inl (Some f, read.read, file_wrong old new None (file_card f) name bytes b e why refl same fails arrived, stays)

@@ -45,7 +45,7 @@ abbrev EndsSo : Taken → Type 0
 EndsSo t = IfSome t.fault MissesNone
 
 by_answer : (s : State) (name bytes : List ℕ) (due : Option ℕ) (rest : List WireCard) (t : Taken) (answer : Result Arrival ArriveFault) → ((s2 : State) (more : Taken) → Takes s2 due rest more → EndsSo more) → FileTaken s name bytes due rest t answer → EndsSo t
-by_answer s name bytes due rest t (Ok a) others h = subst EndsSo (sym h.2) (others (arrived s name bytes false (Ok a)) h.0 h.1)
+by_answer s name bytes due rest t (Ok a) others h = subst EndsSo (sym h.2) (others (arrived s name None bytes false (Ok a)) h.0 h.1)
 by_answer s name bytes due rest t (Err why) others h = subst EndsSo (sym h) (arrival_misses name why)
 
 by_sequel : (b : Bool) (s : State) (rest : List WireCard) (t : Taken) (next : ℕ) → ((s2 : State) (more : Taken) → Takes s2 None rest more → EndsSo more) → MatchBool b (Takes s None rest t) (t ≡ stopped_by s (fault.Peer (peer.Sequence next))) → EndsSo t

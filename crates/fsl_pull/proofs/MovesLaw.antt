@@ -94,7 +94,7 @@ abbrev GoesOnward : ℕ → List WireCard → Taken → Type 0
 GoesOnward from reply t = t.fault ≡ None → (next : ℕ) → sequel_in reply ≡ Some next → is_onward from next ≡ true
 
 file_onward : (s : State) (name bytes : List ℕ) (from : ℕ) (rest : List WireCard) (t : Taken) (answer : Told) → ((s2 : State) (more : Taken) → Takes s2 (Some from) rest more → GoesOnward from rest more) → FileTaken s name bytes (Some from) rest t answer → GoesOnward from rest t
-file_onward s name bytes from rest t (Ok a) others h none next is = others (arrived s name bytes false (Ok a)) h.0 h.1 (sym (ap (λ (x : Taken). x.fault) h.2) ∙ none) next is
+file_onward s name bytes from rest t (Ok a) others h none next is = others (arrived s name None bytes false (Ok a)) h.0 h.1 (sym (ap (λ (x : Taken). x.fault) h.2) ∙ none) next is
 file_onward s name bytes from rest t (Err why) others h none next is = absurd (some_fault (arrival_fault name why) t s h none)
 
 sequel_onward : (b : Bool) (s : State) (rest : List WireCard) (t : Taken) (why : PullFault) → MatchBool b (Takes s None rest t) (t ≡ stopped_by s why) → t.fault ≡ None → b ≡ true

@@ -2,12 +2,12 @@
 use Rattle.std.specs.Prelude.{◌≡◌, ℕ, Bool, true, false, List, [], drop, Option, Some, None, Result, Ok, Err, MatchOption, if◌then◌else◌, IsTrue}
 use Rattle.std.proofs.Common.{refl, sym, ap, subst, ◌∙◌, inl, inr}
 use Rattle.std.proofs.lemmas.List.{append-nil}
-use Rattle.fsl_disk.specs.Disk.{DiskState}
+use Rattle.fsl_disk.specs.Disk.{DiskState, Quiet}
 use Rattle.fsl_outside.specs.Connections.{LinkState}
 use Rattle.fsl_record.specs.declared.Record.{Record}
 use Rattle.fsl_wire.specs.declared.WireCard.{WireCard}
 use Rattle.fsl_repo.specs.Machine.{State, AreItems, now, wants}
-use Rattle.fsl_repo.specs.Whole.{Seen, front}
+use Rattle.fsl_repo.specs.Whole.{Seen, front, stored}
 use Rattle.fsl_http.specs.Responses.{Exchanged}
 use Rattle.fsl_pull.specs.declared.Login.{Login}
 use Rattle.fsl_pull.specs.declared.PeerFault.{PeerFault}
@@ -19,15 +19,15 @@ use Rattle.fsl_pull.specs.Replies.{announced_in}
 use Rattle.fsl_pull.specs.Arrivals.{Taken, AreWants, commits_with}
 use Rattle.fsl_pull.specs.Pulls.{next_names, is_end, missing, missing_fault, pull_then, behind, ended, uncommitted, IsPullReply, IsPull, PullRound, PullAsks, BrokenPull, PullSoFar, pull_start, stopped_end}
 use Rattle.fsl_pull.specs.Kept.{IsKeptAtAnyMoment}
-use Rattle.fsl_pull.specs.Turns.{commits_of}
-use Rattle.fsl_pull.specs.PullTurns.{IsTurned}
+use Rattle.fsl_pull.specs.Turns.{commits_of, IsKeptBy, IsCarried, TurnsTo}
+use Rattle.fsl_pull.specs.PullTurns.{IsTurned, SameNames}
 use Rattle.fsl_pull.specs.Calls.{AreCommitsOf, dialled, a_pull, IsPullCall}
 use Rattle.fsl_pull.proofs.EndsWell.{one_wants}
-use Rattle.fsl_pull.proofs.OneEnd.{pull_determined}
+use Rattle.fsl_pull.proofs.OneEnd.{decided, pull_determined}
 use Rattle.fsl_pull.proofs.RoundLemmas.{CommitsFrom}
 use Rattle.fsl_pull.proofs.DialLemmas.{all_of, none_joined}
 use Rattle.fsl_pull.proofs.CommitLemmas.{with_longer}
-use Rattle.fsl_pull.proofs.SyncLoop.{Longer, Runs, no_commits}
+use Rattle.fsl_pull.proofs.SyncLoop.{Longer, Runs, no_commits, quiet_turn}
 
 abbrev Names : Type 0
 Names = List (List ℕ)
@@ -84,7 +84,7 @@ module _ (login : Option Login) (s0 : Seen) (none : s0.state.stopped ≡ None) (
   pub pull_runs : Runs (PullRound login) (PullAsks login) (BrokenPull login) (a_pull login s0.state) (from_here s0)
   pull_runs =
       record {
-        one = pull_determined login;
+        one = decided (PullRound login) (pull_determined login);
         longer = longer_by login;
         sync = λ rounds e h. subst (PullBy login s0.state rounds e) (sym none) (first_names s0, are, h);
         left_off = λ BreaksOff broken more rounds left h. (none, (first_names s0, are, h));
@@ -93,10 +93,19 @@ module _ (login : Option Login) (s0 : Seen) (none : s0.state.stopped ≡ None) (
         commits = to_commits;
       }
 
+-- a turn of a disk that is only read
+abbrev pub IsQuietTurn : Option Login → Names → LinkState → LinkState → DiskState → DiskState → Seen → Seen → Result (Option Names) PullFault → Type 0
+IsQuietTurn login asked d e before after old new result =
+    (p : Point Names) → p.state ≡ old.state → p.memory ≡ asked →
+    TurnsTo SameNames (PullRound login) (PullAsks login) (BrokenPull login) p d e (IsKeptBy before after (Quiet before after) p) (IsCarried (stored old) (stored new) p) (Quiet before after) new.state result
+
 -- a turn, as the code has it
-pub turn_is : (login : Option Login) (a b : Names) (d e : LinkState) (before after : DiskState) (old new : Seen) (Still : Type 0) (r q : Result (Option Names) PullFault) → a ≡ b → r ≡ q → IsTurned login a d e before after old new Still r → IsTurned login b d e before after old new Still q
-turn_is login a b d e before after old new Still r q same is h =
-    subst (λ (x : Names). IsTurned login x d e before after old new Still q) same (subst (λ (x : Result (Option Names) PullFault). IsTurned login a d e before after old new Still x) is h)
+pub turn_is : (login : Option Login) (a b : Names) (d e : LinkState) (before after : DiskState) (old new : Seen) (Still : Type 0) → (Still → Quiet before after) → (r q : Result (Option Names) PullFault) → a ≡ b → r ≡ q → IsTurned login a d e before after old new Still r → IsQuietTurn login b d e before after old new q
+turn_is login a b d e before after old new Still to r q same is h p at m =
+    quiet_turn SameNames (PullRound login) (PullAsks login) (BrokenPull login) p d e before after Still (Quiet before after) (IsCarried (stored old) (stored new) p) new.state q to (found p at m)
+  where
+    found : IsTurned login b d e before after old new Still q
+    found = subst (λ (x : Names). IsTurned login x d e before after old new Still q) same (subst (λ (x : Result (Option Names) PullFault). IsTurned login a d e before after old new Still x) is h)
 
 -- ---- a repository that is stopped
 

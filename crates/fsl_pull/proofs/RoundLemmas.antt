@@ -4,7 +4,7 @@ use Rattle.std.proofs.Common.{refl, sym, ap, subst, ◌∙◌, inl, inr, arith, 
 use Rattle.fsl_record.specs.declared.Record.{Record}
 use Rattle.fsl_pull.specs.Rounds.{Round, Point, End, Then, goes_on, ends, Course, GoOn, EndsIn, IsSync}
 use Rattle.fsl_pull.specs.Turns.{commits_of}
-use Rattle.fsl_pull.proofs.OneEnd.{IsDetermined}
+use Rattle.fsl_pull.proofs.OneEnd.{IsDecided}
 
 module _ {M Q A : Type 0} (R : Course M Q A) where
   -- one round more that goes on, and one that is the end
@@ -42,9 +42,9 @@ point_is p q h = cc
 not_end : {M : Type 0} (e : End) (p : Point M) → ends e ≡ goes_on p → ⊥
 not_end e p h = cc
 
-module _ {M Q A : Type 0} (R : Course M Q A) (one : IsDetermined R) where
+module _ {M Q A : Type 0} (R : Course M Q A) (one : IsDecided R) where
   step_is : (p : Point M) (r : Round Q A) (a b : Then M) → R p r a → R p r b → b ≡ a
-  step_is p r a b h k = (one p r r a b refl h k).1
+  step_is p r a b h k = one p r r a b refl h k
 
   -- the same rounds go on to one point
   pub go_one : (p : Point M) (rounds : List (Round Q A)) (a b : Point M) → GoOn R p rounds a → GoOn R p rounds b → b ≡ a

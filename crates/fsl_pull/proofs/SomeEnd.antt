@@ -34,6 +34,7 @@ use Rattle.fsl_pull.specs.Pulls.{pull_then, uncommitted, unread, IsPullReply, Pu
 use Rattle.fsl_pull.specs.Pushes.{Sending, files_to_send, push_then, push_uncommitted, IsPushReply, PushRound, push_start, IsPush}
 use Rattle.fsl_pull.specs.Clones.{Cloning, project_in, first_record, begun_with, clone_then, IsCloned, IsBegun, IsCloneReply, CloneRound, clone_start, not_empty_end, IsClone}
 use Rattle.fsl_pull.specs.Locals.{local_reply, local_then, LocalRound}
+use Rattle.fsl_pull.proofs.ReadLemmas.{as_they_are, held_of}
 use Rattle.fsl_pull.specs.Laws.{replies, HasSomeEnd, SyncsHaveSomeEnd}
 
 -- ---- rounds, of which one thing is said of each reply
@@ -109,10 +110,10 @@ module _ (items_for : (held : HeldSet) → (items : List Item) × AreItems held 
   abbrev arrival_of_for : (c : Contents) (name bytes : List ℕ) (private : Bool) → Some_of (IsArrivalOf c name bytes private)
   arrival_of_for c name bytes private =
       by_test (set.contains c.shunned name) (λ r. r ≡ Ok arrival.Shunned)
-      (λ r. MatchOption (map_of.get c.held name) (IsRoom (after c (record_of.Blob private name bytes)) r) (λ held. r ≡ Ok (again held private)))
+      (λ r. MatchOption (map_of.get c.held name) (IsRoom (after c (record_of.Blob private name None bytes)) r) (λ held. r ≡ Ok (again held private)))
       (Ok arrival.Shunned, refl)
-      (by_option (map_of.get c.held name) (IsRoom (after c (record_of.Blob private name bytes))) (λ held r. r ≡ Ok (again held private))
-      (room_for (after c (record_of.Blob private name bytes))) (λ held. (Ok (again held private), refl)))
+      (by_option (map_of.get c.held name) (IsRoom (after c (record_of.Blob private name None bytes))) (λ held r. r ≡ Ok (again held private))
+      (room_for (after c (record_of.Blob private name None bytes))) (λ held. (Ok (again held private), refl)))
 
   abbrev arrival_for : (s : State) (name bytes : List ℕ) (private : Bool) → Some_of (IsArrival s name bytes private)
   arrival_for s name bytes private =
@@ -135,7 +136,7 @@ module _ (items_for : (held : HeldSet) → (items : List Item) × AreItems held 
 
   abbrev by_answer : (s : State) (name bytes : List ℕ) (due : Option ℕ) (rest : List WireCard) (answer : Told) → IsArrival s name bytes false answer → ((s2 : State) → Taking s2 due rest) → Taking s due (cards.File name bytes ∷ rest)
   by_answer s name bytes due rest (Ok a) is others =
-      (record (others (arrived s name bytes false (Ok a))).0 { arrivals = a ∷ (others (arrived s name bytes false (Ok a))).0.arrivals }, (Ok a, is, ((others (arrived s name bytes false (Ok a))).0, (others (arrived s name bytes false (Ok a))).1, refl)))
+      (record (others (arrived s name None bytes false (Ok a))).0 { arrivals = a ∷ (others (arrived s name None bytes false (Ok a))).0.arrivals }, (Ok a, is, ((others (arrived s name None bytes false (Ok a))).0, (others (arrived s name None bytes false (Ok a))).1, refl)))
   by_answer s name bytes due rest (Err why) is others = (stopped_by s (arrival_fault name why), (Err why, is, refl))
 
   abbrev by_sequel : (b : Bool) (s : State) (rest : List WireCard) (why : PullFault) → ((s2 : State) → Taking s2 None rest) → (t : Taken) × MatchBool b (Takes s None rest t) (t ≡ stopped_by s why)
@@ -193,7 +194,7 @@ module _ (items_for : (held : HeldSet) → (items : List Item) × AreItems held 
   push_step login p a = (
     request_bytes login (push_cards (now p.state) (unclustered_for p.state).0 (files_to_send (now p.state) p.memory)),
     (push_reply_for p (files_to_send (now p.state) p.memory) (read_for a).0).0,
-    ((unclustered_for p.state).0, (unclustered_for p.state).1, refl, ((read_for a).0, (read_for a).1, (push_reply_for p (files_to_send (now p.state) p.memory) (read_for a).0).1)),
+    ((unclustered_for p.state).0, (unclustered_for p.state).1, record { files = files_to_send (now p.state) p.memory; read = as_they_are p.state.honest (files_to_send (now p.state) p.memory); bytes = refl }, ((read_for a).0, (read_for a).1, (push_reply_for p (files_to_send (now p.state) p.memory) (read_for a).0).1)),
   )
 
   -- ---- a clone
@@ -234,17 +235,20 @@ module _ (items_for : (held : HeldSet) → (items : List Item) × AreItems held 
   local_by p reply t None = (local_then p reply t (wants_for t.state).0, ((wants_for t.state).0, (wants_for t.state).1, refl))
   local_by p reply t (Some why) = (ends (uncommitted p t why), refl)
 
-  -- one round, whose request and reply are known before
-  abbrev pub local_step : (there : Contents) (unclustered : Names) (p : Point Names) → (step : Then Names) × LocalRound there unclustered p (record { request = p.memory; reply = local_reply there unclustered p.memory }) step
-  local_step there unclustered p = (
-    (local_by p (local_reply there unclustered p.memory) (take_for p.state None (local_reply there unclustered p.memory)).0 (take_for p.state None (local_reply there unclustered p.memory)).0.fault).0,
+  -- one round, whose request is known before, and whose reply may have the bytes as they are held
+  abbrev pub own_reply : State → Names → Names → List WireCard
+  own_reply peer unclustered asked = local_reply unclustered (held_of peer asked)
+
+  abbrev pub local_step : (peer : State) (unclustered : Names) (p : Point Names) → (step : Then Names) × LocalRound peer unclustered p (record { request = p.memory; reply = own_reply peer unclustered p.memory }) step
+  local_step peer unclustered p = (
+    (local_by p (own_reply peer unclustered p.memory) (take_for p.state None (own_reply peer unclustered p.memory)).0 (take_for p.state None (own_reply peer unclustered p.memory)).0.fault).0,
     (
       refl,
-      refl,
+      (held_of peer p.memory, as_they_are peer.honest (held_of peer p.memory), refl),
       (
-        (take_for p.state None (local_reply there unclustered p.memory)).0,
-        (take_for p.state None (local_reply there unclustered p.memory)).1,
-        (local_by p (local_reply there unclustered p.memory) (take_for p.state None (local_reply there unclustered p.memory)).0 (take_for p.state None (local_reply there unclustered p.memory)).0.fault).1,
+        (take_for p.state None (own_reply peer unclustered p.memory)).0,
+        (take_for p.state None (own_reply peer unclustered p.memory)).1,
+        (local_by p (own_reply peer unclustered p.memory) (take_for p.state None (own_reply peer unclustered p.memory)).0 (take_for p.state None (own_reply peer unclustered p.memory)).0.fault).1,
       ),
     ),
   )
@@ -283,14 +287,14 @@ push_ends login s came many = by_stopped s.stopped
     by_stopped (Some faults) = ([], came, stopped_end s faults, refl, (refl, refl))
     by_stopped None = some_sync (PushRound login) (push_step some_items some_read login) (push_start s) came many
 
-clone_ends : (server : List ℕ) (fields : List (List ℕ)) (login : Option Login) (len faults : ℕ) → HasSomeEnd (IsClone server fields login len faults)
-clone_ends server fields login len faults came many = by_len (len == 0)
+clone_ends : (server : List ℕ) (fields : List (List ℕ)) (login : Option Login) (len faults : ℕ) (honest : Bool) → HasSomeEnd (IsClone server fields login len faults honest)
+clone_ends server fields login len faults honest came many = by_len (len == 0)
   where
     by_len : (b : Bool) →
         (rounds : List (Round (List ℕ) Exchanged)) × (rest : List Exchanged) × (e : End) × (came ≡ replies rounds ++ rest)
-        × MatchBool b (IsSync (CloneRound server fields login) (clone_start faults) rounds e) ((rounds ≡ []) × (e ≡ not_empty_end faults len))
-    by_len true = some_sync (CloneRound server fields login) (clone_step some_items some_read server fields login) (clone_start faults) came many
-    by_len false = ([], came, not_empty_end faults len, refl, (refl, refl))
+        × MatchBool b (IsSync (CloneRound server fields login) (clone_start faults honest) rounds e) ((rounds ≡ []) × (e ≡ not_empty_end faults honest len))
+    by_len true = some_sync (CloneRound server fields login) (clone_step some_items some_read server fields login) (clone_start faults honest) came many
+    by_len false = ([], came, not_empty_end faults honest len, refl, (refl, refl))
 
 pub syncs_have_some_end : SyncsHaveSomeEnd
 syncs_have_some_end = record { pull = pull_ends; push = push_ends; clone = clone_ends }

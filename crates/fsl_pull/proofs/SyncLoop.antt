@@ -3,7 +3,7 @@ use Rattle.std.specs.Prelude.{◌≡◌, ℕ, ◌+◌, ◌-◌, ◌≤◌, ◌^�
 use Rattle.std.proofs.Common.{refl, sym, ap, subst, ◌∙◌, inl, inr, arith}
 use Rattle.std.proofs.lemmas.List.{append-nil}
 use Rattle.fsl_order.specs.Causes.{Rose}
-use Rattle.fsl_disk.specs.Disk.{DiskState, Keeps}
+use Rattle.fsl_disk.specs.Disk.{DiskState, Keeps, Quiet}
 use Rattle.fsl_disk.proofs.Moments.{started, weaker, and_then, keeps_on, modelled_after}
 use Rattle.fsl_outside.specs.Connections.{Connection, LinkState}
 use Rattle.fsl_record.specs.declared.Record.{Record}
@@ -20,10 +20,10 @@ use Rattle.fsl_pull.specs.Kept.{StandsForSome, IsKeptAtAnyMoment}
 use Rattle.fsl_pull.specs.Taking.{IsRefusal}
 use Rattle.fsl_pull.specs.Turns.{commits_of, AreCommitted, IsKeptBy, IsCarried, IsMade, TurnsTo, IsUncommitted}
 use Rattle.fsl_pull.specs.Calls.{Kind, IsWhole, IsSynced, AreCommitsOf, dialled, IsCall}
-use Rattle.fsl_pull.proofs.OneEnd.{IsDetermined}
+use Rattle.fsl_pull.proofs.OneEnd.{IsDecided}
 use Rattle.fsl_pull.proofs.RoundLemmas.{go_behind, end_behind, length_behind, fronts_are, CommitsFrom, front_commits, step_commits, known_commits}
 use Rattle.fsl_pull.proofs.DialLemmas.{all_of, BreaksIn, grown, cut_off, idle, none_joined}
-use Rattle.fsl_pull.proofs.KeptLemmas.{all_some, some_more}
+use Rattle.fsl_pull.proofs.KeptLemmas.{all_some, some_more, rests_on}
 
 -- the second commits begin with the first
 abbrev pub Longer : List (List Record) → List (List Record) → Type 0
@@ -31,7 +31,7 @@ Longer commits more = (rest : List (List Record)) × (more ≡ commits ++ rest)
 
 -- a course from here on is that of a sync of this kind
 pub record Runs {M : Type 0} (R : Course M (List ℕ) Exchanged) (A : Asks M (List ℕ)) (B : Broken M (List ℕ) Exchanged) (k : Kind) (start : Point M) : Type 1 where
-  pub one : IsDetermined R
+  pub one : IsDecided R
   pub longer : (p : Point M) (r : Round (List ℕ) Exchanged) (step : Then M) → R p r step → Longer p.commits (commits_of step)
   pub sync : (rounds : Rounds) (e : End) → IsSync R start rounds e → k.Is rounds e
   pub left_off : (BreaksOff : Breaks) (broken : List Connection) (more : ℕ) (rounds : Rounds) (left : State) → IsLeftOff R (λ p. HasSent BreaksOff broken (A p)) more start rounds left → k.IsLeftOff BreaksOff broken more rounds left
@@ -80,19 +80,20 @@ module _ {D M : Type 0} (disk : D → DiskState) (R : Course M (List ℕ) Exchan
   -- ---- one round more
 
   module _ (Remembers : M → Type 0) (l : LinkState) (d : D) (s : Seen) (c0 c n : ℕ) (h : IsAt disk R start Remembers l0 l d0 d s0 s c0 c n) where
-    still_images : (x : D) → x ≡ d → Images x (h.point).commits
-    still_images x e = subst (λ (y : D). Images y (h.point).commits) (sym e) h.images
+    still_images : (x : D) → Quiet (disk d) (disk x) → Images x (h.point).commits
+    still_images x quiet = λ model old.
+        rests_on (disk d0) (disk d) (disk x) (StandsForSome Base (h.point).commits) (h.images model old) (modelled_after (disk d0) (disk d) h.keeps model).model quiet
 
     -- the commits of a step begin with those so far
-    step_images : (x : D) (step : Then M) → Longer (h.point).commits (commits_of step) → IsKeptBy (disk d) (disk x) (x ≡ d) h.point step → Images x (commits_of step)
+    step_images : (x : D) (step : Then M) → Longer (h.point).commits (commits_of step) → IsKeptBy (disk d) (disk x) (Quiet (disk d) (disk x)) h.point step → Images x (commits_of step)
     step_images x step longer (inl (still, same)) = subst (Images x) (sym same) (still_images x still)
     step_images x step longer (inr k) = λ model old.
         and_then (disk d0) (disk d) (disk x) (StandsForSome Base (commits_of step)) (longer_images d (h.point).commits (commits_of step) longer h.images model old)
-        (k Base h.committed (modelled_after (disk d0) (disk d) h.keeps model))
+        (k Base h.committed (modelled_after (disk d0) (disk d) h.keeps model) (λ c left. (h.images model old).now c left))
 
     abbrev Turn : {X : Type 0} → (M → X → Type 0) → LinkState → D → Seen → ℕ → Result (Option X) PullFault → Type 0
     Turn Next l2 x s2 c2 result =
-        (p : Point M) → p.state ≡ s.state → Remembers p.memory → TurnsTo Next R A B p l l2 (IsKeptBy (disk d) (disk x) (x ≡ d) p) (IsCarried c c2 p) (x ≡ d) s2.state result
+        (p : Point M) → p.state ≡ s.state → Remembers p.memory → TurnsTo Next R A B p l l2 (IsKeptBy (disk d) (disk x) (Quiet (disk d) (disk x)) p) (IsCarried c c2 p) (Quiet (disk d) (disk x)) s2.state result
 
     pub goes : {X : Type 0} (Next : M → X → Type 0) (l2 : LinkState) (x : D) (s2 : Seen) (c2 : ℕ) (next : X) → Turn Next l2 x s2 c2 (Ok (Some next)) → Keeps (disk d) (disk x) → s2.loaded ≡ s.loaded → s.state.faults ≤ s2.state.faults → l.faults ≤ l2.faults
         → IsAt disk R start (λ m. Next m next) l0 l2 d0 x s0 s2 c0 c2 (n + 1)
@@ -123,7 +124,7 @@ module _ {D M : Type 0} (disk : D → DiskState) (R : Course M (List ℕ) Exchan
     abbrev Synced : LinkState → D → Seen → Result Pulled PullFault → Rounds → List Connection → Type 0
     Synced l2 x s2 result rounds broken = IsSynced k s0.state s2.state l0.faults l2.faults (Images x) result rounds broken
 
-    told_step : (l2 : LinkState) (x : D) (s2 : Seen) (result : Result Pulled PullFault) (step : Then M) (made : IsMade l l2 (λ r. R h.point r step)) → IsKeptBy (disk d) (disk x) (x ≡ d) h.point step
+    told_step : (l2 : LinkState) (x : D) (s2 : Seen) (result : Result Pulled PullFault) (step : Then M) (made : IsMade l l2 (λ r. R h.point r step)) → IsKeptBy (disk d) (disk x) (Quiet (disk d) (disk x)) h.point step
         → Synced l2 x s2 result (h.rounds ++ made.0 ∷ []) [] → Tells l2 x s2 result
     told_step l2 x s2 result step made kept synced = (
       h.rounds ++ made.0 ∷ [],
@@ -178,13 +179,14 @@ module _ {D M : Type 0} (disk : D → DiskState) (R : Course M (List ℕ) Exchan
     refusal_synced l2 x s2 (fault.TooLarge name size) rounds broken r w = w
     refusal_synced l2 x s2 (fault.Full name) rounds broken r w = w
     refusal_synced l2 x s2 (fault.Missing name) rounds broken r w = w
+    refusal_synced l2 x s2 (fault.Damaged name found) rounds broken r w = absurd r
     refusal_synced l2 x s2 fault.Rounds rounds broken r w = w
     refusal_synced l2 x s2 fault.Memory rounds broken r w = absurd r
 
     same_commits : (commits : List (List Record)) → AreCommitsOf k.Is k.SoFar h.rounds commits → commits ≡ (h.point).commits
     same_commits commits from = front_commits R runs.one start h.rounds h.point commits h.go (runs.commits h.rounds commits from)
 
-    kept_front : (x : D) → x ≡ d → (commits : List (List Record)) → AreCommitsOf k.Is k.SoFar h.rounds commits → Images x commits
+    kept_front : (x : D) → Quiet (disk d) (disk x) → (commits : List (List Record)) → AreCommitsOf k.Is k.SoFar h.rounds commits → Images x commits
     kept_front x still commits from = subst (Images x) (sym (same_commits commits from)) (still_images x still)
 
     left_off : (s2 : Seen) (BreaksOff : Breaks) (broken : List Connection) (more : ℕ) → n + 1 ≤ most_rounds → more ≤ 1 → s2.state ≡ (h.point).state → HasSent BreaksOff broken (A h.point) → k.IsLeftOff BreaksOff broken more h.rounds s2.state
@@ -195,13 +197,13 @@ module _ {D M : Type 0} (disk : D → DiskState) (R : Course M (List ℕ) Exchan
     pub fails : {X : Type 0} (Next : M → X → Type 0) (l2 : LinkState) (x : D) (s2 : Seen) (c2 : ℕ) (why : PullFault) → Turn Next l2 x s2 c2 (Err why) → n + 1 ≤ most_rounds → l.faults ≤ l2.faults → Tells l2 x s2 (Err why)
     fails Next l2 x s2 c2 why turned lt dial = by (turned h.point h.state h.memory)
       where
-        link : x ≡ d → s2.state ≡ (h.point).state → Rose l.faults l2.faults → BreaksIn (all_of l0) (all_of l2) h.rounds IsBrokenOff (A h.point) → Tells l2 x s2 (Err fault.Link)
+        link : Quiet (disk d) (disk x) → s2.state ≡ (h.point).state → Rose l.faults l2.faults → BreaksIn (all_of l0) (all_of l2) h.rounds IsBrokenOff (A h.point) → Tells l2 x s2 (Err fault.Link)
         link still same rose b = (h.rounds, b.0, b.2, ((rose_since l0.faults l.faults l2.faults h.dial rose, left_off s2 IsBrokenOff b.0 1 lt (omega arith) same b.3), kept_front x still))
 
-        left : x ≡ d → s2.state ≡ (h.point).state → BreaksIn (all_of l0) (all_of l2) h.rounds IsLeft (A h.point) → Tells l2 x s2 (Err fault.Memory)
+        left : Quiet (disk d) (disk x) → s2.state ≡ (h.point).state → BreaksIn (all_of l0) (all_of l2) h.rounds IsLeft (A h.point) → Tells l2 x s2 (Err fault.Memory)
         left still same b = (h.rounds, b.0, b.2, (inr (inl (left_off s2 IsLeft b.0 (length b.0) lt b.1 same b.3)), kept_front x still))
 
-        in_part : x ≡ d → (made : IsMade l l2 (λ r. B h.point r s2.state)) → Tells l2 x s2 (Err fault.Memory)
+        in_part : Quiet (disk d) (disk x) → (made : IsMade l l2 (λ r. B h.point r s2.state)) → Tells l2 x s2 (Err fault.Memory)
         in_part still made = (
           h.rounds ++ made.0 ∷ [],
           [],
@@ -221,7 +223,7 @@ module _ {D M : Type 0} (disk : D → DiskState) (R : Course M (List ℕ) Exchan
           ),
         )
 
-        failed : (step : Then M) (made : IsMade l l2 (λ r. R h.point r step)) → IsKeptBy (disk d) (disk x) (x ≡ d) h.point step → IsUncommitted h.point step s2.state → Tells l2 x s2 (Err fault.Disk)
+        failed : (step : Then M) (made : IsMade l l2 (λ r. R h.point r step)) → IsKeptBy (disk d) (disk x) (Quiet (disk d) (disk x)) h.point step → IsUncommitted h.point step s2.state → Tells l2 x s2 (Err fault.Disk)
         failed step made kept un =
             told_step l2 x s2 (Err fault.Disk) step made kept (
               rose_since s0.state.faults (h.point).state.faults s2.state.faults (subst (λ (t : State). s0.state.faults ≤ t.faults) (sym h.state) h.faults) un.rose,
@@ -244,7 +246,7 @@ module _ {D M : Type 0} (disk : D → DiskState) (R : Course M (List ℕ) Exchan
         to : (w : PullFault) → why ≡ w → Tells l2 x s2 (Err w) → Tells l2 x s2 (Err why)
         to w e t = subst (λ (v : PullFault). Tells l2 x s2 (Err v)) (sym e) t
 
-        by : TurnsTo Next R A B h.point l l2 (IsKeptBy (disk d) (disk x) (x ≡ d) h.point) (IsCarried c c2 h.point) (x ≡ d) s2.state (Err why) → Tells l2 x s2 (Err why)
+        by : TurnsTo Next R A B h.point l l2 (IsKeptBy (disk d) (disk x) (Quiet (disk d) (disk x)) h.point) (IsCarried c c2 h.point) (Quiet (disk d) (disk x)) s2.state (Err why) → Tells l2 x s2 (Err why)
         by (inl (inl (refusal, (e, (made, kept), is_fault, is_state)))) =
             told_step l2 x s2 (Err why) (ends e) made kept
             (refusal_synced l2 x s2 why (h.rounds ++ made.0 ∷ []) [] refusal (whole_by l2 s2 e made (Some why) None lt is_fault is_state (inl refl)))
@@ -275,6 +277,22 @@ module _ {D M : Type 0} (disk : D → DiskState) (R : Course M (List ℕ) Exchan
         λ commits from. subst (Images d) (sym (same_commits commits from)) h.images,
       ),
     )
+
+-- what a round of a disk that is the same leaves is what one of a disk that is only read does
+pub quiet_turn : {M X : Type 0} (Next : M → X → Type 0) (R : Course M (List ℕ) Exchanged) (A : Asks M (List ℕ)) (B : Broken M (List ℕ) Exchanged) (p : Point M) (l l2 : LinkState) (before after : DiskState) (Still Left : Type 0) (Carries : Then M → Type 0) (new : State) (result : Result (Option X) PullFault)
+    → (Still → Left) → TurnsTo Next R A B p l l2 (IsKeptBy before after Still p) Carries Still new result → TurnsTo Next R A B p l l2 (IsKeptBy before after Left p) Carries Left new result
+quiet_turn {M} {X} Next R A B p l l2 before after Still Left Carries new result to turned = by result turned
+  where
+    kept : (step : Then M) → IsKeptBy before after Still p step → IsKeptBy before after Left p step
+    kept step (inl (still, same)) = inl (to still, same)
+    kept step (inr k) = inr k
+
+    by : (r : Result (Option X) PullFault) → TurnsTo Next R A B p l l2 (IsKeptBy before after Still p) Carries Still new r → TurnsTo Next R A B p l l2 (IsKeptBy before after Left p) Carries Left new r
+    by (Ok (Some next)) (q, (made, k, carries), is, memory) = (q, (made, kept (goes_on q) k, carries), is, memory)
+    by (Ok None) (e, (made, k, carries), none, is) = (e, (made, kept (ends e) k, carries), none, is)
+    by (Err why) (inl (inl (refusal, (e, (made, k), some, is)))) = inl (inl (refusal, (e, (made, kept (ends e) k), some, is)))
+    by (Err why) (inl (inr (disk_fault, (step, (made, k), un)))) = inl (inr (disk_fault, (step, (made, kept step k), un)))
+    by (Err why) (inr (still, rest)) = inr (to still, rest)
 
 -- ---- before the first round
 

@@ -90,7 +90,7 @@ some_on old due xs a mid due_mid ys b new due_left h k =
 -- ---- one card
 
 -- the arrivals of one file
-one_file : (old new : Seen) (name bytes : List ℕ) (a : Arrival) → new.loaded ≡ old.loaded → new.state ≡ arrived old.state name bytes false (Ok a) → Appends old new (a ∷ [])
+one_file : (old new : Seen) (name bytes : List ℕ) (a : Arrival) → new.loaded ≡ old.loaded → new.state ≡ arrived old.state name None bytes false (Ok a) → Appends old new (a ∷ [])
 one_file old new name bytes arrival.Shunned loaded is =
     record {
       loaded = loaded;
@@ -124,7 +124,7 @@ one_file old new name bytes arrival.Published loaded is =
 one_file old new name bytes arrival.Stored loaded is =
     record {
       loaded = loaded;
-      more = record_of.Blob false name bytes ∷ [];
+      more = record_of.Blob false name None bytes ∷ [];
       records = ap (λ (s : State). s.records) is;
       committed = ap (λ (s : State). s.committed) is;
       stopped = ap (λ (s : State). s.stopped) is;

@@ -1,7 +1,8 @@
 -- What the calls of the client say of their answers, of the repository and of the rounds.
-use Rattle.std.specs.Prelude.{◌≡◌, ℕ, ◌⊎◌, ⊤, IsTrue, List, [], ◌∷◌, ◌++◌, length, Option, Some, None, Result, Ok, Err}
+use Rattle.std.specs.Prelude.{◌≡◌, ℕ, ◌⊎◌, ⊤, true, IsTrue, List, [], ◌∷◌, ◌++◌, length, Option, Some, None, Result, Ok, Err}
 use Rattle.fsl_order.specs.Causes.{Rose}
 use Rattle.fsl_record.specs.declared.Record.{Record}
+use Rattle.fsl_wire.specs.declared.WireCard.{WireCard}
 use Rattle.fsl_http.specs.Responses.{Exchanged, IsBrokenOff, IsLeft}
 use Rattle.std.specs.Str.{bytes_eq}
 use Rattle.fsl_outside.specs.Connections.{Connection, LinkState, listed}
@@ -16,9 +17,10 @@ use Rattle.fsl_pull.specs.declared.PullFault.TheVariants as fault
 use Rattle.fsl_pull.specs.Rounds.{Round, Point, End, GoOn, CommitFailed}
 use Rattle.fsl_pull.specs.Dialled.{Rounds, HasRounds, HasSent, Breaks}
 use Rattle.fsl_pull.specs.Pulls.{IsPull, PullAsks, IsPullLeftOff, IsPullBroken, IsPullFailed, PullSoFar, pull_start}
-use Rattle.fsl_pull.specs.Pushes.{IsPush, PushAsks, IsPushLeftOff, IsPushBroken, IsPushFailed, PushSoFar}
-use Rattle.fsl_pull.specs.Locals.{LocalRounds, IsLocalPull, LocalRound, local_reply, project_code}
-use Rattle.fsl_pull.specs.Arrivals.{AreWants, AreUnclustered, IsPartlyTaken}
+use Rattle.fsl_pull.specs.Pushes.{IsPush, PushAsks, IsPushLeftOff, IsPushBroken, IsPushFailed, IsPushUnread, PushSoFar, AreRead, is_public}
+use Rattle.fsl_pull.specs.Reading.{CantRead}
+use Rattle.fsl_pull.specs.Locals.{LocalRounds, IsLocalPull, LocalRound, IsLocalReply, local_reply, project_code}
+use Rattle.fsl_pull.specs.Arrivals.{Taken, Takes, AreWants, AreUnclustered, IsPartlyTaken}
 use Rattle.fsl_pull.specs.Turns.{commits_of}
 
 -- the answer is that of the end, and the repository is the one that it leaves
@@ -32,12 +34,13 @@ abbrev pub IsWhole : (Rounds → End → Type 0) → State → Option PullFault 
 IsWhole IsSynced new why pulled rounds broken = (broken ≡ []) × ((e : End) × IsSynced rounds e × Ended e (length rounds) new why pulled)
 
 -- what a sync is: of these rounds this is the end; behind them nothing of a further one was taken, and so many more there may be; the last of them was
--- taken in part; its commit failed; and the commits of rounds that all went on
+-- taken in part; the disk failed in its commit, or before a further one was made; a file of a further one is damaged; and the commits of rounds that all went on
 pub record Kind : Type 1 where
   pub Is : Rounds → End → Type 0
   pub IsLeftOff : Breaks → List Connection → ℕ → Rounds → State → Type 0
   pub IsBroken : Rounds → State → Type 0
   pub IsFailed : Rounds → State → Type 0
+  pub IsDamaged : List ℕ → List ℕ → Rounds → State → Type 0
   pub SoFar : Rounds → List (List Record) → Type 0
 
 -- want of memory: before anything was done; behind some rounds; or in the midst of a reply, where this is said of the commits of the rounds before it
@@ -49,11 +52,12 @@ IsCutShort k old new rounds broken IsKept =
     × ((front : Rounds) (last : Round (List ℕ) Exchanged) (done : List (List Record)) → rounds ≡ front ++ last ∷ [] → k.SoFar front done → IsKept done)))
 
 -- what a sync over a network answers: its end; a fault of the dial, whose count rose, within the limit of rounds; a fault of the disk, whose count rose
--- in the commit of its last round; or want of memory
+-- in the commit of its last round or in a read of a file that a further one was to send; that such a file is damaged; or want of memory
 abbrev pub IsSynced : Kind → State → State → ℕ → ℕ → (List (List Record) → Type 0) → Result Pulled PullFault → Rounds → List Connection → Type 0
 IsSynced k old new before after IsKept (Ok pulled) rounds broken = IsWhole k.Is new None (Some pulled) rounds broken
 IsSynced k old new before after IsKept (Err fault.Link) rounds broken = Rose before after × k.IsLeftOff IsBrokenOff broken 1 rounds new
 IsSynced k old new before after IsKept (Err fault.Disk) rounds broken = Rose old.faults new.faults × (broken ≡ []) × k.IsFailed rounds new
+IsSynced k old new before after IsKept (Err (fault.Damaged name found)) rounds broken = (broken ≡ []) × k.IsDamaged name found rounds new
 IsSynced k old new before after IsKept (Err fault.Memory) rounds broken = IsCutShort k old new rounds broken IsKept
 IsSynced k old new before after IsKept (Err why) rounds broken = IsWhole k.Is new (Some why) None rounds broken
 
@@ -77,6 +81,7 @@ dialled old new =
       faults_after = new.faults;
     }
 
+-- a pull sends no file
 abbrev pub a_pull : Option Login → State → Kind
 a_pull login old =
     record {
@@ -84,6 +89,7 @@ a_pull login old =
       IsLeftOff = λ BreaksOff broken more. IsPullLeftOff login old (λ p. HasSent BreaksOff broken (PullAsks login p)) more;
       IsBroken = IsPullBroken login old;
       IsFailed = IsPullFailed login old;
+      IsDamaged = λ name found rounds left. ⊥;
       SoFar = PullSoFar login old;
     }
 
@@ -93,7 +99,8 @@ a_push login old =
       Is = IsPush login old;
       IsLeftOff = λ BreaksOff broken more. IsPushLeftOff login old (λ p. HasSent BreaksOff broken (PushAsks login p)) more;
       IsBroken = IsPushBroken login old;
-      IsFailed = IsPushFailed login old;
+      IsFailed = λ rounds left. IsPushFailed login old rounds left ⊎ IsPushUnread login old fault.Disk rounds left;
+      IsDamaged = λ name found. IsPushUnread login old (fault.Damaged name found);
       SoFar = PushSoFar login old;
     }
 
@@ -122,24 +129,28 @@ IsPushedOver login dial repo result =
     let kept = IsKeptAtAnyMoment (front repo.1.seen.state) (repo.0 repo.1.disk) (repo.0 repo.2.disk) in
     IsPushCall login repo.1.seen.state repo.2.seen.state (dialled (dial.0 dial.1) (dial.0 dial.2)) kept result
 
--- a whole pull from another repository
-abbrev pub IsLocalEnd : State → State → State → Option PullFault → Option Pulled → Type 0
-IsLocalEnd old peer new why pulled =
-    (rounds : LocalRounds) × ((e : End) × IsLocalPull old peer rounds e × Ended e (length rounds) new why pulled)
+-- a whole pull from another repository; this is said of its commits
+abbrev pub IsLocalEnd : State → State → State → (List (List Record) → Type 0) → Option PullFault → Option Pulled → Type 0
+IsLocalEnd old peer new IsKept why pulled =
+    (rounds : LocalRounds) × ((e : End) × IsLocalPull old peer rounds e × Ended e (length rounds) new why pulled × IsKept e.commits)
 
 -- a pull may begin: the peer is of the same project, and the repository isn't stopped
 pub record MayBegin (old peer : State) : Type 0 where
   pub project : IsTrue (bytes_eq (project_code (now old)) (project_code (now peer)))
   pub runs : old.stopped ≡ None
 
+-- some rounds went on, and behind them this is said of where the pull stands, by the peer's unclustered public names
+abbrev pub IsLocalSoFar : State → State → (List (List ℕ) → Point (List (List ℕ)) → Type 0) → Type 0
+IsLocalSoFar old peer Says =
+    (unclustered wanted : List (List ℕ)) × AreUnclustered peer unclustered × AreWants old wanted
+    × ((rounds : LocalRounds)
+    × ((p : Point (List (List ℕ))) × GoOn (LocalRound peer unclustered) (pull_start old wanted) rounds p × Says unclustered p))
+
 -- some rounds went on, and of a further one some cards were taken; this is said of the commits of those rounds
 abbrev pub IsLocalCut : State → State → State → (List (List Record) → Type 0) → Type 0
 IsLocalCut old peer new IsKept =
-    (unclustered wanted : List (List ℕ)) × AreUnclustered peer unclustered × AreWants old wanted
-    × ((rounds : LocalRounds)
-    × ((p : Point (List (List ℕ))) × GoOn (LocalRound (now peer) unclustered) (pull_start old wanted) rounds p
-    × IsPartlyTaken (local_reply (now peer) unclustered p.memory) p.state new
-    × IsKept p.commits))
+    IsLocalSoFar old peer (λ unclustered p.
+    ((reply : List WireCard) × IsLocalReply peer unclustered p.memory reply × IsPartlyTaken reply p.state new) × IsKept p.commits)
 
 -- nothing was done, or some rounds were
 abbrev pub IsLocalShort : State → State → State → (List (List Record) → Type 0) → Type 0
@@ -151,14 +162,39 @@ IsLocalFailed old peer new IsKept =
     MayBegin old peer
     × ((unclustered wanted : List (List ℕ)) × AreUnclustered peer unclustered × AreWants old wanted
     × ((rounds : LocalRounds)
-    × ((f : CommitFailed (LocalRound (now peer) unclustered) (pull_start old wanted) rounds new) × IsKept (commits_of f.step))))
+    × ((f : CommitFailed (LocalRound peer unclustered) (pull_start old wanted) rounds new) × IsKept (commits_of f.step))))
 
--- the peer is loaded, so that no call of its disk is due
-abbrev pub IsLocalAnswer : State → State → State → (List (List Record) → Type 0) → Result Pulled PullFault → Type 0
-IsLocalAnswer old new peer IsKept (Ok pulled) = IsLocalEnd old peer new None (Some pulled)
-IsLocalAnswer old new peer IsKept (Err fault.Disk) = Rose old.faults new.faults × IsLocalFailed old peer new IsKept
-IsLocalAnswer old new peer IsKept (Err fault.Memory) = IsLocalShort old peer new IsKept
-IsLocalAnswer old new peer IsKept (Err why) = IsLocalEnd old peer new (Some why) None
+-- of the names that are asked for, the files of those before this one were taken as they were read, and that of this one isn't read
+pub record IsStuck (why : PullFault) (peer : State) (unclustered asked : List (List ℕ)) (s left peer_left : State) : Type 0 where
+  pub front : List (List ℕ)
+  pub name : List ℕ
+  pub rest : List (List ℕ)
+  pub whole : asked ≡ front ++ name ∷ rest
+  pub public : IsTrue (is_public (now peer) name)
+  pub files : List (List ℕ × List ℕ)
+  pub read : AreRead peer front files
+  pub taken : Taken
+  pub takes : Takes s None (local_reply unclustered files) taken
+  pub well : taken.fault ≡ None
+  pub state : left ≡ taken.state
+  pub cant : CantRead why peer name peer_left
+
+-- some rounds went on, and of a further one a file of the peer isn't read; this is said of the commits of those rounds
+abbrev pub IsLocalUnread : PullFault → State → State → State → State → (List (List Record) → Type 0) → Type 0
+IsLocalUnread why old peer new peer_new IsKept =
+    MayBegin old peer
+    × IsLocalSoFar old peer (λ unclustered p. IsStuck why peer unclustered p.memory p.state new peer_new × IsKept p.commits)
+
+-- the peer's files are read from its disk, whose calls may fail, and whose bytes may have other names than they should
+abbrev pub IsLocalAnswer : State → State → State → State → (List (List Record) → Type 0) → Result Pulled PullFault → Type 0
+IsLocalAnswer old new peer peer_new IsKept (Ok pulled) = IsLocalEnd old peer new IsKept None (Some pulled)
+IsLocalAnswer old new peer peer_new IsKept (Err fault.Disk) =
+    ((peer_new ≡ peer) × Rose old.faults new.faults × IsLocalFailed old peer new IsKept)
+    ⊎ IsLocalUnread fault.Disk old peer new peer_new IsKept
+IsLocalAnswer old new peer peer_new IsKept (Err (fault.Damaged name found)) =
+    IsLocalUnread (fault.Damaged name found) old peer new peer_new IsKept
+IsLocalAnswer old new peer peer_new IsKept (Err fault.Memory) = IsLocalShort old peer new IsKept
+IsLocalAnswer old new peer peer_new IsKept (Err why) = IsLocalEnd old peer new IsKept (Some why) None
 
 -- the faults of a pull from another repository; what such a one gives is never wrong
 abbrev pub IsLocalFault : PullFault → Type 0
@@ -166,11 +202,13 @@ IsLocalFault (fault.Project found) = ⊤
 IsLocalFault (fault.Stopped faults) = ⊤
 IsLocalFault (fault.Full name) = ⊤
 IsLocalFault fault.Disk = ⊤
+IsLocalFault (fault.Damaged name found) = ⊤
 IsLocalFault fault.Memory = ⊤
 IsLocalFault why = ⊥
 
--- IsKept: what the images of the repository's file are at each moment of the call, by the commits that its rounds come to
-abbrev pub IsLocalCall : State → State → State → (List (List Record) → Type 0) → Result Pulled PullFault → Type 0
-IsLocalCall old new peer IsKept result =
-    IsLocalAnswer old new peer IsKept result
-    × ((rounds : LocalRounds) (e : End) → IsLocalPull old peer rounds e → IsKept e.commits)
+-- IsKept: what the images of the repository's file are at each moment of the call, by the commits that its rounds come to. Over a peer's disk that tells its
+-- contents and meets the disk model there is one end, whatever the answer is
+abbrev pub IsLocalCall : State → State → State → State → (List (List Record) → Type 0) → Result Pulled PullFault → Type 0
+IsLocalCall old new peer peer_new IsKept result =
+    IsLocalAnswer old new peer peer_new IsKept result
+    × (peer.honest ≡ true → (rounds : LocalRounds) (e : End) → IsLocalPull old peer rounds e → IsKept e.commits)

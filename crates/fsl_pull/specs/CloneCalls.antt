@@ -1,11 +1,12 @@
 -- What a clone says of its answer, of its rounds and of the file that it makes.
-use Rattle.std.specs.Prelude.{◌≡◌, ℕ, ◌+◌, ◌<◌, ◌≤◌, ◌⊎◌, ⊤, false, List, [], ◌∷◌, ◌++◌, length, take, Option, Some, None, IsSome, Result, Ok, Err, if◌then◌else◌}
+use Rattle.std.specs.Prelude.{◌≡◌, ℕ, ◌+◌, ◌<◌, ◌≤◌, ◌⊎◌, ⊤, Bool, false, List, [], ◌∷◌, ◌++◌, length, take, Option, Some, None, IsSome, Result, Ok, Err, if◌then◌else◌}
 use Rattle.fsl_order.specs.Causes.{Rose}
 use Rattle.fsl_disk.specs.Disk.{DiskState, IsModelled, LeavesOnly, Quiet, Told}
 use Rattle.fsl_outside.specs.Connections.{Connection, LinkState}
 use Rattle.fsl_record.specs.declared.Record.{Record}
 use Rattle.fsl_journal.specs.File.{IsFileOf}
 use Rattle.fsl_journal.specs.Log.{IsNoFile}
+use Rattle.fsl_repo.specs.Whole.{is_modelled}
 use Rattle.fsl_wire.specs.declared.WireCard.{WireCard}
 use Rattle.fsl_http.specs.Responses.{Exchanged, IsBrokenOff, IsLeft}
 use Rattle.fsl_pull.specs.declared.Login.{Login}
@@ -65,12 +66,13 @@ IsKeptSince {D} disk before after (first ∷ more) =
 
 -- ---- the answer
 
--- a clone: its words, its disk's count of faults, what is said of the length that it found, of what it leaves by the commits, of what a commit that failed leaves by those before it and by all, and where the file that it made may read back as another
+-- a clone: its words, its disk's count of faults and whether it tells its contents and meets the disk model, what is said of the length that it found, of what it leaves by the commits, of what a commit that failed leaves by those before it and by all, and where the file that it made may read back as another
 pub record CloneOf : Type 1 where
   pub server : List ℕ
   pub fields : List (List ℕ)
   pub login : Option Login
   pub faults : ℕ
+  pub honest : Bool
   pub Length : ℕ → Type 0
   pub Leaves : List (List Record) → Type 0
   pub Loses : List (List Record) → List (List Record) → Type 0
@@ -84,14 +86,14 @@ abbrev pub IsCloneEnd : CloneOf → Option PullFault → Option Pulled → Round
 IsCloneEnd k why pulled rounds broken =
     (broken ≡ [])
     × ((len : ℕ) × k.Length len
-    × ((e : End) × IsClone k.server k.fields k.login len k.faults rounds e × (e.fault ≡ why)
+    × ((e : End) × IsClone k.server k.fields k.login len k.faults k.honest rounds e × (e.fault ≡ why)
     × (pulled ≡ None ⊎ (pulled ≡ Some (record { rounds = length rounds; stored = e.count }))) × k.Leaves e.commits))
 
 -- the rounds went on, nothing of a further one was taken, and the file has their commits
 pub record IsCloneLeftOff (k : CloneOf) (BreaksOff : Breaks) (more : ℕ) (rounds : Rounds) (broken : List Connection) : Type 0 where
   pub empty : k.Length 0
   pub point : Point Cloning
-  pub go : GoOn (round_of k) (clone_start k.faults) rounds point
+  pub go : GoOn (round_of k) (clone_start k.faults k.honest) rounds point
   pub few : length rounds + more ≤ most_rounds
   pub sent : HasSent BreaksOff broken (CloneAsks k.login point)
   pub left : k.Leaves point.commits
@@ -109,7 +111,7 @@ pub record IsCloneBroken (k : CloneOf) (IsKept : List (List Record) → Type 0) 
   pub whole : rounds ≡ front ++ last ∷ []
   pub few : length rounds ≤ most_rounds
   pub point : Point Cloning
-  pub go : GoOn (round_of k) (clone_start k.faults) front point
+  pub go : GoOn (round_of k) (clone_start k.faults k.honest) front point
   pub asked : CloneAsks k.login point last.request
   pub reply : List WireCard
   pub read : IsReplyRead last.reply (Ok reply)
@@ -124,7 +126,7 @@ pub record IsUnmade (k : CloneOf) (rounds : Rounds) : Type 0 where
   pub empty : k.Length 0
   pub last : Round (List ℕ) Exchanged
   pub one : rounds ≡ last ∷ []
-  pub asked : CloneAsks k.login (clone_start k.faults) last.request
+  pub asked : CloneAsks k.login (clone_start k.faults k.honest) last.request
   pub reply : List WireCard
   pub read : IsReplyRead last.reply (Ok reply)
   pub pushes : IsSome (project_in reply)
@@ -145,7 +147,7 @@ pub record IsCommitLost (k : CloneOf) (rounds : Rounds) : Type 0 where
   pub whole : rounds ≡ front ++ last ∷ []
   pub few : length rounds ≤ most_rounds
   pub point : Point Cloning
-  pub go : GoOn (round_of k) (clone_start k.faults) front point
+  pub go : GoOn (round_of k) (clone_start k.faults k.honest) front point
   pub step : Then Cloning
   pub is_round : round_of k point last step
   -- the commit is behind all arrivals: a round that a fault ended before its commit has none
@@ -184,7 +186,7 @@ UnlessDisk P result = P
 
 -- the commits that rounds come to: those of their end, or of rounds that all went on
 abbrev pub AreCloneCommits : CloneOf → Rounds → List (List Record) → Type 0
-AreCloneCommits k rounds commits = AreCommitsOf (IsClone k.server k.fields k.login 0 k.faults) (CloneSoFar k.server k.fields k.login k.faults) rounds commits
+AreCloneCommits k rounds commits = AreCommitsOf (IsClone k.server k.fields k.login 0 k.faults k.honest) (CloneSoFar k.server k.fields k.login k.faults k.honest) rounds commits
 
 -- one clone. IsKept: what the images of the file are at each moment of it, by the commits that its rounds come to
 abbrev pub IsCloneCall : CloneOf → Dialled → ℕ → (List (List Record) → Type 0) → Result Pulled PullFault → Type 0
@@ -200,6 +202,7 @@ clone_onto server fields login before after =
       fields = fields;
       login = login;
       faults = before.faults;
+      honest = is_modelled before;
       Length = HasLength before.contents;
       Leaves = λ commits. IsLeftAs before after commits;
       Loses = λ done all. IsLostAs before after done all;

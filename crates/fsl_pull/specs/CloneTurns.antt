@@ -1,5 +1,5 @@
 -- What the code says of the parts of a clone.
-use Rattle.std.specs.Prelude.{◌≡◌, ◌≢◌, ℕ, ◌<◌, ◌≤◌, ◌==◌, ◌⊎◌, true, List, [], ◌∷◌, take, Option, Some, None, Result, Ok, Err, if◌then◌else◌}
+use Rattle.std.specs.Prelude.{◌≡◌, ◌≢◌, ℕ, ◌<◌, ◌≤◌, ◌==◌, ◌⊎◌, Bool, true, List, [], ◌∷◌, take, Option, Some, None, Result, Ok, Err, if◌then◌else◌}
 use Rattle.fsl_order.specs.Causes.{Rose}
 use Rattle.fsl_disk.specs.Disk.{DiskState, IsModelled, LeavesOnly, Quiet, Told}
 use Rattle.fsl_outside.specs.Connections.{LinkState}
@@ -84,9 +84,9 @@ IsCloneTurned login from d e before after old new Still result =
 
 -- ---- the repository is made
 
--- a repository with this Config alone was opened on a disk with that count of faults
-pub record IsMadeBy (config : Config) (faults : ℕ) (seen : Seen) : Type 0 where
-  pub state : seen.state ≡ opened (record_of.Config config ∷ []) faults
+-- a repository with this Config alone was opened on a disk with that count of faults, which tells its contents and meets the disk model or not
+pub record IsMadeBy (config : Config) (faults : ℕ) (honest : Bool) (seen : Seen) : Type 0 where
+  pub state : seen.state ≡ opened (record_of.Config config ∷ []) faults honest
   pub loaded : seen.loaded ≡ 1
 
 -- the repository that was opened has this Config alone, and is as it was
@@ -134,8 +134,8 @@ made_disk (Ok repo) = repo.disk
 made_disk (Err failed) = failed.0
 
 -- by a first reply
-abbrev pub IsBegunBy : List ℕ → List (List ℕ) → List WireCard → ℕ → Seen → Type 0
-IsBegunBy server fields reply faults seen = (project : List ℕ) × (project_in reply ≡ Some project) × IsMadeBy (config_of project server fields) faults seen
+abbrev pub IsBegunBy : List ℕ → List (List ℕ) → List WireCard → ℕ → Bool → Seen → Type 0
+IsBegunBy server fields reply faults honest seen = (project : List ℕ) × (project_in reply ≡ Some project) × IsMadeBy (config_of project server fields) faults honest seen
 
 abbrev pub IsUnbegun : {D : Type 0} → (D → DiskState) → List ℕ → List (List ℕ) → List WireCard → D → D → PullFault → Type 0
 IsUnbegun disk server fields reply before after (fault.Peer why) = (why ≡ peer.NoPush) × (project_in reply ≡ None) × (after ≡ before)
@@ -150,16 +150,17 @@ pub record IsFirst (server : List ℕ) (fields : List (List ℕ)) (login : Optio
   pub asked : r.request ≡ clone_bytes login 1
   pub read : IsReplyRead r.reply (Ok reply)
   pub pushes : project_in reply ≡ Some project
-  pub made : IsMadeBy (config_of project server fields) old.state.faults old
+  pub made : IsMadeBy (config_of project server fields) old.state.faults old.state.honest old
 
 -- a clone whose repository was begun
-abbrev pub clone_within : List ℕ → List (List ℕ) → Option Login → ℕ → (List (List Record) → Type 0) → (List (List Record) → List (List Record) → Type 0) → CloneOf
-clone_within server fields login faults Leaves Loses =
+abbrev pub clone_within : List ℕ → List (List ℕ) → Option Login → ℕ → Bool → (List (List Record) → Type 0) → (List (List Record) → List (List Record) → Type 0) → CloneOf
+clone_within server fields login faults honest Leaves Loses =
     record {
       server = server;
       fields = fields;
       login = login;
       faults = faults;
+      honest = honest;
       Length = λ len. len ≡ 0;
       Leaves = Leaves;
       Loses = Loses;
@@ -194,11 +195,11 @@ StandsFor disk commits =
 abbrev pub IsClonedOn : Option Login → List WireCard → LinkState → LinkState → DiskState → DiskState → Seen → Seen → Result Pulled PullFault → Type 0
 IsClonedOn login reply d e before after old new result =
     (server : List ℕ) (fields : List (List ℕ)) (l0 : LinkState) (project : List ℕ) (r : Round (List ℕ) Exchanged) → IsFirst server fields login l0 d reply project r old →
-    IsCloneCall (clone_within server fields login old.state.faults (HasCommitted new.state) (HasLost new.state)) (dialled l0 e) new.state.faults
+    IsCloneCall (clone_within server fields login old.state.faults old.state.honest (HasCommitted new.state) (HasLost new.state)) (dialled l0 e) new.state.faults
     (IsKeptFrom before after (first_record project server fields ∷ [])) result
 
 abbrev pub IsClosedOn : Option Login → List WireCard → LinkState → LinkState → DiskState → DiskState → Seen → Result Pulled PullFault → Type 0
 IsClosedOn login reply d e before after old result =
     (server : List ℕ) (fields : List (List ℕ)) (l0 : LinkState) (project : List ℕ) (r : Round (List ℕ) Exchanged) → IsFirst server fields login l0 d reply project r old →
-    IsCloneCall (clone_within server fields login old.state.faults (StandsFor after) (StandsForEither after)) (dialled l0 e) after.faults
+    IsCloneCall (clone_within server fields login old.state.faults old.state.honest (StandsFor after) (StandsForEither after)) (dialled l0 e) after.faults
     (IsKeptFrom before after (first_record project server fields ∷ [])) result

@@ -3,6 +3,7 @@ pub mod Requests
 pub mod Replies
 pub mod Arrivals
 pub mod Pulls
+pub mod Reading
 pub mod Pushes
 pub mod Clones
 pub mod Locals
@@ -10,6 +11,7 @@ pub mod Laws
 pub mod Dialled
 pub mod Kept
 pub mod Calls
+pub mod Reads
 pub mod Taking
 pub mod Asking
 pub mod Turns

@@ -1,7 +1,7 @@
 -- What the code says of one round of a push.
-use Rattle.std.specs.Prelude.{◌≡◌, ℕ, Bool, List, [], ◌∷◌, length, Option, Some, None, Result, Ok, Err, if◌then◌else◌}
+use Rattle.std.specs.Prelude.{◌≡◌, ◌⊎◌, ℕ, Bool, IsTrue, List, [], ◌∷◌, length, Option, Some, None, Result, Ok, Err, if◌then◌else◌}
 use Rattle.std.specs.List.{list_all}
-use Rattle.fsl_disk.specs.Disk.{DiskState}
+use Rattle.fsl_disk.specs.Disk.{DiskState, Quiet}
 use Rattle.fsl_outside.specs.Connections.{LinkState}
 use Rattle.fsl_order.specs.Names.{has}
 use Rattle.fsl_wire.specs.declared.WireCard.{WireCard}
@@ -18,6 +18,8 @@ use Rattle.fsl_pull.specs.Rounds.{Point}
 use Rattle.fsl_pull.specs.Replies.{asked_in}
 use Rattle.fsl_pull.specs.Arrivals.{IsPartlyTaken}
 use Rattle.fsl_pull.specs.Pushes.{Sending, files_to_send, names_of, asked_here, IsPushReply, PushRound, PushAsks, BrokenPush}
+use Rattle.fsl_pull.specs.Reading.{CantRead}
+use Rattle.fsl_pull.specs.Asking.{IsIdle}
 use Rattle.fsl_pull.specs.Turns.{IsKeptBy, IsCarried, ComesTo, TurnsTo}
 
 -- a push remembers the names that it sent, and those that the last reply asked for
@@ -57,10 +59,27 @@ IsPushTaken due reply before after old new sent sent_new Still result =
     ComesTo (Remembers sent_new) p (λ s. IsPushReply p files (Ok reply) s × IsKeptBy before after Still p s)
     (IsCarried (length sent.order) (length sent_new.order) p) (λ left. IsPartlyTaken reply p.state left × Still) new.state result
 
--- one round
-abbrev pub IsPushTurned : Option Login → List (List ℕ) → LinkState → LinkState → DiskState → DiskState → Seen → Seen → SentNames → SentNames → Type 0
+-- one round that was made, or whose dial failed, or for which there was no memory. Before it files were read, and so the disk is only so much the same
+abbrev pub IsPushMade : Option Login → List (List ℕ) → LinkState → LinkState → DiskState → DiskState → Seen → Seen → SentNames → SentNames
     → Result (Option (List (List ℕ))) PullFault → Type 0
-IsPushTurned login gimmes d e before after old new sent sent_new Still result =
+IsPushMade login gimmes d e before after old new sent sent_new result =
     (p : Point Sending) → p.state ≡ old.state → Remembers sent p.memory gimmes →
-    TurnsTo (Remembers sent_new) (PushRound login) (PushAsks login) (BrokenPush login) p d e (IsKeptBy before after Still p)
-    (IsCarried (length sent.order) (length sent_new.order) p) Still new.state result
+    TurnsTo (Remembers sent_new) (PushRound login) (PushAsks login) (BrokenPush login) p d e (IsKeptBy before after (Quiet before after) p)
+    (IsCarried (length sent.order) (length sent_new.order) p) (Quiet before after) new.state result
+
+-- a file that is due isn't read, and no round is made
+pub record IsPushStuck (gimmes : List (List ℕ)) (d e : LinkState) (before after : DiskState) (old new : Seen) (sent : SentNames)
+    (result : Result (Option (List (List ℕ))) PullFault) : Type 0 where
+  pub why : PullFault
+  pub is : result ≡ Err why
+  pub idle : IsIdle d e
+  pub quiet : Quiet before after
+  pub name : List ℕ
+  pub due : IsTrue (has (due_names old sent gimmes) name)
+  pub cant : CantRead why old.state name new.state
+
+-- one round
+abbrev pub IsPushTurned : Option Login → List (List ℕ) → LinkState → LinkState → DiskState → DiskState → Seen → Seen → SentNames → SentNames
+    → Result (Option (List (List ℕ))) PullFault → Type 0
+IsPushTurned login gimmes d e before after old new sent sent_new result =
+    IsPushMade login gimmes d e before after old new sent sent_new result ⊎ IsPushStuck gimmes d e before after old new sent result

@@ -1,5 +1,5 @@
 -- A push: what is announced and sent, what is asked for, and the end.
-use Rattle.std.specs.Prelude.{◌≡◌, ℕ, ◌+◌, ◌≤◌, Bool, false, not, List, [], ◌∷◌, ◌++◌, length, take, map, filter, filter_map, Option, Some, None, option_map, Result, Ok, if◌then◌else◌, MatchOption, MatchResult}
+use Rattle.std.specs.Prelude.{◌≡◌, ℕ, ◌+◌, ◌≤◌, Bool, IsTrue, false, not, List, [], ◌∷◌, ◌++◌, length, take, map, filter, filter_map, Option, Some, None, option_map, Result, Ok, if◌then◌else◌, MatchOption, MatchResult}
 use Rattle.std.specs.List.{list_all}
 use Rattle.std.specs.Option.{option_map_or}
 use Rattle.std.specs.FinMap as map_of
@@ -22,6 +22,7 @@ use Rattle.fsl_pull.specs.Requests.{request_bytes, push_cards}
 use Rattle.fsl_pull.specs.Replies.{IsReplyRead, asked_in}
 use Rattle.fsl_pull.specs.Arrivals.{Taken, Takes, AreUnclustered, committed, commits_with, IsPartlyTaken}
 use Rattle.fsl_pull.specs.Pulls.{unread, stopped_end}
+use Rattle.fsl_pull.specs.Reading.{AreReadAs, CantRead}
 
 -- what a push remembers: the names that it sent, and the names that the last reply asked for, in its order
 pub record Sending : Type 0 where
@@ -36,6 +37,10 @@ public_bytes c name = option_map_or (λ a. if a.private then None else Some a.by
 
 abbrev pub public_file : Contents → List ℕ → Option (List ℕ × List ℕ)
 public_file c name = option_map (λ bytes. (name, bytes)) (public_bytes c name)
+
+-- those of these names that are held public, as they are read
+abbrev pub AreRead : State → List (List ℕ) → List (List ℕ × List ℕ) → Type 0
+AreRead s names read = AreReadAs s.honest (filter_map (public_file (now s)) names) read
 
 -- the files that were asked for, are held public and weren't sent, in the order of the asking, each once
 abbrev pub due_files : Contents → Sending → List (List ℕ × List ℕ)
@@ -96,11 +101,17 @@ IsPushReply p files read step =
     (λ reply. (t : Taken) × Takes p.state None reply t × MatchOption t.fault (step ≡ push_then p reply t files) (λ why. step ≡ ends (push_uncommitted p t why)))
     (λ why. step ≡ ends (unread p why))
 
+-- what is asked: the names are announced, and the files to send are sent as they are read
+pub record IsPushRequest (login : Option Login) (p : Point Sending) (names : List (List ℕ)) (request : List ℕ) : Type 0 where
+  pub files : List (List ℕ × List ℕ)
+  pub read : AreReadAs p.state.honest (files_to_send (now p.state) p.memory) files
+  pub bytes : request ≡ request_bytes login (push_cards (now p.state) names files)
+
 -- a round: the unclustered public names are announced, and the files that the last reply asked for are sent
 abbrev pub PushRound : Option Login → Point Sending → Round (List ℕ) Exchanged → Then Sending → Type 0
 PushRound login p r step =
     (names : List (List ℕ)) × AreUnclustered p.state names
-    × (r.request ≡ request_bytes login (push_cards (now p.state) names (files_to_send (now p.state) p.memory)))
+    × IsPushRequest login p names r.request
     × ((read : Result (List WireCard) PeerFault) × IsReplyRead r.reply read × IsPushReply p (files_to_send (now p.state) p.memory) read step)
 
 -- ---- the whole
@@ -115,8 +126,7 @@ IsPush login s rounds e =
 -- what is asked: the announced names and the files
 abbrev pub PushAsks : Option Login → Asks Sending (List ℕ)
 PushAsks login p request =
-    (names : List (List ℕ)) × AreUnclustered p.state names
-    × (request ≡ request_bytes login (push_cards (now p.state) names (files_to_send (now p.state) p.memory)))
+    (names : List (List ℕ)) × AreUnclustered p.state names × IsPushRequest login p names request
 
 abbrev pub BrokenPush : Option Login → Broken Sending (List ℕ) Exchanged
 BrokenPush login p r left = PushAsks login p r.request × ((reply : List WireCard) × IsReplyRead r.reply (Ok reply) × IsPartlyTaken reply p.state left)
@@ -133,3 +143,13 @@ PushSoFar login s rounds commits =
 
 abbrev pub IsPushFailed : Option Login → State → List (Round (List ℕ) Exchanged) → State → Type 0
 IsPushFailed login s rounds left = (s.stopped ≡ None) × (length rounds ≤ most_rounds) × CommitFailed (PushRound login) (push_start s) rounds left
+
+-- the rounds went on, and a file that a further one was to send isn't read
+pub record IsPushUnread (login : Option Login) (s : State) (why : PullFault) (rounds : List (Round (List ℕ) Exchanged)) (left : State) : Type 0 where
+  pub runs : s.stopped ≡ None
+  pub point : Point Sending
+  pub go : GoOn (PushRound login) (push_start s) rounds point
+  pub few : length rounds + 1 ≤ most_rounds
+  pub name : List ℕ
+  pub due : IsTrue (has (names_of (files_to_send (now point.state) point.memory)) name)
+  pub cant : CantRead why point.state name left

@@ -1,5 +1,5 @@
 -- What the code says of the names that are next, of an end, and of a commit.
-use Rattle.std.specs.Prelude.{◌≡◌, ◌≢◌, ◌⊎◌, ℕ, ◌||◌, Bool, not, List, length, Option, Some, None, Result, Ok, Err, ⊤, if◌then◌else◌}
+use Rattle.std.specs.Prelude.{◌≡◌, ◌≢◌, ◌⊎◌, ℕ, ◌||◌, Bool, not, List, [], length, Option, Some, None, Result, Ok, Err, ⊤, if◌then◌else◌}
 use Rattle.std.specs.List.{list_all}
 use Rattle.std.specs.Option.{option_map_or}
 use Rattle.std.specs.List.Sorted.{IsStrictlySortedBy}
@@ -49,7 +49,7 @@ local_answer (step_is.End _) = None
 
 -- the log of a state that runs
 abbrev pub log_in : State → Log
-log_in s = record { records = s.records; stable = s.committed; stopped = s.stopped; place = 0 }
+log_in s = record { records = s.records; places = []; stable = s.committed; stopped = s.stopped; mark = 0; place = 0 }
 
 -- a commit of a repository that runs: all records are committed, or there are some to commit, the disk failed, and it is stopped; and at each moment
 -- the file stands for those committed before or for all

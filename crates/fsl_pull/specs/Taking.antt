@@ -18,6 +18,7 @@ IsRefusal (fault.NotEmpty len) = ⊥
 IsRefusal (fault.NotRepository at) = ⊥
 IsRefusal fault.Link = ⊥
 IsRefusal fault.Disk = ⊥
+IsRefusal (fault.Damaged name found) = ⊥
 IsRefusal fault.Memory = ⊥
 IsRefusal why = ⊤
 
@@ -25,7 +26,7 @@ IsRefusal why = ⊤
 abbrev pub IsArrived : Seen → List ℕ → List ℕ → Result Arrival ArriveFault → Seen → Type 0
 IsArrived old name bytes result new =
     (new.loaded ≡ old.loaded)
-    × ((IsArrival old.state name bytes false result × (new.state ≡ arrived old.state name bytes false result))
+    × ((IsArrival old.state name bytes false result × (new.state ≡ arrived old.state name None bytes false result))
     ⊎ ((result ≡ Err arrive_fault.Memory) × (new.state ≡ old.state)))
 
 -- the first number that says where a clone goes on is looked at

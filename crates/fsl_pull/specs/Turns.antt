@@ -28,11 +28,13 @@ count_of (ends e) = e.count
 abbrev pub AreCommitted : List Record → State → List (List Record) → Type 0
 AreCommitted base s commits = front s ≡ base ++ all_of_them commits
 
--- what a round leaves of the file: nothing was committed and the disk is as it was, or at each moment it stands for what was there and some first commits
+-- what a round leaves of the file: nothing was committed or written; or at each moment it stands for what was there and some first commits, where each image
+-- before it did
 abbrev pub IsKeptBy : {M : Type 0} → DiskState → DiskState → Type 0 → Point M → Then M → Type 0
 IsKeptBy before after Still p step =
     (Still × (commits_of step ≡ p.commits))
-    ⊎ ((base : List Record) → AreCommitted base p.state p.commits → IsModelled before → LeavesOnly before after (StandsForSome base (commits_of step)))
+    ⊎ ((base : List Record) → AreCommitted base p.state p.commits → IsModelled before
+    → ((c : List ℕ) → before.images c → StandsForSome base p.commits c) → LeavesOnly before after (StandsForSome base (commits_of step)))
 
 -- the count behind a round goes on from that before it, and the commits are the file's
 pub record IsCarried {M : Type 0} (before after : ℕ) (p : Point M) (step : Then M) : Type 0 where

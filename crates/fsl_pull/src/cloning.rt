@@ -4,7 +4,7 @@ ghost use Rattle.fsl_disk.specs.Disk.{IsModelled, Keeps, LeavesOnly, Quiet, Told
 ghost use Rattle.fsl_record.specs.Records.{AreFields};
 ghost use Rattle.fsl_record.specs.declared.Record.TheVariants as record_of;
 ghost use Rattle.fsl_journal.specs.File.{IsFileOf};
-ghost use Rattle.fsl_repo.specs.Whole.{front};
+ghost use Rattle.fsl_repo.specs.Whole.{front, is_modelled};
 ghost use Rattle.fsl_name.specs.Name.{name_in};
 ghost use Rattle.fsl_pull.specs.declared.PullFault.TheVariants as fault;
 ghost use Rattle.fsl_pull.specs.Replies.{codes_of, sequel_of, sequel_in};
@@ -199,7 +199,7 @@ fn making_fault(fault: CreateFault) -> PullFault
 
 /// Opens the repository that was made on a disk.
 fn opened_made<D: Disk>(alloc: Global, disk: D, config: &Config) -> Result<Repo<D>, (D, PullFault)>
-    ensures opened { IfOk result (λ repo. IsMadeBy config.now (D.state disk).faults repo.seen) }
+    ensures opened { IfOk result (λ repo. IsMadeBy config.now (D.state disk).faults (is_modelled (D.state disk)) repo.seen) }
     ensures fault { IfErr result (λ failed. IsUnopened config.now (D.state disk) (D.state failed.0) failed.1) }
     ensures moments { IsModelled (D.state disk) → ((c : List ℕ) → (D.state disk).images c → IsFileOf c (record_of.Config config.now ∷ []))
         → LeavesOnly (D.state disk) (D.state (made_disk result)) (λ c. IsFileOf c (record_of.Config config.now ∷ [])) }
@@ -218,7 +218,7 @@ fn opened_made<D: Disk>(alloc: Global, disk: D, config: &Config) -> Result<Repo<
 fn made<D: Disk>(alloc: Global, disk: D, config: &Config) -> Result<Repo<D>, (D, PullFault)>
     requires fields { AreFields config.now.fields }
     requires empty { Told (D.state disk) (λ held. held ≡ []) }
-    ensures made { IfOk result (λ repo. IsMadeBy config.now (D.state disk).faults repo.seen) }
+    ensures made { IfOk result (λ repo. IsMadeBy config.now (D.state disk).faults (is_modelled (D.state disk)) repo.seen) }
     ensures fault { IfErr result (λ failed. IsUnmadeBy config.now (D.state disk) (D.state failed.0) failed.1) }
     ensures moments { IsEmptied (D.state disk) → LeavesOnly (D.state disk) (D.state (made_disk result)) (NoneOr (record_of.Config config.now ∷ [])) }
     ensures keeps { Keeps (D.state disk) (D.state (made_disk result)) }
@@ -241,7 +241,7 @@ fn begun<D: Disk>(
 ) -> Result<Repo<D>, (D, PullFault)>
     requires fields { AreFields fields.now }
     requires empty { Told (D.state disk) (λ held. held ≡ []) }
-    ensures begun { IfOk result (λ repo. IsBegunBy server fields.now cards.now (D.state disk).faults repo.seen) }
+    ensures begun { IfOk result (λ repo. IsBegunBy server fields.now cards.now (D.state disk).faults (is_modelled (D.state disk)) repo.seen) }
     ensures fault { IfErr result (λ failed. IsUnbegun D.state server fields.now cards.now disk failed.0 failed.1) }
     ensures moments { (project : List ℕ) → project_in cards.now ≡ Some project → IsEmptied (D.state disk)
         → LeavesOnly (D.state disk) (D.state (made_disk result)) (NoneOr (first_record project server fields.now ∷ [])) }

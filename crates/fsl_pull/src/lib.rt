@@ -15,6 +15,7 @@ mod local;
 mod next;
 mod pulling;
 mod pushing;
+mod reading;
 mod replies;
 mod requests;
 mod sent;
@@ -86,8 +87,10 @@ pub enum PullFault {
     Stopped { faults: u64 },
     /// A call of the dial failed.
     Link,
-    /// A call of the disk failed.
+    /// A call of the disk failed, or in a pull from another repository one of the peer's disk.
     Disk,
+    /// The bytes that were read for a file that is to be sent, or to be taken from another repository, have another name.
+    Damaged { name: Name, found: Name },
     /// A reply is wrong.
     Peer(PeerFault),
     /// A file that came has so many bytes, more than 16,777,216.

@@ -1,24 +1,22 @@
 //! A pull from another repository.
-ghost use Rattle.std.specs.Prelude.{◌≡◌, ◌≤◌, ◌++◌, false, None, IsSome, OnOk, IfOk, IfErr, map, filter_map};
+ghost use Rattle.std.specs.Prelude.{◌≡◌, ◌≤◌, false, None, IsSome, OnOk, IfOk, IfErr};
 ghost use Rattle.std.specs.List.Sorted.{IsStrictlySortedBy};
 ghost use Rattle.std.specs.Str.{bytes_eq};
 ghost use Rattle.fsl_order.specs.Names.{bytes_cmp};
 ghost use Rattle.fsl_disk.specs.Disk.{Keeps};
 ghost use Rattle.fsl_repo.specs.Machine.{now, unclustered_names};
-ghost use Rattle.fsl_pull.specs.Requests.{file_card};
-ghost use Rattle.fsl_pull.specs.Pushes.{public_file};
-ghost use Rattle.fsl_pull.specs.Locals.{local_reply, project_code};
-ghost use Rattle.fsl_pull.specs.Steps.{local_answer, Rises, NamesRise};
-ghost use Rattle.fsl_pull.specs.Taking.{TakesAll};
-ghost use Rattle.fsl_pull.specs.PullTurns.{IsTaken, none_missing};
+ghost use Rattle.fsl_pull.specs.Locals.{project_code};
+ghost use Rattle.fsl_pull.specs.Steps.{local_answer, NamesRise};
+ghost use Rattle.fsl_pull.specs.Reading.{IsOnlyRead};
 ghost use Rattle.fsl_pull.specs.Calls.{IsLocalFault};
-ghost use Rattle.fsl_pull.specs.LocalTurns.{TakesGiven, other_code, IsPulledFrom};
+ghost use Rattle.fsl_pull.specs.CloneCalls.{UnlessDisk};
+ghost use Rattle.fsl_pull.specs.LocalTurns.{TakesGiven, TakesAsked, IsLocalTurned, other_code, IsPulledFrom};
 
 use crate::committing::commit;
 use crate::next::{Step, wanted, what_follows};
+use crate::reading::read_public;
 use crate::taking::{either, file_fault, moves, take_file};
 use crate::{PullFault, Pulled};
-use fsl_blobs::BlobState;
 use fsl_disk::Disk;
 use fsl_name::Name;
 use fsl_repo::Repo;
@@ -26,27 +24,22 @@ use fsl_text::{List, Memory, Steps};
 use std::alloc::Global;
 use std::sync::ledger::Ledger;
 
-/// Takes the artifact of a name, where the peer holds it as public.
+/// Takes the artifact of a name as it is read, where the peer holds it as public.
 fn take_given<D: Disk, P: Disk, L: Ledger>(
     repo: &mut Repo<D>,
     peer: &mut Repo<P>,
     name: Name,
     steps: &mut Steps<L>,
 ) -> Result<bool, PullFault>
-    ensures taken { TakesGiven repo.old.seen (public_file (now peer.old.seen.state) name) result repo.new.seen }
+    ensures taken { TakesGiven peer.old.seen.state name repo.old.seen result repo.new.seen peer.new.seen.state }
     ensures faults { IfErr result IsLocalFault }
     ensures disk { repo.new.disk ≡ repo.old.disk }
-    ensures peer { peer.new ≡ peer.old }
+    ensures peer { IsOnlyRead P.state peer.old peer.new }
 {
-    // Its bytes have their own name and are within the limit of an artifact, as those of all that it holds.
-    peer.is_whole();
-    match peer.state(name) {
-        BlobState::Public { .. } => {}
-        _ => return Ok(false),
-    }
-    let bytes = match peer.content(name) {
-        Ok(bytes) => bytes,
-        Err(_) => return Err(PullFault::Memory),
+    let bytes = match read_public(peer, name) {
+        Ok(Some(bytes)) => bytes,
+        Ok(None) => return Ok(false),
+        Err(fault) => return Err(fault),
     };
     match take_file(repo, name, bytes.bytes(), steps) {
         Ok(arrival) => Ok(moves(arrival)),
@@ -54,19 +47,18 @@ fn take_given<D: Disk, P: Disk, L: Ledger>(
     }
 }
 
-/// Takes the artifacts of those of some names that the peer holds as public, in order, up to the first that is wrong, and
-/// answers whether one was stored or published.
+/// Takes the artifacts of those of some names that the peer holds as public, in order, each as it is read, up to the first
+/// that is wrong or isn't read, and answers whether one was stored or published.
 fn take_asked<D: Disk, P: Disk, L: Ledger>(
     repo: &mut Repo<D>,
     peer: &mut Repo<P>,
     asked: &[Name],
     steps: &mut Steps<L>,
 ) -> Result<bool, PullFault>
-    ensures taken { TakesAll repo.old.seen None
-        (map file_card (filter_map (public_file (now peer.old.seen.state)) asked.now)) result repo.new.seen }
+    ensures taken { TakesAsked peer.old.seen.state asked.now repo.old.seen result repo.new.seen peer.new.seen.state }
     ensures faults { IfErr result IsLocalFault }
     ensures disk { repo.new.disk ≡ repo.old.disk }
-    ensures peer { peer.new ≡ peer.old }
+    ensures peer { IsOnlyRead P.state peer.old peer.new }
 {
     let mut moved = false;
     for name in asked {
@@ -100,15 +92,15 @@ fn local_round<D: Disk, P: Disk, L: Ledger>(
 ) -> Result<Option<List<Name>>, PullFault>
     requires runs { repo.old.seen.state.stopped ≡ None }
     requires rising { IsStrictlySortedBy bytes_cmp asked.now }
-    ensures step { IsTaken none_missing asked.now (local_reply (now peer.old.seen.state) told.now asked.now)
-        (D.state repo.old.disk) (D.state repo.new.disk) repo.old.seen repo.new.seen (repo.new.disk ≡ repo.old.disk) result }
+    ensures step { IsLocalTurned peer.old.seen.state told.now asked.now (D.state repo.old.disk) (D.state repo.new.disk)
+        repo.old.seen repo.new.seen (repo.new.disk ≡ repo.old.disk) result peer.new.seen.state }
     ensures faults { IfErr result IsLocalFault }
     ensures runs { OnOk result (repo.new.seen.state.stopped ≡ None) }
     ensures rising { IfOk result NamesRise }
     ensures later { repo.old.seen.state.faults ≤ repo.new.seen.state.faults }
     ensures loaded { repo.new.seen.loaded ≡ repo.old.seen.loaded }
     ensures keeps { Keeps (D.state repo.old.disk) (D.state repo.new.disk) }
-    ensures peer { peer.new ≡ peer.old }
+    ensures peer { IsOnlyRead P.state peer.old peer.new }
 {
     repo.is_whole();
     let moved = match take_asked(repo, peer, asked, steps) {
@@ -149,15 +141,17 @@ fn other_project<D: Disk, P: Disk>(repo: &Repo<D>, peer: &Repo<P>) -> Option<Nam
     }
 }
 
-/// Pulls from another repository of the same project, which stays as it is. The first round asks for the wanted names, and
+/// Pulls from another repository of the same project, which is only read. The first round asks for the wanted names, and
 /// each later one for the wanted names and the public names of the peer that stand in no cluster, without those that are
-/// held or shunned. The peer gives each asked artifact that it holds as public. It arrives as public, and one commit
-/// follows. It is at its end with the first round in which no artifact was stored or published and after which each name
+/// held or shunned. The peer gives each asked artifact that it holds as public, as it is read from its disk: over one that
+/// tells its contents and meets the disk model the held bytes, over every other disk bytes of the same name and size. It
+/// arrives as public, and one commit follows. It is at its end with the first round in which no artifact was stored or published and after which each name
 /// that is next was asked for in it.
 ///
 /// Errors: `Project` with the peer's project code, where it has another one; `Stopped` where a commit has failed; `Full`
-/// by the first artifact with which a limit would be passed; `Disk` where a call of the disk failed; `Memory`. The rounds
-/// that were committed stay, and so does in memory what the last one appended.
+/// by the first artifact with which a limit would be passed; `Disk` where a call of one of the two disks failed; `Damaged`
+/// with the name of an artifact of the peer and that of the bytes that were read for it, where that is another one;
+/// `Memory`. The rounds that were committed stay, and so does in memory what the last one appended.
 pub fn pull_local<D: Disk, P: Disk, L: Ledger>(
     alloc: Global,
     repo: &mut Repo<D>,
@@ -165,7 +159,7 @@ pub fn pull_local<D: Disk, P: Disk, L: Ledger>(
     steps: &mut Steps<L>,
 ) -> Result<Pulled, PullFault>
     ensures pulls { IsPulledFrom (D.state repo.old.disk) (D.state repo.new.disk)
-        repo.old.seen repo.new.seen peer.old.seen result }
+        repo.old.seen repo.new.seen peer.old.seen peer.new.seen result }
     ensures faults { IfErr result IsLocalFault }
     ensures loaded { repo.new.seen.loaded ≡ repo.old.seen.loaded }
     ensures keeps { Keeps (D.state repo.old.disk) (D.state repo.new.disk) }
@@ -173,7 +167,9 @@ pub fn pull_local<D: Disk, P: Disk, L: Ledger>(
     ensures idle { IsSome repo.old.seen.state.stopped → repo.new.disk ≡ repo.old.disk }
     ensures idle_for_another { bytes_eq (project_code (now repo.old.seen.state)) (project_code (now peer.old.seen.state))
         ≡ false → repo.new.disk ≡ repo.old.disk }
-    ensures peer { peer.new ≡ peer.old }
+    // The peer is only read, and none of its calls fails but with `Disk`.
+    ensures peer { IsOnlyRead P.state peer.old peer.new }
+    ensures peer_count { UnlessDisk (peer.new.seen.state ≡ peer.old.seen.state) result }
 {
     match other_project(repo, peer) {
         Some(found) => return Err(PullFault::Project { found }),

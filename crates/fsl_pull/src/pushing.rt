@@ -130,7 +130,7 @@ fn take_reply<D: Disk, L: Ledger>(
 }
 
 /// One round of a push: announces the public names that stand in no cluster, sends the files that the last reply asked
-/// for, takes the files that come, and commits. It answers the names that the reply asks for, or none at the end.
+/// for as they are read, takes the files that come, and commits. It answers the names that the reply asks for, or none at the end.
 fn push_round<D: Disk, N: Dial, L: Ledger>(
     alloc: Global,
     repo: &mut Repo<D>,
@@ -142,7 +142,7 @@ fn push_round<D: Disk, N: Dial, L: Ledger>(
 ) -> Result<Option<List<Name>>, PullFault>
     requires runs { repo.old.seen.state.stopped ≡ None }
     ensures round { IsPushTurned login.now gimmes.now (N.state dial.old) (N.state dial.new) (D.state repo.old.disk) (D.state repo.new.disk)
-        repo.old.seen repo.new.seen sent.old sent.new (repo.new.disk ≡ repo.old.disk) result }
+        repo.old.seen repo.new.seen sent.old sent.new result }
     ensures runs { OnOk result (repo.new.seen.state.stopped ≡ None) }
     ensures later { repo.old.seen.state.faults ≤ repo.new.seen.state.faults }
     ensures loaded { repo.new.seen.loaded ≡ repo.old.seen.loaded }
@@ -161,7 +161,7 @@ fn push_round<D: Disk, N: Dial, L: Ledger>(
     };
     let request = match push_request(alloc, login, repo, names.items(), &due) {
         Ok(request) => request,
-        Err(_) => return Err(PullFault::Memory),
+        Err(fault) => return Err(fault),
     };
     match ask(alloc, dial, request.bytes()) {
         Ok(Ok(reply)) => take_reply(alloc, repo, sent, &due, reply.cards(), steps),
@@ -176,8 +176,12 @@ fn push_round<D: Disk, N: Dial, L: Ledger>(
 /// The files of a reply arrive as public, and one commit follows. It is at its end with the first round without files
 /// after which no public artifact is asked for. `stored` counts the files sent.
 ///
+/// The files that are sent are read from the disk. Over a disk that tells its contents and meets the disk model they are the
+/// held ones; over every other disk they have the same names and sizes.
+///
 /// Errors: `Stopped`, before any round, where a commit has failed; `Link` where a call of the dial failed, and `Disk` where
-/// one of the disk did; `Peer`, `TooLarge` and `Full` by the first thing that is wrong with a reply, and `Peer` with the
+/// one of the disk did; `Damaged`, before the round that was to send it, with the name of a file and that of the bytes that
+/// were read for it, where that is another one; `Peer`, `TooLarge` and `Full` by the first thing that is wrong with a reply, and `Peer` with the
 /// least name that is asked for again, where behind a round without files each public artifact that is asked for was sent;
 /// `Rounds` after 100,000 rounds; `Memory`. The rounds that were committed stay, and so does in memory what the last one
 /// appended.

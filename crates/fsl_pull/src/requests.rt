@@ -1,14 +1,14 @@
 //! The bodies of requests.
-ghost use Rattle.std.specs.Prelude.{◌≡◌, ◌∷◌, ◌++◌, [], map, filter_map, option_to_list, IfOk, OnOk};
+ghost use Rattle.std.specs.Prelude.{◌≡◌, ◌∷◌, ◌++◌, [], map, IfOk, IfErr, OnOk};
 ghost use Rattle.fsl_name.specs.Name.{name_text};
 ghost use Rattle.fsl_wire.specs.declared.WireCard.TheVariants as card_is;
-ghost use Rattle.fsl_wire.specs.Writing.{card_bytes, message_bytes};
-ghost use Rattle.fsl_repo.specs.Machine.{now};
-ghost use Rattle.fsl_pull.specs.Requests.{signature_of, login_line, signed_bytes, request_bytes, push_cards, clone_cards, igot_card, file_card};
-ghost use Rattle.fsl_pull.specs.Pushes.{public_file};
+ghost use Rattle.fsl_wire.specs.Writing.{message_bytes};
+ghost use Rattle.fsl_pull.specs.Requests.{signature_of, login_line, signed_bytes, request_bytes, clone_cards, igot_card};
+ghost use Rattle.fsl_pull.specs.Reading.{IsOnlyRead};
+ghost use Rattle.fsl_pull.specs.Reads.{FileFails, FilesFail, ArePut, IsPushed};
 
-use crate::Login;
-use fsl_blobs::BlobState;
+use crate::reading::read_public;
+use crate::{Login, PullFault};
 use fsl_disk::Disk;
 use fsl_name::Name;
 use fsl_record::Config;
@@ -103,49 +103,70 @@ fn push_front(alloc: Global, config: &Config, names: &[Name]) -> Result<Text, Me
     Ok(message)
 }
 
-/// Puts the file of a name at the end of a message, where it is held as public.
-fn append_public<D: Disk>(into: &mut Text, repo: &mut Repo<D>, name: Name) -> Result<(), Memory>
-    ensures file { OnOk result (into.new ≡ into.old
-        ++ message_bytes (map file_card (option_to_list (public_file (now repo.old.seen.state) name)))) }
-    ensures repo { repo.new ≡ repo.old }
+/// Puts the file of a name as it is read at the end of a message, where it is held as public.
+fn append_public<D: Disk>(into: &mut Text, repo: &mut Repo<D>, name: Name) -> Result<(), PullFault>
+    ensures file { OnOk result (ArePut repo.old.seen.state (name ∷ []) into.old into.new) }
+    ensures fault { IfErr result (λ why. FileFails why repo.old.seen.state name repo.new.seen.state) }
+    ensures count { OnOk result (repo.new.seen.state ≡ repo.old.seen.state) }
+    ensures repo { IsOnlyRead D.state repo.old repo.new }
 {
-    match repo.state(name) {
-        BlobState::Public { .. } => {}
-        _ => return Ok(()),
-    }
-    match repo.content(name) {
-        Ok(bytes) => append_file(into, &name, bytes.bytes()),
-        Err(_) => Err(Memory),
+    let bytes = match read_public(repo, name) {
+        Ok(Some(bytes)) => bytes,
+        Ok(None) => return Ok(()),
+        Err(fault) => return Err(fault),
+    };
+    match append_file(into, &name, bytes.bytes()) {
+        Ok(()) => Ok(()),
+        Err(_) => Err(PullFault::Memory),
     }
 }
 
-/// Puts the files of those of some names that are held as public at the end of a message.
-fn append_files<D: Disk>(into: &mut Text, repo: &mut Repo<D>, names: &[Name]) -> Result<(), Memory>
-    ensures files { OnOk result (into.new ≡ into.old
-        ++ message_bytes (map file_card (filter_map (public_file (now repo.old.seen.state)) names.now))) }
-    ensures repo { repo.new ≡ repo.old }
+/// Puts the files of those of some names that are held as public at the end of a message, each as it is read.
+fn append_files<D: Disk>(
+    into: &mut Text,
+    repo: &mut Repo<D>,
+    names: &[Name],
+) -> Result<(), PullFault>
+    ensures files { OnOk result (ArePut repo.old.seen.state names.now into.old into.new) }
+    ensures fault { IfErr result (λ why. FilesFail why repo.old.seen.state names.now repo.new.seen.state) }
+    ensures count { OnOk result (repo.new.seen.state ≡ repo.old.seen.state) }
+    ensures repo { IsOnlyRead D.state repo.old repo.new }
 {
     for name in names {
-        append_public(into, repo, *name)?;
+        match append_public(into, repo, *name) {
+            Ok(()) => {}
+            Err(fault) => return Err(fault),
+        }
     }
     Ok(())
 }
 
-/// The request of a push: the codes of the repository, the names that it announces, and the files of names that it sends.
+/// The request of a push: the codes of the repository, the names that it announces, and the files of names that it sends,
+/// each as it is read.
 pub(crate) fn push_request<D: Disk>(
     alloc: Global,
     login: &Option<Login>,
     repo: &mut Repo<D>,
     names: &[Name],
     due: &[Name],
-) -> Result<Text, Memory>
-    ensures request { IfOk result (λ text. text ≡ request_bytes login.now
-        (push_cards (now repo.old.seen.state) names.now (filter_map (public_file (now repo.old.seen.state)) due.now))) }
-    ensures repo { repo.new ≡ repo.old }
+) -> Result<Text, PullFault>
+    ensures request { IfOk result (IsPushed login.now repo.old.seen.state names.now due.now) }
+    ensures fault { IfErr result (λ why. FilesFail why repo.old.seen.state due.now repo.new.seen.state) }
+    ensures count { OnOk result (repo.new.seen.state ≡ repo.old.seen.state) }
+    ensures repo { IsOnlyRead D.state repo.old repo.new }
 {
-    let mut message = push_front(alloc, repo.config(), names)?;
-    append_files(&mut message, repo, due)?;
-    signed(alloc, login, message)
+    let mut message = match push_front(alloc, repo.config(), names) {
+        Ok(message) => message,
+        Err(_) => return Err(PullFault::Memory),
+    };
+    match append_files(&mut message, repo, due) {
+        Ok(()) => {}
+        Err(fault) => return Err(fault),
+    }
+    match signed(alloc, login, message) {
+        Ok(request) => Ok(request),
+        Err(_) => Err(PullFault::Memory),
+    }
 }
 
 /// The request of a clone: the files from a place on.

@@ -5,6 +5,7 @@ use Rattle.fsl_date.specs.Moment.{moment_text}
 use Rattle.fsl_text.specs.Bytes.{is_empty}
 use Rattle.fsl_text.specs.Escapes.{escape}
 use Rattle.fsl_name.specs.Name.{name_text}
+use Rattle.fsl_name.specs.Ref.{ref_text}
 use Rattle.fsl_tags.specs.declared.Assertion.{Assertion}
 use Rattle.fsl_files.specs.declared.Perm.{Perm}
 use Rattle.fsl_files.specs.declared.Perm.TheVariants as perm
@@ -73,7 +74,7 @@ perm_text perm.Symlink = codes "l"
 
 -- HASH PERM PATH; each file that is known has a hash
 abbrev pub file_line : FileRow → List ℕ
-file_line f = option_map_or (λ hash. spaced (name_text hash ∷ perm_text f.perm ∷ escape f.path ∷ [])) f.hash []
+file_line f = option_map_or (λ hash. spaced (ref_text hash ∷ perm_text f.perm ∷ escape f.path ∷ [])) f.hash []
 
 abbrev pub how_text : How → List ℕ
 how_text Added = codes "added"

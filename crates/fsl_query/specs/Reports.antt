@@ -1,8 +1,8 @@
 -- The report or the refusal that a question gets, by the contents and the items that the held artifacts are.
-use Rattle.std.specs.Prelude.{◌≡◌, ℕ, List, [], ◌∷◌, ◌++◌, filter, flat_map, zip, is_some, Option, Result, Ok, Err}
+use Rattle.std.specs.Prelude.{◌≡◌, ℕ, Bool, true, List, [], ◌∷◌, ◌++◌, length, filter, flat_map, zip, Option, Result, Ok, Err}
 use Rattle.std.specs.Option.{option_map_or}
 use Rattle.std.specs.FinMap as map_of
-use Rattle.fsl_name.specs.Name.{name_text}
+use Rattle.fsl_name.specs.Name.{name_of, name_text}
 use Rattle.fsl_tags.specs.declared.Fact as tags
 use Rattle.fsl_tags.specs.Tags.{in_force}
 use Rattle.fsl_leaves.specs.declared.Fact as leaves_of
@@ -62,6 +62,17 @@ unless_none (x ∷ xs) refusal text = Ok text
 abbrev pub content : Contents → List ℕ → Result (List ℕ) Refused
 content c prefix = of_prefix c prefix (λ name. option_map_or (λ held. Ok held.bytes) (map_of.get c.held name) (Err (refused.NoArtifact prefix)))
 
+-- a text that may stand in place of a content: over a disk that tells its contents and meets the disk model it is it; over every other disk it has its name and its size
+pub record IsReadText (honest : Bool) (content text : List ℕ) : Type 0 where
+  pub named : name_of text ≡ name_of content
+  pub sized : length text ≡ length content
+  pub same : honest ≡ true → text ≡ content
+
+-- the content as it is read, or the refusal
+abbrev pub IsReadContent : Bool → Result (List ℕ) Refused → Result (List ℕ) Refused → Type 0
+IsReadContent honest (Ok content) result = (text : List ℕ) × IsReadText honest content text × (result ≡ Ok text)
+IsReadContent honest (Err refused) result = result ≡ Err refused
+
 -- the first rows of the timeline
 abbrev pub timeline_report : List Row → ℕ → List ℕ
 timeline_report rows count = flat_map timeline_line (latest rows count)
@@ -89,7 +100,7 @@ files_report facts name = listing_report facts name (files facts name)
 
 -- the attachments of a target that aren't deleted, by file
 abbrev pub attachments_report : List pages_of.Fact → List ℕ → List ℕ
-attachments_report facts target = flat_map attachment_line (filter (λ a. is_some a.source) (attached facts target))
+attachments_report facts target = flat_map attachment_line (filter (λ a. a.sourced) (attached facts target))
 
 -- the versions of a page by date and name, and its attachments
 abbrev pub wiki_report : List pages_of.Fact → List ℕ → Result (List ℕ) Refused
@@ -126,11 +137,16 @@ report c items (Ticket id) = let t = tables_now c items in ticket_report t.field
 report c items (Thread name) = thread_report (tables_now c items).threads name
 report c items Phantoms = Ok (phantoms_report (wants c items))
 
+-- what is told for a report that is due: a content as it is read, and every other report as it is
+abbrev pub IsTold : Bool → Question → Result (List ℕ) Refused → Result (List ℕ) Refused → Type 0
+IsTold honest (Cat prefix) due result = IsReadContent honest due result
+IsTold honest question due result = due ≡ result
+
 -- the report of a repository
 abbrev pub report_in : Seen → Question → Result (List ℕ) Refused
 report_in seen question = report (now seen.state) seen.items question
 
--- the report by the items that the held artifacts are; of a content alone they don't matter
-abbrev pub IsReport : Contents → Question → Result (List ℕ) Refused → Type 0
-IsReport c (Cat prefix) result = result ≡ content c prefix
-IsReport c question result = (items : List Item) × AreItems c.held items × (result ≡ report c items question)
+-- the report by the items that the held artifacts are; of a content they don't matter, and it is as it is read
+abbrev pub IsReport : Bool → Contents → Question → Result (List ℕ) Refused → Type 0
+IsReport honest c (Cat prefix) result = IsReadContent honest (content c prefix) result
+IsReport honest c question result = (items : List Item) × AreItems c.held items × (result ≡ report c items question)

@@ -1,14 +1,16 @@
 //! Answers questions.
-ghost use Rattle.std.specs.Prelude.{◌≡◌, Ok, Err, IfOk};
+ghost use Rattle.std.specs.Prelude.{◌≡◌, None, Ok, Err, IfOk};
 ghost use Rattle.fsl_cross.specs.Checkins.{branch};
-ghost use Rattle.fsl_repo.specs.Machine.{now};
+ghost use Rattle.fsl_disk.specs.Disk.{Quiet};
+ghost use Rattle.fsl_repo.specs.Machine.{Leaves, now};
+ghost use Rattle.fsl_repo.specs.Whole.{log_of};
 ghost use Rattle.fsl_words.specs.declared.Question.TheVariants as question_of;
 ghost use Rattle.fsl_query.specs.declared.Refused.{Refused};
 ghost use Rattle.fsl_query.specs.declared.QueryFault.TheVariants as query_fault;
-ghost use Rattle.fsl_query.specs.Reports.{of_prefix, files_report, leaves_report, tables_now, report_in};
-ghost use Rattle.fsl_query.specs.Answers.{IsAnswer, IsReported};
+ghost use Rattle.fsl_query.specs.Reports.{IsTold, of_prefix, files_report, leaves_report, tables_now, report_in};
+ghost use Rattle.fsl_query.specs.Answers.{IsAnswer, IsReportedIn, content_asked, prefix_of};
 
-use crate::finding::{copied, found};
+use crate::finding::{copied, found, prefix_of};
 use crate::{QueryFault, files, leaves, phantoms, tags, thread, ticket, timeline, tip, wiki};
 use fsl_disk::Disk;
 use fsl_name::Name;
@@ -47,17 +49,13 @@ fn ticket_of<D: Disk>(alloc: Global, repo: &Repo<D>, id: Name) -> Result<Text, Q
     )
 }
 
-/// The text of a report on what a repository holds, by its tables. The repository stays.
-fn answer<D: Disk>(
-    alloc: Global,
-    repo: &mut Repo<D>,
-    question: &Question,
-) -> Result<Text, QueryFault>
-    ensures answer { IsAnswer (report_in repo.old.seen question.now) result }
-    ensures same { repo.new ≡ repo.old }
+/// The text of a report on what a repository holds, by its tables, where no content is asked for.
+fn answer<D: Disk>(alloc: Global, repo: &Repo<D>, question: &Question) -> Result<Text, QueryFault>
+    requires { prefix_of question.now ≡ None }
+    ensures { IsAnswer (report_in repo.now.seen question.now) result }
 {
     match question {
-        Question::Cat { prefix } => copied(alloc, repo, prefix.bytes()),
+        Question::Cat { .. } => unreachable!(),
         Question::Timeline { count } => Ok(timeline::report(
             alloc,
             repo.tables().timeline(),
@@ -84,19 +82,32 @@ fn answer<D: Disk>(
 }
 
 /// The text of a report on what a repository holds, by its tables; `report_from` tells the same of what was loaded without
-/// tables. The bytes of `cat` are copied; `content` lends them. The repository stays.
+/// tables. The content that `cat` asks for is read, and nothing else is. Nothing changes but the disk's count of faults.
 ///
-/// Errors: `Refused` where there is nothing to report; `Memory` for want of memory.
+/// Errors: `Refused` where there is nothing to report; for `cat`, `Disk` where a call of the disk failed, and `Damaged` where
+/// the bytes that were read have another name; `Memory`.
 pub fn report<D: Disk>(
     alloc: Global,
     repo: &mut Repo<D>,
     question: &Question,
 ) -> Result<Text, QueryFault>
-    ensures ok { IfOk result (λ text. report_in repo.old.seen question.now ≡ Ok text) }
+    ensures ok { IfOk result (λ text. IsTold repo.old.seen.state.honest question.now (report_in repo.old.seen question.now) (Ok text)) }
     ensures refused { (refused : Refused) → result ≡ Err (query_fault.Refused refused) → report_in repo.old.seen question.now ≡ Err refused }
-    ensures means { IsReported (now repo.old.seen.state) question.now result }
-    ensures same { repo.new ≡ repo.old }
+    ensures means { IsReportedIn repo.old.seen.state question.now repo.new.seen.state result }
+    // Where no content is asked for, or the prefix doesn't find one name, no device is called.
+    ensures unread { content_asked (now repo.old.seen.state) question.now ≡ None → repo.new ≡ repo.old }
+    ensures state { Leaves repo.old.seen.state repo.old.seen.state repo.new.seen.state }
+    ensures items { repo.new.seen.items ≡ repo.old.seen.items }
+    ensures loaded { repo.new.seen.loaded ≡ repo.old.seen.loaded }
+    ensures log { log_of repo.new ≡ log_of repo.old }
+    // It only reads.
+    ensures disk { Quiet (D.state repo.old.disk) (D.state repo.new.disk) }
 {
-    repo.is_whole();
-    answer(alloc, repo, question)
+    match prefix_of(question) {
+        Some(prefix) => copied(alloc, repo, prefix),
+        None => {
+            repo.is_whole();
+            answer(alloc, repo, question)
+        }
+    }
 }

@@ -1,5 +1,5 @@
 //! The attachments of pages and tickets, as the reports on these tell them.
-ghost use Rattle.std.specs.Prelude.{◌≡◌, ◌++◌, [], ◌∷◌, filter, flat_map, is_some, OnOk};
+ghost use Rattle.std.specs.Prelude.{◌≡◌, ◌++◌, [], ◌∷◌, filter, flat_map, OnOk};
 ghost use Rattle.fsl_query.specs.Lines.{attachment_line};
 ghost use Rattle.fsl_query.specs.Reports.{attachments_report};
 
@@ -10,9 +10,9 @@ use std::alloc::Global;
 
 /// Puts the line of an attachment at the end of a text, unless it deletes that of its file.
 fn append_unless_deleted(into: &mut Text, attached: &Attached) -> Result<(), Memory>
-    ensures { OnOk result (into.new ≡ into.old ++ flat_map attachment_line (filter (λ a. is_some a.source) (attached.now ∷ []))) }
+    ensures { OnOk result (into.new ≡ into.old ++ flat_map attachment_line (filter (λ a. a.sourced) (attached.now ∷ []))) }
 {
-    if attached.source.is_none() {
+    if !attached.sourced {
         return Ok(());
     }
     append_attachment(into, attached)

@@ -71,6 +71,10 @@ pub enum Refused {
 pub enum QueryFault {
     /// There is nothing to report, for this reason.
     Refused(Refused),
+    /// A call of the disk failed.
+    Disk,
+    /// The bytes that were read for the artifact of a name have another name.
+    Damaged { name: Name, found: Name },
     /// There was no memory.
     Memory,
 }

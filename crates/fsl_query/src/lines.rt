@@ -2,13 +2,14 @@
 ghost use Rattle.std.specs.Prelude.{◌≡◌, ◌∷◌, ◌++◌, [], OnOk};
 ghost use Rattle.fsl_date.specs.Moment.{moment_text};
 ghost use Rattle.fsl_name.specs.Name.{name_text};
+ghost use Rattle.fsl_name.specs.Ref.{ref_text};
 ghost use Rattle.fsl_query.specs.Lines as line;
 ghost use Rattle.fsl_query.specs.Lines.{shown, valued_line, leaf_line, tag_line, tip_line, timeline_line, file_line, change_line, page_line, attachment_line, post_line, wanted_line};
 
 use fsl_date::Moment;
 use fsl_files::{Change, FileRow, How, Perm};
 use fsl_forum::{Post, PostKind};
-use fsl_name::Name;
+use fsl_name::{Name, Ref};
 use fsl_tags::Assertion;
 use fsl_text::{Memory, Text, escape_into};
 use fsl_timeline::{Row, RowKind};
@@ -136,6 +137,15 @@ fn perm_text(perm: Perm) -> &'static [u8]
     }
 }
 
+/// Puts a reference and a space behind it at the end of a text.
+fn append_ref(into: &mut Text, hash: &Ref) -> Result<(), Memory>
+    ensures { OnOk result (into.new ≡ into.old ++ ref_text hash.now ++ 32 ∷ []) }
+{
+    let mut digits = [0u8; 64];
+    let count = hash.write(&mut digits) as usize;
+    append_word(into, &digits[..count])
+}
+
 /// Puts the line of a file at the end of a text: its hash, its permission and its path.
 pub(crate) fn append_file(into: &mut Text, file: &FileRow) -> Result<(), Memory>
     ensures { OnOk result (into.new ≡ into.old ++ file_line file.now) }
@@ -143,7 +153,7 @@ pub(crate) fn append_file(into: &mut Text, file: &FileRow) -> Result<(), Memory>
     let Some(hash) = file.hash else {
         return Ok(());
     };
-    append_word(into, &hash.text())?;
+    append_ref(into, &hash)?;
     append_word(into, perm_text(file.perm))?;
     escape_into(into, file.path.bytes())?;
     into.append(b"\n")

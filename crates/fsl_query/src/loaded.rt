@@ -1,17 +1,24 @@
 //! Reports on what was loaded without tables: those by which a report is told are made for it, and those that these rest on.
-ghost use Rattle.std.specs.Prelude.{◌≡◌, ℕ, List as Texts, All, IfOk};
+ghost use Rattle.std.specs.Prelude.{◌≡◌, ◌≤◌, ℕ, Bool, None, List as Texts, length, All, IfOk};
 ghost use Rattle.fsl_blobs.specs.Fold.{contents};
 ghost use Rattle.fsl_cross.specs.Checkins.{branch};
 ghost use Rattle.fsl_cross.specs.Tables.{IsItem, tables};
+ghost use Rattle.fsl_disk.specs.Disk.{Quiet};
+ghost use Rattle.fsl_journal.specs.Journal.{Belongs};
+ghost use Rattle.fsl_record.specs.Records.{AreRecords};
 ghost use Rattle.fsl_repo.specs.Machine.{AreItems};
-ghost use Rattle.fsl_query.specs.Answers.{IsAnswer, IsReported};
+ghost use Rattle.fsl_words.specs.declared.Question.TheVariants as question_of;
+ghost use Rattle.fsl_query.specs.Answers.{IsAnswer, IsRead, IsReported, IsReportedOn, content_asked, prefix_of};
 ghost use Rattle.fsl_query.specs.Reports.{files_report, leaves_report, tags_report, thread_report, ticket_report, timeline_report, wiki_report, report};
 
-use crate::finding::{content, named};
+use crate::finding::{content, named, prefix_of};
 use crate::{QueryFault, files, leaves, phantoms, tags, thread, ticket, timeline, tip, wiki};
 use fsl_blobs::Blobs;
 use fsl_cross::Items;
+use fsl_disk::Disk;
+use fsl_journal::Journal;
 use fsl_name::Name;
+use fsl_record::Record;
 use fsl_repo::{items_of, wants_of};
 use fsl_text::{List, Memory, Text};
 use fsl_wiki::Pages;
@@ -121,10 +128,11 @@ fn report_of(
 ) -> Result<Text, QueryFault>
     requires held { AreItems (contents blobs.now.records).held items.now }
     requires kinds { All IsItem items.now }
+    requires unread { prefix_of question.now ≡ None }
     ensures { IsAnswer (report (contents blobs.now.records) items.now question.now) result }
 {
     match question {
-        Question::Cat { prefix } => Ok(Text::of(alloc, content(alloc, blobs, prefix.bytes())?)?),
+        Question::Cat { .. } => unreachable!(),
         Question::Timeline { count } => Ok(timeline_of(alloc, items, *count)?),
         Question::Leaves => Ok(leaves_of(alloc, items)?),
         Question::Tags { prefix } => {
@@ -149,16 +157,73 @@ fn report_of(
     }
 }
 
-/// The text of a report on what was loaded without tables: those by which it is told are made, and those that these rest on. All
-/// that is held is read first, but for `cat`, whose bytes are copied; `content` lends them.
-///
-/// Errors: `Refused` where there is nothing to report; `Memory` for want of memory.
-pub fn report_from(alloc: Global, blobs: &Blobs, question: &Question) -> Result<Text, QueryFault>
-    ensures { IsReported (contents blobs.now.records) question.now result }
+/// The content of the one artifact that the records leave whose digits begin with a prefix, as it is read.
+fn content_from<D: Disk>(
+    alloc: Global,
+    journal: &Journal,
+    places: &List<u64>,
+    records: List<Record>,
+    disk: &mut D,
+    prefix: &[u8],
+) -> Result<Text, QueryFault>
+    requires records { AreRecords records }
+    requires same { IsRead journal.now records places.now }
+    requires belongs { Belongs journal.now (D.state disk.old) }
+    ensures means { IsReportedOn (D.state disk.old) records (question_of.Cat prefix.now) (D.state disk.new) result }
+    ensures unread { content_asked (contents records) (question_of.Cat prefix.now) ≡ None → disk.new ≡ disk.old }
+    ensures later { (D.state disk.old).faults ≤ (D.state disk.new).faults }
+    ensures quiet { Quiet (D.state disk.old) (D.state disk.new) }
 {
-    if let Question::Cat { prefix } = question {
-        return Ok(Text::of(alloc, content(alloc, blobs, prefix.bytes())?)?);
+    let mut blobs = Blobs::fold(alloc, places, records)?;
+    let found = content(alloc, journal, &mut blobs, disk, prefix);
+    drop(blobs);
+    found
+}
+
+/// The text of a report on the artifacts that the records leave, where no content is asked for.
+fn report_over(
+    alloc: Global,
+    places: &List<u64>,
+    records: List<Record>,
+    question: &Question,
+) -> Result<Text, QueryFault>
+    requires records { AreRecords records }
+    requires places { length places.now ≡ length records }
+    requires unread { prefix_of question.now ≡ None }
+    ensures { (honest : Bool) (faults : ℕ) → IsReported honest (contents records) question.now faults faults result }
+{
+    let (blobs, items) = items_of(alloc, places, records)?;
+    let told = report_of(alloc, &blobs, &items, question);
+    drop(items);
+    drop(blobs);
+    told
+}
+
+/// The text of a report on what was loaded without tables: those by which it is told are made, and those that these rest on. All
+/// that is held is read first as it was loaded, but for `cat`, whose content alone is read from the disk.
+///
+/// Errors: `Refused` where there is nothing to report; for `cat`, `Disk` where a call of the disk failed, and `Damaged` where
+/// the bytes that were read have another name; `Memory`.
+pub fn report_from<D: Disk>(
+    alloc: Global,
+    journal: &Journal,
+    places: &List<u64>,
+    records: List<Record>,
+    disk: &mut D,
+    question: &Question,
+) -> Result<Text, QueryFault>
+    requires records { AreRecords records }
+    requires same { IsRead journal.now records places.now }
+    requires belongs { Belongs journal.now (D.state disk.old) }
+    ensures means { IsReportedOn (D.state disk.old) records question.now (D.state disk.new) result }
+    // Where no content is asked for, or the prefix doesn't find one name, no device is called.
+    ensures unread { content_asked (contents records) question.now ≡ None → disk.new ≡ disk.old }
+    ensures later { (D.state disk.old).faults ≤ (D.state disk.new).faults }
+    // It only reads.
+    ensures quiet { Quiet (D.state disk.old) (D.state disk.new) }
+{
+    match prefix_of(question) {
+        Some(prefix) => content_from(alloc, journal, places, records, disk, prefix),
+        None => report_over(alloc, places, records, question),
     }
-    let items = items_of(alloc, blobs)?;
-    report_of(alloc, blobs, &items, question)
 }

@@ -1,10 +1,10 @@
 -- Bytes that are the front of a record and go on with a tail.
-use Rattle.std.proofs.Common.{◌≡◌, ◌≢◌, ◌⊎◌, ℕ, zero, suc, ◌+◌, ◌-◌, ◌<◌, ◌≤◌, ◌^◌, true, false, List, [], ◌∷◌, ◌++◌, length, get_or, take, drop, replicate, refl, sym, ◌∙◌, ap, arith, append_assoc, length-append, length-take, length-drop, inl, inr}
-use Rattle.std.specs.Int.{to_be_bytes, from_be_bytes, w16, w64}
-use Rattle.std.proofs.lemmas.Nat.{be_bytes_2, be_bytes_8}
+use Rattle.std.proofs.Common.{◌≡◌, ◌≢◌, ℕ, zero, suc, ◌+◌, ◌-◌, ◌<◌, ◌≤◌, ◌^◌, true, false, List, [], ◌∷◌, ◌++◌, length, get_or, take, drop, replicate, refl, sym, ◌∙◌, ap, arith, append_assoc, length-append, length-take, length-drop, inl, inr}
+use Rattle.std.specs.Int.{to_be_bytes, from_be_bytes, w16, w32, w64}
+use Rattle.std.proofs.lemmas.Nat.{be_bytes_2, be_bytes_4, be_bytes_8}
 use Rattle.std.proofs.lemmas.List.{take-append-drop, get_or-drop, length-replicate, nil_from_length}
 use Rattle.fsl_record.specs.declared.RecordFault.TheVariants as record_fault
-use Rattle.fsl_record.specs.Groups.{FailsFirst, blob_head, config_head}
+use Rattle.fsl_record.specs.Groups.{OtherFails, IsNameKind, blob_head, config_head}
 use Rattle.fsl_record.specs.Reading.{FieldFails}
 use Rattle.fsl_record.proofs.FieldLists.{fields_none}
 
@@ -41,6 +41,9 @@ some_zeros n rest some none = absurd (omega (arith, ap length none, length-appen
 pub number_of_8 : (l : List ℕ) → length l ≡ 8 → AllBytes l → l ≡ to_be_bytes w64 (from_be_bytes w64 l)
 number_of_8 l long all = sym (be_bytes_8 l (from_be_bytes w64 l) long all refl)
 
+pub number_of_4 : (l : List ℕ) → length l ≡ 4 → AllBytes l → l ≡ to_be_bytes w32 (from_be_bytes w32 l)
+number_of_4 l long all = sym (be_bytes_4 l (from_be_bytes w32 l) long all refl)
+
 pub number_of_2 : (l : List ℕ) → length l ≡ 2 → AllBytes l → l ≡ to_be_bytes w16 (from_be_bytes w16 l)
 number_of_2 l long all = sym (be_bytes_2 l (from_be_bytes w16 l) long all refl)
 
@@ -58,8 +61,8 @@ bytes_filled more n all = bytes_append more (zeros (n - length more)) all (bytes
 
 -- ---- a blob
 
-pub blob_cut_at_flag : FailsFirst false (66 ∷ []) record_fault.Short
-blob_cut_at_flag = inr (replicate 29 0, (λ none. absurd cc), inl (0, replicate 20 0, [], refl, refl, inl (omega arith), inl (omega arith)))
+pub blob_cut_at_flag : (v : ℕ) → OtherFails v false (66 ∷ []) record_fault.Short
+blob_cut_at_flag v = inr (replicate 29 0, (λ none. absurd cc), inl (0, replicate 20 0, [], refl, refl, inl (omega arith), inl (omega arith)))
 
 -- the head of a blob whose name and length aren't there whole
 blob_head_is : (more content : List ℕ) (private : ℕ) → length more < 28 → AllBytes more → length content ≡ from_be_bytes w64 (drop 20 (filled more 28))
@@ -72,8 +75,8 @@ blob_head_is more content private short all sized =
     sym (take-append-drop 20 (filled more 28)) ∙ ap (λ (l : List ℕ). take 20 (filled more 28) ++ l) (number ∙ ap (λ (n : ℕ). to_be_bytes w64 n) (sym sized)) in
     ap (λ (l : List ℕ). 66 ∷ private ∷ l) (sym (append_assoc more (zeros (28 - length more)) content) ∙ ap (λ (l : List ℕ). l ++ content) split)
 
-pub blob_cut_at_head : (private : ℕ) (more : List ℕ) → private ≤ 1 → length more < 28 → AllBytes more → FailsFirst false (66 ∷ private ∷ more) record_fault.Short
-blob_cut_at_head private more flag short all =
+pub blob_cut_at_head : (v private : ℕ) (more : List ℕ) → private ≤ 1 → length more < 28 → AllBytes more → OtherFails v false (66 ∷ private ∷ more) record_fault.Short
+blob_cut_at_head v private more flag short all =
     let long = length-filled more 28 (omega (arith, short)) in
     let size = from_be_bytes w64 (drop 20 (filled more 28)) in
     let content = zeros size in
@@ -91,9 +94,9 @@ blob_cut_at_head private more flag short all =
       ),
     )
 
-pub blob_cut_at_content : (private n : ℕ) (name got : List ℕ) → private ≤ 1 → length name ≡ 20 → n ≤ 2 ^ 24 → length got < n
-    → FailsFirst false (66 ∷ private ∷ (name ++ (to_be_bytes w64 n ++ got))) record_fault.Short
-blob_cut_at_content private n name got flag long small short =
+pub blob_cut_at_content : (v private n : ℕ) (name got : List ℕ) → private ≤ 1 → length name ≡ 20 → n ≤ 2 ^ 24 → length got < n
+    → OtherFails v false (66 ∷ private ∷ (name ++ (to_be_bytes w64 n ++ got))) record_fault.Short
+blob_cut_at_content v private n name got flag long small short =
     let tail = zeros (n - length got) in
     let whole : length (got ++ tail) ≡ n = omega (arith, length-append got tail, length-zeros (n - length got), short) in
     let layout : 66 ∷ private ∷ ((name ++ (to_be_bytes w64 n ++ got)) ++ tail) ≡ blob_head private name (length (got ++ tail)) ++ (got ++ tail) =
@@ -110,9 +113,9 @@ blob_cut_at_content private n name got flag long small short =
 
 -- ---- a name alone
 
-pub name_cut : (kind : ℕ) (more : List ℕ) → (kind ≡ 80) ⊎ (kind ≡ 83) → length more < 20 → FailsFirst false (kind ∷ more) record_fault.Short
+pub name_cut : (v kind : ℕ) (more : List ℕ) → IsNameKind v kind → length more < 20 → OtherFails v false (kind ∷ more) record_fault.Short
 unfolding filled
-name_cut kind more is short =
+name_cut v kind more is short =
     inr (
       zeros (20 - length more),
       some (20 - length more) (omega (arith, short)),
@@ -124,9 +127,9 @@ name_cut kind more is short =
 
 -- ---- a Config
 
-pub config_cut_at_head : (more : List ℕ) → length more < 42 → AllBytes more → FailsFirst true (67 ∷ more) record_fault.Short
+pub config_cut_at_head : (v : ℕ) (more : List ℕ) → length more < 42 → AllBytes more → OtherFails v true (67 ∷ more) record_fault.Short
 unfolding filled
-config_cut_at_head more short all =
+config_cut_at_head v more short all =
     let whole = filled more 42 in
     let long = length-filled more 42 (omega (arith, short)) in
     let count = from_be_bytes w16 (drop 40 whole) in

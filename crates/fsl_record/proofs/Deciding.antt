@@ -1,5 +1,5 @@
 -- What can be decided of bytes and of records.
-use Rattle.std.proofs.Common.{◌≡◌, ◌⊎◌, inl, inr, ℕ, ◌≤◌, ◌^◌, Bool, true, false, List, [], ◌∷◌, length, IsTrue, refl, ap, arith}
+use Rattle.std.proofs.Common.{◌≡◌, ◌⊎◌, inl, inr, Option, None, Some, ℕ, suc, ◌≤◌, ◌^◌, Bool, true, false, List, [], ◌∷◌, length, IsTrue, refl, ap, arith}
 use Rattle.std.specs.Prelude.{nat_lt}
 use Rattle.std.specs.List.{AllByRecursion, IsDistinct, list_all}
 use Rattle.std.specs.Str.{bytes_eq}
@@ -8,7 +8,8 @@ use Rattle.std.proofs.lemmas.Bool.{ltb-false}
 use Rattle.fsl_name.specs.Name.{name_of}
 use Rattle.fsl_record.specs.declared.Record.{Record}
 use Rattle.fsl_record.specs.declared.Record.TheVariants as record_of
-use Rattle.fsl_record.specs.Records.{is_field, IsFit, AreFields}
+use Rattle.fsl_record.specs.Records.{is_field, IsFit, IsOfVersion, AreFields}
+use Rattle.fsl_record.specs.Receipts.{Brought, IsReceiptOr}
 
 -- it holds, or it doesn't
 abbrev pub Decided : Type 0 → Type 0
@@ -88,9 +89,23 @@ decide_fields fields =
     decide_by (decide_distinct fields) (λ differ. inl (record { few = few; formed = formed; differ = differ }))
     (λ n h. n h.differ)) (λ n h. n h.formed)) (λ n h. n h.few)
 
+decide_receipt : (receipt : Option Brought) → Decided (IsReceiptOr receipt)
+decide_receipt None = inl tt
+decide_receipt (Some r) = decide_both (decide_le (length r.login) (2 ^ 20)) (decide_le (suc r.moment) 315569520000000)
+
 -- whether a record is fit
 pub decide_fit : (r : Record) → Decided (IsFit r)
-decide_fit (record_of.Config c) = decide_both (decide_both (decide_nat (length c.project) 20) (decide_nat (length c.server) 20)) (decide_fields c.fields)
-decide_fit (record_of.Blob private name bytes) = decide_both (decide_nat (length name) 20) (decide_both (decide_text name (name_of bytes)) (decide_le (length bytes) (2 ^ 24)))
-decide_fit (record_of.Publish name) = decide_both (decide_nat (length name) 20) (inl tt)
-decide_fit (record_of.Shun name) = decide_both (decide_nat (length name) 20) (inl tt)
+decide_fit (record_of.Config c) = decide_three (decide_both (decide_nat (length c.project) 20) (decide_nat (length c.server) 20)) (decide_fields c.fields) (inl tt)
+decide_fit (record_of.Blob private name receipt bytes) = decide_three (decide_nat (length name) 20) (decide_both (decide_text name (name_of bytes)) (decide_le (length bytes) (2 ^ 24))) (decide_receipt receipt)
+decide_fit (record_of.Publish name) = decide_three (decide_nat (length name) 20) (inl tt) (inl tt)
+decide_fit (record_of.Shun name) = decide_three (decide_nat (length name) 20) (inl tt) (inl tt)
+decide_fit (record_of.Unshun name) = decide_three (decide_nat (length name) 20) (inl tt) (inl tt)
+
+-- and whether it is of a version
+pub decide_version : (v : ℕ) (r : Record) → Decided (IsOfVersion v r)
+decide_version v (record_of.Config c) = inl tt
+decide_version v (record_of.Blob private name None bytes) = inl tt
+decide_version v (record_of.Blob private name (Some r) bytes) = decide_nat v 2
+decide_version v (record_of.Publish name) = inl tt
+decide_version v (record_of.Shun name) = inl tt
+decide_version v (record_of.Unshun name) = decide_nat v 2

@@ -10,10 +10,12 @@ use Rattle.fsl_record.specs.declared.Record.{Record}
 use Rattle.fsl_record.specs.declared.RecordFault.{RecordFault}
 use Rattle.fsl_record.specs.declared.RecordFault.TheVariants as record_fault
 use Rattle.fsl_order.specs.Names.{has}
-use Rattle.fsl_record.specs.Records.{field_bytes, is_field, record_bytes, records_bytes, IsFit, AreFields}
-use Rattle.fsl_record.specs.Groups.{StandInGroup, blob_head, config_head, FailsFirst, IsGroupFault}
+use Rattle.fsl_record.specs.Records.{field_bytes, is_field, record_bytes, records_bytes, IsFit, IsOfVersion, AreFields}
+use Rattle.fsl_record.specs.Groups.{StandInGroup, blob_head, config_head, OtherFails, FailsFirst, IsGroupFault}
+use Rattle.fsl_record.specs.Brought.{BroughtFails}
 use Rattle.fsl_record.proofs.Unique.{SamePiece, append_same, length_same, count_same, first_same, rest_same, pieces_same, record_same}
-use Rattle.fsl_record.proofs.Exclusive.{none_behind, not_field, record_well, kind_due}
+use Rattle.fsl_record.proofs.Exclusive.{none_behind, not_field, no_name_kind, name_kind_known, due_other, both_fail, record_well, kind_due}
+use Rattle.fsl_record.proofs.Parts.{brought_one}
 
 -- ---- no Config is due
 
@@ -35,19 +37,16 @@ length-blob q a m r long = omega (arith, length-append (m ++ to_be_bytes w64 a) 
 second_same : (a b c d : ℕ) (r s : List ℕ) → a ∷ b ∷ r ≡ c ∷ d ∷ s → b ≡ d
 second_same a b c d r s same = ap (λ (l : List ℕ). get_or l 1 0) same
 
-no_name : (kind : ℕ) → 66 ≡ kind → (kind ≡ 80) ⊎ (kind ≡ 83) → ⊥
-no_name kind is of = elim of [ inl publish ↦ omega (arith, is, publish) | inr shun ↦ omega (arith, is, shun) ]
-
 -- a blob's head goes with no fault of its kind
-kind_or_blob : (found q : ℕ) (bytes r : List ℕ) → FailsFirst false bytes (record_fault.Kind found) → bytes ≡ 66 ∷ q ∷ r → q ≤ 1 → ⊥
-kind_or_blob found q bytes r fails is small =
+kind_or_blob : (v : ℕ) (found q : ℕ) (bytes r : List ℕ) → OtherFails v false bytes (record_fault.Kind found) → bytes ≡ 66 ∷ q ∷ r → q ≤ 1 → ⊥
+kind_or_blob v found q bytes r fails is small =
     elim fails [
       | inl other ↦ other.2.0 (first_same _ _ _ _ (sym other.1 ∙ is))
       | inr private ↦ omega (arith, second_same _ _ _ _ _ _ (sym private.1 ∙ is), private.3, small)
     ]
 
-kind_one : (a b : ℕ) (bytes : List ℕ) → FailsFirst false bytes (record_fault.Kind a) → FailsFirst false bytes (record_fault.Kind b) → a ≡ b
-kind_one a b bytes one two =
+kind_one : (v : ℕ) (a b : ℕ) (bytes : List ℕ) → OtherFails v false bytes (record_fault.Kind a) → OtherFails v false bytes (record_fault.Kind b) → a ≡ b
+kind_one v a b bytes one two =
     elim one [
       | inl other ↦ elim two [
         | inl also ↦ first_same _ _ _ _ (sym other.1 ∙ also.1)
@@ -59,8 +58,8 @@ kind_one a b bytes one two =
       ]
     ]
 
-kind_or_short : (found : ℕ) (bytes : List ℕ) → FailsFirst false bytes (record_fault.Kind found) → FailsFirst false bytes record_fault.Short → ⊥
-kind_or_short found bytes kind short =
+kind_or_short : (v : ℕ) (found : ℕ) (bytes : List ℕ) → OtherFails v false bytes (record_fault.Kind found) → OtherFails v false bytes record_fault.Short → ⊥
+kind_or_short v found bytes kind short =
     elim short [
       | inl none ↦ elim kind [ inl other ↦ absurd (let e = sym none ∙ other.1 in cc) | inr private ↦ absurd (let e = sym none ∙ private.1 in cc) ]
       | inr cut ↦ elim cut.2 [
@@ -69,11 +68,8 @@ kind_or_short found bytes kind short =
           | inr private ↦ flag found blob.0 private.0 cut.0 _ bytes private.1 private.3 blob.3 blob.5
         ]
         | inr named ↦ elim kind [
-          | inl other ↦ elim named.5 [
-            | inl publish ↦ other.2.1 (first_same _ _ _ _ (ap (λ (l : List ℕ). l ++ cut.0) (sym other.1) ∙ named.2) ∙ publish)
-            | inr shun ↦ other.2.2 (first_same _ _ _ _ (ap (λ (l : List ℕ). l ++ cut.0) (sym other.1) ∙ named.2) ∙ shun)
-          ]
-          | inr private ↦ no_name named.0 (first_same _ _ _ _ (ap (λ (l : List ℕ). l ++ cut.0) (sym private.1) ∙ named.2)) named.5
+          | inl other ↦ name_kind_known v named.0 found named.5 (sym (first_same _ _ _ _ (ap (λ (l : List ℕ). l ++ cut.0) (sym other.1) ∙ named.2))) other.2
+          | inr private ↦ no_name_kind v named.0 (first_same _ _ _ _ (ap (λ (l : List ℕ). l ++ cut.0) (sym private.1) ∙ named.2)) named.5
         ]
       ]
     ]
@@ -96,20 +92,20 @@ cut_size q a m r bytes is m_long fits tail p n content n_long same so_far =
           (sym heads.sized, small, heads.behind)
     ]
 
-length_or_short : (found : ℕ) (bytes : List ℕ) → FailsFirst false bytes (record_fault.Length found) → FailsFirst false bytes record_fault.Short → ⊥
-length_or_short found bytes long short =
+length_or_short : (v : ℕ) (found : ℕ) (bytes : List ℕ) → OtherFails v false bytes (record_fault.Length found) → OtherFails v false bytes record_fault.Short → ⊥
+length_or_short v found bytes long short =
     elim short [
       | inl none ↦ absurd (let e = sym none ∙ long.3 in cc)
       | inr cut ↦ elim cut.2 [
         | inl blob ↦
             let size = cut_size long.0 found long.1 long.2 bytes long.3 long.5 long.7 cut.0 blob.0 blob.1 blob.2 blob.4 blob.3 blob.6 in
             omega (arith, size.0, size.1, long.6)
-        | inr named ↦ no_name named.0 (first_same _ _ _ _ (ap (λ (l : List ℕ). l ++ cut.0) (sym long.3) ∙ named.2)) named.5
+        | inr named ↦ no_name_kind v named.0 (first_same _ _ _ _ (ap (λ (l : List ℕ). l ++ cut.0) (sym long.3) ∙ named.2)) named.5
       ]
     ]
 
-name_or_short : (kept found bytes : List ℕ) → FailsFirst false bytes (record_fault.NameWrong kept found) → FailsFirst false bytes record_fault.Short → ⊥
-name_or_short kept found bytes wrong short =
+name_or_short : (v : ℕ) (kept found bytes : List ℕ) → OtherFails v false bytes (record_fault.NameWrong kept found) → OtherFails v false bytes record_fault.Short → ⊥
+name_or_short v kept found bytes wrong short =
     let whole : bytes ≡ blob_head wrong.0 kept (length wrong.1) ++ (wrong.1 ++ wrong.2) = wrong.3 ∙ append_assoc (blob_head wrong.0 kept (length wrong.1)) wrong.1 wrong.2 in
     elim short [
       | inl none ↦ absurd (let e = sym none ∙ whole in cc)
@@ -118,21 +114,21 @@ name_or_short kept found bytes wrong short =
             let size = cut_size wrong.0 (length wrong.1) kept (wrong.1 ++ wrong.2) bytes whole wrong.6 (omega (arith, wrong.7)) cut.0 blob.0 blob.1 blob.2 blob.4 blob.3 blob.6 in
             let content = append_same wrong.1 blob.2 (wrong.2 ++ cut.0) [] (sym size.0) (sym (append_assoc wrong.1 wrong.2 cut.0) ∙ size.2 ∙ sym (append-nil blob.2)) in
             cut.1 (none_behind wrong.2 cut.0 content.rest)
-        | inr named ↦ no_name named.0 (first_same _ _ _ _ (ap (λ (l : List ℕ). l ++ cut.0) (sym whole) ∙ named.2)) named.5
+        | inr named ↦ no_name_kind v named.0 (first_same _ _ _ _ (ap (λ (l : List ℕ). l ++ cut.0) (sym whole) ∙ named.2)) named.5
       ]
     ]
 
-length_one : (a b : ℕ) (bytes : List ℕ) → FailsFirst false bytes (record_fault.Length a) → FailsFirst false bytes (record_fault.Length b) → a ≡ b
-length_one a b bytes one two = (blob_heads one.0 two.0 a b one.1 two.1 one.2 two.2 one.5 two.5 one.7 two.7 (sym one.3 ∙ two.3)).sized
+length_one : (v : ℕ) (a b : ℕ) (bytes : List ℕ) → OtherFails v false bytes (record_fault.Length a) → OtherFails v false bytes (record_fault.Length b) → a ≡ b
+length_one v a b bytes one two = (blob_heads one.0 two.0 a b one.1 two.1 one.2 two.2 one.5 two.5 one.7 two.7 (sym one.3 ∙ two.3)).sized
 
-length_or_name : (a : ℕ) (kept found bytes : List ℕ) → FailsFirst false bytes (record_fault.Length a) → FailsFirst false bytes (record_fault.NameWrong kept found) → ⊥
-length_or_name a kept found bytes long wrong =
+length_or_name : (v : ℕ) (a : ℕ) (kept found bytes : List ℕ) → OtherFails v false bytes (record_fault.Length a) → OtherFails v false bytes (record_fault.NameWrong kept found) → ⊥
+length_or_name v a kept found bytes long wrong =
     let whole = wrong.3 ∙ append_assoc (blob_head wrong.0 kept (length wrong.1)) wrong.1 wrong.2 in
     let heads = blob_heads long.0 wrong.0 a (length wrong.1) long.1 kept long.2 (wrong.1 ++ wrong.2) long.5 wrong.6 long.7 (omega (arith, wrong.7)) (sym long.3 ∙ whole) in
     omega (arith, heads.sized, wrong.7, long.6)
 
-name_one : (kept found known seen bytes : List ℕ) → FailsFirst false bytes (record_fault.NameWrong kept found) → FailsFirst false bytes (record_fault.NameWrong known seen) → record_fault.NameWrong kept found ≡ record_fault.NameWrong known seen
-name_one kept found known seen bytes one two =
+name_one : (v : ℕ) (kept found known seen bytes : List ℕ) → OtherFails v false bytes (record_fault.NameWrong kept found) → OtherFails v false bytes (record_fault.NameWrong known seen) → record_fault.NameWrong kept found ≡ record_fault.NameWrong known seen
+name_one v kept found known seen bytes one two =
     let first = one.3 ∙ append_assoc (blob_head one.0 kept (length one.1)) one.1 one.2 in
     let second = two.3 ∙ append_assoc (blob_head two.0 known (length two.1)) two.1 two.2 in
     let heads = blob_heads one.0 two.0 (length one.1) (length two.1) kept known (one.1 ++ one.2) (two.1 ++ two.2) one.6 two.6 (omega (arith, one.7)) (omega (arith, two.7)) (sym first ∙ second) in
@@ -140,25 +136,25 @@ name_one kept found known seen bytes one two =
     let names : found ≡ seen = one.8 ∙ ap name_of content.piece ∙ sym two.8 in
     (λ i. record_fault.NameWrong (heads.name i) (names i))
 
-later_one : (bytes : List ℕ) (a b : RecordFault) → FailsFirst false bytes a → FailsFirst false bytes b → a ≡ b
-later_one bytes record_fault.Memory b one two = absurd one
-later_one bytes a record_fault.Memory one two = absurd two
-later_one bytes (record_fault.Kind a) (record_fault.Kind b) one two = ap (λ (n : ℕ). record_fault.Kind n) (kind_one a b bytes one two)
-later_one bytes (record_fault.Kind a) (record_fault.Length b) one two = absurd (kind_or_blob a two.0 bytes _ one two.3 two.4)
-later_one bytes (record_fault.Kind a) (record_fault.NameWrong m n) one two = absurd (kind_or_blob a two.0 bytes _ one two.3 two.5)
-later_one bytes (record_fault.Kind a) record_fault.Short one two = absurd (kind_or_short a bytes one two)
-later_one bytes (record_fault.Length a) (record_fault.Kind b) one two = absurd (kind_or_blob b one.0 bytes _ two one.3 one.4)
-later_one bytes (record_fault.Length a) (record_fault.Length b) one two = ap (λ (n : ℕ). record_fault.Length n) (length_one a b bytes one two)
-later_one bytes (record_fault.Length a) (record_fault.NameWrong m n) one two = absurd (length_or_name a m n bytes one two)
-later_one bytes (record_fault.Length a) record_fault.Short one two = absurd (length_or_short a bytes one two)
-later_one bytes (record_fault.NameWrong m n) (record_fault.Kind b) one two = absurd (kind_or_blob b one.0 bytes _ two one.3 one.5)
-later_one bytes (record_fault.NameWrong m n) (record_fault.Length b) one two = absurd (length_or_name b m n bytes two one)
-later_one bytes (record_fault.NameWrong m n) (record_fault.NameWrong k l) one two = name_one m n k l bytes one two
-later_one bytes (record_fault.NameWrong m n) record_fault.Short one two = absurd (name_or_short m n bytes one two)
-later_one bytes record_fault.Short (record_fault.Kind b) one two = absurd (kind_or_short b bytes two one)
-later_one bytes record_fault.Short (record_fault.Length b) one two = absurd (length_or_short b bytes two one)
-later_one bytes record_fault.Short (record_fault.NameWrong m n) one two = absurd (name_or_short m n bytes two one)
-later_one bytes record_fault.Short record_fault.Short one two = refl
+later_one : (v : ℕ) (bytes : List ℕ) (a b : RecordFault) → OtherFails v false bytes a → OtherFails v false bytes b → a ≡ b
+later_one v bytes record_fault.Memory b one two = absurd one
+later_one v bytes a record_fault.Memory one two = absurd two
+later_one v bytes (record_fault.Kind a) (record_fault.Kind b) one two = ap (λ (n : ℕ). record_fault.Kind n) (kind_one v a b bytes one two)
+later_one v bytes (record_fault.Kind a) (record_fault.Length b) one two = absurd (kind_or_blob v a two.0 bytes _ one two.3 two.4)
+later_one v bytes (record_fault.Kind a) (record_fault.NameWrong m n) one two = absurd (kind_or_blob v a two.0 bytes _ one two.3 two.5)
+later_one v bytes (record_fault.Kind a) record_fault.Short one two = absurd (kind_or_short v a bytes one two)
+later_one v bytes (record_fault.Length a) (record_fault.Kind b) one two = absurd (kind_or_blob v b one.0 bytes _ two one.3 one.4)
+later_one v bytes (record_fault.Length a) (record_fault.Length b) one two = ap (λ (n : ℕ). record_fault.Length n) (length_one v a b bytes one two)
+later_one v bytes (record_fault.Length a) (record_fault.NameWrong m n) one two = absurd (length_or_name v a m n bytes one two)
+later_one v bytes (record_fault.Length a) record_fault.Short one two = absurd (length_or_short v a bytes one two)
+later_one v bytes (record_fault.NameWrong m n) (record_fault.Kind b) one two = absurd (kind_or_blob v b one.0 bytes _ two one.3 one.5)
+later_one v bytes (record_fault.NameWrong m n) (record_fault.Length b) one two = absurd (length_or_name v b m n bytes two one)
+later_one v bytes (record_fault.NameWrong m n) (record_fault.NameWrong k l) one two = name_one v m n k l bytes one two
+later_one v bytes (record_fault.NameWrong m n) record_fault.Short one two = absurd (name_or_short v m n bytes one two)
+later_one v bytes record_fault.Short (record_fault.Kind b) one two = absurd (kind_or_short v b bytes two one)
+later_one v bytes record_fault.Short (record_fault.Length b) one two = absurd (length_or_short v b bytes two one)
+later_one v bytes record_fault.Short (record_fault.NameWrong m n) one two = absurd (name_or_short v m n bytes two one)
+later_one v bytes record_fault.Short record_fault.Short one two = refl
 
 -- ---- a Config is due
 
@@ -238,8 +234,8 @@ record TooMany (bytes : List ℕ) (found : ℕ) : Type 0 where
   pub many : 256 < found
   pub fits : found < 2 ^ 16
 
-length_cases : (bytes : List ℕ) (found : ℕ) → FailsFirst true bytes (record_fault.Length found) → TooMany bytes found ⊎ BadField bytes found
-length_cases bytes found fails =
+length_cases : (v : ℕ) (bytes : List ℕ) (found : ℕ) → OtherFails v true bytes (record_fault.Length found) → TooMany bytes found ⊎ BadField bytes found
+length_cases v bytes found fails =
     elim fails.3 [
       | inl many ↦ inl (record { codes = fails.0; rest = fails.1; long = fails.2; layout = many.0; many = many.1; fits = many.2 })
       | inr bad ↦ inr (record {
@@ -273,14 +269,14 @@ bad_one bytes a b one two =
       | inr (inr on) ↦ absurd (bad_goes_on two.good one.good two.field two.rest s b on one.fit two.sized two.bad)
     ]
 
-first_length_one : (a b : ℕ) (bytes : List ℕ) → FailsFirst true bytes (record_fault.Length a) → FailsFirst true bytes (record_fault.Length b) → a ≡ b
-first_length_one a b bytes one two =
-    elim (length_cases bytes a one) [
-      | inl many ↦ elim (length_cases bytes b two) [
+first_length_one : (v : ℕ) (a b : ℕ) (bytes : List ℕ) → OtherFails v true bytes (record_fault.Length a) → OtherFails v true bytes (record_fault.Length b) → a ≡ b
+first_length_one v a b bytes one two =
+    elim (length_cases v bytes a one) [
+      | inl many ↦ elim (length_cases v bytes b two) [
         | inl also ↦ (config_heads many.codes also.codes a b many.rest also.rest many.long also.long many.fits also.fits (sym many.layout ∙ also.layout)).counted
         | inr bad ↦ absurd (many_or_bad bytes a b many bad)
       ]
-      | inr bad ↦ elim (length_cases bytes b two) [
+      | inr bad ↦ elim (length_cases v bytes b two) [
         | inl many ↦ absurd (many_or_bad bytes b a many bad)
         | inr also ↦ bad_one bytes a b bad also
       ]
@@ -299,8 +295,8 @@ record CutFields (bytes : List ℕ) : Type 0 where
   pub layout : bytes ++ tail ≡ config_head codes count ++ (flat_map field_bytes good ++ (length field ∷ field))
   pub few : count ≤ 256
 
-cut_fields : (bytes : List ℕ) → FailsFirst true bytes record_fault.Short → 43 ≤ length bytes → CutFields bytes
-cut_fields bytes fails whole =
+cut_fields : (v : ℕ) (bytes : List ℕ) → OtherFails v true bytes record_fault.Short → 43 ≤ length bytes → CutFields bytes
+cut_fields v bytes fails whole =
     elim fails [
       | inl none ↦ absurd (omega (arith, ap length none, whole))
       | inr cut ↦ elim cut.2.7 [
@@ -349,97 +345,105 @@ bad_or_cut bytes a bad cut =
     not_nil : (x : ℕ) (l : List ℕ) → x ∷ l ≡ [] → ⊥
     not_nil x l none = absurd cc
 
-first_length_or_short : (found : ℕ) (bytes : List ℕ) → FailsFirst true bytes (record_fault.Length found) → FailsFirst true bytes record_fault.Short → ⊥
-first_length_or_short found bytes long short =
-    elim (length_cases bytes found long) [
-      | inl many ↦ many_or_cut bytes found many (cut_fields bytes short (omega (arith, ap length many.layout, length-config many.codes many.rest found many.long)))
-      | inr bad ↦ bad_or_cut bytes found bad (cut_fields bytes short (omega (arith, ap length bad.layout, length-config bad.codes (flat_map field_bytes bad.good ++ (found ∷ (bad.field ++ bad.rest))) bad.count bad.long)))
+first_length_or_short : (v : ℕ) (found : ℕ) (bytes : List ℕ) → OtherFails v true bytes (record_fault.Length found) → OtherFails v true bytes record_fault.Short → ⊥
+first_length_or_short v found bytes long short =
+    elim (length_cases v bytes found long) [
+      | inl many ↦ many_or_cut bytes found many (cut_fields v bytes short (omega (arith, ap length many.layout, length-config many.codes many.rest found many.long)))
+      | inr bad ↦ bad_or_cut bytes found bad (cut_fields v bytes short (omega (arith, ap length bad.layout, length-config bad.codes (flat_map field_bytes bad.good ++ (found ∷ (bad.field ++ bad.rest))) bad.count bad.long)))
     ]
 
-first_kind : (found : ℕ) (bytes : List ℕ) → FailsFirst true bytes (record_fault.Kind found) → (rest : List ℕ) × (bytes ≡ found ∷ rest) × (found ≢ 67)
-first_kind found bytes fails = elim fails [ inl other ↦ other | inr private ↦ absurd cc ]
+first_kind : (v : ℕ) (found : ℕ) (bytes : List ℕ) → OtherFails v true bytes (record_fault.Kind found) → (rest : List ℕ) × (bytes ≡ found ∷ rest) × (found ≢ 67)
+first_kind v found bytes fails = elim fails [ inl other ↦ other | inr private ↦ absurd cc ]
 
-first_kind_or_length : (found a : ℕ) (bytes : List ℕ) → FailsFirst true bytes (record_fault.Kind found) → FailsFirst true bytes (record_fault.Length a) → ⊥
-first_kind_or_length found a bytes kind long =
-    let other = first_kind found bytes kind in
-    elim (length_cases bytes a long) [
+first_kind_or_length : (v : ℕ) (found a : ℕ) (bytes : List ℕ) → OtherFails v true bytes (record_fault.Kind found) → OtherFails v true bytes (record_fault.Length a) → ⊥
+first_kind_or_length v found a bytes kind long =
+    let other = first_kind v found bytes kind in
+    elim (length_cases v bytes a long) [
       | inl many ↦ other.2 (first_same _ _ _ _ (sym other.1 ∙ many.layout))
       | inr bad ↦ other.2 (first_same _ _ _ _ (sym other.1 ∙ bad.layout))
     ]
 
-first_kind_or_short : (found : ℕ) (bytes : List ℕ) → FailsFirst true bytes (record_fault.Kind found) → FailsFirst true bytes record_fault.Short → ⊥
-first_kind_or_short found bytes kind short =
-    let other = first_kind found bytes kind in
+first_kind_or_short : (v : ℕ) (found : ℕ) (bytes : List ℕ) → OtherFails v true bytes (record_fault.Kind found) → OtherFails v true bytes record_fault.Short → ⊥
+first_kind_or_short v found bytes kind short =
+    let other = first_kind v found bytes kind in
     elim short [
       | inl none ↦ absurd (let e = sym none ∙ other.1 in cc)
       | inr cut ↦ other.2 (first_same _ _ _ _ (ap (λ (l : List ℕ). l ++ cut.0) (sym other.1) ∙ cut.2.6))
     ]
 
-no_name_due : (m n bytes : List ℕ) → FailsFirst true bytes (record_fault.NameWrong m n) → ⊥
-no_name_due m n bytes fails = let e = fails.4 in cc
+no_name_due : (v : ℕ) (m n bytes : List ℕ) → OtherFails v true bytes (record_fault.NameWrong m n) → ⊥
+no_name_due v m n bytes fails = let e = fails.4 in cc
 
-first_one : (bytes : List ℕ) (a b : RecordFault) → FailsFirst true bytes a → FailsFirst true bytes b → a ≡ b
-first_one bytes record_fault.Memory b one two = absurd one
-first_one bytes a record_fault.Memory one two = absurd two
-first_one bytes (record_fault.NameWrong m n) b one two = absurd (no_name_due m n bytes one)
-first_one bytes a (record_fault.NameWrong m n) one two = absurd (no_name_due m n bytes two)
-first_one bytes (record_fault.Kind a) (record_fault.Kind b) one two = ap (λ (n : ℕ). record_fault.Kind n) (first_same _ _ _ _ (sym (first_kind a bytes one).1 ∙ (first_kind b bytes two).1))
-first_one bytes (record_fault.Kind a) (record_fault.Length b) one two = absurd (first_kind_or_length a b bytes one two)
-first_one bytes (record_fault.Kind a) record_fault.Short one two = absurd (first_kind_or_short a bytes one two)
-first_one bytes (record_fault.Length a) (record_fault.Kind b) one two = absurd (first_kind_or_length b a bytes two one)
-first_one bytes (record_fault.Length a) (record_fault.Length b) one two = ap (λ (n : ℕ). record_fault.Length n) (first_length_one a b bytes one two)
-first_one bytes (record_fault.Length a) record_fault.Short one two = absurd (first_length_or_short a bytes one two)
-first_one bytes record_fault.Short (record_fault.Kind b) one two = absurd (first_kind_or_short b bytes two one)
-first_one bytes record_fault.Short (record_fault.Length b) one two = absurd (first_length_or_short b bytes two one)
-first_one bytes record_fault.Short record_fault.Short one two = refl
+first_one : (v : ℕ) (bytes : List ℕ) (a b : RecordFault) → OtherFails v true bytes a → OtherFails v true bytes b → a ≡ b
+first_one v bytes record_fault.Memory b one two = absurd one
+first_one v bytes a record_fault.Memory one two = absurd two
+first_one v bytes (record_fault.NameWrong m n) b one two = absurd (no_name_due v m n bytes one)
+first_one v bytes a (record_fault.NameWrong m n) one two = absurd (no_name_due v m n bytes two)
+first_one v bytes (record_fault.Kind a) (record_fault.Kind b) one two = ap (λ (n : ℕ). record_fault.Kind n) (first_same _ _ _ _ (sym (first_kind v a bytes one).1 ∙ (first_kind v b bytes two).1))
+first_one v bytes (record_fault.Kind a) (record_fault.Length b) one two = absurd (first_kind_or_length v a b bytes one two)
+first_one v bytes (record_fault.Kind a) record_fault.Short one two = absurd (first_kind_or_short v a bytes one two)
+first_one v bytes (record_fault.Length a) (record_fault.Kind b) one two = absurd (first_kind_or_length v b a bytes two one)
+first_one v bytes (record_fault.Length a) (record_fault.Length b) one two = ap (λ (n : ℕ). record_fault.Length n) (first_length_one v a b bytes one two)
+first_one v bytes (record_fault.Length a) record_fault.Short one two = absurd (first_length_or_short v a bytes one two)
+first_one v bytes record_fault.Short (record_fault.Kind b) one two = absurd (first_kind_or_short v b bytes two one)
+first_one v bytes record_fault.Short (record_fault.Length b) one two = absurd (first_length_or_short v b bytes two one)
+first_one v bytes record_fault.Short record_fault.Short one two = refl
 
-record_one_fault : (due : Bool) (bytes : List ℕ) (a b : RecordFault) → FailsFirst due bytes a → FailsFirst due bytes b → a ≡ b
-record_one_fault true bytes a b one two = first_one bytes a b one two
-record_one_fault false bytes a b one two = later_one bytes a b one two
+-- a Blob with a receipt and another record don't both fail
+other_or_brought : (v : ℕ) (bytes rest : List ℕ) (a b : RecordFault) → v ≡ 2 → bytes ≡ 82 ∷ rest → FailsFirst v false bytes a → BroughtFails rest b → a ≡ b
+other_or_brought v bytes rest a b two is one brought = brought_one rest a b (both_fail v bytes rest a two is one) brought
+
+record_one_fault : (v : ℕ) (due : Bool) (bytes : List ℕ) (a b : RecordFault) → FailsFirst v due bytes a → FailsFirst v due bytes b → a ≡ b
+record_one_fault v true bytes a b one two = first_one v bytes a b (due_other v bytes a one) (due_other v bytes b two)
+record_one_fault v false bytes a b (inl one) (inl two) = later_one v bytes a b one two
+record_one_fault v false bytes a b (inr one) two = sym (other_or_brought v bytes one.2 b a one.0 one.3 two one.4)
+record_one_fault v false bytes a b (inl one) (inr two) = other_or_brought v bytes two.2 a b two.0 two.3 (inl one) two.4
 
 -- ---- a group
 
 -- one list of records goes on behind another
-record RecordsGoOn (front all : List Record) (s : List ℕ) : Type 0 where
+record RecordsGoOn (v : ℕ) (front all : List Record) (s : List ℕ) : Type 0 where
   pub next : Record
   pub more : List Record
   pub rest : List ℕ
   pub split : all ≡ front ++ next ∷ more
   pub behind : s ≡ record_bytes next ++ rest
   pub fit : IsFit next
+  pub known : IsOfVersion v next
 
-abbrev RecordFronts : List Record → List Record → List ℕ → List ℕ → Type 0
-RecordFronts a b s t = ((a ≡ b) × (s ≡ t)) ⊎ (RecordsGoOn a b s ⊎ RecordsGoOn b a t)
+abbrev RecordFronts : ℕ → List Record → List Record → List ℕ → List ℕ → Type 0
+RecordFronts v a b s t = ((a ≡ b) × (s ≡ t)) ⊎ (RecordsGoOn v a b s ⊎ RecordsGoOn v b a t)
 
-records_more : (x y : Record) (a b : List Record) (s t : List ℕ) → x ≡ y → RecordFronts a b s t → RecordFronts (x ∷ a) (y ∷ b) s t
-records_more x y a b s t is fronts =
+records_more : (v : ℕ) (x y : Record) (a b : List Record) (s t : List ℕ) → x ≡ y → RecordFronts v a b s t → RecordFronts v (x ∷ a) (y ∷ b) s t
+records_more v x y a b s t is fronts =
     elim fronts [
       | inl same ↦ inl ((λ i. is i ∷ same.0 i), same.1)
-      | inr (inl on) ↦ inr (inl (record { next = on.next; more = on.more; rest = on.rest; split = (λ i. sym is i ∷ on.split i); behind = on.behind; fit = on.fit }))
-      | inr (inr on) ↦ inr (inr (record { next = on.next; more = on.more; rest = on.rest; split = (λ i. is i ∷ on.split i); behind = on.behind; fit = on.fit }))
+      | inr (inl on) ↦ inr (inl (record { next = on.next; more = on.more; rest = on.rest; split = (λ i. sym is i ∷ on.split i); behind = on.behind; fit = on.fit; known = on.known }))
+      | inr (inr on) ↦ inr (inr (record { next = on.next; more = on.more; rest = on.rest; split = (λ i. is i ∷ on.split i); behind = on.behind; fit = on.fit; known = on.known }))
     ]
 
-record_fronts : (a b : List Record) (s t : List ℕ) → AllByRecursion IsFit a → AllByRecursion IsFit b → records_bytes a ++ s ≡ records_bytes b ++ t → RecordFronts a b s t
-record_fronts [] [] s t a_fit b_fit same = inl (refl, same)
-record_fronts [] (y ∷ b) s t a_fit b_fit same = inr (inl (record { next = y; more = b; rest = records_bytes b ++ t; split = refl; behind = same ∙ append_assoc (record_bytes y) (records_bytes b) t; fit = b_fit.0 }))
-record_fronts (x ∷ a) [] s t a_fit b_fit same = inr (inr (record { next = x; more = a; rest = records_bytes a ++ s; split = refl; behind = sym same ∙ append_assoc (record_bytes x) (records_bytes a) s; fit = a_fit.0 }))
-record_fronts (x ∷ a) (y ∷ b) s t a_fit b_fit same =
+record_fronts : (v : ℕ) (a b : List Record) (s t : List ℕ) → AllByRecursion IsFit a → AllByRecursion IsFit b → AllByRecursion (IsOfVersion v) a → AllByRecursion (IsOfVersion v) b → records_bytes a ++ s ≡ records_bytes b ++ t
+    → RecordFronts v a b s t
+record_fronts v [] [] s t a_fit b_fit a_known b_known same = inl (refl, same)
+record_fronts v [] (y ∷ b) s t a_fit b_fit a_known b_known same = inr (inl (record { next = y; more = b; rest = records_bytes b ++ t; split = refl; behind = same ∙ append_assoc (record_bytes y) (records_bytes b) t; fit = b_fit.0; known = b_known.0 }))
+record_fronts v (x ∷ a) [] s t a_fit b_fit a_known b_known same = inr (inr (record { next = x; more = a; rest = records_bytes a ++ s; split = refl; behind = sym same ∙ append_assoc (record_bytes x) (records_bytes a) s; fit = a_fit.0; known = a_known.0 }))
+record_fronts v (x ∷ a) (y ∷ b) s t a_fit b_fit a_known b_known same =
     let here = record_same x y (records_bytes a ++ s) (records_bytes b ++ t) a_fit.0 b_fit.0 (sym (append_assoc (record_bytes x) (records_bytes a) s) ∙ same ∙ append_assoc (record_bytes y) (records_bytes b) t) in
-    records_more x y a b s t here.piece (record_fronts a b s t a_fit.1 b_fit.1 here.rest)
+    records_more v x y a b s t here.piece (record_fronts v a b s t a_fit.1 b_fit.1 a_known.1 b_known.1 here.rest)
 
 -- where records go on, the bytes don't fail
-no_fault_before : (first : Bool) (front all : List Record) (rest : List ℕ) (fault : RecordFault) → RecordsGoOn front all rest → StandInGroup first all → FailsFirst (first && is_empty front) rest fault → ⊥
-no_fault_before first front all rest fault on stand fails =
-    record_well (first && is_empty front) on.next on.rest fault on.fit (kind_due first front on.more on.next (subst (λ (l : List Record). StandInGroup first l) on.split stand))
-    (subst (λ (l : List ℕ). FailsFirst (first && is_empty front) l fault) on.behind fails)
+no_fault_before : (v : ℕ) (first : Bool) (front all : List Record) (rest : List ℕ) (fault : RecordFault) → RecordsGoOn v front all rest → StandInGroup first all → FailsFirst v (first && is_empty front) rest fault → ⊥
+no_fault_before v first front all rest fault on stand fails =
+    record_well v (first && is_empty front) on.next on.rest fault on.fit on.known (kind_due first front on.more on.next (subst (λ (l : List Record). StandInGroup first l) on.split stand))
+    (subst (λ (l : List ℕ). FailsFirst v (first && is_empty front) l fault) on.behind fails)
 
 -- Bytes have one fault at most.
-pub group_one_fault : (first : Bool) (bytes : List ℕ) (a b : RecordFault) → IsGroupFault first bytes a → IsGroupFault first bytes b → a ≡ b
-group_one_fault first bytes a b one two =
-    elim (record_fronts one.front two.front one.rest two.rest one.fit two.fit (sym one.layout ∙ two.layout)) [
+pub group_one_fault : (v : ℕ) (first : Bool) (bytes : List ℕ) (a b : RecordFault) → IsGroupFault v first bytes a → IsGroupFault v first bytes b → a ≡ b
+group_one_fault v first bytes a b one two =
+    elim (record_fronts v one.front two.front one.rest two.rest one.fit two.fit one.known two.known (sym one.layout ∙ two.layout)) [
       | inl same ↦
-          record_one_fault (first && is_empty two.front) two.rest a b
-          (subst (λ (l : List ℕ). FailsFirst (first && is_empty two.front) l a) same.1 (subst (λ (l : List Record). FailsFirst (first && is_empty l) one.rest a) same.0 one.fails)) two.fails
-      | inr (inl on) ↦ absurd (no_fault_before first one.front two.front one.rest a on two.stand one.fails)
-      | inr (inr on) ↦ absurd (no_fault_before first two.front one.front two.rest b on one.stand two.fails)
+          record_one_fault v (first && is_empty two.front) two.rest a b
+          (subst (λ (l : List ℕ). FailsFirst v (first && is_empty two.front) l a) same.1 (subst (λ (l : List Record). FailsFirst v (first && is_empty l) one.rest a) same.0 one.fails)) two.fails
+      | inr (inl on) ↦ absurd (no_fault_before v first one.front two.front one.rest a on two.stand one.fails)
+      | inr (inr on) ↦ absurd (no_fault_before v first two.front one.front two.rest b on one.stand two.fails)
     ]

@@ -1,8 +1,8 @@
 -- Bytes are the records of one list at most, and behind fit records the rest are records.
-use Rattle.std.proofs.Common.{◌≡◌, ◌≢◌, ℕ, ◌<◌, ◌^◌, List, [], ◌∷◌, ◌++◌, length, get_or, take, drop, refl, sym, ◌∙◌, ap, append_assoc}
+use Rattle.std.proofs.Common.{◌≡◌, ◌≢◌, ℕ, ◌<◌, ◌^◌, List, [], ◌∷◌, ◌++◌, length, get_or, take, drop, None, Some, refl, sym, ◌∙◌, ap, append_assoc}
 use Rattle.std.specs.List.{AllByRecursion}
-use Rattle.std.specs.Int.{to_be_bytes, from_be_bytes, w16, w64}
-use Rattle.std.proofs.lemmas.Nat.{from_be_bytes-to_be_bytes_2, from_be_bytes-to_be_bytes_8}
+use Rattle.std.specs.Int.{to_be_bytes, from_be_bytes, w16, w32, w64}
+use Rattle.std.proofs.lemmas.Nat.{from_be_bytes-to_be_bytes_2, from_be_bytes-to_be_bytes_4, from_be_bytes-to_be_bytes_8}
 use Rattle.std.proofs.lemmas.List.{take_at, drop_at}
 use Rattle.fsl_record.specs.declared.Record.{Record}
 use Rattle.fsl_record.specs.declared.Record.TheVariants as record_of
@@ -25,6 +25,9 @@ length_same m n m_fits n_fits same = sym (from_be_bytes-to_be_bytes_8 m m_fits) 
 
 pub count_same : (m n : ℕ) → m < 2 ^ 16 → n < 2 ^ 16 → to_be_bytes w16 m ≡ to_be_bytes w16 n → m ≡ n
 count_same m n m_fits n_fits same = sym (from_be_bytes-to_be_bytes_2 m m_fits) ∙ ap (λ (l : List ℕ). from_be_bytes w16 l) same ∙ from_be_bytes-to_be_bytes_2 n n_fits
+
+pub login_length_same : (m n : ℕ) → m < 2 ^ 32 → n < 2 ^ 32 → to_be_bytes w32 m ≡ to_be_bytes w32 n → m ≡ n
+login_length_same m n m_fits n_fits same = sym (from_be_bytes-to_be_bytes_4 m m_fits) ∙ ap (λ (l : List ℕ). from_be_bytes w32 l) same ∙ from_be_bytes-to_be_bytes_4 n n_fits
 
 pub first_same : (a b : ℕ) (r s : List ℕ) → a ∷ r ≡ b ∷ s → a ≡ b
 first_same a b r s same = ap (λ (l : List ℕ). get_or l 0 0) same
@@ -57,9 +60,11 @@ record_same a b r s fit also same =
 -- a record has bytes
 pub record_some : (r : Record) (rest : List ℕ) → record_bytes r ++ rest ≢ []
 record_some (record_of.Config c) rest none = absurd cc
-record_some (record_of.Blob p n b) rest none = absurd cc
+record_some (record_of.Blob p n None b) rest none = absurd cc
+record_some (record_of.Blob p n (Some r) b) rest none = absurd cc
 record_some (record_of.Publish n) rest none = absurd cc
 record_some (record_of.Shun n) rest none = absurd cc
+record_some (record_of.Unshun n) rest none = absurd cc
 
 -- Behind fit records in front of the bytes of fit records the rest of these stands.
 pub record RecordsLeft (front all : List Record) (rest : List ℕ) : Type 0 where

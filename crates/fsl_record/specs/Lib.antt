@@ -1,3 +1,5 @@
+pub mod Receipts
+pub mod Brought
 pub mod Records
 pub mod Groups
 pub mod Reading

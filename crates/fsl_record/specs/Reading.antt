@@ -1,17 +1,18 @@
 -- What the steps of a group's reader answer.
-use Rattle.std.specs.Prelude.{◌≡◌, ◌≢◌, ℕ, ◌<◌, List, [], ◌∷◌, ◌++◌, length, Bool, flat_map, if◌then◌else◌, ⊤, ◌⊎◌, IsTrue, IsFalse}
+use Rattle.std.specs.Prelude.{◌≡◌, ◌≢◌, ℕ, ◌<◌, List, [], ◌∷◌, ◌++◌, length, Bool, flat_map, ⊤, ◌⊎◌, IsTrue, IsFalse}
 use Rattle.fsl_order.specs.Names.{has}
 use Rattle.fsl_record.specs.declared.Record.{Record}
 use Rattle.fsl_record.specs.declared.RecordFault.{RecordFault}
 use Rattle.fsl_record.specs.declared.RecordFault.TheVariants as record_fault
-use Rattle.fsl_record.specs.Records.{field_bytes, is_field, record_bytes, is_config, IsFit, AreFields}
+use Rattle.fsl_record.specs.Records.{field_bytes, is_field, record_bytes, is_config, IsFit, IsOfVersion, AreFields}
 use Rattle.fsl_record.specs.Groups.{FailsFirst}
 
--- a fit record stands at the front of the bytes; config: whether it is a Config
-pub record IsRead (config : Bool) (bytes : List ℕ) (read : Record) (rest : List ℕ) : Type 0 where
+-- a fit record of this version stands at the front of the bytes; config: whether it is a Config
+pub record IsRead (version : ℕ) (config : Bool) (bytes : List ℕ) (read : Record) (rest : List ℕ) : Type 0 where
   pub layout : bytes ≡ record_bytes read ++ rest
   pub kind : is_config read ≡ config
   pub fit : IsFit read
+  pub known : IsOfVersion version read
 
 -- that many fields stand at the front of the bytes
 pub record AreRead (count : ℕ) (bytes : List ℕ) (fields : List (List ℕ)) (rest : List ℕ) : Type 0 where
@@ -41,17 +42,7 @@ pub record FieldsFail (count : ℕ) (bytes : List ℕ) (fault : RecordFault) : T
   pub fit : AreFields good
   pub fails : FieldFails good rest fault
 
--- whether a blob is private, as its byte says
-pub record IsPrivateRead (bytes : List ℕ) (private : Bool) (rest : List ℕ) : Type 0 where
-  pub layout : bytes ≡ (if private then 1 else 0) ∷ rest
-
--- there is no such byte, or it is another
-abbrev pub PrivateFails : List ℕ → RecordFault → Type 0
-PrivateFails bytes record_fault.Short = bytes ≡ []
-PrivateFails bytes (record_fault.Kind found) = (rest : List ℕ) × (bytes ≡ found ∷ rest) × (1 < found)
-PrivateFails bytes _ = ⊥
-
 -- a record at the front of the bytes fails so, or memory is missing
-abbrev pub Fails : Bool → List ℕ → RecordFault → Type 0
-Fails config_due bytes record_fault.Memory = ⊤
-Fails config_due bytes fault = FailsFirst config_due bytes fault
+abbrev pub Fails : ℕ → Bool → List ℕ → RecordFault → Type 0
+Fails version config_due bytes record_fault.Memory = ⊤
+Fails version config_due bytes fault = FailsFirst version config_due bytes fault

@@ -1,6 +1,7 @@
 //! Records of the repository file: their bytes, and the records that the bytes of a group of the file are. What is
 //! written reads back, and bytes read as one list of records or have the one fault of the first record that doesn't
-//! read. Config is the first record of the first group and stands nowhere else.
+//! read. Config is the first record of the first group and stands nowhere else. The file has two versions: a Blob with a
+//! receipt and an Unshun stand in version 2 alone.
 #![tactic(auto)]
 
 mod configs;
@@ -10,6 +11,7 @@ mod groups;
 mod laws;
 mod pieces;
 mod reading;
+mod receipts;
 mod writing;
 
 pub use fields::are_fields;
@@ -17,6 +19,7 @@ use fsl_name::Name;
 use fsl_text::{List, Text};
 pub use groups::group;
 pub use laws::{has_no_fault, has_one_fault, is_one_group, written_reads_back};
+pub use receipts::Receipt;
 pub use writing::{write, write_config};
 
 /// The codes of a repository, and its configured ticket fields. Where a Config is written, the fields are in their form:
@@ -36,8 +39,9 @@ pub enum RecordFault {
     Short,
     /// This is no first byte of a record that may stand there, or it stands where 0 or 1 says whether a blob is private.
     Kind { found: u8 },
-    /// A blob has so many bytes, more than 2^24; or a Config has so many fields, more than 256; or a field of so many
-    /// bytes is no field's name, or is there already.
+    /// A blob has so many bytes, more than 2^24; or its receipt has this moment, behind the year 9999, or a login of so
+    /// many bytes, more than 2^20; or a Config has so many fields, more than 256; or a field of so many bytes is no
+    /// field's name, or is there already.
     Length { found: u64 },
     /// A blob has the first of these names, and its bytes the second.
     NameWrong { kept: Name, found: Name },
@@ -51,10 +55,12 @@ pub enum Record {
     /// `C`, the two codes, the number of fields in 2 bytes, and each field behind its length in 1 byte.
     Config(Config),
     /// An artifact: `B`, a byte 0 or 1, its name, the number of its bytes in 8 bytes, and its bytes, at most 2^24. A
-    /// private artifact isn't given to others.
+    /// private artifact isn't given to others. One with a receipt has the letter `R`, and behind its name the moment in 8
+    /// bytes, as its milliseconds since the year 0 began, the number of the login's bytes in 4 bytes, and the login.
     Blob {
         private: bool,
         name: Name,
+        receipt: Option<Receipt>,
         bytes: Text,
     },
     /// `P` and a name: the private artifact of that name is public from now on.
@@ -63,6 +69,10 @@ pub enum Record {
     },
     /// `S` and a name: the artifact of that name is removed, and isn't taken again.
     Shun {
+        name: Name,
+    },
+    /// `U` and a name: the artifact of that name is taken again from now on.
+    Unshun {
         name: Name,
     },
 }

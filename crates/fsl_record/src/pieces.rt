@@ -1,6 +1,6 @@
 //! The parts of a record, taken from the front of bytes. Numbers are written with the greatest byte first.
 ghost use Rattle.std.specs.Prelude.{◌≡◌, ◌++◌, ◌∷◌, ◌<◌, ◌≤◌, ◌^◌, length, slice_index, MatchOption};
-ghost use Rattle.std.specs.Int.{to_be_bytes, w16, w64};
+ghost use Rattle.std.specs.Int.{to_be_bytes, w16, w32, w64};
 
 /// The first bytes, that many, and those behind them.
 pub fn split_bytes(bytes: &[u8], count: usize) -> Option<(&[u8], &[u8])>
@@ -26,4 +26,12 @@ pub fn split_length(bytes: &[u8]) -> Option<(u64, &[u8])>
 {
     let (length, rest) = bytes.split_first_chunk()?;
     Some((u64::from_be_bytes(*length), rest))
+}
+
+/// The number in the first 4 bytes, and the bytes behind it.
+pub fn split_login_length(bytes: &[u8]) -> Option<(u32, &[u8])>
+    ensures { MatchOption result (length bytes.now < 4) (λ split. (bytes.now ≡ to_be_bytes w32 split.0 ++ split.1.now) × (split.0 < 2 ^ 32)) }
+{
+    let (length, rest) = bytes.split_first_chunk()?;
+    Some((u32::from_be_bytes(*length), rest))
 }

@@ -1,9 +1,11 @@
 //! Writes records.
-ghost use Rattle.std.specs.Prelude.{◌≡◌, ◌≤◌, ◌^◌, ◌++◌, ◌∷◌, length, take, flat_map, OnOk, OnErr};
+ghost use Rattle.std.specs.Prelude.{◌≡◌, ◌≤◌, ◌^◌, ◌++◌, ◌∷◌, length, take, flat_map, if◌then◌else◌, None, Some, OnOk, OnErr};
+ghost use Rattle.std.specs.Int.{to_be_bytes, w64};
 ghost use Rattle.fsl_record.specs.declared.Record.TheVariants.{Config as ConfigRecord, Blob};
+ghost use Rattle.fsl_record.specs.Receipts.{receipt_bytes};
 ghost use Rattle.fsl_record.specs.Records.{field_bytes, record_bytes, AreFields, IsWritable};
 
-use crate::{Config, Record};
+use crate::{Config, Receipt, Record};
 use fsl_name::Name;
 use fsl_text::{Memory, Text};
 
@@ -51,16 +53,62 @@ fn add_config(config: &Config, into: &mut Text) -> Result<(), Memory>
     add_fields(fields, into)
 }
 
-/// Adds a Blob's bytes.
+/// Adds a blob's bytes behind their length.
+fn add_content(bytes: &[u8], into: &mut Text) -> Result<(), Memory>
+    requires { length bytes.now ≤ 2 ^ 24 }
+    ensures ok { OnOk result (into.new ≡ into.old ++ to_be_bytes w64 (length bytes.now) ++ bytes.now) }
+    ensures err { OnErr result (take (length into.old) into.new ≡ into.old) }
+{
+    into.append(&(bytes.len() as u64).to_be_bytes())?;
+    into.append(bytes)
+}
+
+/// Adds the bytes of a Blob without a receipt.
 fn add_blob(private: bool, name: &Name, bytes: &[u8], into: &mut Text) -> Result<(), Memory>
     requires { length bytes.now ≤ 2 ^ 24 }
-    ensures ok { OnOk result (into.new ≡ into.old ++ record_bytes (Blob private name.now bytes.now)) }
+    ensures ok { OnOk result (into.new ≡ into.old ++ record_bytes (Blob private name.now None bytes.now)) }
     ensures err { OnErr result (take (length into.old) into.new ≡ into.old) }
 {
     into.append(&[b'B', u8::from(private)])?;
     into.append(&name.bytes())?;
     into.append(&(bytes.len() as u64).to_be_bytes())?;
     into.append(bytes)
+}
+
+/// Adds a receipt's bytes: its moment, and its login behind its length.
+fn add_receipt(receipt: &Receipt, into: &mut Text) -> Result<(), Memory>
+    ensures ok { OnOk result (into.new ≡ into.old ++ receipt_bytes receipt.now) }
+    ensures err { OnErr result (take (length into.old) into.new ≡ into.old) }
+{
+    let login = receipt.login();
+    into.append(&receipt.moment_number().to_be_bytes())?;
+    into.append(&(login.len() as u32).to_be_bytes())?;
+    into.append(login)
+}
+
+/// The byte that says whether a blob is private.
+fn private_byte(private: bool) -> u8
+    ensures { result ≡ (if private then 1 else 0) }
+{
+    u8::from(private)
+}
+
+/// Adds the bytes of a Blob with a receipt.
+fn add_brought(
+    private: bool,
+    name: &Name,
+    receipt: &Receipt,
+    bytes: &[u8],
+    into: &mut Text,
+) -> Result<(), Memory>
+    requires { length bytes.now ≤ 2 ^ 24 }
+    ensures ok { OnOk result (into.new ≡ into.old ++ record_bytes (Blob private name.now (Some receipt.now) bytes.now)) }
+    ensures err { OnErr result (take (length into.old) into.new ≡ into.old) }
+{
+    into.append(&[b'R', private_byte(private)])?;
+    into.append(&name.bytes())?;
+    add_receipt(receipt, into)?;
+    add_content(bytes, into)
 }
 
 /// Adds a record's bytes, all of them or some.
@@ -74,10 +122,18 @@ fn add_record(entry: &Record, into: &mut Text) -> Result<(), Memory>
         Record::Blob {
             private,
             name,
+            receipt: None,
             bytes,
         } => add_blob(*private, name, bytes.bytes(), into),
+        Record::Blob {
+            private,
+            name,
+            receipt: Some(receipt),
+            bytes,
+        } => add_brought(*private, name, receipt, bytes.bytes(), into),
         Record::Publish { name } => add_named(b'P', name, into),
         Record::Shun { name } => add_named(b'S', name, into),
+        Record::Unshun { name } => add_named(b'U', name, into),
     }
 }
 

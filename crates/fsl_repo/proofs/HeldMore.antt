@@ -17,10 +17,11 @@ use Rattle.std.proofs.lemmas.List.Sums.{fold-append}
 use Rattle.fsl_order.specs.Names.{bytes_cmp, has}
 use Rattle.fsl_order.specs.Rows.{keyed}
 use Rattle.fsl_order.proofs.Orders.{bytes_cmp-IsTotalOrder, bytes_cmp-IsAntisymmetric}
+use Rattle.fsl_record.specs.Receipts.{Brought}
 use Rattle.fsl_record.specs.declared.Record.{Record}
 use Rattle.fsl_record.specs.declared.Record.TheVariants as record_of
 use Rattle.fsl_blobs.proofs.Totals.{front_first, front_second, is_less}
-use Rattle.fsl_blobs.specs.Fold.{Held, HeldSet, Contents, contents, after, nothing, is_new}
+use Rattle.fsl_blobs.specs.Fold.{Held, HeldSet, Contents, contents, after, nothing, is_new, received}
 use Rattle.fsl_blobs.specs.Held.{state_of, still_new}
 use Rattle.fsl_blobs.specs.declared.BlobState.{BlobState}
 use Rattle.fsl_blobs.specs.declared.BlobState.TheVariants as blob
@@ -60,11 +61,11 @@ absent_items held items name each none =
 pub contents_more : (records : List Record) (r : Record) → contents (records ++ r ∷ []) ≡ after (contents records) r
 contents_more records r = fold-append after nothing records (r ∷ [])
 
-pub blob_after : (c : Contents) (private : Bool) (name bytes : List ℕ) → map_of.get c.held name ≡ None → set.contains c.shunned name ≡ false
-    → after c (record_of.Blob private name bytes) ≡ record c { held = map_of.insert c.held name (record { private = private; bytes = bytes }) }
-blob_after c private name bytes none out =
+pub blob_after : (c : Contents) (private : Bool) (name : List ℕ) (receipt : Option Brought) (bytes : List ℕ) → map_of.get c.held name ≡ None → set.contains c.shunned name ≡ false
+    → after c (record_of.Blob private name receipt bytes) ≡ record c { held = map_of.insert c.held name (record { private = private; bytes = bytes }); receipts = received c.receipts name receipt }
+blob_after c private name receipt bytes none out =
     let new : is_new c name ≡ true = λ i. not (is_some (none i) || out i) in
-    ap (λ (b : Bool). if b then record c { held = map_of.insert c.held name (record { private = private; bytes = bytes }) } else c) new
+    ap (λ (b : Bool). if b then record c { held = map_of.insert c.held name (record { private = private; bytes = bytes }); receipts = received c.receipts name receipt } else c) new
 
 -- ---- its item
 

@@ -27,8 +27,8 @@ use Rattle.fsl_answer.proofs.Keeping.{no_private_igots, candidates_public, candi
 use Rattle.fsl_repo.specs.declared.Ask.{Ask}
 use Rattle.fsl_blobs.proofs.ShunnedNames.{shunned_are_not_held}
 use Rattle.fsl_repo.specs.Machine.{State, now, IsItemOf, AreItems, AnnouncedAreNew, unclustered_names, wants}
-use Rattle.fsl_repo.specs.Replies.{placed, held_at, reply_state}
-use Rattle.fsl_repo.specs.Keeps.{reply_lists, told_names, sent_names, is_held_private, ReplyKeeps, BuildsKeep}
+use Rattle.fsl_repo.specs.Replies.{placed, held_at, reply_state, reply_lists, sent_names}
+use Rattle.fsl_repo.specs.Keeps.{told_names, is_held_private, ReplyKeeps, BuildsKeep}
 use Rattle.fsl_repo.proofs.PublicNames.{found_public}
 
 -- ---- tests

@@ -18,7 +18,7 @@ use Rattle.fsl_answer.specs.Contents.{each_once, first_of}
 use Rattle.fsl_answer.specs.declared.SentFile.{SentFile}
 use Rattle.fsl_repo.specs.declared.placed.PlacedHolding.{PlacedHolding}
 use Rattle.fsl_repo.specs.Replies.{held_at}
-use Rattle.fsl_repo.specs.Sending.{as_held, sent_of, names_of, public_on}
+use Rattle.fsl_repo.specs.Sending.{DueFile, as_held, due_of, sent_of, names_of, public_on}
 
 -- the artifact of a placed name
 abbrev pub placed_of : List Record → Placed → Option reply.Held
@@ -27,6 +27,10 @@ placed_of records p = option_map (held_at (p.place, p.name)) (map_of.get (conten
 -- the file of a name that may be sent
 abbrev pub may_send : List Record → Bool → List ℕ → Option SentFile
 may_send records private name = sent_of private name (map_of.get (contents records).held name)
+
+-- the same, without its bytes
+abbrev pub may_due : List Record → Bool → List ℕ → Option DueFile
+may_due records private name = option_map due_of (may_send records private name)
 
 pub filter_map-map : {X Y Z : Type 0} (g : Y → Option Z) (f : X → Y) (xs : List X) → filter_map g (map f xs) ≡ filter_map (λ x. g (f x)) xs
 filter_map-map g f [] = refl
@@ -111,11 +115,11 @@ module _ (held : List PlacedHolding) (i : ℕ) (x : PlacedHolding) (lt : i < len
   abbrev is_by : Bool → reply.Held → Bool
   is_by private h = if private then h.private else not h.private
 
-  pub names_next : (private : Bool) (all out : List (List ℕ)) → all ≡ out ++ names_of private (map as_held (drop i held)) → is_by private (as_held x) ≡ true → all ≡ (out ++ x.name ∷ []) ++ names_of private (map as_held (drop (i + 1) held))
+  pub names_next : (private : Bool) (all out : List (List ℕ)) → all ≡ out ++ names_of private (map as_held (drop i held)) → is_by private (as_held x) ≡ true → all ≡ (out ++ x.holding.name ∷ []) ++ names_of private (map as_held (drop (i + 1) held))
   names_next private all out before passes =
       before ∙ ap (λ rest. out ++ names_of private rest) rest_at
       ∙ ap (λ (b : Bool). out ++ map (λ h. h.name) (cond b (as_held x ∷ filter (is_by private) (map as_held (drop (i + 1) held))) (filter (is_by private) (map as_held (drop (i + 1) held))))) passes
-      ∙ sym (append_assoc out (x.name ∷ []) (names_of private (map as_held (drop (i + 1) held))))
+      ∙ sym (append_assoc out (x.holding.name ∷ []) (names_of private (map as_held (drop (i + 1) held))))
 
   pub names_past : (private : Bool) (all out : List (List ℕ)) → all ≡ out ++ names_of private (map as_held (drop i held)) → is_by private (as_held x) ≡ false → all ≡ out ++ names_of private (map as_held (drop (i + 1) held))
   names_past private all out before fails =

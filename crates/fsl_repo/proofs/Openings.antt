@@ -1,6 +1,6 @@
 -- A repository that was opened goes together.
-use Rattle.std.proofs.Common.{◌≡◌, inl, ℕ, List, length, drop, sym, ap, subst, ◌∙◌, arith}
-use Rattle.std.specs.Prelude.{IsTrue}
+use Rattle.std.proofs.Common.{◌≡◌, inl, ℕ, Bool, List, [], length, drop, sym, ap, subst, ◌∙◌, arith}
+use Rattle.std.specs.Prelude.{IsTrue, Contains}
 use Rattle.std.specs.FinSet as set
 use Rattle.std.proofs.lemmas.List.{drop_all, take_all}
 use Rattle.std.proofs.lemmas.Bool.{false≢true}
@@ -19,20 +19,29 @@ use Rattle.fsl_cross.specs.Tables as tables
 use Rattle.fsl_repo.specs.Machine.{AreItems, AnnouncedAreNew, configured}
 use Rattle.fsl_repo.specs.Keeping.{IsKept, state_of}
 use Rattle.fsl_repo.specs.Opening.{AreDerived, OpenFailed}
+use Rattle.fsl_blobs.specs.Seen.{AreTrue}
 use Rattle.fsl_repo.specs.Whole as whole
+use Rattle.fsl_repo.specs.Whole.{is_modelled}
 
-none_announced : (log : Log) (faults : ℕ) (records : List Record) → AnnouncedAreNew (state_of log (record { records = records; announced = set.empty }) faults)
-none_announced log faults records name h = absurd (false≢true (subst IsTrue (set.contains-empty bytes_cmp name) h))
+none_announced : (log : Log) (faults : ℕ) (honest : Bool) (records : List Record) (places : List ℕ) → AnnouncedAreNew (state_of log (record { records = records; starts = places; announced = set.empty; cached = [] }) faults honest)
+none_announced log faults honest records places name h = absurd (false≢true (subst IsTrue (set.contains-empty bytes_cmp name) h))
 
-pub kept_of : (log : Log) (loaded : List Record) (held : blobs.Seen) (all : tables.Seen) (count : ℕ) (disk : DiskState) → IsLoaded log loaded → Belongs log disk → AreDerived loaded held all → count ≡ length log.records
+none_kept : (e : ℕ × List ℕ) → Contains [] e → ⊥
+none_kept e there = let within = there.1 in omega arith
+
+pub kept_of : (log : Log) (places : List ℕ) (loaded : List Record) (held : blobs.Seen) (all : tables.Seen) (count : ℕ) (disk : DiskState) → IsLoaded log loaded → log.places ≡ places → Belongs log disk → AreDerived loaded places held all → count ≡ length log.records
     → IsKept log held all count 0 disk
-kept_of log loaded held all count disk is_loaded belongs derived counted = record {
+kept_of log places loaded held all count disk is_loaded placed belongs derived counted = record {
   belongs = belongs;
   records = subst AreRecords (sym is_loaded.records) is_loaded.fit;
-  same = ap (λ (h : blobs.Seen). h.records) derived.held ∙ sym is_loaded.records;
+  same = record {
+    records = ap (λ (h : blobs.Seen). h.records) derived.held ∙ sym is_loaded.records;
+    starts = ap (λ (h : blobs.Seen). h.starts) derived.held ∙ sym placed;
+  };
+  cached = λ _. subst AreTrue (sym derived.held) (λ e there. absurd (none_kept e there));
   items = subst (λ (rs : List Record). AreItems (contents rs).held all.items) (sym is_loaded.records) derived.items;
   fields = derived.fields ∙ ap (λ (rs : List Record). configured (contents rs)) (sym is_loaded.records);
-  announced = subst (λ (h : blobs.Seen). AnnouncedAreNew (state_of log h disk.faults)) (sym derived.held) (none_announced log disk.faults loaded);
+  announced = subst (λ (h : blobs.Seen). AnnouncedAreNew (state_of log h disk.faults (is_modelled disk))) (sym derived.held) (none_announced log disk.faults (is_modelled disk) loaded places);
   loaded = omega (arith, counted, is_loaded.stable, ap length is_loaded.records);
   stored = sym (ap whole.blobs (ap (λ (n : ℕ). drop n log.records) counted ∙ drop_all (length log.records) log.records (omega arith)));
 }

@@ -19,6 +19,7 @@ use Rattle.fsl_order.specs.Rows.{greater, greatest, in_order}
 use Rattle.fsl_order.proofs.Orders.{bytes_cmp-IsTotalOrder}
 use Rattle.fsl_order.proofs.Gathered.{in_order-filter}
 use Rattle.fsl_order.proofs.MovedLemmas.{IsPermutation-in_order}
+use Rattle.fsl_record.specs.Receipts.{Brought}
 use Rattle.fsl_record.specs.declared.Record.{Record}
 use Rattle.fsl_record.specs.declared.Record.TheVariants as record_of
 use Rattle.fsl_blobs.specs.Fold.{Held, Contents, contents, after, is_new, is_blob_of, adds, place, held_from}
@@ -59,10 +60,11 @@ place-blob records name n e =
     (greatest-passes (adds records name) (filter (adds records name) (range_with_len 1 (length records))) n (filter-passes (adds records name) (range_with_len 1 (length records))) e)).0
 
 one_name : (r : Record) (a b : List ℕ) → is_blob_of a r ≡ true → is_blob_of b r ≡ true → a ≡ b
-one_name (record_of.Blob private name bytes) a b p q = sym ((bytes_decides name a).0 p) ∙ (bytes_decides name b).0 q
+one_name (record_of.Blob private name receipt bytes) a b p q = sym ((bytes_decides name a).0 p) ∙ (bytes_decides name b).0 q
 one_name (record_of.Config c) a b p q = cc
 one_name (record_of.Publish name) a b p q = cc
 one_name (record_of.Shun name) a b p q = cc
+one_name (record_of.Unshun name) a b p q = cc
 
 one_place : (o : Option Record) (a b : List ℕ) → option_map_or (is_blob_of a) o false ≡ true → option_map_or (is_blob_of b) o false ≡ true → a ≡ b
 one_place None a b p q = cc
@@ -158,24 +160,25 @@ module _ (records : List Record) (has : HasPlaces records) where
   itself : (name : List ℕ) → bytes_eq name name ≡ true
   itself name = texts_ties name name ∙ ap is_eq (tied_itself bytes_cmp-IsTotalOrder name)
 
-  blob_has : (private : Bool) (name bytes q : List ℕ) (b : Bool) → (is_same name q && is_new c name) ≡ b
-      → is_some (cond b (Some (record { private = private; bytes = bytes })) (map_of.get c.held q)) ≡ true → is_some (place (records ++ record_of.Blob private name bytes ∷ []) q) ≡ true
-  blob_has private name bytes q true e h =
+  blob_has : (private : Bool) (name : List ℕ) (receipt : Option Brought) (bytes q : List ℕ) (b : Bool) → (is_same name q && is_new c name) ≡ b
+      → is_some (cond b (Some (record { private = private; bytes = bytes })) (map_of.get c.held q)) ≡ true → is_some (place (records ++ record_of.Blob private name receipt bytes ∷ []) q) ≡ true
+  blob_has private name receipt bytes q true e h =
       let parts = and_parts (is_same name q) (is_new c name) e in
       let same : name ≡ q = is_same-means name q parts.0 in
-      ap is_some (place_push records (record_of.Blob private name bytes) q)
+      ap is_some (place_push records (record_of.Blob private name receipt bytes) q)
       ∙ ap (λ (x : List ℕ). is_some (cond (bytes_eq name x && is_new c x) (Some (length records + 1)) (place records x))) (sym same)
       ∙ (λ i. is_some (cond (itself name i && parts.1 i) (Some (length records + 1)) (place records name)))
-  blob_has private name bytes q false e h = same_still (record_of.Blob private name bytes) q h
+  blob_has private name receipt bytes q false e h = same_still (record_of.Blob private name receipt bytes) q h
 
   push : (r : Record) → HasPlaces (records ++ r ∷ [])
   push r q h = by r (sym (ap (λ (x : Contents). is_some (map_of.get x.held q)) (contents_push records r)) ∙ h)
     where
       by : (r : Record) → is_some (map_of.get (after c r).held q) ≡ true → is_some (place (records ++ r ∷ []) q) ≡ true
       by (record_of.Config config) h = same_still (record_of.Config config) q h
-      by (record_of.Blob private name bytes) h = blob_has private name bytes q (is_same name q && is_new c name) refl (sym (ap is_some (blob-get c name private bytes q)) ∙ h)
+      by (record_of.Blob private name receipt bytes) h = blob_has private name receipt bytes q (is_same name q && is_new c name) refl (sym (ap is_some (blob-get c name private receipt bytes q)) ∙ h)
       by (record_of.Publish name) h = same_still (record_of.Publish name) q (some_of_map (shown name q) (map_of.get c.held q) (sym (ap is_some (publish-get c name q)) ∙ h))
       by (record_of.Shun name) h = same_still (record_of.Shun name) q (some_of_less (is_same name q) (map_of.get c.held q) (sym (ap is_some (shun-get c name q)) ∙ h))
+      by (record_of.Unshun name) h = same_still (record_of.Unshun name) q h
 
 none_yet : HasPlaces []
 none_yet q h = let none : map_of.get (contents []).held q ≡ None = map_of.get-empty bytes_cmp q in let no : is_some {T = Held} None ≡ true = sym (ap is_some none) ∙ h in cc

@@ -29,9 +29,11 @@ use Rattle.fsl_record.specs.declared.Record.{Record}
 use Rattle.fsl_record.specs.declared.Record.TheVariants as record_of
 use Rattle.fsl_record.specs.Records.{AreRecords}
 use Rattle.fsl_journal.specs.Log.{Log}
+use Rattle.fsl_journal.specs.Places.{next_place}
 use Rattle.fsl_journal.proofs.Belonging.{belongs_append}
 use Rattle.fsl_blobs.proofs.Totals.{front_first, front_second, other_less, below_less, none_below}
 use Rattle.fsl_blobs.specs.Seen as blobs
+use Rattle.fsl_blobs.specs.Seen.{applied}
 use Rattle.fsl_blobs.specs.Fold.{Held, Contents, contents, after, is_new}
 use Rattle.fsl_blobs.specs.Held.{still_new}
 use Rattle.fsl_cross.specs.declared.Item.{Item}
@@ -40,10 +42,12 @@ use Rattle.fsl_cross.specs.Tables.{public_at, published}
 use Rattle.fsl_repo.specs.declared.Arrival.TheVariants as arrival
 use Rattle.fsl_repo.specs.declared.ArriveFault.TheVariants as arrive_fault
 use Rattle.fsl_repo.specs.Machine.{AreItems, IsItemOf, configured, IsDueOrMemory}
-use Rattle.fsl_repo.specs.Arriving.{IsPublishing, is_private}
+use Rattle.fsl_repo.specs.Arriving.{appended, IsPublishing, is_private}
 use Rattle.fsl_repo.specs.Keeping.{state_of, IsKept}
 use Rattle.fsl_repo.specs.Whole as whole
+use Rattle.fsl_repo.specs.Whole.{is_modelled}
 use Rattle.fsl_repo.proofs.HeldMore.{contents_more}
+use Rattle.fsl_repo.proofs.OneMore.{records_more, same_more, cached_more, announced_more, state_more}
 
 abbrev told_by : Option Held → Bool → BlobState
 told_by o b = option_map_or (λ a. if a.private then blob.Private (length a.bytes) else blob.Public (length a.bytes)) o (if b then blob.Shunned else blob.Absent)
@@ -149,22 +153,17 @@ module _ (log : Log) (held : blobs.Seen) (all : tables.Seen) (start count : ℕ)
   after_is : after c r ≡ c2
   after_is = ap (λ (o : Option Held). option_map_or (λ a. record c { held = map_of.insert c.held name (public a) }) o c) there.1
 
-  module _ (appended : log2 ≡ record log { records = log.records ++ r ∷ [] })
-      (applied : held2 ≡ record { records = held.records ++ r ∷ []; announced = still_new (contents (held.records ++ r ∷ [])) held.announced }) where
+  module _ (more : log2 ≡ appended log r) (goes : held2 ≡ applied held (next_place log r) r) where
     records2 : log2.records ≡ log.records ++ r ∷ []
-    records2 = ap (λ (l : Log). l.records) appended
+    records2 = records_more log log2 held held2 r more goes
 
     contents2 : contents log2.records ≡ c2
     contents2 = ap contents records2 ∙ contents_more log.records r ∙ after_is
 
-    same2 : held2.records ≡ log2.records
-    same2 = ap (λ (h : blobs.Seen). h.records) applied ∙ ap (λ (rs : List Record). rs ++ r ∷ []) kept.same ∙ sym records2
-
     -- publishing takes no name out of the announced ones, since the name is held and so isn't announced
     announced2 : held2.announced ≡ held.announced
     announced2 =
-        ap (λ (h : blobs.Seen). h.announced) applied
-        ∙ ap (λ (x : Contents). still_new x held.announced) (ap (λ (rs : List Record). contents (rs ++ r ∷ [])) kept.same ∙ contents_more log.records r ∙ after_is)
+        announced_more log log2 held held2 r more goes kept.same ∙ ap (λ (x : Contents). still_new x held.announced) after_is
         ∙ set.same_set bytes_cmp-IsTotalOrder bytes_cmp-IsAntisymmetric (still_new c2 held.announced) held.announced
         (λ q.
         set.contains-retain held.announced (is_new c2) q (λ x same. ap (is_new c2) (sym (bytes_cmp-IsAntisymmetric q x same)))
@@ -202,25 +201,26 @@ module _ (log : Log) (held : blobs.Seen) (all : tables.Seen) (start count : ℕ)
     pub published_kept : AreRecords log2.records → all2.items ≡ published name all.items → all2.fields ≡ all.fields → ((q : List ℕ) → set.contains held2.announced q ≡ true → is_new (contents held2.records) q ≡ true)
         → IsKept log2 held2 all2 start count disk
     published_kept fit added same_fields new = record {
-      belongs = belongs_append log log2 r disk kept.belongs runs appended;
+      belongs = belongs_append log log2 r (next_place log r) disk kept.belongs runs more;
       records = fit;
-      same = same2;
+      same = same_more log log2 held held2 r more goes kept.same;
+      cached = cached_more log log2 held held2 r more goes disk kept.cached;
       items = subst (λ (items : List Item). AreItems (contents log2.records).held items) (sym added)
           (subst (λ (x : Contents). AreItems x.held (published name all.items)) (sym contents2)
           (subst (λ (es : List (List ℕ × Held)). AllZip IsItemOf es (published name all.items)) (sym (map_of.entries-insert bytes_cmp-IsTotalOrder c.held name (public there.0)))
           (items_published name there.0 (map_of.entries c.held) all.items (map_of.entries_sorted c.held) kept.items (sym (map_of.get-entries c.held name) ∙ there.1))));
       fields = same_fields ∙ kept.fields ∙ sym (ap configured contents2);
-      announced = λ q h. subst (λ (rs : List Record). is_new (contents rs) q ≡ true) same2 (new q h);
-      loaded = subst (λ (l : Log). start ≤ l.stable) (sym appended) kept.loaded;
+      announced = λ q h. subst (λ (rs : List Record). is_new (contents rs) q ≡ true) (same_more log log2 held held2 r more goes kept.same).records (new q h);
+      loaded = subst (λ (l : Log). start ≤ l.stable) (sym more) kept.loaded;
       stored =
           kept.stored ∙ sym (ap whole.blobs (ap (drop start) records2 ∙ drop-append-le start log.records (r ∷ []) (omega (arith, kept.loaded, kept.belongs.counts))) ∙ blobs_same (drop start log.records));
     }
 
-    pub published_step : IsDueOrMemory (state_of log held disk.faults) (IsPublishing (state_of log held disk.faults) name) (Err arrive_fault.Memory) ⊤ (Ok arrival.Published) (state_of log2 held2 disk.faults)
+    pub published_step : IsDueOrMemory (state_of log held disk.faults (is_modelled disk)) (IsPublishing (state_of log held disk.faults (is_modelled disk)) name) (Err arrive_fault.Memory) ⊤ (Ok arrival.Published) (state_of log2 held2 disk.faults (is_modelled disk))
     published_step =
-        let s = state_of log held disk.faults in
+        let s = state_of log held disk.faults (is_modelled disk) in
         inl (
           record s { records = s.records ++ r ∷ [] },
           (refl, refl),
-          record { state = (λ i. record { records = records2 i; committed = (appended i).stable; announced = announced2 i; stopped = (appended i).stopped; faults = disk.faults }); faults = omega arith },
+          record { state = state_more log log2 held held2 r more goes held.announced disk.faults (is_modelled disk) announced2; faults = omega arith },
         )

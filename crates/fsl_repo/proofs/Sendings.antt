@@ -1,7 +1,7 @@
 -- The files of a reply.
 use Rattle.std.proofs.Common.{◌≡◌, ℕ, ◌<◌, zero, suc, get_or, arith, Bool, true, false, cond, not, List, [], ◌∷◌, ◌++◌, length, map, take, drop, Option, Some, None, refl, sym, ap, ◌∙◌}
 use Rattle.std.specs.Prelude.{◌&&◌, ◌||◌, filter_map, flat_map, option_to_list, find, is_some, if◌then◌else◌}
-use Rattle.std.specs.List.{list_any, cons_option}
+use Rattle.std.specs.List.{AllByRecursion, list_any, cons_option}
 use Rattle.std.specs.Option.{option_map, option_map_or}
 use Rattle.std.specs.Str.{bytes_eq}
 use Rattle.std.specs.FinMap as map_of
@@ -10,7 +10,6 @@ use Rattle.std.proofs.lemmas.List.Folds.{list_any-append}
 use Rattle.fsl_order.specs.Names.{has}
 use Rattle.fsl_order.specs.Rows.{ascending}
 use Rattle.fsl_order.proofs.AscendingLemmas.{ascending-same, has-ascending}
-use Rattle.fsl_blobs.specs.declared.Holding.{Holding}
 use Rattle.fsl_record.specs.declared.Record.{Record}
 use Rattle.fsl_record.specs.declared.Config.{Config}
 use Rattle.fsl_blobs.specs.Fold.{Held, HeldSet, contents, held_from}
@@ -22,7 +21,8 @@ use Rattle.fsl_answer.specs.Replies.{taken, reply_text, error_line, push_line, i
 use Rattle.fsl_answer.specs.declared.Lists.{Lists}
 use Rattle.fsl_answer.specs.declared.SentFile.{SentFile}
 use Rattle.fsl_repo.specs.Replies.{held_at, placed_in}
-use Rattle.fsl_repo.specs.Sending.{as_held, as_sent, sent_of, sent_files, sent_asked, public_on, files_by, told}
+use Rattle.fsl_repo.specs.Sending.{DueFile, IsSized, as_due, as_held, due_of, sent_of, sent_files, sent_asked, public_on, files_by, told}
+use Rattle.fsl_repo.specs.declared.sending.Due.{Due}
 use Rattle.fsl_repo.specs.declared.placed.PlacedHolding.{PlacedHolding}
 
 module _ (held : HeldSet) (name : List ℕ) (private : Bool) where
@@ -99,7 +99,7 @@ map_cons : {Y Z : Type 0} (f : Y → Z) (o : Option Y) (ys : List Y) → map f (
 map_cons f None ys = refl
 map_cons f (Some y) ys = refl
 
-map_filter_map : {X Y Z : Type 0} (f : Y → Z) (g : X → Option Y) (xs : List X) → map f (filter_map g xs) ≡ filter_map (λ x. option_map f (g x)) xs
+pub map_filter_map : {X Y Z : Type 0} (f : Y → Z) (g : X → Option Y) (xs : List X) → map f (filter_map g xs) ≡ filter_map (λ x. option_map f (g x)) xs
 map_filter_map f g [] = refl
 map_filter_map f g (x ∷ xs) = map_cons f (g x) (filter_map g xs) ∙ ap (cons_option (option_map f (g x))) (map_filter_map f g xs)
 
@@ -161,17 +161,49 @@ module _ (records : List Record) (all : (name : List ℕ) → map_of.contains_ke
   pub files_are : files_by records (placed_in records) message private (reply.first_clone message) ≡ due (reply.asks_from (reply.first_clone message))
   files_are = by_place (reply.asks_from (reply.first_clone message))
 
+-- ---- files that are due
+
+-- an artifact that is lent, as a file without its bytes
+abbrev pub lent_due : PlacedHolding → DueFile
+lent_due p = (p.holding.name, p.holding.private, p.holding.size)
+
+pub lent_sized : (held : List PlacedHolding) → AllByRecursion IsSized held → map lent_due held ≡ map due_of (map sent_file (map as_held held))
+lent_sized [] all = refl
+lent_sized (p ∷ held) all = λ i. (p.holding.name, p.holding.private, all.0 i) ∷ lent_sized held all.1 i
+
+due_sizes : (due : List Due) → map (λ d. d.size) due ≡ map (λ t. t.2) (map as_due due)
+due_sizes [] = refl
+due_sizes (d ∷ due) = ap (λ ns. d.size ∷ ns) (due_sizes due)
+
+file_sizes : (files : List SentFile) → map (λ f. length f.bytes) files ≡ map (λ t. t.2) (map due_of files)
+file_sizes [] = refl
+file_sizes (f ∷ files) = ap (λ ns. length f.bytes ∷ ns) (file_sizes files)
+
+due_names : (due : List Due) → map (λ d. d.name) due ≡ map (λ t. t.0) (map as_due due)
+due_names [] = refl
+due_names (d ∷ due) = ap (λ ns. d.name ∷ ns) (due_names due)
+
+file_names : (files : List SentFile) → map (λ f. f.name) files ≡ map (λ t. t.0) (map due_of files)
+file_names [] = refl
+file_names (f ∷ files) = ap (λ ns. f.name ∷ ns) (file_names files)
+
+module _ (due : List Due) (files : List SentFile) (same : map as_due due ≡ map due_of files) where
+  sizes_are : map (λ d. d.size) due ≡ map (λ f. length f.bytes) files
+  sizes_are = due_sizes due ∙ ap (map (λ (t : DueFile). t.2)) same ∙ sym (file_sizes files)
+
+  pub names_are : map (λ d. d.name) due ≡ map (λ f. f.name) files
+  names_are = due_names due ∙ ap (map (λ (t : DueFile). t.0)) same ∙ sym (file_names files)
+
+  -- as many as the budget takes
+  pub taken_due : (n : ℕ) → n ≡ taken (map (λ d. d.size) due) → map as_due (take n due) ≡ map due_of (sent_files files)
+  taken_due n is =
+      map_take as_due n due ∙ ap (take n) same ∙ sym (map_take due_of n files)
+      ∙ ap (λ (k : ℕ). map due_of (take k files)) (is ∙ ap taken sizes_are)
+
+pub count_is : (due : List Due) (held : List PlacedHolding) → map as_due due ≡ map due_of (map sent_file (map as_held held)) → taken (map (λ d. d.size) due) ≡ taken_count (map as_held held)
+count_is due held same = ap taken (sizes_are due (map sent_file (map as_held held)) same ∙ sizes_alike (map as_held held))
+
 -- ---- artifacts that are lent
-
-pub sizes_sent : (list : List Holding) → map (λ h. length h.bytes.now) list ≡ map (λ f. length f.bytes) (map as_sent list)
-sizes_sent [] = refl
-sizes_sent (h ∷ list) = ap (λ ns. length h.bytes.now ∷ ns) (sizes_sent list)
-
-pub sent_by_count : (list : List Holding) (n : ℕ) → n ≡ taken (map (λ h. length h.bytes.now) list) → map as_sent (take n list) ≡ sent_files (map as_sent list)
-sent_by_count list n is = map_take as_sent n list ∙ ap (λ k. take k (map as_sent list)) (is ∙ ap taken (sizes_sent list))
-
-pub count_is : (list : List Holding) (held : List PlacedHolding) → map as_sent list ≡ map sent_file (map as_held held) → taken (map (λ h. length h.bytes.now) list) ≡ taken_count (map as_held held)
-count_is list held same = ap taken (sizes_sent list ∙ ap (map (λ f. length f.bytes)) same ∙ sizes_alike (map as_held held))
 
 pub place_at : (held : List PlacedHolding) (n : ℕ) (x : PlacedHolding) → n < length held → x ≡ get_or held n x → x.place ≡ reply.place_or_zero (reply.first_of (drop n (map as_held held)))
 place_at [] n x lt is = absurd (omega (arith, lt))

@@ -21,9 +21,11 @@ use Rattle.fsl_record.specs.declared.Record.{Record}
 use Rattle.fsl_record.specs.declared.Record.TheVariants as record_of
 use Rattle.fsl_record.specs.Records.{AreRecords}
 use Rattle.fsl_journal.specs.Log.{Log}
+use Rattle.fsl_journal.specs.Places.{next_place}
 use Rattle.fsl_journal.proofs.Belonging.{belongs_append}
 use Rattle.fsl_blobs.proofs.Totals.{other, entries_less}
 use Rattle.fsl_blobs.specs.Seen as blobs
+use Rattle.fsl_blobs.specs.Seen.{applied}
 use Rattle.fsl_blobs.specs.Fold.{Held, HeldSet, Contents, contents, is_new}
 use Rattle.fsl_blobs.specs.Held.{still_new}
 use Rattle.fsl_cross.specs.declared.Item.{Item}
@@ -39,7 +41,10 @@ use Rattle.fsl_blobs.specs.Laws.{ShunnedAreNotHeld}
 use Rattle.fsl_repo.specs.Machine.{State, AreItems, IsItemOf, configured, now, shun, shunned, ShunStep}
 use Rattle.fsl_repo.specs.Keeping.{state_of, IsKept}
 use Rattle.fsl_repo.specs.Whole as whole
+use Rattle.fsl_repo.specs.Whole.{is_modelled}
+use Rattle.fsl_repo.specs.Arriving.{appended}
 use Rattle.fsl_repo.proofs.HeldMore.{contents_more, absent_is}
+use Rattle.fsl_repo.proofs.OneMore.{records_more, same_more, cached_more, announced_more, state_more}
 use Rattle.fsl_repo.proofs.Arrivals.{shunned_by, held_by, public_is, private_is}
 
 -- ---- the held artifacts without one
@@ -61,7 +66,7 @@ items_less held items name each = subst (λ (es : List (List ℕ × Held)). AllZ
 -- ---- the announced names
 
 abbrev gone : Contents → List ℕ → Contents
-gone c name = record c { held = map_of.remove c.held name; shunned = set.insert c.shunned name }
+gone c name = record c { held = map_of.remove c.held name; receipts = map_of.remove c.receipts name; shunned = set.insert c.shunned name }
 
 new_by : (same shunned : Bool) (o : Option Held) → not (is_some (cond same None o) || (same || shunned)) ≡ (not same && not (is_some o || shunned))
 new_by true shunned o = refl
@@ -88,8 +93,8 @@ announced_less c announced name new =
 -- ---- what is kept
 
 module _ (log : Log) (held : blobs.Seen) (all : tables.Seen) (start count : ℕ) (disk : DiskState) (kept : IsKept log held all start count disk) (name : List ℕ)
-    (log2 : Log) (held2 : blobs.Seen) (all2 : tables.Seen) (runs : log.stopped ≡ None) (appended : log2 ≡ record log { records = log.records ++ record_of.Shun name ∷ [] })
-    (applied : held2 ≡ record { records = held.records ++ record_of.Shun name ∷ []; announced = still_new (contents (held.records ++ record_of.Shun name ∷ [])) held.announced }) where
+    (log2 : Log) (held2 : blobs.Seen) (all2 : tables.Seen) (runs : log.stopped ≡ None) (more : log2 ≡ appended log (record_of.Shun name))
+    (goes : held2 ≡ applied held (next_place log (record_of.Shun name)) (record_of.Shun name)) where
   abbrev r : Record
   r = record_of.Shun name
 
@@ -97,19 +102,13 @@ module _ (log : Log) (held : blobs.Seen) (all : tables.Seen) (start count : ℕ)
   c = contents log.records
 
   records2 : log2.records ≡ log.records ++ r ∷ []
-  records2 = ap (λ (l : Log). l.records) appended
+  records2 = records_more log log2 held held2 r more goes
 
   contents2 : contents log2.records ≡ gone c name
   contents2 = ap contents records2 ∙ contents_more log.records r
 
-  same2 : held2.records ≡ log2.records
-  same2 = ap (λ (h : blobs.Seen). h.records) applied ∙ ap (λ (rs : List Record). rs ++ r ∷ []) kept.same ∙ sym records2
-
   announced2 : held2.announced ≡ set.remove held.announced name
-  announced2 =
-      ap (λ (h : blobs.Seen). h.announced) applied
-      ∙ ap (λ (x : Contents). still_new x held.announced) (ap (λ (rs : List Record). contents (rs ++ r ∷ [])) kept.same ∙ contents_more log.records r)
-      ∙ announced_less c held.announced name kept.announced
+  announced2 = announced_more log log2 held held2 r more goes kept.same ∙ announced_less c held.announced name kept.announced
 
   blobs_same : (records : List Record) → whole.blobs (records ++ r ∷ []) ≡ whole.blobs records
   blobs_same records =
@@ -119,20 +118,21 @@ module _ (log : Log) (held : blobs.Seen) (all : tables.Seen) (start count : ℕ)
   pub shunned_kept : AreRecords log2.records → all2.items ≡ without name all.items → all2.fields ≡ all.fields → ((q : List ℕ) → set.contains held2.announced q ≡ true → is_new (contents held2.records) q ≡ true)
       → IsKept log2 held2 all2 start count disk
   shunned_kept fit added same_fields new = record {
-    belongs = belongs_append log log2 r disk kept.belongs runs appended;
+    belongs = belongs_append log log2 r (next_place log r) disk kept.belongs runs more;
     records = fit;
-    same = same2;
+    same = same_more log log2 held held2 r more goes kept.same;
+    cached = cached_more log log2 held held2 r more goes disk kept.cached;
     items = subst (λ (items : List Item). AreItems (contents log2.records).held items) (sym added)
         (subst (λ (x : Contents). AreItems x.held (without name all.items)) (sym contents2) (items_less c.held all.items name kept.items));
     fields = same_fields ∙ kept.fields ∙ sym (ap configured contents2);
-    announced = λ q h. subst (λ (rs : List Record). is_new (contents rs) q ≡ true) same2 (new q h);
-    loaded = subst (λ (l : Log). start ≤ l.stable) (sym appended) kept.loaded;
+    announced = λ q h. subst (λ (rs : List Record). is_new (contents rs) q ≡ true) (same_more log log2 held held2 r more goes kept.same).records (new q h);
+    loaded = subst (λ (l : Log). start ≤ l.stable) (sym more) kept.loaded;
     stored =
         kept.stored ∙ sym (ap whole.blobs (ap (drop start) records2 ∙ drop-append-le start log.records (r ∷ []) (omega (arith, kept.loaded, kept.belongs.counts))) ∙ blobs_same (drop start log.records));
   }
 
-  pub shunned_state : state_of log2 held2 disk.faults ≡ record (state_of log held disk.faults) { records = log.records ++ r ∷ []; announced = set.remove held.announced name }
-  shunned_state = λ i. record { records = records2 i; committed = (appended i).stable; announced = announced2 i; stopped = (appended i).stopped; faults = disk.faults }
+  pub shunned_state : (faults : ℕ) (honest : Bool) → state_of log2 held2 faults honest ≡ record (state_of log held faults honest) { records = log.records ++ r ∷ []; announced = set.remove held.announced name }
+  shunned_state faults honest = state_more log log2 held held2 r more goes (set.remove held.announced name) faults honest announced2
 
 -- ---- what a shun answers
 

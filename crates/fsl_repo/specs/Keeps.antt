@@ -6,22 +6,15 @@ use Rattle.std.specs.FinSet as set
 use Rattle.fsl_order.specs.Names.{has}
 use Rattle.fsl_cross.specs.declared.Item.{Item}
 use Rattle.fsl_answer.specs.declared.Lists.{Lists}
-use Rattle.fsl_answer.specs.Contents.{sends_private, lists_of}
+use Rattle.fsl_answer.specs.Contents.{sends_private}
 use Rattle.fsl_blobs.specs.Fold.{Contents}
 use Rattle.fsl_repo.specs.declared.Ask.{Ask}
 use Rattle.fsl_repo.specs.Machine.{State, now, AreItems, AnnouncedAreNew}
-use Rattle.fsl_repo.specs.Replies.{reply_state}
+use Rattle.fsl_repo.specs.Replies.{reply_lists, sent_names}
 
--- the lists of the reply
-abbrev pub reply_lists : State → List Item → Ask → Lists
-reply_lists s items ask = lists_of (reply_state s items) ask.message ask.caps ask.notices
-
--- the names of its igot, gimme and file cards
+-- the names of the igot cards of a reply
 abbrev pub told_names : Lists → List (List ℕ)
 told_names l = map (λ a. a.0) l.igots
-
-abbrev pub sent_names : Lists → List (List ℕ)
-sent_names l = map (λ f. f.name) l.files
 
 -- whether a name is that of a held private artifact
 abbrev pub is_held_private : Contents → List ℕ → Bool

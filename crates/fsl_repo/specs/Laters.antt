@@ -1,17 +1,18 @@
 -- What every step keeps, and which repository is later than another. An impl's laws stand on it, so it is no proof file.
 use Rattle.std.proofs.Common.{◌≡◌, inl, inr, ℕ, ◌+◌, ◌≤◌, Bool, true, false, cond, List, [], ◌∷◌, ◌++◌, length, drop, Option, Some, None, Result, Ok, Err, refl, sym, ap, subst, ◌∙◌, arith, append_assoc}
-use Rattle.std.specs.Prelude.{nat_le, MatchBool, MatchOption, ◌⊎◌, IsSome}
+use Rattle.std.specs.Prelude.{nat_le, MatchBool, MatchOption, ◌⊎◌, IsSome, IsTrue}
 use Rattle.fsl_order.specs.Causes.{Rose}
 use Rattle.std.proofs.lemmas.List.{append-nil, drop-append-le}
 use Rattle.std.proofs.lemmas.List.Sums.{sum_by-append}
+use Rattle.fsl_record.specs.Receipts.{Brought}
 use Rattle.fsl_record.specs.declared.Record.{Record}
 use Rattle.fsl_record.specs.declared.Record.TheVariants as record_of
 use Rattle.fsl_journal.specs.declared.CommitFault.{CommitFault}
 use Rattle.fsl_journal.specs.Log.{Log}
 use Rattle.fsl_blobs.specs.declared.Known.{Known}
 use Rattle.fsl_blobs.specs.declared.Known.TheVariants as known
-use Rattle.fsl_disk.proofs.Moments.{keeps_on}
-use Rattle.fsl_disk.specs.Disk.{DiskState}
+use Rattle.fsl_disk.proofs.Moments.{keeps_on, quiet_on}
+use Rattle.fsl_disk.specs.Disk.{DiskState, Quiet}
 use Rattle.fsl_cross.specs.declared.Item.{Item}
 use Rattle.fsl_repo.specs.declared.Arrival.{Arrival}
 use Rattle.fsl_repo.specs.declared.Arrival.TheVariants as arrival
@@ -19,6 +20,11 @@ use Rattle.fsl_repo.specs.declared.ArriveFault.{ArriveFault}
 use Rattle.fsl_repo.specs.declared.Shunning.{Shunning}
 use Rattle.fsl_repo.specs.declared.Shunning.TheVariants as shunning
 use Rattle.fsl_repo.specs.declared.ShunFault.{ShunFault}
+use Rattle.fsl_repo.specs.declared.Unshunning.{Unshunning}
+use Rattle.fsl_repo.specs.declared.Unshunning.TheVariants as unshunning
+use Rattle.fsl_repo.specs.declared.UnshunFault.{UnshunFault}
+use Rattle.fsl_repo.specs.declared.BuildFault.{BuildFault}
+use Rattle.fsl_repo.specs.declared.Ask.{Ask}
 use Rattle.fsl_repo.specs.declared.Clustering.{Clustering}
 use Rattle.fsl_repo.specs.declared.Clustering.TheVariants as clustering
 use Rattle.fsl_repo.specs.declared.ArriveFault.TheVariants as arrive_fault
@@ -26,8 +32,8 @@ use Rattle.fsl_repo.specs.declared.Event.{Event}
 use Rattle.fsl_repo.specs.declared.Event.TheVariants as event
 use Rattle.fsl_repo.specs.declared.Answer.{Answer}
 use Rattle.fsl_repo.specs.declared.Answer.TheVariants as answer
-use Rattle.fsl_repo.specs.Machine.{State, IsDueOrMemory, Leaves, now, AreItems, arrived, announced, announce, shun, shunned, IsArrival, IsClusterArrival, IsClusteringOf, IsClustering, IsCommit, unclustered_names, due_cluster}
-use Rattle.fsl_repo.specs.Replies.{IsBuilt}
+use Rattle.fsl_repo.specs.Machine.{State, IsDueOrMemory, Leaves, now, AreItems, arrived, announced, announce, shun, shunned, IsArrival, IsUnshunning, unshunned, IsClusterArrival, IsClusteringOf, IsClustering, IsCommit, unclustered_names, due_cluster}
+use Rattle.fsl_repo.specs.Replies.{BuildStep}
 use Rattle.fsl_repo.specs.Whole.{Seen, Whole, IsLater, is_blob, blobs, stored, log_of}
 use Rattle.fsl_repo.specs.Onward.{Step, DiskStep, MayStep, IsLaterOn, StepsGoOn}
 use Rattle.fsl_name.specs.Name.{name_of}
@@ -47,12 +53,12 @@ by_due : {A : Type 0} (old new : State) (IsDue : A → State → Type 0) (memory
 by_due old new IsDue memory May r go (inl x) = by_leaves old x.0 new x.2 (go x.0 x.1)
 by_due old new IsDue memory May r go (inr y) = by_leaves old old new y.2 (same_records old)
 
-arrived_grows : (s : State) (name bytes : List ℕ) (private : Bool) (r : Result Arrival ArriveFault) → Grows s (arrived s name bytes private r)
-arrived_grows s name bytes private (Ok arrival.Shunned) = same_records s
-arrived_grows s name bytes private (Ok arrival.Present) = same_records s
-arrived_grows s name bytes private (Ok arrival.Published) = (record_of.Publish name ∷ [], refl)
-arrived_grows s name bytes private (Ok arrival.Stored) = (record_of.Blob private name bytes ∷ [], refl)
-arrived_grows s name bytes private (Err e) = same_records s
+arrived_grows : (s : State) (name : List ℕ) (receipt : Option Brought) (bytes : List ℕ) (private : Bool) (r : Result Arrival ArriveFault) → Grows s (arrived s name receipt bytes private r)
+arrived_grows s name receipt bytes private (Ok arrival.Shunned) = same_records s
+arrived_grows s name receipt bytes private (Ok arrival.Present) = same_records s
+arrived_grows s name receipt bytes private (Ok arrival.Published) = (record_of.Publish name ∷ [], refl)
+arrived_grows s name receipt bytes private (Ok arrival.Stored) = (record_of.Blob private name receipt bytes ∷ [], refl)
+arrived_grows s name receipt bytes private (Err e) = same_records s
 
 announced_grows : (s : State) (name : List ℕ) (k : Known) → Grows s (announced s name k)
 announced_grows s name known.Held = same_records s
@@ -67,16 +73,26 @@ shunned_grows s name (Ok shunning.Removed) = (record_of.Shun name ∷ [], refl)
 shunned_grows s name (Ok shunning.Listed) = (record_of.Shun name ∷ [], refl)
 shunned_grows s name (Err e) = same_records s
 
+unshunned_grows : (s : State) (name : List ℕ) (r : Result Unshunning UnshunFault) → Grows s (unshunned s name r)
+unshunned_grows s name (Ok unshunning.NotShunned) = same_records s
+unshunned_grows s name (Ok unshunning.Unshunned) = (record_of.Unshun name ∷ [], refl)
+unshunned_grows s name (Err e) = same_records s
+
 by_equal : (s due due2 : State) → due ≡ due2 → Grows s due2 → Grows s due
 by_equal s due due2 is g = subst (Grows s) (sym is) g
+
+-- a build leaves the records
+build_grows : (s : State) (ask : Ask) (r : Result (List ℕ) BuildFault) (new : State) → BuildStep s ask r new → Grows s new
+build_grows s ask r new (inl p) = by_equal s new s p.1 (same_records s)
+build_grows s ask r new (inr p) = by_leaves s s new p.4 (same_records s)
 
 module _ (s : State) (result : Result Clustering ArriveFault) (due : State) where
   of_grows : (few : Bool) (items : List Item)
       → MatchBool few ((result ≡ Ok (clustering.Few (length (unclustered_names items)))) × (due ≡ s)) (IsClusterArrival s (due_cluster items) result due) → Grows s due
   of_grows true items p = by_equal s due s p.1 (same_records s)
   of_grows false items p =
-      by_equal s due (arrived s (name_of (due_cluster items)) (due_cluster items) false p.0) p.3
-      (arrived_grows s (name_of (due_cluster items)) (due_cluster items) false p.0)
+      by_equal s due (arrived s (name_of (due_cluster items)) None (due_cluster items) false p.0) p.3
+      (arrived_grows s (name_of (due_cluster items)) None (due_cluster items) false p.0)
 
   clustering_grows : (stopped : Option ℕ)
       → MatchOption stopped ((items : List Item) × AreItems (now s).held items × IsClusteringOf s items result due)
@@ -91,45 +107,76 @@ commit_grows None old r new (inr p) = ([], ap (λ (s : State). s.records) p.1 �
 
 pub grows : (old : State) (e : Event) (a : Answer) (new : State) → Step old e a new → Grows old new
 grows old (event.Arrive name bytes private) (answer.Arrive r) new p =
-    by_due old new (λ r due. IsArrival old name bytes private r × (due ≡ arrived old name bytes private r)) _ _ r
-    (λ due is. by_equal old due (arrived old name bytes private r) is.1 (arrived_grows old name bytes private r)) p
+    by_due old new (λ r due. IsArrival old name bytes private r × (due ≡ arrived old name None bytes private r)) _ _ r
+    (λ due is. by_equal old due (arrived old name None bytes private r) is.1 (arrived_grows old name None bytes private r)) p
+grows old (event.Arrive name bytes private) (answer.Receive r) new p = absurd p
 grows old (event.Arrive name bytes private) (answer.Announce r) new p = absurd p
 grows old (event.Arrive name bytes private) (answer.Shun r) new p = absurd p
+grows old (event.Arrive name bytes private) (answer.Unshun r) new p = absurd p
 grows old (event.Arrive name bytes private) (answer.Cluster r) new p = absurd p
 grows old (event.Arrive name bytes private) (answer.Build r) new p = absurd p
 grows old (event.Arrive name bytes private) (answer.Commit r) new p = absurd p
+grows old (event.Receive name bytes private receipt) (answer.Arrive r) new p = absurd p
+grows old (event.Receive name bytes private receipt) (answer.Receive r) new p =
+    by_due old new (λ r due. IsArrival old name bytes private r × (due ≡ arrived old name (Some receipt) bytes private r)) _ _ r
+    (λ due is. by_equal old due (arrived old name (Some receipt) bytes private r) is.1 (arrived_grows old name (Some receipt) bytes private r)) p
+grows old (event.Receive name bytes private receipt) (answer.Announce r) new p = absurd p
+grows old (event.Receive name bytes private receipt) (answer.Shun r) new p = absurd p
+grows old (event.Receive name bytes private receipt) (answer.Unshun r) new p = absurd p
+grows old (event.Receive name bytes private receipt) (answer.Cluster r) new p = absurd p
+grows old (event.Receive name bytes private receipt) (answer.Build r) new p = absurd p
+grows old (event.Receive name bytes private receipt) (answer.Commit r) new p = absurd p
 grows old (event.Announce name) (answer.Arrive r) new p = absurd p
+grows old (event.Announce name) (answer.Receive r) new p = absurd p
 grows old (event.Announce name) (answer.Announce r) new p =
     by_due old new (λ r due. (r ≡ Ok (announce old name)) × (due ≡ announced old name (announce old name))) _ _ r
     (λ due is. by_equal old due (announced old name (announce old name)) is.1 (announced_grows old name (announce old name))) p
 grows old (event.Announce name) (answer.Shun r) new p = absurd p
+grows old (event.Announce name) (answer.Unshun r) new p = absurd p
 grows old (event.Announce name) (answer.Cluster r) new p = absurd p
 grows old (event.Announce name) (answer.Build r) new p = absurd p
 grows old (event.Announce name) (answer.Commit r) new p = absurd p
 grows old (event.Shun name) (answer.Arrive r) new p = absurd p
+grows old (event.Shun name) (answer.Receive r) new p = absurd p
 grows old (event.Shun name) (answer.Announce r) new p = absurd p
 grows old (event.Shun name) (answer.Shun r) new p =
     by_due old new (λ r due. (r ≡ shun old name) × (due ≡ shunned old name r)) _ _ r
     (λ due is. by_equal old due (shunned old name r) is.1 (shunned_grows old name r)) p
+grows old (event.Shun name) (answer.Unshun r) new p = absurd p
 grows old (event.Shun name) (answer.Cluster r) new p = absurd p
 grows old (event.Shun name) (answer.Build r) new p = absurd p
 grows old (event.Shun name) (answer.Commit r) new p = absurd p
+grows old (event.Unshun name) (answer.Arrive r) new p = absurd p
+grows old (event.Unshun name) (answer.Receive r) new p = absurd p
+grows old (event.Unshun name) (answer.Announce r) new p = absurd p
+grows old (event.Unshun name) (answer.Shun r) new p = absurd p
+grows old (event.Unshun name) (answer.Unshun r) new p =
+    by_due old new (λ r due. IsUnshunning old name r × (due ≡ unshunned old name r)) _ _ r
+    (λ due is. by_equal old due (unshunned old name r) is.1 (unshunned_grows old name r)) p
+grows old (event.Unshun name) (answer.Cluster r) new p = absurd p
+grows old (event.Unshun name) (answer.Build r) new p = absurd p
+grows old (event.Unshun name) (answer.Commit r) new p = absurd p
 grows old event.Cluster (answer.Arrive r) new p = absurd p
+grows old event.Cluster (answer.Receive r) new p = absurd p
 grows old event.Cluster (answer.Announce r) new p = absurd p
 grows old event.Cluster (answer.Shun r) new p = absurd p
+grows old event.Cluster (answer.Unshun r) new p = absurd p
 grows old event.Cluster (answer.Cluster r) new p = by_due old new (IsClustering old) _ _ r (λ due is. clustering_grows old r due old.stopped is) p
 grows old event.Cluster (answer.Build r) new p = absurd p
 grows old event.Cluster (answer.Commit r) new p = absurd p
 grows old (event.Build ask) (answer.Arrive r) new p = absurd p
+grows old (event.Build ask) (answer.Receive r) new p = absurd p
 grows old (event.Build ask) (answer.Announce r) new p = absurd p
 grows old (event.Build ask) (answer.Shun r) new p = absurd p
+grows old (event.Build ask) (answer.Unshun r) new p = absurd p
 grows old (event.Build ask) (answer.Cluster r) new p = absurd p
-grows old (event.Build ask) (answer.Build r) new p =
-    by_due old new (λ r due. IsBuilt old ask r × (due ≡ old)) _ _ r (λ due is. by_equal old due old is.1 (same_records old)) p
+grows old (event.Build ask) (answer.Build r) new p = build_grows old ask r new p
 grows old (event.Build ask) (answer.Commit r) new p = absurd p
 grows old event.Commit (answer.Arrive r) new p = absurd p
+grows old event.Commit (answer.Receive r) new p = absurd p
 grows old event.Commit (answer.Announce r) new p = absurd p
 grows old event.Commit (answer.Shun r) new p = absurd p
+grows old event.Commit (answer.Unshun r) new p = absurd p
 grows old event.Commit (answer.Cluster r) new p = absurd p
 grows old event.Commit (answer.Build r) new p = absurd p
 grows old event.Commit (answer.Commit r) new p = commit_grows old.stopped old r new p
@@ -159,12 +206,12 @@ stop_equal s due due2 is same = (ap (λ (x : State). x.stopped) is ∙ same.0, a
 stop_same : (s due : State) → due ≡ s → Stays s due
 stop_same s due is = stop_equal s due s is (refl, refl)
 
-arrived_stop : (s : State) (name bytes : List ℕ) (private : Bool) (r : Result Arrival ArriveFault) → Stays s (arrived s name bytes private r)
-arrived_stop s name bytes private (Ok arrival.Shunned) = (refl, refl)
-arrived_stop s name bytes private (Ok arrival.Present) = (refl, refl)
-arrived_stop s name bytes private (Ok arrival.Published) = (refl, refl)
-arrived_stop s name bytes private (Ok arrival.Stored) = (refl, refl)
-arrived_stop s name bytes private (Err e) = (refl, refl)
+arrived_stop : (s : State) (name : List ℕ) (receipt : Option Brought) (bytes : List ℕ) (private : Bool) (r : Result Arrival ArriveFault) → Stays s (arrived s name receipt bytes private r)
+arrived_stop s name receipt bytes private (Ok arrival.Shunned) = (refl, refl)
+arrived_stop s name receipt bytes private (Ok arrival.Present) = (refl, refl)
+arrived_stop s name receipt bytes private (Ok arrival.Published) = (refl, refl)
+arrived_stop s name receipt bytes private (Ok arrival.Stored) = (refl, refl)
+arrived_stop s name receipt bytes private (Err e) = (refl, refl)
 
 announced_stop : (s : State) (name : List ℕ) (k : Known) → Stays s (announced s name k)
 announced_stop s name known.Held = (refl, refl)
@@ -172,6 +219,18 @@ announced_stop s name known.Shunned = (refl, refl)
 announced_stop s name known.Again = (refl, refl)
 announced_stop s name known.Full = (refl, refl)
 announced_stop s name known.New = (refl, refl)
+
+unshunned_stop : (s : State) (name : List ℕ) (r : Result Unshunning UnshunFault) → Stays s (unshunned s name r)
+unshunned_stop s name (Ok unshunning.NotShunned) = (refl, refl)
+unshunned_stop s name (Ok unshunning.Unshunned) = (refl, refl)
+unshunned_stop s name (Err e) = (refl, refl)
+
+-- a build leaves the state, but for the disk's count
+build_stop : (s : State) (ask : Ask) (r : Result (List ℕ) BuildFault) (new : State) → BuildStep s ask r new → Stops s new
+build_stop s ask r new (inl p) =
+    let same : new.faults ≡ s.faults = ap (λ (x : State). x.faults) p.1 in
+    (omega (arith, same), inl (ap (λ (x : State). x.stopped) p.1), inl (ap (λ (x : State). x.committed) p.1))
+build_stop s ask r new (inr p) = stop_leaves s s new p.4 (refl, refl)
 
 shunned_stop : (s : State) (name : List ℕ) (r : Result Shunning ShunFault) → Stays s (shunned s name r)
 shunned_stop s name (Ok shunning.Already) = (refl, refl)
@@ -183,7 +242,7 @@ module _ (s : State) (result : Result Clustering ArriveFault) (due : State) wher
   of_stop : (few : Bool) (items : List Item)
       → MatchBool few ((result ≡ Ok (clustering.Few (length (unclustered_names items)))) × (due ≡ s)) (IsClusterArrival s (due_cluster items) result due) → Stays s due
   of_stop true items p = stop_same s due p.1
-  of_stop false items p = stop_equal s due (arrived s (name_of (due_cluster items)) (due_cluster items) false p.0) p.3 (arrived_stop s (name_of (due_cluster items)) (due_cluster items) false p.0)
+  of_stop false items p = stop_equal s due (arrived s (name_of (due_cluster items)) None (due_cluster items) false p.0) p.3 (arrived_stop s (name_of (due_cluster items)) None (due_cluster items) false p.0)
 
   clustering_stop : (stopped : Option ℕ)
       → MatchOption stopped ((items : List Item) × AreItems (now s).held items × IsClusteringOf s items result due)
@@ -200,45 +259,76 @@ commit_stop None old r new is (inr p) =
 
 stopping : (old : State) (e : Event) (a : Answer) (new : State) → Step old e a new → Stops old new
 stopping old (event.Arrive name bytes private) (answer.Arrive r) new p =
-    stop_due old new (λ r due. IsArrival old name bytes private r × (due ≡ arrived old name bytes private r)) _ _ r
-    (λ due is. stop_equal old due (arrived old name bytes private r) is.1 (arrived_stop old name bytes private r)) p
+    stop_due old new (λ r due. IsArrival old name bytes private r × (due ≡ arrived old name None bytes private r)) _ _ r
+    (λ due is. stop_equal old due (arrived old name None bytes private r) is.1 (arrived_stop old name None bytes private r)) p
+stopping old (event.Arrive name bytes private) (answer.Receive r) new p = absurd p
 stopping old (event.Arrive name bytes private) (answer.Announce r) new p = absurd p
 stopping old (event.Arrive name bytes private) (answer.Shun r) new p = absurd p
+stopping old (event.Arrive name bytes private) (answer.Unshun r) new p = absurd p
 stopping old (event.Arrive name bytes private) (answer.Cluster r) new p = absurd p
 stopping old (event.Arrive name bytes private) (answer.Build r) new p = absurd p
 stopping old (event.Arrive name bytes private) (answer.Commit r) new p = absurd p
+stopping old (event.Receive name bytes private receipt) (answer.Arrive r) new p = absurd p
+stopping old (event.Receive name bytes private receipt) (answer.Receive r) new p =
+    stop_due old new (λ r due. IsArrival old name bytes private r × (due ≡ arrived old name (Some receipt) bytes private r)) _ _ r
+    (λ due is. stop_equal old due (arrived old name (Some receipt) bytes private r) is.1 (arrived_stop old name (Some receipt) bytes private r)) p
+stopping old (event.Receive name bytes private receipt) (answer.Announce r) new p = absurd p
+stopping old (event.Receive name bytes private receipt) (answer.Shun r) new p = absurd p
+stopping old (event.Receive name bytes private receipt) (answer.Unshun r) new p = absurd p
+stopping old (event.Receive name bytes private receipt) (answer.Cluster r) new p = absurd p
+stopping old (event.Receive name bytes private receipt) (answer.Build r) new p = absurd p
+stopping old (event.Receive name bytes private receipt) (answer.Commit r) new p = absurd p
 stopping old (event.Announce name) (answer.Arrive r) new p = absurd p
+stopping old (event.Announce name) (answer.Receive r) new p = absurd p
 stopping old (event.Announce name) (answer.Announce r) new p =
     stop_due old new (λ r due. (r ≡ Ok (announce old name)) × (due ≡ announced old name (announce old name))) _ _ r
     (λ due is. stop_equal old due (announced old name (announce old name)) is.1 (announced_stop old name (announce old name))) p
 stopping old (event.Announce name) (answer.Shun r) new p = absurd p
+stopping old (event.Announce name) (answer.Unshun r) new p = absurd p
 stopping old (event.Announce name) (answer.Cluster r) new p = absurd p
 stopping old (event.Announce name) (answer.Build r) new p = absurd p
 stopping old (event.Announce name) (answer.Commit r) new p = absurd p
 stopping old (event.Shun name) (answer.Arrive r) new p = absurd p
+stopping old (event.Shun name) (answer.Receive r) new p = absurd p
 stopping old (event.Shun name) (answer.Announce r) new p = absurd p
 stopping old (event.Shun name) (answer.Shun r) new p =
     stop_due old new (λ r due. (r ≡ shun old name) × (due ≡ shunned old name r)) _ _ r
     (λ due is. stop_equal old due (shunned old name r) is.1 (shunned_stop old name r)) p
+stopping old (event.Shun name) (answer.Unshun r) new p = absurd p
 stopping old (event.Shun name) (answer.Cluster r) new p = absurd p
 stopping old (event.Shun name) (answer.Build r) new p = absurd p
 stopping old (event.Shun name) (answer.Commit r) new p = absurd p
+stopping old (event.Unshun name) (answer.Arrive r) new p = absurd p
+stopping old (event.Unshun name) (answer.Receive r) new p = absurd p
+stopping old (event.Unshun name) (answer.Announce r) new p = absurd p
+stopping old (event.Unshun name) (answer.Shun r) new p = absurd p
+stopping old (event.Unshun name) (answer.Unshun r) new p =
+    stop_due old new (λ r due. IsUnshunning old name r × (due ≡ unshunned old name r)) _ _ r
+    (λ due is. stop_equal old due (unshunned old name r) is.1 (unshunned_stop old name r)) p
+stopping old (event.Unshun name) (answer.Cluster r) new p = absurd p
+stopping old (event.Unshun name) (answer.Build r) new p = absurd p
+stopping old (event.Unshun name) (answer.Commit r) new p = absurd p
 stopping old event.Cluster (answer.Arrive r) new p = absurd p
+stopping old event.Cluster (answer.Receive r) new p = absurd p
 stopping old event.Cluster (answer.Announce r) new p = absurd p
 stopping old event.Cluster (answer.Shun r) new p = absurd p
+stopping old event.Cluster (answer.Unshun r) new p = absurd p
 stopping old event.Cluster (answer.Cluster r) new p = stop_due old new (IsClustering old) _ _ r (λ due is. clustering_stop old r due old.stopped is) p
 stopping old event.Cluster (answer.Build r) new p = absurd p
 stopping old event.Cluster (answer.Commit r) new p = absurd p
 stopping old (event.Build ask) (answer.Arrive r) new p = absurd p
+stopping old (event.Build ask) (answer.Receive r) new p = absurd p
 stopping old (event.Build ask) (answer.Announce r) new p = absurd p
 stopping old (event.Build ask) (answer.Shun r) new p = absurd p
+stopping old (event.Build ask) (answer.Unshun r) new p = absurd p
 stopping old (event.Build ask) (answer.Cluster r) new p = absurd p
-stopping old (event.Build ask) (answer.Build r) new p =
-    stop_due old new (λ r due. IsBuilt old ask r × (due ≡ old)) _ _ r (λ due is. stop_same old due is.1) p
+stopping old (event.Build ask) (answer.Build r) new p = build_stop old ask r new p
 stopping old (event.Build ask) (answer.Commit r) new p = absurd p
 stopping old event.Commit (answer.Arrive r) new p = absurd p
+stopping old event.Commit (answer.Receive r) new p = absurd p
 stopping old event.Commit (answer.Announce r) new p = absurd p
 stopping old event.Commit (answer.Shun r) new p = absurd p
+stopping old event.Commit (answer.Unshun r) new p = absurd p
 stopping old event.Commit (answer.Cluster r) new p = absurd p
 stopping old event.Commit (answer.Build r) new p = absurd p
 stopping old event.Commit (answer.Commit r) new p = commit_stop old.stopped old r new refl p
@@ -307,6 +397,16 @@ steps_go_on = record { grows = grows; later = later; same = same; through = thro
 
 -- ---- repositories with their disks
 
+-- what no call leaves
+pub quiet_same : (d : DiskState) → Quiet d d
+quiet_same d = record {
+  keeps = record { tells = refl; model = refl };
+  contents = refl;
+  later = λ _. omega arith;
+  images = λ _ c h. h;
+  since = λ _ t c le h. inl h;
+}
+
 pub later_self : {D : Type 0} (d : DiskState) (a : Whole D) → IsLaterOn d d a a
 later_self d a = record {
   seen = same a.seen;
@@ -316,7 +416,7 @@ later_self d a = record {
   faults = omega arith;
   stops = λ runs some. absurd (none_of a.seen.state.stopped runs some);
   stays = λ _. refl;
-  still = λ _. refl;
+  still = λ _. quiet_same d;
 }
 
 rose_on : (a b c : ℕ) → a ≤ b → Rose b c → Rose a c
@@ -333,8 +433,8 @@ module _ {D : Type 0} (d e f : DiskState) (a b c : Whole D) (p : IsLaterOn d e a
   stays_through : IsSome a.seen.state.stopped → c.seen.state.stopped ≡ a.seen.state.stopped
   stays_through some = q.stays (subst IsSome (sym (p.stays some)) some) ∙ p.stays some
 
-  still_through : IsSome a.seen.state.stopped → c.disk ≡ a.disk
-  still_through some = q.still (subst IsSome (sym (p.stays some)) some) ∙ p.still some
+  still_through : IsSome a.seen.state.stopped → Quiet d f
+  still_through some = quiet_on d e f (p.still some) (q.still (subst IsSome (sym (p.stays some)) some))
 
   pub later_through : IsLaterOn d f a c
   later_through = record {
@@ -348,17 +448,22 @@ module _ {D : Type 0} (d e f : DiskState) (a b c : Whole D) (p : IsLaterOn d e a
     still = still_through;
   }
 
--- a repository that is stopped calls no device
-stopped_stays : {same : Type 0} (d e : DiskState) (log : Log) (event : Event) → DiskStep event d e log same → IsSome log.stopped → same
-stopped_stays d e log event.Commit p some = p.1 (inl some)
-stopped_stays d e log (event.Arrive name bytes private) p some = p
-stopped_stays d e log (event.Announce name) p some = p
-stopped_stays d e log (event.Shun name) p some = p
-stopped_stays d e log event.Cluster p some = p
-stopped_stays d e log (event.Build ask) p some = p
+-- a repository that is stopped writes nothing
+stopped_stays : (d e : DiskState) (log : Log) (event : Event) (same : Type 0) → (same → Quiet d e) → DiskStep event d e log same → IsSome log.stopped → Quiet d e
+stopped_stays d e log event.Commit same quiet p some = quiet (p.1 (inl some))
+stopped_stays d e log (event.Arrive name bytes private) same quiet p some = quiet p
+stopped_stays d e log (event.Receive name bytes private receipt) same quiet p some = quiet p
+stopped_stays d e log (event.Announce name) same quiet p some = quiet p
+stopped_stays d e log (event.Shun name) same quiet p some = quiet p
+stopped_stays d e log (event.Unshun name) same quiet p some = quiet p
+stopped_stays d e log event.Cluster same quiet p some = quiet p
+stopped_stays d e log (event.Build ask) same quiet p some = p
 
-pub step_later : {D : Type 0} (d e : DiskState) (a : Whole D) (event : Event) (answer : Answer) (b : Whole D) → MayStep d e a event answer b → IsLaterOn d e a b
-step_later d e a event answer b p =
+pub step_later : {D : Type 0} (state : D → DiskState) (a : Whole D) (event : Event) (answer : Answer) (b : Whole D) → MayStep (state a.disk) (state b.disk) a event answer b → IsLaterOn (state a.disk) (state b.disk) a b
+step_later {D} state a event answer b p =
+    let d : DiskState = state a.disk in
+    let e : DiskState = state b.disk in
+    let quiet : b.disk ≡ a.disk → Quiet d e = λ same. subst (λ (x : D). Quiet (state a.disk) (state x)) (sym same) (quiet_same (state a.disk)) in
     let within : a.seen.loaded ≤ length a.seen.state.records = omega (arith, p.old_whole.seen.loaded, p.old_whole.seen.committed) in
     let faults : a.seen.state.faults ≤ b.seen.state.faults = faults_go a.seen.state event answer b.seen.state p.step in
     record {
@@ -369,7 +474,7 @@ step_later d e a event answer b p =
       faults = omega (arith, faults, p.old_whole.faults, p.new_whole.faults);
       stops = λ runs some. subst (λ (n : ℕ). Rose n e.faults) p.old_whole.faults (subst (λ (n : ℕ). Rose a.seen.state.faults n) p.new_whole.faults (stops_go a.seen.state event answer b.seen.state p.step runs some));
       stays = stays_go a.seen.state event answer b.seen.state p.step;
-      still = stopped_stays d e (log_of a) event p.disk;
+      still = stopped_stays d e (log_of a) event (b.disk ≡ a.disk) quiet p.disk;
     }
 
 pub never_falls : {D : Type 0} (d e : DiskState) (a b : Whole D) → IsLaterOn d e a b → stored a.seen ≤ stored b.seen

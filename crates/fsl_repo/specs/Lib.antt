@@ -4,6 +4,7 @@ pub mod Keeping
 pub mod Opening
 pub mod Arriving
 pub mod Replies
+pub mod Contents
 pub mod Sending
 pub mod Keeps
 pub mod Onward

@@ -1,8 +1,12 @@
 -- What the opening of a repository answers.
-use Rattle.std.specs.Prelude.{◌≡◌, ◌⊎◌, ℕ, ◌+◌, List, length, take, Some, Result, Ok, Err}
+use Rattle.std.specs.Prelude.{◌≡◌, ◌⊎◌, ℕ, ◌+◌, ◌-◌, List, [], length, take, slice_get, Option, Some, None, Result, Ok, Err}
 use Rattle.fsl_disk.specs.Disk.{DiskState, Told, Quiet}
 use Rattle.fsl_order.specs.Causes.{Rose}
 use Rattle.fsl_record.specs.declared.Record.{Record}
+use Rattle.fsl_record.specs.declared.Record.TheVariants as record_of
+use Rattle.fsl_artifact.specs.declared.Artifact.{Artifact}
+use Rattle.fsl_artifact.specs.Kind.{IsKind}
+use Rattle.fsl_blobs.specs.declared.Holding.{Holding}
 use Rattle.fsl_journal.specs.File.{IsFileOf, FailsAt}
 use Rattle.fsl_journal.specs.Journal.{OfBytes, IsLeft}
 use Rattle.fsl_journal.specs.declared.LoadFault.{LoadFault}
@@ -12,22 +16,36 @@ use Rattle.fsl_blobs.specs.Seen as blobs
 use Rattle.fsl_cross.specs.Tables as tables
 use Rattle.std.specs.FinSet as set
 use Rattle.fsl_repo.specs.Machine.{AreItems, configured}
-use Rattle.fsl_repo.specs.Whole.{Whole, opened}
+use Rattle.fsl_repo.specs.Whole.{Whole, is_modelled, opened}
 
 -- the disk that comes back
 abbrev pub disk_of : {D : Type 0} → Result (Whole D) (D × LoadFault) → D
 disk_of (Ok repo) = repo.disk
 disk_of (Err failed) = failed.0
 
--- the artifacts that these records leave, and their tables
-pub record AreDerived (records : List Record) (kept : blobs.Seen) (all : tables.Seen) : Type 0 where
-  pub held : kept ≡ record { records = records; announced = set.empty }
+-- what was read of a record: what a blob's bytes are, and nothing of another record
+abbrev pub IsReadOf : Record → Option Artifact → Type 0
+IsReadOf (record_of.Blob private name receipt bytes) (Some a) = IsKind bytes a
+IsReadOf (record_of.Blob private name receipt bytes) None = ⊥
+IsReadOf r found = found ≡ None
+
+-- what was read of the record at a held artifact's place is what its bytes are
+abbrev pub IsReadAt : List (Option Artifact) → Holding → Type 0
+IsReadAt found h = (a : Artifact) × (slice_get found (h.place - 1) ≡ Some (Some a)) × IsKind h.bytes.now.value a
+
+-- the artifacts that these records leave, whose contents begin at these places; nothing is announced, and no content kept in memory
+abbrev pub IsFolded : List Record → List ℕ → blobs.Seen → Type 0
+IsFolded records places kept = kept ≡ record { records = records; starts = places; announced = set.empty; cached = [] }
+
+-- the artifacts that these records leave, whose contents begin at these places, and their tables
+pub record AreDerived (records : List Record) (places : List ℕ) (kept : blobs.Seen) (all : tables.Seen) : Type 0 where
+  pub held : IsFolded records places kept
   pub items : AreItems (contents records).held all.items
   pub fields : all.fields ≡ configured (contents records)
 
 -- an opening that answers Ok: the file stood for the records, and was cut behind its closed gate
 pub record IsOpened {D : Type 0} (before after : DiskState) (repo : Whole D) : Type 0 where
-  pub state : repo.seen.state ≡ opened repo.seen.state.records before.faults
+  pub state : repo.seen.state ≡ opened repo.seen.state.records before.faults (is_modelled before)
   pub loaded : repo.seen.loaded ≡ length repo.seen.state.records
   pub stands : OfBytes before (λ bytes. IsFileOf bytes repo.seen.state.records)
   pub cut : Told before (λ held. after.contents ≡ Some (take (repo.place + 1) held))

@@ -1,5 +1,5 @@
 -- How artifacts that are lent are sent.
-use Rattle.std.specs.Prelude.{ℕ, ◌+◌, List, [], ◌∷◌, ◌++◌, length, take, map, filter, filter_map, Bool, true, false, not, ◌||◌, ◌&&◌, nat_le, Option, Some, None, is_some, if◌then◌else◌}
+use Rattle.std.specs.Prelude.{◌≡◌, IsTrue, ℕ, ◌+◌, List, [], ◌∷◌, ◌++◌, length, take, map, filter, filter_map, Bool, true, false, not, ◌||◌, ◌&&◌, nat_le, Option, Some, None, is_some, if◌then◌else◌}
 use Rattle.std.specs.List.{list_any}
 use Rattle.std.specs.Option.{option_map, option_map_or}
 use Rattle.std.specs.FinMap as map_of
@@ -7,7 +7,6 @@ use Rattle.std.specs.FinSet as set
 use Rattle.fsl_order.specs.Names.{has}
 use Rattle.fsl_order.specs.Rows.{ascending}
 use Rattle.fsl_record.specs.declared.Record.{Record}
-use Rattle.fsl_blobs.specs.declared.Holding.{Holding}
 use Rattle.fsl_blobs.specs.Fold.{Held, contents, held_from}
 use Rattle.fsl_blobs.specs.Seen as blobs
 use Rattle.fsl_cluster.specs.declared.Fact.{Fact}
@@ -16,21 +15,71 @@ use Rattle.fsl_wire.specs.declared.WireCard.{WireCard}
 use Rattle.fsl_answer.specs.Contents as reply
 use Rattle.fsl_answer.specs.Contents.{each_once, gimme_of, is_pull, sent_file, sequel}
 use Rattle.fsl_answer.specs.Replies.{taken}
-use Rattle.fsl_repo.specs.Replies.{held_at, placed_in}
+use Rattle.fsl_repo.specs.Replies.{held_at, placed_in, IsSpoilt}
 use Rattle.fsl_answer.specs.declared.SentFile.{SentFile}
+use Rattle.fsl_order.specs.Causes.{Rose}
+use Rattle.fsl_answer.specs.declared.Lists.{Lists}
+use Rattle.fsl_repo.specs.declared.Ask.{Ask}
+use Rattle.fsl_repo.specs.declared.BuildFault.{BuildFault}
+use Rattle.fsl_repo.specs.declared.BuildFault.TheVariants as build_fault
 use Rattle.fsl_repo.specs.declared.placed.PlacedHolding.{PlacedHolding}
+use Rattle.fsl_repo.specs.declared.sending.Due.{Due}
+use Rattle.fsl_blobs.specs.declared.BlobFault.{BlobFault}
+use Rattle.fsl_blobs.specs.declared.BlobFault.TheVariants as blob_fault
+use Rattle.fsl_repo.specs.Contents.{IsContentNow}
+use Rattle.fsl_repo.specs.Machine.{State}
 
--- a held artifact at its place
+-- a held artifact at its place, as it is lent
 abbrev pub as_held : PlacedHolding → reply.Held
-as_held p = record { name = p.name; bytes = p.bytes.now; private = p.private; place = p.place }
+as_held p = record { name = p.holding.name; bytes = p.holding.bytes.now.value; private = p.holding.private; place = p.place }
+
+-- its size is that of its bytes
+abbrev pub IsSized : PlacedHolding → Type 0
+IsSized p = p.holding.size ≡ length p.holding.bytes.now.value
 
 -- the artifacts that the records leave whose place is at least this, by place
 abbrev pub placed_from : List Record → ℕ → List reply.Held
 placed_from records from = filter_map (λ p. option_map (held_at p) (map_of.get (contents records).held p.1)) (held_from records from)
 
--- as a file
-abbrev pub as_sent : Holding → SentFile
-as_sent h = record { name = h.name; private = h.private; bytes = h.bytes.now }
+-- a file that is due to be sent, without its bytes: its name, whether it is private, and its size
+abbrev pub DueFile : Type 0
+DueFile = List ℕ × Bool × ℕ
+
+abbrev pub due_of : SentFile → DueFile
+due_of f = (f.name, f.private, length f.bytes)
+
+abbrev pub as_due : Due → DueFile
+as_due d = (d.name, d.private, d.size)
+
+-- a file that was read for one that is due
+pub record IsReadFile (s : State) (due : Due) (sent : SentFile) : Type 0 where
+  pub name : sent.name ≡ due.name
+  pub private : sent.private ≡ due.private
+  pub content : IsContentNow s due.name sent.bytes
+
+-- the lists of a reply with these files, and where a clone goes on
+abbrev pub listed : reply.State → Ask → List SentFile → Option ℕ → Lists
+listed s ask files sequel = record (reply.lists_of s ask.message ask.caps ask.notices) { files = files; sequel = sequel }
+
+-- the files that are due, and where a clone goes on
+abbrev pub AreDue : List SentFile × Option ℕ → List Due → Option ℕ → Type 0
+AreDue files due sequel = (map as_due due ≡ map due_of files.0) × (sequel ≡ files.1)
+
+-- those of the lists of a reply
+abbrev pub AreDueIn : Lists → List Due → Option ℕ → Type 0
+AreDueIn lists due sequel = AreDue (lists.files, lists.sequel) due sequel
+
+-- why a reply isn't built whose file isn't read
+abbrev pub as_build_fault : List ℕ → BlobFault → BuildFault
+as_build_fault name blob_fault.Disk = build_fault.Disk
+as_build_fault name (blob_fault.Damaged found) = build_fault.Damaged name found
+as_build_fault name _ = build_fault.Memory
+
+-- why files of these names aren't read: there is one, and the disk's count rose; the content of one has another name; or there was no memory
+abbrev pub FilesFail : BuildFault → List (List ℕ) → State → ℕ → Type 0
+FilesFail build_fault.Disk names s faults = (name : List ℕ) × IsTrue (has names name) × Rose s.faults faults
+FilesFail (build_fault.Damaged name found) names s faults = IsTrue (has names name) × IsSpoilt s name found × (faults ≡ s.faults)
+FilesFail build_fault.Memory names s faults = faults ≡ s.faults
 
 -- the file of a held artifact that may be sent: it is public, or private ones are sent
 abbrev pub sent_of : Bool → List ℕ → Option Held → Option SentFile
@@ -75,6 +124,10 @@ abbrev pub files_by : List Record → List reply.Held → List WireCard → Bool
 files_by records held message private clone =
     option_map_or (λ place. (sent_files (map sent_file (public_on place held)), Some (sequel (public_on place held)))) (reply.asks_from clone)
     (if list_any is_pull message || is_some clone then (sent_files (sent_asked records private message), None) else ([], None))
+
+-- those of the reply to a message
+abbrev pub files_for : List Record → Ask → List SentFile × Option ℕ
+files_for records ask = files_by records (placed_in records) ask.message (reply.sends_private ask.message ask.caps) (reply.first_clone ask.message)
 
 -- what a reply depends on
 abbrev pub seen_by : blobs.Seen → List Fact → reply.State

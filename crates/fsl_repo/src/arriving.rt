@@ -1,5 +1,6 @@
 //! Arrivals.
-ghost use Rattle.std.specs.Prelude.{◌≡◌, ◌⊎◌, ◌++◌, ◌∷◌, [], ◌≤◌, ◌+◌, ◌^◌, length, None, Err, ⊤, OnOk, OnErr, false, true};
+ghost use Rattle.std.specs.Prelude.{◌≡◌, ◌⊎◌, ◌++◌, ◌∷◌, [], ◌≤◌, ◌+◌, ◌^◌, length, Some, None, Err, ⊤, IfOk, OnOk, OnErr, false, true};
+ghost use Rattle.std.specs.Option.{option_copied};
 ghost use Rattle.std.specs.FinMap as map_of;
 ghost use Rattle.std.specs.FinSet as set;
 ghost use Rattle.fsl_name.specs.Name.{name_of};
@@ -11,7 +12,8 @@ ghost use Rattle.fsl_blobs.specs.declared.BlobState.TheVariants.{Absent as Absen
 ghost use Rattle.fsl_cluster.specs.Clusters as clusters;
 ghost use Rattle.fsl_cross.specs.Tables.{tables};
 ghost use Rattle.fsl_repo.specs.Machine.{ArriveStep, IsDueOrMemory, IsStoring, room_of, now};
-ghost use Rattle.fsl_repo.specs.Arriving.{as_stored, is_private, IsPublishing};
+ghost use Rattle.fsl_journal.specs.Places.{next_place};
+ghost use Rattle.fsl_repo.specs.Arriving.{appended, as_stored, is_private, IsPublishing};
 ghost use Rattle.fsl_repo.specs.Touches.{IsWithin, is_idle, is_published};
 ghost use Rattle.fsl_repo.specs.declared.ArriveFault.TheVariants as arrive_fault;
 
@@ -23,7 +25,7 @@ use fsl_cross::{Item, Tables};
 use fsl_disk::Disk;
 use fsl_journal::Journal;
 use fsl_name::Name;
-use fsl_record::Record;
+use fsl_record::{Receipt, Record};
 use fsl_text::{Memory, Steps, Text};
 use std::alloc::Global;
 use std::sync::ledger::Ledger;
@@ -32,7 +34,7 @@ use std::sync::ledger::Ledger;
 const MOST_BYTES: u128 = 1_073_741_824;
 
 /// So many artifacts may be held, and so many names wanted.
-const MOST_NAMES: u64 = 1_048_576;
+pub(crate) const MOST_NAMES: u64 = 1_048_576;
 
 /// An artifact has at most so many bytes.
 const MOST_SIZE: u64 = 16_777_216;
@@ -41,21 +43,32 @@ const MOST_SIZE: u64 = 16_777_216;
 pub(crate) fn keep(journal: &mut Journal, blobs: &mut Blobs, entry: Record) -> Result<(), Memory>
     requires runs { journal.old.stopped ≡ None }
     requires counts { journal.old.stable ≤ length journal.old.records }
+    requires as_many { length journal.old.places ≡ length journal.old.records }
     requires place { is_config entry ≡ false }
     requires fit { IsWritable entry }
-    ensures journal { OnOk result (journal.new ≡ record journal.old { records = journal.old.records ++ entry ∷ [] }) }
-    ensures blobs { OnOk result (blobs.new ≡ applied blobs.old entry) }
+    ensures journal { OnOk result (journal.new ≡ appended journal.old entry) }
+    ensures blobs { OnOk result (blobs.new ≡ applied blobs.old (next_place journal.old entry) entry) }
     ensures fit { OnOk result (AreRecords journal.new.records) }
     ensures journal_err { OnErr result (journal.new ≡ journal.old) }
     ensures blobs_err { OnErr result (blobs.new ≡ blobs.old) }
 {
-    journal.append(&entry)?;
-    match blobs.apply(entry) {
+    let at = journal.append(&entry)?;
+    match blobs.apply(at, entry) {
         Ok(()) => Ok(()),
         Err(_) => {
             journal.take_back();
             Err(Memory)
         }
+    }
+}
+
+/// A copy of a receipt that may be missing.
+fn copied(alloc: Global, receipt: Option<&Receipt>) -> Result<Option<Receipt>, Memory>
+    ensures { IfOk result (λ copy. copy ≡ option_copied receipt.entry) }
+{
+    match receipt {
+        Some(receipt) => Ok(Some(receipt.copied(alloc)?)),
+        None => Ok(None),
     }
 }
 
@@ -103,12 +116,53 @@ impl<D: Disk> Repo<D> {
         private: bool,
         steps: &mut Steps<L>,
     ) -> Result<Arrival, ArriveFault>
-        ensures step { ArriveStep self.old.seen.state name bytes.now private result self.new.seen.state }
+        ensures step { ArriveStep self.old.seen.state name None bytes.now private result self.new.seen.state }
         ensures loaded { self.new.seen.loaded ≡ self.old.seen.loaded }
         ensures disk { self.new.disk ≡ self.old.disk }
         // Whatever the answer, and so for `Stored` and `Published`.
         ensures cost { IsWithin self.old.seen.items name private bytes.now steps.old steps.new }
         // Where that states no bound too.
+        ensures published { is_published result ≡ true → steps.new ≤ steps.old + 16 }
+        ensures idle { is_idle result ≡ true → steps.new ≡ steps.old }
+    {
+        self.take(name, bytes, private, None, steps)
+    }
+
+    /// An artifact arrives under a name with a receipt, which tells who brought it and when. It is `arrive` in all its answers
+    /// and in its touches, and what is stored is stored with this receipt.
+    ///
+    /// Errors: those of `arrive`.
+    pub fn receive<L: Ledger>(
+        &mut self,
+        name: Name,
+        bytes: &[u8],
+        private: bool,
+        receipt: &Receipt,
+        steps: &mut Steps<L>,
+    ) -> Result<Arrival, ArriveFault>
+        ensures step { ArriveStep self.old.seen.state name (Some receipt.now) bytes.now private result self.new.seen.state }
+        ensures loaded { self.new.seen.loaded ≡ self.old.seen.loaded }
+        ensures disk { self.new.disk ≡ self.old.disk }
+        ensures cost { IsWithin self.old.seen.items name private bytes.now steps.old steps.new }
+        ensures published { is_published result ≡ true → steps.new ≤ steps.old + 16 }
+        ensures idle { is_idle result ≡ true → steps.new ≡ steps.old }
+    {
+        self.take(name, bytes, private, Some(receipt), steps)
+    }
+
+    /// An artifact arrives, with a receipt or without.
+    fn take<L: Ledger>(
+        &mut self,
+        name: Name,
+        bytes: &[u8],
+        private: bool,
+        receipt: Option<&Receipt>,
+        steps: &mut Steps<L>,
+    ) -> Result<Arrival, ArriveFault>
+        ensures step { ArriveStep self.old.seen.state name (option_copied receipt.entry) bytes.now private result self.new.seen.state }
+        ensures loaded { self.new.seen.loaded ≡ self.old.seen.loaded }
+        ensures disk { self.new.disk ≡ self.old.disk }
+        ensures cost { IsWithin self.old.seen.items name private bytes.now steps.old steps.new }
         ensures published { is_published result ≡ true → steps.new ≤ steps.old + 16 }
         ensures idle { is_idle result ≡ true → steps.new ≡ steps.old }
     {
@@ -129,7 +183,7 @@ impl<D: Disk> Repo<D> {
             BlobState::Public { .. } => Ok(Arrival::Present),
             BlobState::Private { .. } if private => Ok(Arrival::Present),
             BlobState::Private { .. } => self.publish(name, steps),
-            BlobState::Absent => self.store(name, bytes, private, steps),
+            BlobState::Absent => self.store(name, bytes, private, receipt, steps),
         }
     }
 
@@ -167,13 +221,14 @@ impl<D: Disk> Repo<D> {
         name: Name,
         bytes: &[u8],
         private: bool,
+        receipt: Option<&Receipt>,
         steps: &mut Steps<L>,
     ) -> Result<Arrival, ArriveFault>
         requires runs { self.old.seen.state.stopped ≡ None }
         requires absent { state_of (now self.old.seen.state) name ≡ AbsentName }
         requires named { name ≡ name_of bytes.now }
         requires small { length bytes.now ≤ 2 ^ 24 }
-        ensures step { IsDueOrMemory self.old.seen.state (IsStoring self.old.seen.state name bytes.now private) (Err arrive_fault.Memory) ⊤ result self.new.seen.state }
+        ensures step { IsDueOrMemory self.old.seen.state (IsStoring self.old.seen.state name (option_copied receipt.entry) bytes.now private) (Err arrive_fault.Memory) ⊤ result self.new.seen.state }
         ensures loaded { self.new.seen.loaded ≡ self.old.seen.loaded }
         ensures disk { self.new.disk ≡ self.old.disk }
         ensures cost { IsWithin self.old.seen.items name private bytes.now steps.old steps.new }
@@ -182,6 +237,9 @@ impl<D: Disk> Repo<D> {
     {
         let size = bytes.len() as u64;
         let Ok(text) = Text::of(self.alloc, bytes) else {
+            return Err(ArriveFault::Memory);
+        };
+        let Ok(receipt) = copied(self.alloc, receipt) else {
             return Err(ArriveFault::Memory);
         };
         let Ok(artifact) = parse(self.alloc, bytes, steps) else {
@@ -203,6 +261,7 @@ impl<D: Disk> Repo<D> {
         let entry = Record::Blob {
             private,
             name,
+            receipt,
             bytes: text,
         };
         if let Err(_) = keep(&mut self.journal, &mut self.blobs, entry) {

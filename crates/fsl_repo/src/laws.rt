@@ -1,6 +1,6 @@
 //! What holds of every repository, whatever it holds.
 ghost use Rattle.fsl_repo.specs.Keeps.{BuildsKeep};
-ghost use Rattle.fsl_repo.specs.Machine.{AreOneList, HasItems, HasArrival, HasOneArrival, HasClustering, HasOneClustering};
+ghost use Rattle.fsl_repo.specs.Machine.{AreOneList, HasItems, HasArrival, HasOneArrival, HasClustering, HasOneClustering, HasUnshunning, HasOneUnshunning};
 ghost use Rattle.fsl_repo.specs.Onward.{HasStep};
 ghost use Rattle.fsl_repo.specs.Replies.{HasBuilt, HasOneBuilt};
 
@@ -40,12 +40,23 @@ pub fn clustering_has_one_answer()
     ensures { HasOneClustering }
 {}
 
+/// A law and no code: a name that is to be taken off the list of the shunned ones has an answer, at whatever state.
+pub fn unshunning_has_an_answer()
+    ensures { HasUnshunning }
+{}
+
+/// A law and no code: it has one answer at most.
+pub fn unshunning_has_one_answer()
+    ensures { HasOneUnshunning }
+{}
+
 /// A law and no code: whatever a reply is asked for, there is one, at whatever state.
 pub fn build_has_an_answer()
     ensures { HasBuilt }
 {}
 
-/// A law and no code: there is one reply at most, so that a reply is decided by the state but for want of memory.
+/// A law and no code: over a disk that tells its contents and meets the disk model there is one reply at most, so that a
+/// reply is decided by the state but for a fault of the disk and for want of memory.
 pub fn build_has_one_answer()
     ensures { HasOneBuilt }
 {}

@@ -24,15 +24,16 @@ mod wanting;
 use fsl_blobs::Known;
 use fsl_journal::CommitFault;
 use fsl_name::Name;
+use fsl_record::Receipt;
 use fsl_text::{List, Memory, Text};
 use fsl_wire::{Caps, Message};
 pub use laws::{
     arrival_has_an_answer, arrival_has_one_answer, build_has_an_answer, build_has_one_answer,
     builds_keep, clustering_has_an_answer, clustering_has_one_answer, events_have_answers,
-    held_are_items, held_are_one_list,
+    held_are_items, held_are_one_list, unshunning_has_an_answer, unshunning_has_one_answer,
 };
 pub use machine::steps_go_on;
-pub use parsing::{items_of, read_artifact, tables_of};
+pub use parsing::{derived, items_of, read_artifact};
 pub use repo::Repo;
 use std::marker::Model;
 pub use wanting::wants_of;
@@ -85,6 +86,26 @@ pub enum ShunFault {
     Memory,
 }
 
+/// What became of a name that was to be taken off the list of the shunned ones.
+#[derive(Clone, Copy, PartialEq, Eq, Debug)]
+pub enum Unshunning {
+    /// It wasn't shunned. Nothing changed.
+    NotShunned,
+    /// It was, and isn't any more.
+    Unshunned,
+}
+
+/// Why a name wasn't taken off the list. Nothing changed.
+#[derive(Clone, Copy, PartialEq, Eq, Debug)]
+pub enum UnshunFault {
+    /// A commit has failed, with the disk's count of faults at this.
+    Stopped { faults: u64 },
+    /// Without it in the list so many names would be wanted, more than 1,048,576.
+    Full { wants: u64 },
+    /// There was no memory.
+    Memory,
+}
+
 /// What became of a cluster that was asked for.
 #[derive(Clone, Copy, PartialEq, Eq, Debug)]
 pub enum Clustering {
@@ -94,9 +115,13 @@ pub enum Clustering {
     Arrived { name: Name, arrival: Arrival },
 }
 
-/// Why a reply wasn't built. Nothing changed.
+/// Why a reply wasn't built. Nothing changed but the disk's count of faults.
 #[derive(Clone, Copy, PartialEq, Eq, Debug)]
 pub enum BuildFault {
+    /// A call of the disk failed.
+    Disk,
+    /// The bytes that were read for the artifact of a name have another name.
+    Damaged { name: Name, found: Name },
     /// There was no memory.
     Memory,
 }
@@ -141,12 +166,23 @@ pub enum Event {
         bytes: Text,
         private: bool,
     },
+    /// An artifact arrives with a receipt, which tells who brought it and when.
+    Receive {
+        name: Name,
+        bytes: Text,
+        private: bool,
+        receipt: Receipt,
+    },
     /// A name is announced by one who may send its artifact.
     Announce {
         name: Name,
     },
     /// A name is shunned.
     Shun {
+        name: Name,
+    },
+    /// A name is taken off the list of the shunned ones.
+    Unshun {
         name: Name,
     },
     /// A cluster of public names that stand in none is made, where there are enough.
@@ -163,8 +199,10 @@ pub enum Event {
 #[derive(Drop)]
 pub enum Answer {
     Arrive(Result<Arrival, ArriveFault>),
+    Receive(Result<Arrival, ArriveFault>),
     Announce(Result<Known, Memory>),
     Shun(Result<Shunning, ShunFault>),
+    Unshun(Result<Unshunning, UnshunFault>),
     Cluster(Result<Clustering, ArriveFault>),
     Build(Result<Reply, BuildFault>),
     Commit(Result<u64, CommitFault>),

@@ -11,8 +11,8 @@ use fsl_turn::Machine;
 use std::sync::ledger::Ledger;
 
 impl<D: Disk> Repo<D> {
-    /// Does what an event asks, by the call of its own, and answers as that does. The disk stays of its kind, and a
-    /// commit alone calls it.
+    /// Does what an event asks, by the call of its own, and answers as that does. The disk stays of its kind; a commit
+    /// alone writes to it, and a build alone reads it.
     fn obey<L: Ledger>(&mut self, event: &Event, steps: &mut Steps<L>) -> Answer
         ensures step { Step self.old.seen.state event.now result self.new.seen.state }
         ensures loaded { self.new.seen.loaded ≡ self.old.seen.loaded }
@@ -25,8 +25,15 @@ impl<D: Disk> Repo<D> {
                 bytes,
                 private,
             } => Answer::Arrive(self.arrive(*name, bytes.bytes(), *private, steps)),
+            Event::Receive {
+                name,
+                bytes,
+                private,
+                receipt,
+            } => Answer::Receive(self.receive(*name, bytes.bytes(), *private, receipt, steps)),
             Event::Announce { name } => Answer::Announce(self.announce(*name)),
             Event::Shun { name } => Answer::Shun(self.shun(*name)),
+            Event::Unshun { name } => Answer::Unshun(self.unshun(*name)),
             Event::Cluster => Answer::Cluster(self.cluster(steps)),
             Event::Build { ask } => Answer::Build(self.build(ask)),
             Event::Commit => Answer::Commit(self.commit()),
@@ -55,7 +62,7 @@ impl<D: Disk> Machine for Repo<D> {
 
     ghost later_through = { λ a b c. laters.later_through (D.state a.disk) (D.state b.disk) (D.state c.disk) a b c };
 
-    ghost step_later = { λ a e r b. laters.step_later (D.state a.disk) (D.state b.disk) a e r b };
+    ghost step_later = { λ a e r b. laters.step_later (λ d. D.state d) a e r b };
 
     ghost never_falls = { λ a b. laters.never_falls (D.state a.disk) (D.state b.disk) a b };
 

@@ -1,32 +1,17 @@
 //! Opens a repository.
 ghost use Rattle.std.specs.Prelude.{◌≡◌, ℕ, List, length, IfOk, IfErr};
 ghost use Rattle.fsl_disk.specs.Disk.{DiskState, IsModelled, Told, Keeps, Quiet, LeavesOnly};
-ghost use Rattle.fsl_record.specs.Records.{AreRecords};
 ghost use Rattle.fsl_journal.specs.File.{IsFileOf, FailsAt};
 ghost use Rattle.fsl_journal.specs.Journal.{HeldOrSame, IsSpared};
 ghost use Rattle.fsl_journal.specs.Log.{IsBetween, StandsBetween, WhereBetween};
 ghost use Rattle.fsl_journal.specs.declared.LoadFault.TheVariants as load_fault;
-ghost use Rattle.fsl_repo.specs.Opening.{IsOpened, OpenFailed, AreDerived, disk_of};
+ghost use Rattle.fsl_repo.specs.Opening.{IsOpened, OpenFailed, disk_of};
 
 use crate::Repo;
-use crate::parsing::tables_of;
-use fsl_blobs::Blobs;
-use fsl_cross::Tables;
+use crate::parsing::derived;
 use fsl_disk::Disk;
 use fsl_journal::{Journal, LoadFault};
-use fsl_record::Record;
-use fsl_text::{List, Memory};
 use std::alloc::Global;
-
-/// The artifacts that records leave, and their tables.
-fn derived(alloc: Global, records: List<Record>) -> Result<(Blobs, Tables), Memory>
-    requires { AreRecords records }
-    ensures { IfOk result (λ d. AreDerived records d.0 d.1) }
-{
-    let blobs = Blobs::fold(alloc, records)?;
-    let tables = tables_of(alloc, &blobs)?;
-    Ok((blobs, tables))
-}
 
 impl<D: Disk> Repo<D> {
     /// Opens the repository of a disk: makes what it holds stable, reads the file, cuts what stands behind the closed
@@ -53,12 +38,12 @@ impl<D: Disk> Repo<D> {
         // It isn't `NotRepository` then.
         ensures stays { IfErr result (λ failed. (at : ℕ) → failed.1 ≡ load_fault.NotRepository at → WhereBetween (D.state disk) (λ _ _. ⊥)) }
     {
-        let (journal, records) = match Journal::load(alloc, &mut disk) {
+        let (journal, places, records) = match Journal::load(alloc, &mut disk) {
             Ok(loaded) => loaded,
             Err(fault) => return Err((disk, fault)),
         };
         let loaded = journal.count();
-        match derived(alloc, records) {
+        match derived(alloc, &places, records) {
             Ok((blobs, tables)) => Ok(Repo {
                 alloc,
                 disk,

@@ -1,12 +1,13 @@
 //! The held artifacts by place, and which of them a reply sends.
-ghost use Rattle.std.specs.Prelude.{◌≡◌, IfOk, map, filter_map};
+ghost use Rattle.std.specs.Prelude.{◌≡◌, IfOk, IfSome, map, filter_map};
+ghost use Rattle.std.specs.List.{AllByRecursion};
 ghost use Rattle.std.specs.Option.{option_map};
 ghost use Rattle.std.specs.FinMap as map_of;
 ghost use Rattle.fsl_blobs.specs.Fold.{contents};
 ghost use Rattle.fsl_repo.specs.Replies.{held_at, placed_in};
-ghost use Rattle.fsl_repo.specs.Sending.{as_held, front_after, names_of, public_on};
+ghost use Rattle.fsl_repo.specs.Sending.{IsSized, as_held, front_after, names_of, public_on};
 
-use fsl_blobs::{Blobs, Placed};
+use fsl_blobs::{Blobs, Holding, Placed};
 use fsl_name::Name;
 use fsl_text::Memory;
 use std::alloc::Global;
@@ -17,25 +18,22 @@ const BUDGET: u64 = 1_000_000;
 /// So much each file counts beside its size.
 const SHARE: u64 = 64;
 
-/// A held artifact at its place, with its bytes lent.
+/// A held artifact at its place. Its bytes are in the file, and clauses alone see them.
 #[derive(Clone, Copy)]
 pub(crate) struct PlacedHolding<'a> {
     pub(crate) place: u64,
-    pub(crate) name: Name,
-    pub(crate) private: bool,
-    pub(crate) bytes: &'a [u8],
+    pub(crate) holding: Holding<'a>,
 }
 
 /// The artifact of a held name, at its place.
 fn placed_at<'a>(blobs: &'a Blobs, placed: &Placed) -> Option<PlacedHolding<'a>>
-    ensures { option_map as_held result ≡ option_map (held_at (placed.now.place, placed.now.name)) (map_of.get (contents blobs.now.records).held placed.now.name) }
+    ensures held { option_map as_held result ≡ option_map (held_at (placed.now.place, placed.now.name)) (map_of.get (contents blobs.now.records).held placed.now.name) }
+    ensures sized { IfSome result IsSized }
 {
     match blobs.holding(placed.name) {
         Some(holding) => Some(PlacedHolding {
             place: placed.place,
-            name: holding.name,
-            private: holding.private,
-            bytes: holding.bytes,
+            holding,
         }),
         None => None,
     }
@@ -47,7 +45,8 @@ fn placed_over<'a>(
     blobs: &'a Blobs,
     names: &[Placed],
 ) -> Result<Vec<PlacedHolding<'a>>, Memory>
-    ensures { IfOk result (λ list. map as_held list.items ≡ filter_map (λ p. option_map (held_at p) (map_of.get (contents blobs.now.records).held p.1)) (map (λ p. (p.place, p.name)) names.now)) }
+    ensures held { IfOk result (λ list. map as_held list.items ≡ filter_map (λ p. option_map (held_at p) (map_of.get (contents blobs.now.records).held p.1)) (map (λ p. (p.place, p.name)) names.now)) }
+    ensures sized { IfOk result (λ list. AllByRecursion IsSized list.items) }
 {
     let mut list = Vec::new(alloc);
     for placed in names {
@@ -76,7 +75,8 @@ pub(crate) fn public_from<'a>(
     blobs: &'a Blobs,
     place: u64,
 ) -> Result<Vec<PlacedHolding<'a>>, Memory>
-    ensures { IfOk result (λ list. map as_held list.items ≡ front_after 0 (public_on place (placed_in blobs.now.records))) }
+    ensures held { IfOk result (λ list. map as_held list.items ≡ front_after 0 (public_on place (placed_in blobs.now.records))) }
+    ensures sized { IfOk result (λ list. AllByRecursion IsSized list.items) }
 {
     match blobs.public_front(alloc, place, BUDGET, SHARE) {
         Ok(names) => placed_over(alloc, blobs, names.items()),

@@ -1,14 +1,16 @@
 //! What a repository answers without a change.
-ghost use Rattle.std.specs.Prelude.{◌≡◌, ◌↔◌, Some, None, Err, IfOk, map};
-ghost use Rattle.std.specs.Option.{option_map};
+ghost use Rattle.std.specs.Prelude.{◌≡◌, ◌↔◌, Some, None, Err, IfOk, IfErr, OnOk, map};
+ghost use Rattle.std.specs.Option.{option_copied};
 ghost use Rattle.std.specs.FinMap as map_of;
 ghost use Rattle.std.specs.FinSet as set;
 ghost use Rattle.fsl_order.specs.Rows.{ascending};
 ghost use Rattle.fsl_blobs.specs.Fold.{held_from};
 ghost use Rattle.fsl_blobs.specs.Held.{state_of, matching, found};
 ghost use Rattle.fsl_blobs.specs.declared.BlobFault.TheVariants.{Absent as AbsentFault};
-ghost use Rattle.fsl_repo.specs.Machine.{now, configured, wants};
-ghost use Rattle.fsl_repo.specs.Whole.{stored};
+ghost use Rattle.fsl_disk.specs.Disk.{Quiet};
+ghost use Rattle.fsl_repo.specs.Contents.{IsContentNow, ContentFails};
+ghost use Rattle.fsl_repo.specs.Machine.{Leaves, now, configured, wants};
+ghost use Rattle.fsl_repo.specs.Whole.{log_of, stored};
 
 use crate::Repo;
 use crate::wanting::wanted;
@@ -16,7 +18,7 @@ use fsl_blobs::{BlobFault, BlobState, Found, Placed};
 use fsl_cross::Tables;
 use fsl_disk::Disk;
 use fsl_name::Name;
-use fsl_record::Config;
+use fsl_record::{Config, Receipt};
 use fsl_text::{List, Memory, Text};
 
 impl<D: Disk> Repo<D> {
@@ -84,14 +86,32 @@ impl<D: Disk> Repo<D> {
         self.journal.stopped()
     }
 
-    /// A copy of the bytes of a held artifact.
-    ///
-    /// Errors: `Absent` where the name isn't held; `Memory`.
-    pub fn content(&mut self, name: Name) -> Result<Text, BlobFault>
-        ensures bytes { IfOk result (λ text. option_map (λ a. a.bytes) (map_of.get (now self.old.seen.state).held name) ≡ Some text) }
-        ensures absent { (result ≡ Err AbsentFault) ↔ (map_of.get (now self.old.seen.state).held name ≡ None) }
-        ensures same { self.new ≡ self.old }
+    /// Who brought a held artifact, and when; none where that wasn't told, or the name isn't held. Takes no memory.
+    pub fn receipt(&self, name: Name) -> Option<&Receipt>
+        ensures { option_copied result ≡ map_of.get (now self.now.seen.state).receipts name }
     {
-        self.blobs.content(self.alloc, &mut self.disk, name)
+        self.blobs.receipt(name)
+    }
+
+    /// The content of a held artifact, public or private. It is read from the disk and its name is tested, or it is one of
+    /// the last that were read. Over a disk that tells its contents and meets the disk model these are the held bytes; over
+    /// every other disk they are bytes of the same name and size.
+    ///
+    /// Errors: `Absent` where the name isn't held; `Disk` where a call of the disk failed; `Damaged` with the name of the bytes
+    /// that were read, where it is another one; `Memory`.
+    pub fn content(&mut self, name: Name) -> Result<Text, BlobFault>
+        ensures bytes { IfOk result (IsContentNow self.old.seen.state name) }
+        ensures absent { (result ≡ Err AbsentFault) ↔ (map_of.get (now self.old.seen.state).held name ≡ None) }
+        ensures fault { IfErr result (λ fault. ContentFails fault self.old.seen.state name self.new.seen.state) }
+        ensures count { OnOk result (self.new.seen.state ≡ self.old.seen.state) }
+        ensures state { Leaves self.old.seen.state self.old.seen.state self.new.seen.state }
+        ensures items { self.new.seen.items ≡ self.old.seen.items }
+        ensures loaded { self.new.seen.loaded ≡ self.old.seen.loaded }
+        ensures log { log_of self.new ≡ log_of self.old }
+        // It only reads.
+        ensures quiet { Quiet (D.state self.old.disk) (D.state self.new.disk) }
+    {
+        self.blobs
+            .content(self.alloc, &self.journal, &mut self.disk, name)
     }
 }

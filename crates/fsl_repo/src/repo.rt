@@ -36,8 +36,9 @@ impl<D: Disk> Model for Repo<D> {
     ghost coded = { Prim.hlevel (codes, set.code {R = bytes_cmp} (coded_list coded_ℕ)) };
 
     ghost use Rattle.fsl_repo.specs.Keeping.{state_of, IsKept};
+    ghost use Rattle.fsl_repo.specs.Whole.{is_modelled};
 
-    ghost view = { λ r. record { disk = r.disk; seen = record { state = state_of r.journal r.blobs (D.state r.disk).faults; items = r.tables.items; loaded = r.loaded }; place = r.journal.place } };
+    ghost view = { λ r. record { disk = r.disk; seen = record { state = state_of r.journal r.blobs (D.state r.disk).faults (is_modelled (D.state r.disk)); items = r.tables.items; loaded = r.loaded }; places = r.journal.places; mark = r.journal.mark; place = r.journal.place } };
 
     ghost invariant = { λ r. IsKept r.journal r.blobs r.tables r.loaded r.stored (D.state r.disk) };
 }

@@ -1,84 +1,63 @@
-//! The files of a reply, and where a clone goes on.
-ghost use Rattle.std.specs.Prelude.{◌≡◌, IfOk, map, filter_map, take, drop, length};
+//! The files of a reply, and where a clone goes on. Which files are due is told by names and sizes; only those that the
+//! budget takes are read.
+ghost use Rattle.std.specs.Prelude.{◌≡◌, IfOk, IfErr, OnOk, map, filter_map, take, drop, length};
+ghost use Rattle.std.specs.List.{AllByRecursion, AllZip};
 ghost use Rattle.std.specs.Option.{option_map};
 ghost use Rattle.std.specs.FinMap as map_of;
 ghost use Rattle.fsl_blobs.specs.Fold.{contents};
 ghost use Rattle.fsl_answer.specs.Contents.{first_of, place_or_zero, sent_file, sequel};
 ghost use Rattle.fsl_answer.specs.Replies.{taken};
 ghost use Rattle.fsl_repo.specs.Replies.{placed_in};
-ghost use Rattle.fsl_repo.specs.Sending.{as_held, as_sent, sent_of, sent_asked, sent_files, public_on};
+ghost use Rattle.fsl_repo.specs.Sending.{IsSized, as_held, as_due, due_of, sent_of, sent_asked, sent_files, public_on};
 
 use crate::asking::asked_names;
 use crate::placed::{PlacedHolding, public_from};
-use fsl_answer::{SentFile, taken};
-use fsl_blobs::{Blobs, Holding};
+use fsl_answer::taken;
+use fsl_blobs::Blobs;
 use fsl_name::Name;
-use fsl_text::{List, Memory, Text};
+use fsl_text::Memory;
 use fsl_wire::WireCard;
 use std::alloc::Global;
 
-/// The sizes of some artifacts, in bytes.
-fn sizes_of(alloc: Global, held: &[Holding<'_>]) -> Result<Vec<u64>, Memory>
-    ensures { IfOk result (λ sizes. sizes.items ≡ map (λ h. length h.bytes.now) held.now) }
+/// A file that is due, without its bytes. Its size is in bytes.
+#[derive(Clone, Copy)]
+pub(crate) struct Due {
+    pub(crate) name: Name,
+    pub(crate) private: bool,
+    pub(crate) size: u64,
+}
+
+/// The sizes of some files, in bytes.
+fn sizes_of(alloc: Global, due: &[Due]) -> Result<Vec<u64>, Memory>
+    ensures { IfOk result (λ sizes. sizes.items ≡ map (λ d. d.size) due.now) }
 {
     let mut sizes = Vec::new(alloc);
-    for holding in held {
-        sizes.push(holding.bytes.len() as u64)?;
+    for file in due {
+        sizes.push(file.size)?;
     }
     Ok(sizes)
 }
 
-/// How many of some artifacts the budget takes.
-fn count_taken(alloc: Global, held: &[Holding<'_>]) -> Result<usize, Memory>
-    ensures { IfOk result (λ count. count ≡ taken (map (λ h. length h.bytes.now) held.now)) }
+/// How many of some files the budget takes.
+fn count_taken(alloc: Global, due: &[Due]) -> Result<usize, Memory>
+    ensures { IfOk result (λ count. count ≡ taken (map (λ d. d.size) due.now)) }
 {
-    let sizes = sizes_of(alloc, held)?;
+    let sizes = sizes_of(alloc, due)?;
     Ok(taken(&sizes) as usize)
 }
 
-/// The first of some artifacts, at most so many.
-fn first_few<'a, 'b>(held: &'b [Holding<'a>], count: usize) -> &'b [Holding<'a>]
-    ensures { result.now ≡ take count held.now }
-{
-    if held.len() <= count {
-        held
-    } else {
-        &held[..count]
-    }
-}
-
-/// Some artifacts as files, with copies of their bytes.
-fn copied(alloc: Global, held: &[Holding<'_>]) -> Result<Vec<SentFile>, Memory>
-    ensures { IfOk result (λ files. files.items ≡ map as_sent held.now) }
-{
-    let mut files = Vec::new(alloc);
-    for holding in held {
-        files.push(SentFile {
-            name: holding.name,
-            private: holding.private,
-            bytes: Text::of(alloc, holding.bytes)?,
-        })?;
-    }
-    Ok(files)
-}
-
-/// As many of some artifacts as the budget takes, as files.
-fn sent(alloc: Global, held: &[Holding<'_>]) -> Result<List<SentFile>, Memory>
-    ensures { IfOk result (λ files. files ≡ sent_files (map as_sent held.now)) }
-{
-    let count = count_taken(alloc, held)?;
-    let files = copied(alloc, first_few(held, count))?;
-    Ok(List::from_vec(files))
-}
-
 /// The artifact of a name that may be sent: a public one, or a private one where these are sent.
-fn sendable<'a>(blobs: &'a Blobs, name: Name, private: bool) -> Option<Holding<'a>>
-    ensures { option_map as_sent result ≡ sent_of private name (map_of.get (contents blobs.now.records).held name) }
+fn sendable(blobs: &Blobs, name: Name, private: bool) -> Option<Due>
+    ensures { option_map as_due result ≡ option_map due_of (sent_of private name (map_of.get (contents blobs.now.records).held name)) }
 {
     match blobs.holding(name) {
         Some(holding) => {
             if private || !holding.private {
-                Some(holding)
+                Some(Due {
+                    name,
+                    private: holding.private,
+                    size: holding.size,
+                })
             } else {
                 None
             }
@@ -88,55 +67,51 @@ fn sendable<'a>(blobs: &'a Blobs, name: Name, private: bool) -> Option<Holding<'
 }
 
 /// Those of some names that may be sent, in order.
-fn asked_over<'a>(
+fn asked_over(
     alloc: Global,
-    blobs: &'a Blobs,
+    blobs: &Blobs,
     names: &[Name],
     private: bool,
-) -> Result<Vec<Holding<'a>>, Memory>
-    ensures { IfOk result (λ list. map as_sent list.items ≡ filter_map (λ name. sent_of private name (map_of.get (contents blobs.now.records).held name)) names.now) }
+) -> Result<Vec<Due>, Memory>
+    ensures { IfOk result (λ list. map as_due list.items ≡ map due_of (filter_map (λ name. sent_of private name (map_of.get (contents blobs.now.records).held name)) names.now)) }
 {
     let mut list = Vec::new(alloc);
     for name in names {
-        if let Some(holding) = sendable(blobs, *name, private) {
-            if list.push(holding).is_err() {
-                return Err(Memory);
-            }
+        if let Some(file) = sendable(blobs, *name, private) {
+            list.push(file)?;
         }
     }
     Ok(list)
 }
 
-/// The files that gimme cards ask for.
-pub(crate) fn asked_files(
+/// The files that gimme cards ask for, as many as the budget takes.
+pub(crate) fn asked_due(
     alloc: Global,
     blobs: &Blobs,
     message: &[WireCard],
     private: bool,
-) -> Result<List<SentFile>, Memory>
-    ensures { IfOk result (λ files. files ≡ sent_files (sent_asked blobs.now.records private message.now)) }
+) -> Result<Vec<Due>, Memory>
+    ensures { IfOk result (λ due. map as_due due.items ≡ map due_of (sent_files (sent_asked blobs.now.records private message.now))) }
 {
     let names = asked_names(alloc, message)?;
-    match asked_over(alloc, blobs, &names, private) {
-        Ok(list) => sent(alloc, &list),
-        Err(_) => Err(Memory),
-    }
+    let mut due = asked_over(alloc, blobs, &names, private)?;
+    let count = count_taken(alloc, &due)?;
+    due.truncate(count);
+    Ok(due)
 }
 
-/// The artifacts of some places, without these.
-fn without_places<'a>(alloc: Global, held: &[PlacedHolding<'a>]) -> Result<Vec<Holding<'a>>, Memory>
-    ensures { IfOk result (λ list. map as_sent list.items ≡ map sent_file (map as_held held.now)) }
+/// The artifacts of some places as files.
+fn without_places(alloc: Global, held: &[PlacedHolding<'_>]) -> Result<Vec<Due>, Memory>
+    requires { AllByRecursion IsSized held.now }
+    ensures { IfOk result (λ list. map as_due list.items ≡ map due_of (map sent_file (map as_held held.now))) }
 {
     let mut list = Vec::new(alloc);
     for artifact in held {
-        let holding = Holding {
-            name: artifact.name,
-            private: artifact.private,
-            bytes: artifact.bytes,
-        };
-        if list.push(holding).is_err() {
-            return Err(Memory);
-        }
+        list.push(Due {
+            name: artifact.holding.name,
+            private: artifact.holding.private,
+            size: artifact.holding.size,
+        })?;
     }
     Ok(list)
 }
@@ -152,34 +127,24 @@ fn place_behind(held: &[PlacedHolding<'_>], count: usize) -> u64
 }
 
 /// The public files from a place on that the budget takes, and the place of the first that it doesn't, or 0.
-pub(crate) fn files_from(
-    alloc: Global,
-    blobs: &Blobs,
-    place: u64,
-) -> Result<(List<SentFile>, u64), Memory>
-    ensures files { IfOk result (λ f. f.0 ≡ sent_files (map sent_file (public_on place (placed_in blobs.now.records)))) }
+pub(crate) fn due_from(alloc: Global, blobs: &Blobs, place: u64) -> Result<(Vec<Due>, u64), Memory>
+    ensures due { IfOk result (λ f. map as_due f.0.items ≡ map due_of (sent_files (map sent_file (public_on place (placed_in blobs.now.records))))) }
     ensures next { IfOk result (λ f. f.1 ≡ sequel (public_on place (placed_in blobs.now.records))) }
 {
     match public_from(alloc, blobs, place) {
-        Ok(list) => files_and_next(alloc, &list),
+        Ok(list) => due_and_next(alloc, &list),
         Err(_) => Err(Memory),
     }
 }
 
 /// The files that the budget takes of some, and the place of the first that it doesn't, or 0.
-fn files_and_next(
-    alloc: Global,
-    held: &[PlacedHolding<'_>],
-) -> Result<(List<SentFile>, u64), Memory>
-    ensures files { IfOk result (λ f. f.0 ≡ sent_files (map sent_file (map as_held held.now))) }
+fn due_and_next(alloc: Global, held: &[PlacedHolding<'_>]) -> Result<(Vec<Due>, u64), Memory>
+    requires { AllByRecursion IsSized held.now }
+    ensures due { IfOk result (λ f. map as_due f.0.items ≡ map due_of (sent_files (map sent_file (map as_held held.now)))) }
     ensures next { IfOk result (λ f. f.1 ≡ sequel (map as_held held.now)) }
 {
-    match without_places(alloc, held) {
-        Ok(list) => {
-            let count = count_taken(alloc, &list)?;
-            let files = sent(alloc, &list)?;
-            Ok((files, place_behind(held, count)))
-        }
-        Err(_) => Err(Memory),
-    }
+    let mut due = without_places(alloc, held)?;
+    let count = count_taken(alloc, &due)?;
+    due.truncate(count);
+    Ok((due, place_behind(held, count)))
 }

@@ -9,3 +9,4 @@ pub mod Sent
 pub mod Moving
 pub mod Settling
 pub mod Ordering
+pub mod Undamaged

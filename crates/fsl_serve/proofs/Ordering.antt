@@ -1,5 +1,5 @@
 -- The history of all crews, from what the turns and the jobs tell.
-use Rattle.std.proofs.Common.{◌≡◌, ℕ, zero, suc, ◌+◌, ◌<◌, ◌≤◌, List, [], ◌∷◌, ◌++◌, map, length, length-append, get_or, Option, Some, None, IfSome, refl, sym, ap, ◌∙◌, subst, arith}
+use Rattle.std.proofs.Common.{◌≡◌, ℕ, zero, suc, ◌<◌, List, [], ◌∷◌, ◌++◌, map, length, length-append, get_or, Option, Some, refl, sym, ap, ◌∙◌, subst, arith}
 use Rattle.std.specs.Prelude.{Result, Ok, Err, IfErr}
 use mathlib.Core.Logic.{dite}
 use native.Mathlib.Decide.{ℕ_discrete}
@@ -12,7 +12,7 @@ use Rattle.fsl_repo.specs.declared.Event.TheVariants as event
 use Rattle.fsl_repo.specs.declared.Answer.{Answer}
 use Rattle.fsl_repo.specs.Whole.{Whole}
 use Rattle.fsl_history.specs.declared.view.Tale.{Tale}
-use Rattle.fsl_history.specs.Entries.{Entry, calls_by, IsHistory, IsTaleOf, AllTales, IsFinished, Grows, newcomer, newcomers}
+use Rattle.fsl_history.specs.Entries.{Entry, calls_by, IsTaleOf, AllTales, IsFinished, newcomer, newcomers}
 use Rattle.fsl_history.proofs.Lists.{history_snoc, some_or}
 use Rattle.fsl_serve.specs.declared.work.Work.{Work}
 use Rattle.fsl_serve.specs.Calls.{Call}
@@ -42,25 +42,25 @@ module _ {E A : Type 0} where
   told_at log (t ∷ ts) all zero d l = all.0
   told_at log (t ∷ ts) all (suc i) d l = told_at log ts all.1 i d (omega (arith, l))
 
-module _ {C J : Type 0} (crew : J → C) (work : J → Work) (door : C → LinkState) (passed : C → Option Points) (users : List User) (project : List ℕ) (requests : ℕ) where
+module _ {D C J : Type 0} (tells : D → DiskState) (crew : J → C) (work : J → Work) (door : C → LinkState) (passed : C → Option Points) (users : List User) (project : List ℕ) (requests : ℕ) where
   abbrev pub JobTold : Option (List Call) → Option (List Call) → J → J → Type 0
-  JobTold o o' j k = IsGated users project requests (door (crew j)).present (door (crew j)).standing (door (crew k)).present (door (crew k)).standing o o' (work k) (passed (crew j)) (passed (crew k))
+  JobTold o o' j k = IsGated tells users project requests (door (crew j)).present (door (crew j)).standing (door (crew k)).present (door (crew k)).standing o o' (work k) (passed (crew j)) (passed (crew k))
 
   ordered_at : (told : ℕ → Option (List Call)) (js ks : List J) → length ks ≡ length js → ((i : ℕ) (d : J) → i < length js → JobTold (Some []) (told i) (get_or js i d) (get_or ks i d))
       → (i : ℕ) (d : C) (w : Work) → i < length js
-      → IsGated users project requests (door (get_or (map crew js) i d)).present (door (get_or (map crew js) i d)).standing (door (get_or (map crew ks) i d)).present (door (get_or (map crew ks) i d)).standing (Some []) (told i) (get_or (map work ks) i w) (passed (get_or (map crew js) i d)) (passed (get_or (map crew ks) i d))
+      → IsGated tells users project requests (door (get_or (map crew js) i d)).present (door (get_or (map crew js) i d)).standing (door (get_or (map crew ks) i d)).present (door (get_or (map crew ks) i d)).standing (Some []) (told i) (get_or (map work ks) i w) (passed (get_or (map crew js) i d)) (passed (get_or (map crew ks) i d))
   ordered_at told [] ks len h i d w l = absurd (omega (arith, l))
   ordered_at told (j ∷ js) [] len h i d w l = absurd (omega (arith, len))
   ordered_at told (j ∷ js) (k ∷ ks) len h zero d w l = h 0 j l
   ordered_at told (j ∷ js) (k ∷ ks) len h (suc i) d w l = ordered_at (λ n. told (suc n)) js ks (omega (arith, len)) (λ n e m. h (suc n) e (omega (arith, m))) i d w (omega (arith, l))
 
-  pub one_history : {D : Type 0} (tells : D → DiskState) (count : Whole D → ℕ) (pass : J → Tale Event Answer) (repo mid last : Whole D) (answer : Answer) (js ks : List J) (cs ds : List C) (ws : List Work) (ts : List (Tale Event Answer))
+  pub one_history : (count : Whole D → ℕ) (pass : J → Tale Event Answer) (repo mid last : Whole D) (answer : Answer) (js ks : List J) (cs ds : List C) (ws : List Work) (ts : List (Tale Event Answer))
       → map crew js ≡ cs → map crew ks ≡ ds → map work ks ≡ ws → map pass ks ≡ ts → length ks ≡ length js → length cs ≡ length js
       → ((i : ℕ) (d : J) → i < length js → (pass (get_or js i d)).mine ≡ []) → ((i : ℕ) (d : J) → i < length js → (pass (get_or ks i d)).number ≡ i)
       → ((i : ℕ) (d : J) → i < length js → JobTold (Some (pass (get_or js i d)).mine) (Some (pass (get_or ks i d)).mine) (get_or js i d) (get_or ks i d))
       → IsFinished (steps_by tells) count repo ts mid → steps_by tells mid event.Commit answer last
       → IsOneHistory tells door passed users project requests ws cs ds repo last
-  one_history {D} tells count pass repo mid last answer js ks cs ds ws ts p q r t len clen fresh numbered each done closed =
+  one_history count pass repo mid last answer js ks cs ds ws ts p q r t len clen fresh numbered each done closed =
       let log = done.log in
       let told : (i : ℕ) (d : J) → i < length js → calls_by i log ≡ (pass (get_or ks i d)).mine = λ i d l.
       let here : i < length (map pass ks) = omega (arith, l, len, length-map ks pass) in
@@ -69,7 +69,7 @@ module _ {C J : Type 0} (crew : J → C) (work : J → Work) (door : C → LinkS
       let same : get_or (map pass ks) i (pass d) ≡ pass (get_or ks i d) = map_at pass ks i d (omega (arith, l, len)) (pass d) in
       let tale : IsTaleOf log (pass (get_or ks i d)) = subst (λ (x : Tale Event Answer). IsTaleOf log x) same it in
       ap (λ (n : ℕ). calls_by n log) (sym (numbered i d l)) ∙ tale.mine in
-      let crews : (i : ℕ) (d : C) (w : Work) → i < length js → IsGated users project requests (door (get_or (map crew js) i d)).present (door (get_or (map crew js) i d)).standing (door (get_or (map crew ks) i d)).present (door (get_or (map crew ks) i d)).standing (Some []) (Some (calls_by i log)) (get_or (map work ks) i w) (passed (get_or (map crew js) i d)) (passed (get_or (map crew ks) i d))
+      let crews : (i : ℕ) (d : C) (w : Work) → i < length js → IsGated tells users project requests (door (get_or (map crew js) i d)).present (door (get_or (map crew js) i d)).standing (door (get_or (map crew ks) i d)).present (door (get_or (map crew ks) i d)).standing (Some []) (Some (calls_by i log)) (get_or (map work ks) i w) (passed (get_or (map crew js) i d)) (passed (get_or (map crew ks) i d))
       = ordered_at (λ i. Some (calls_by i log)) js ks len (λ i d l. subst (λ (x : List Call). JobTold (Some []) (Some x) (get_or js i d) (get_or ks i d)) (sym (told i d l))
       (subst (λ (x : List Call). JobTold (Some x) (Some (pass (get_or ks i d)).mine) (get_or js i d) (get_or ks i d)) (fresh i d l) (each i d l))) in
       let many : length ts ≡ length js = sym (ap (λ (l : List (Tale Event Answer)). length l) t) ∙ length-map ks pass ∙ len in
@@ -77,7 +77,7 @@ module _ {C J : Type 0} (crew : J → C) (work : J → Work) (door : C → LinkS
         turns = log;
         answer = answer;
         history = history_snoc (steps_by tells) repo mid last log (length cs) event.Commit answer done.history closed;
-        crew = λ i d w l. subst (λ (x : List C × List C × List Work). IsGated users project requests (door (get_or x.0 i d)).present (door (get_or x.0 i d)).standing (door (get_or x.1 i d)).present (door (get_or x.1 i d)).standing (Some []) (Some (calls_by i log)) (get_or x.2 i w) (passed (get_or x.0 i d)) (passed (get_or x.1 i d)))
+        crew = λ i d w l. subst (λ (x : List C × List C × List Work). IsGated tells users project requests (door (get_or x.0 i d)).present (door (get_or x.0 i d)).standing (door (get_or x.1 i d)).present (door (get_or x.1 i d)).standing (Some []) (Some (calls_by i log)) (get_or x.2 i w) (passed (get_or x.0 i d)) (passed (get_or x.1 i d)))
             (λ k. (p k, q k, r k)) (crews i d w (omega (arith, l, clen)));
         others = λ n le. done.numbers n (omega (arith, le, many, clen));
       }

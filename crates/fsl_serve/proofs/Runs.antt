@@ -4,6 +4,7 @@ use Rattle.std.specs.Prelude.{Option, Result, option_to_list, IfOk, OnOk, OnErr,
 use Rattle.std.specs.Result.{result_err}
 use Rattle.std.proofs.lemmas.List.{append-nil, drop_more}
 use Rattle.std.specs.List.{cons_option, list_any}
+use Rattle.fsl_disk.specs.Disk.{DiskState}
 use Rattle.fsl_answer.specs.Refusals.{is_push}
 use Rattle.fsl_answer.specs.Contents.{is_pull}
 use Rattle.fsl_repo.specs.declared.Event.{Event}
@@ -47,22 +48,22 @@ notices_front (e ∷ es) (x ∷ xs) more rest p = ap (λ w. option_to_list (noti
 -- ---- one event
 
 -- an event that was made is a phase
-pub one_phase : (o p : Option (List Call)) (e : Event) (a : Answer) (h : Option Halt) → Gains o p (λ made. made ≡ (e, a) ∷ []) → h ≡ halt_of a → Gains o p (λ made. Phase (e ∷ []) made h)
+pub one_phase : {D : Type 0} {tells : D → DiskState} (o p : Option (List Call)) (e : Event) (a : Answer) (h : Option Halt) → Gains tells o p (λ made. made ≡ (e, a) ∷ []) → h ≡ halt_of a → Gains tells o p (λ made. Phase (e ∷ []) made h)
 one_phase o p e a h g q = gains_weaker o p (λ made. made ≡ (e, a) ∷ []) (λ made. Phase (e ∷ []) made h) g (λ xs r. subst (λ made. Phase (e ∷ []) made h) (sym r) (phase_one e a h q))
 
-pub arrival_noted : (o p : Option (List Call)) (e : Event) (a : Answer) (old new : List (List ℕ)) → Gains o p (λ made. made ≡ (e, a) ∷ []) → halt_of a ≡ None → new ≡ old ++ option_to_list (notice e a)
-    → Gains o p (λ made. Phase (e ∷ []) made None × (new ≡ old ++ notices (asked made) (told made)))
+pub arrival_noted : {D : Type 0} {tells : D → DiskState} (o p : Option (List Call)) (e : Event) (a : Answer) (old new : List (List ℕ)) → Gains tells o p (λ made. made ≡ (e, a) ∷ []) → halt_of a ≡ None → new ≡ old ++ option_to_list (notice e a)
+    → Gains tells o p (λ made. Phase (e ∷ []) made None × (new ≡ old ++ notices (asked made) (told made)))
 arrival_noted o p e a old new g q r =
     let R = λ (made : List Call). Phase (e ∷ []) made None × (new ≡ old ++ notices (asked made) (told made)) in
     gains_weaker o p (λ made. made ≡ (e, a) ∷ []) R g
     (λ xs t. subst R (sym t) (all (q, tt) refl refl, r ∙ ap (λ w. old ++ w) (sym (append-nil (option_to_list (notice e a))))))
 
-pub arrival_not_noted : (o p : Option (List Call)) (e : Event) (a : Answer) → Gains o p (λ made. made ≡ (e, a) ∷ []) → halt_of a ≡ None → Gains o p (λ made. Phase (e ∷ []) made (Some halt.Memory) × Unit {0})
+pub arrival_not_noted : {D : Type 0} {tells : D → DiskState} (o p : Option (List Call)) (e : Event) (a : Answer) → Gains tells o p (λ made. made ≡ (e, a) ∷ []) → halt_of a ≡ None → Gains tells o p (λ made. Phase (e ∷ []) made (Some halt.Memory) × Unit {0})
 arrival_not_noted o p e a g q =
     let R = λ (made : List Call). Phase (e ∷ []) made (Some halt.Memory) × Unit {0} in
     gains_weaker o p (λ made. made ≡ (e, a) ∷ []) R g (λ xs t. subst R (sym t) (short [] (q, tt) refl refl, tt))
 
-pub arrival_halted : (o p : Option (List Call)) (e : Event) (a : Answer) (h : Halt) → Gains o p (λ made. made ≡ (e, a) ∷ []) → Some h ≡ halt_of a → Gains o p (λ made. Phase (e ∷ []) made (Some h) × Unit {0})
+pub arrival_halted : {D : Type 0} {tells : D → DiskState} (o p : Option (List Call)) (e : Event) (a : Answer) (h : Halt) → Gains tells o p (λ made. made ≡ (e, a) ∷ []) → Some h ≡ halt_of a → Gains tells o p (λ made. Phase (e ∷ []) made (Some h) × Unit {0})
 arrival_halted o p e a h g q =
     let R = λ (made : List Call). Phase (e ∷ []) made (Some h) × Unit {0} in
     gains_weaker o p (λ made. made ≡ (e, a) ∷ []) R g (λ xs t. subst R (sym t) (phase_one e a (Some h) q, tt))
@@ -97,8 +98,8 @@ at_end due xs p = all p.on (p.is ∙ append-nil (asked xs)) refl
 
 -- ---- the three stretches before the build
 
-pub where_true : (o p : Option (List Call)) (b : Bool) (d : List Event) (h : Option Halt) → b ≡ true → Gains o p (λ made. Phase d made h) → Gains o p (λ made. Phase (where_so b d) made h)
-where_true o p b d h q g = let F : Bool → Type 0 = λ b. Gains o p (λ made. Phase (where_so b d) made h) in subst F (sym q) g
+pub where_true : {D : Type 0} {tells : D → DiskState} (o p : Option (List Call)) (b : Bool) (d : List Event) (h : Option Halt) → b ≡ true → Gains tells o p (λ made. Phase d made h) → Gains tells o p (λ made. Phase (where_so b d) made h)
+where_true {tells = tells} o p b d h q g = let F : Bool → Type 0 = λ b. Gains tells o p (λ made. Phase (where_so b d) made h) in subst F (sym q) g
 
 -- where a stretch gave an answer
 abbrev pub Told : {X : Type 0} → List Event → Result X Halt → (X → List Call → Type 0) → List Call → Type 0
@@ -118,13 +119,13 @@ module _ {X : Type 0} (a b d : List Event) (r : Result (List (List ℕ)) Halt) (
   First made = Phase a made (result_err r) × IfOk r (λ texts. texts ≡ notices (asked made) (told made))
 
   -- what is said of a gate beside the calls
-  pub first_halts : (o p : Option (List Call)) (h : Halt) (Q : List Call → Type 0) → ((xs : List Call) → Phase a xs (Some h) → Q xs) → Gains o p First → r ≡ Err h → Gains o p (λ made. (Phase ((a ++ b) ++ d) made (Some h) × Unit {0}) × Q made)
+  pub first_halts : {D : Type 0} {tells : D → DiskState} (o p : Option (List Call)) (h : Halt) (Q : List Call → Type 0) → ((xs : List Call) → Phase a xs (Some h) → Q xs) → Gains tells o p First → r ≡ Err h → Gains tells o p (λ made. (Phase ((a ++ b) ++ d) made (Some h) × Unit {0}) × Q made)
   first_halts o p h Q gate g e =
       gains_weaker o p First (λ made. (Phase ((a ++ b) ++ d) made (Some h) × Unit {0}) × Q made) g
       (λ xs f. ((phase_cut (a ++ b) d xs h (phase_cut a b xs h (halts_with a r xs h e f.0)), tt), gate xs (halts_with a r xs h e f.0)))
 
-  pub second_halts : (o p q : Option (List Call)) (texts : List (List ℕ)) (h : Halt) (Q : List Call → Type 0) → ((xs ys : List Call) → Phase a xs None → Phase b ys (Some h) → Q (xs ++ ys)) → Gains o p First → r ≡ Ok texts → Gains p q (λ made. Phase b made (result_err s)) → s ≡ Err h
-      → Gains o q (λ made. (Phase ((a ++ b) ++ d) made (Some h) × Unit {0}) × Q made)
+  pub second_halts : {D : Type 0} {tells : D → DiskState} (o p q : Option (List Call)) (texts : List (List ℕ)) (h : Halt) (Q : List Call → Type 0) → ((xs ys : List Call) → Phase a xs None → Phase b ys (Some h) → Q (xs ++ ys)) → Gains tells o p First → r ≡ Ok texts → Gains tells p q (λ made. Phase b made (result_err s)) → s ≡ Err h
+      → Gains tells o q (λ made. (Phase ((a ++ b) ++ d) made (Some h) × Unit {0}) × Q made)
   second_halts o p q texts h Q gate g e k f =
       gains_more o p q First (λ made. Phase b made (result_err s)) (λ made. (Phase ((a ++ b) ++ d) made (Some h) × Unit {0}) × Q made) g k
       (λ xs ys u v.
@@ -135,7 +136,7 @@ module _ {X : Type 0} (a b d : List Event) (r : Result (List (List ℕ)) Halt) (
   abbrev pub Two : List (List ℕ) → List Call → Type 0
   Two texts made = Phase (a ++ b) made None × (texts ≡ notices a (told made))
 
-  pub two_done : (o p q : Option (List Call)) (texts : List (List ℕ)) (x : X) → Gains o p First → r ≡ Ok texts → Gains p q (λ made. Phase b made (result_err s)) → s ≡ Ok x → Gains o q (Two texts)
+  pub two_done : {D : Type 0} {tells : D → DiskState} (o p q : Option (List Call)) (texts : List (List ℕ)) (x : X) → Gains tells o p First → r ≡ Ok texts → Gains tells p q (λ made. Phase b made (result_err s)) → s ≡ Ok x → Gains tells o q (Two texts)
   two_done o p q texts x g e k f =
       gains_more o p q First (λ made. Phase b made (result_err s)) (Two texts) g k
       (λ xs ys u v.
@@ -148,15 +149,15 @@ module _ {X : Type 0} (a b d : List Event) (r : Result (List (List ℕ)) Halt) (
   abbrev pub Third : List Call → Type 0
   Third made = Phase d made (result_err t) × OnErr t (IsTrue (list_any is_late (asked made)))
 
-  pub third_halts : (o q z : Option (List Call)) (texts : List (List ℕ)) (h : Halt) (Q : List Call → Type 0) → ((xs ys : List Call) → list_any is_late (asked ys) ≡ true → Q (xs ++ ys)) → Gains o q (Two texts) → Gains q z Third → t ≡ Err h
-      → Gains o z (λ made. (Phase ((a ++ b) ++ d) made (Some h) × Unit {0}) × Q made)
+  pub third_halts : {D : Type 0} {tells : D → DiskState} (o q z : Option (List Call)) (texts : List (List ℕ)) (h : Halt) (Q : List Call → Type 0) → ((xs ys : List Call) → list_any is_late (asked ys) ≡ true → Q (xs ++ ys)) → Gains tells o q (Two texts) → Gains tells q z Third → t ≡ Err h
+      → Gains tells o z (λ made. (Phase ((a ++ b) ++ d) made (Some h) × Unit {0}) × Q made)
   third_halts o q z texts h Q gate g k e =
       gains_more o q z (Two texts) Third (λ made. (Phase ((a ++ b) ++ d) made (Some h) × Unit {0}) × Q made) g k
       (λ xs ys u v.
       let F : Result X Halt → Type 0 = λ t. OnErr t (IsTrue (list_any is_late (asked ys))) in
       ((phase_more (a ++ b) d xs ys (Some h) u.0 (halts_with d t ys h e v.0), tt), gate xs ys (subst F e v.1)))
 
-  pub three_done : (o q z : Option (List Call)) (texts : List (List ℕ)) (x : X) (Q : Type 0) → Q → Gains o q (Two texts) → Gains q z Third → t ≡ Ok x → Gains o z (λ made. (Phase ((a ++ b) ++ d) made None × (texts ≡ notices a (told made))) × Q)
+  pub three_done : {D : Type 0} {tells : D → DiskState} (o q z : Option (List Call)) (texts : List (List ℕ)) (x : X) (Q : Type 0) → Q → Gains tells o q (Two texts) → Gains tells q z Third → t ≡ Ok x → Gains tells o z (λ made. (Phase ((a ++ b) ++ d) made None × (texts ≡ notices a (told made))) × Q)
   three_done o q z texts x Q gate g k e =
       gains_more o q z (Two texts) Third (λ made. (Phase ((a ++ b) ++ d) made None × (texts ≡ notices a (told made))) × Q) g k
       (λ xs ys u v.
@@ -180,13 +181,13 @@ pub at_card : {X : Type 0} (cards : List X) (i : ℕ) (x : X) → i < length car
 at_card cards i x l p = drop_more cards i x l ∙ ap (λ w. w ∷ drop (i + 1) cards) (sym p)
 
 -- a stretch of a loop, with what it gives
-pub loop_halts : {X : Type 0} (o p q : Option (List Call)) (due d rest : List Event) (Q R : List Call → Type 0) (r : Result X Halt) (h : Halt) → Gains o p (λ made. IsAt due made (d ++ rest) × Q made) → Gains p q (λ made. Phase d made (result_err r) × R made) → r ≡ Err h → Gains o q (λ made. Phase due made (Some h) × Unit {0})
+pub loop_halts : {X : Type 0} {D : Type 0} {tells : D → DiskState} (o p q : Option (List Call)) (due d rest : List Event) (Q R : List Call → Type 0) (r : Result X Halt) (h : Halt) → Gains tells o p (λ made. IsAt due made (d ++ rest) × Q made) → Gains tells p q (λ made. Phase d made (result_err r) × R made) → r ≡ Err h → Gains tells o q (λ made. Phase due made (Some h) × Unit {0})
 loop_halts {X} o p q due d rest Q R r h g k e =
     gains_more o p q (λ made. IsAt due made (d ++ rest) × Q made) (λ made. Phase d made (result_err r) × R made) (λ made. Phase due made (Some h) × Unit {0}) g k
     (λ xs ys u v. (at_halt due xs d rest ys h u.0 (halts_with d r ys h e v.0), tt))
 
-pub loop_goes_on : (o p q : Option (List Call)) (due d rest : List Event) (old mid new : List (List ℕ)) (r : Result (Unit {0}) Halt) → Gains o p (λ made. IsAt due made (d ++ rest) × (mid ≡ notices (asked made) (told made))) → Gains p q (λ made. Phase d made (result_err r) × OnOk r (new ≡ mid ++ notices (asked made) (told made))) → r ≡ Ok tt
-    → Gains o q (λ made. IsAt due made rest × (new ≡ notices (asked made) (told made)))
+pub loop_goes_on : {D : Type 0} {tells : D → DiskState} (o p q : Option (List Call)) (due d rest : List Event) (old mid new : List (List ℕ)) (r : Result (Unit {0}) Halt) → Gains tells o p (λ made. IsAt due made (d ++ rest) × (mid ≡ notices (asked made) (told made))) → Gains tells p q (λ made. Phase d made (result_err r) × OnOk r (new ≡ mid ++ notices (asked made) (told made))) → r ≡ Ok tt
+    → Gains tells o q (λ made. IsAt due made rest × (new ≡ notices (asked made) (told made)))
 loop_goes_on o p q due d rest old mid new r g k e =
     gains_more o p q (λ made. IsAt due made (d ++ rest) × (mid ≡ notices (asked made) (told made))) (λ made. Phase d made (result_err r) × OnOk r (new ≡ mid ++ notices (asked made) (told made))) (λ made. IsAt due made rest × (new ≡ notices (asked made) (told made))) g k
     (λ xs ys u v.
@@ -194,12 +195,12 @@ loop_goes_on o p q due d rest old mid new r g k e =
     let w = subst F e v in
     (at_next due xs d rest ys u.0 w.0, w.1 ∙ ap (λ z. z ++ notices (asked ys) (told ys)) u.1 ∙ sym (notices_append xs ys)))
 
-pub loop_goes_on_plain : (o p q : Option (List Call)) (due d rest : List Event) (r : Result (Unit {0}) Halt) → Gains o p (λ made. IsAt due made (d ++ rest)) → Gains p q (λ made. Phase d made (result_err r)) → r ≡ Ok tt → Gains o q (λ made. IsAt due made rest)
+pub loop_goes_on_plain : {D : Type 0} {tells : D → DiskState} (o p q : Option (List Call)) (due d rest : List Event) (r : Result (Unit {0}) Halt) → Gains tells o p (λ made. IsAt due made (d ++ rest)) → Gains tells p q (λ made. Phase d made (result_err r)) → r ≡ Ok tt → Gains tells o q (λ made. IsAt due made rest)
 loop_goes_on_plain o p q due d rest r g k e =
     gains_more o p q (λ made. IsAt due made (d ++ rest)) (λ made. Phase d made (result_err r)) (λ made. IsAt due made rest) g k
     (λ xs ys u v. at_next due xs d rest ys u (goes_with d r ys tt e v))
 
-pub loop_halts_plain : (o p q : Option (List Call)) (due d rest : List Event) (r : Result (Unit {0}) Halt) (h : Halt) → Gains o p (λ made. IsAt due made (d ++ rest)) → Gains p q (λ made. Phase d made (result_err r)) → r ≡ Err h → Gains o q (λ made. Phase due made (Some h))
+pub loop_halts_plain : {D : Type 0} {tells : D → DiskState} (o p q : Option (List Call)) (due d rest : List Event) (r : Result (Unit {0}) Halt) (h : Halt) → Gains tells o p (λ made. IsAt due made (d ++ rest)) → Gains tells p q (λ made. Phase d made (result_err r)) → r ≡ Err h → Gains tells o q (λ made. Phase due made (Some h))
 loop_halts_plain o p q due d rest r h g k e =
     gains_more o p q (λ made. IsAt due made (d ++ rest)) (λ made. Phase d made (result_err r)) (λ made. Phase due made (Some h)) g k
     (λ xs ys u v. at_halt due xs d rest ys h u (halts_with d r ys h e v))
@@ -218,9 +219,9 @@ events_made m caps texts xs b k rest due front t =
 abbrev pub Before : List WireCard → Caps → Result (List (List ℕ)) Halt → (Result (List (List ℕ)) Halt → List Call → Type 0) → List Call → Type 0
 Before m caps r Q made = (Phase (first_events m caps) made (result_err r) × IfOk r (λ t. t ≡ notices (arrivals false m) (told made))) × Q r made
 
-pub run_whole : (o p q : Option (List Call)) (m : List WireCard) (caps : Caps) (texts : List (List ℕ)) (r : Result (List (List ℕ)) Halt) (sent : Reply) (Q : Result (List (List ℕ)) Halt → List Call → Type 0) (R : List Call → Type 0) → r ≡ Ok texts
-    → ((xs ys : List Call) → Q (Ok texts) xs → list_any is_late (asked ys) ≡ true → R (xs ++ ys)) → Gains o p (Before m caps r Q)
-    → Gains p q (λ made. IsConcluded (record { caps = caps; message = m; notices = texts }) made sent) → Gains o q (λ made. IsRun m caps made sent × R made)
+pub run_whole : {D : Type 0} {tells : D → DiskState} (o p q : Option (List Call)) (m : List WireCard) (caps : Caps) (texts : List (List ℕ)) (r : Result (List (List ℕ)) Halt) (sent : Reply) (Q : Result (List (List ℕ)) Halt → List Call → Type 0) (R : List Call → Type 0) → r ≡ Ok texts
+    → ((xs ys : List Call) → Q (Ok texts) xs → list_any is_late (asked ys) ≡ true → R (xs ++ ys)) → Gains tells o p (Before m caps r Q)
+    → Gains tells p q (λ made. IsConcluded (record { caps = caps; message = m; notices = texts }) made sent) → Gains tells o q (λ made. IsRun m caps made sent × R made)
 run_whole o p q m caps texts r sent Q R e gate g k =
     let announced : List Event = where_so (list_any is_push m) (filter_map (announcement caps) m) in
     let clustered : List Event = where_so (list_any is_pull m) (event.Cluster ∷ []) in
@@ -234,11 +235,11 @@ run_whole o p q m caps texts r sent Q R e gate g k =
     let F : Result (List (List ℕ)) Halt → Type 0 = λ r. Q r xs in
     subst (λ z. IsRun m caps (xs ++ z) sent × R (xs ++ z)) (sym v.2) (made, gate xs last (subst F e u.1) refl))
 
-pub run_early : (o p : Option (List Call)) (m : List WireCard) (caps : Caps) (r : Result (List (List ℕ)) Halt) (h : Halt) (Q : Result (List (List ℕ)) Halt → List Call → Type 0) → r ≡ Err h
-    → Gains o p (Before m caps r Q) → Gains o p (λ made. IsRun m caps made (halted h) × Q (Err h) made)
+pub run_early : {D : Type 0} {tells : D → DiskState} (o p : Option (List Call)) (m : List WireCard) (caps : Caps) (r : Result (List (List ℕ)) Halt) (h : Halt) (Q : Result (List (List ℕ)) Halt → List Call → Type 0) → r ≡ Err h
+    → Gains tells o p (Before m caps r Q) → Gains tells o p (λ made. IsRun m caps made (halted h) × Q (Err h) made)
 run_early o p m caps r h Q e g =
     gains_weaker o p (Before m caps r Q) (λ made. IsRun m caps made (halted h) × Q (Err h) made) g
     (λ xs u. let F : Result (List (List ℕ)) Halt → Type 0 = λ r. Q r xs in (early h (halts_with (first_events m caps) r xs h e u.0.0) refl, subst F e u.1))
 
-pub due_is : (o p : Option (List Call)) (d e : List Event) (h : Option Halt) → d ≡ e → Gains o p (λ made. Phase d made h) → Gains o p (λ made. Phase e made h)
-due_is o p d e h q g = let F : List Event → Type 0 = λ d. Gains o p (λ made. Phase d made h) in subst F q g
+pub due_is : {D : Type 0} {tells : D → DiskState} (o p : Option (List Call)) (d e : List Event) (h : Option Halt) → d ≡ e → Gains tells o p (λ made. Phase d made h) → Gains tells o p (λ made. Phase e made h)
+due_is {tells = tells} o p d e h q g = let F : List Event → Type 0 = λ d. Gains tells o p (λ made. Phase d made h) in subst F q g

@@ -5,6 +5,7 @@ use Rattle.std.proofs.Crossing.{crosses as std_cross}
 use Rattle.std.proofs.MapsCrossing.{crosses as maps_cross}
 use Rattle.std.proofs.CrossingOver.{crosses as over_cross}
 use Rattle.std.proofs.MapsCrossingOver.{crosses as sets_cross}
+use Rattle.lru.proofs.cache.LruCache.TheSendSync as cache
 use Rattle.fsl_disk.specs.declared.disk.Disk.{Ghosts}
 use Rattle.fsl_journal.specs.contracts.journal.Journal.{the_row as journal_row}
 use Rattle.fsl_blobs.specs.contracts.blobs.Blobs.{the_row as blobs_row}
@@ -15,7 +16,7 @@ journal_sent : IsSend journal_row
 journal_sent = search (sendable, std_cross, maps_cross, over_cross, sets_cross) depth 30
 
 blobs_sent : IsSend blobs_row
-blobs_sent = search (sendable, std_cross, maps_cross, over_cross, sets_cross) depth 30
+blobs_sent = search (sendable, std_cross, maps_cross, over_cross, sets_cross, cache.the_send) depth 40 fits 20000
 
 repo_by : (D : RattleType) (g : Ghosts D.Denot) → IsSend journal_row → IsSend blobs_row → IsSend D → IsSend (repo_row D g)
 repo_by D g journal blobs disk = search (sendable, std_cross, tables.the_send) depth 30

@@ -1,5 +1,5 @@
 -- A commit of what isn't committed yet.
-use Rattle.std.proofs.Common.{◌≡◌, inl, inr, ℕ, length, drop, Option, Some, None, Ok, Err, refl, sym, ap, subst, ◌∙◌}
+use Rattle.std.proofs.Common.{◌≡◌, inl, inr, ℕ, length, drop, Option, Some, None, refl, sym, ap, subst, ◌∙◌}
 use Rattle.std.specs.Prelude.{Result, IfSome}
 use Rattle.fsl_disk.specs.Disk.{DiskState}
 use Rattle.fsl_journal.specs.declared.CommitFault.{CommitFault}
@@ -29,8 +29,10 @@ committed None old r new is (inr p) =
 
 settles : (old : State) (a : Answer) (new : State) → Step old event.Commit a new → Settles old new
 settles old (answer.Arrive r) new p = absurd p
+settles old (answer.Receive r) new p = absurd p
 settles old (answer.Announce r) new p = absurd p
 settles old (answer.Shun r) new p = absurd p
+settles old (answer.Unshun r) new p = absurd p
 settles old (answer.Cluster r) new p = absurd p
 settles old (answer.Build r) new p = absurd p
 settles old (answer.Commit r) new p = committed old.stopped old r new refl p

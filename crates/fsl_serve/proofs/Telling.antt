@@ -5,26 +5,19 @@ use Rattle.std.proofs.lemmas.List.{append-nil}
 use Rattle.fsl_disk.specs.Disk.{DiskState}
 use Rattle.fsl_repo.specs.declared.Event.{Event}
 use Rattle.fsl_repo.specs.declared.Answer.{Answer}
-use Rattle.fsl_repo.specs.Whole.{Whole}
-use Rattle.fsl_repo.specs.Onward.{MayStep}
 use Rattle.fsl_serve.specs.Calls.{Call, Gains, AllMay, May}
 
-all_may_append : (xs ys : List Call) → AllMay xs → AllMay ys → AllMay (xs ++ ys)
-all_may_append [] ys p q = q
-all_may_append (x ∷ xs) ys p q = (p.0, all_may_append xs ys p.1 q)
-
--- a step of a repository is one that it may make
-pub may_of : {D : Type 0} (before after : DiskState) (old new : Whole D) (e : Event) (a : Answer) → MayStep before after old e a new → May e a
-may_of before after old new e a p =
-    record { old = old.seen; new = new.seen; old_whole = p.old_whole.seen; new_whole = p.new_whole.seen; step = p.step; loaded = p.loaded }
+all_may_append : {D : Type 0} (tells : D → DiskState) (xs ys : List Call) → AllMay tells xs → AllMay tells ys → AllMay tells (xs ++ ys)
+all_may_append tells [] ys p q = q
+all_may_append tells (x ∷ xs) ys p q = (p.0, all_may_append tells xs ys p.1 q)
 
 -- one call
-pub gains_one : (o p : Option (List Call)) (e : Event) (a : Answer) → May e a → IfSome o (λ calls. (made : List Call) × (p ≡ Some (calls ++ made)) × (made ≡ (e, a) ∷ [])) → Gains o p (λ made. made ≡ (e, a) ∷ [])
+pub gains_one : {D : Type 0} {tells : D → DiskState} (o p : Option (List Call)) (e : Event) (a : Answer) → May tells e a → IfSome o (λ calls. (made : List Call) × (p ≡ Some (calls ++ made)) × (made ≡ (e, a) ∷ [])) → Gains tells o p (λ made. made ≡ (e, a) ∷ [])
 gains_one None p e a may told = ((e, a) ∷ [], tt, (may, tt), refl)
 gains_one (Some calls) p e a may told = ((e, a) ∷ [], told.1 ∙ ap (λ (m : List Call). Some (calls ++ m)) told.2, (may, tt), refl)
 
 -- no call yet
-pub gains_none : (o : Option (List Call)) (P : List Call → Type 0) → P [] → Gains o o P
+pub gains_none : {D : Type 0} {tells : D → DiskState} (o : Option (List Call)) (P : List Call → Type 0) → P [] → Gains tells o o P
 gains_none None P p = ([], tt, tt, p)
 gains_none (Some calls) P p = ([], ap Some (sym (append-nil calls)), tt, p)
 
@@ -35,9 +28,9 @@ tells_more (Some calls) p q xs ys h k =
     let k' = subst F h k in k' ∙ ap Some (append_assoc calls xs ys)
 
 -- the calls of two stretches
-pub gains_more : (o p q : Option (List Call)) (P Q R : List Call → Type 0) → Gains o p P → Gains p q Q → ((xs ys : List Call) → P xs → Q ys → R (xs ++ ys)) → Gains o q R
-gains_more o p q P Q R h k go = (h.0 ++ k.0, tells_more o p q h.0 k.0 h.1 k.1, all_may_append h.0 k.0 h.2 k.2, go h.0 k.0 h.3 k.3)
+pub gains_more : {D : Type 0} {tells : D → DiskState} (o p q : Option (List Call)) (P Q R : List Call → Type 0) → Gains tells o p P → Gains tells p q Q → ((xs ys : List Call) → P xs → Q ys → R (xs ++ ys)) → Gains tells o q R
+gains_more {tells = tells} o p q P Q R h k go = (h.0 ++ k.0, tells_more o p q h.0 k.0 h.1 k.1, all_may_append tells h.0 k.0 h.2 k.2, go h.0 k.0 h.3 k.3)
 
 -- weaker
-pub gains_weaker : (o p : Option (List Call)) (P R : List Call → Type 0) → Gains o p P → ((xs : List Call) → P xs → R xs) → Gains o p R
+pub gains_weaker : {D : Type 0} {tells : D → DiskState} (o p : Option (List Call)) (P R : List Call → Type 0) → Gains tells o p P → ((xs : List Call) → P xs → R xs) → Gains tells o p R
 gains_weaker o p P R h go = (h.0, h.1, h.2, go h.0 h.3)

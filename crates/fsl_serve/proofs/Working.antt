@@ -4,6 +4,7 @@ use Rattle.std.specs.Prelude.{Option, option_map}
 use Rattle.std.proofs.lemmas.List.{append-nil, map-append}
 use Rattle.fsl_outside.specs.Connections.{Connection, Standing, Between, listed, HasBegun, IsTold}
 use Rattle.fsl_outside.specs.Memory.{next}
+use Rattle.fsl_disk.specs.Disk.{DiskState}
 use Rattle.fsl_login.specs.declared.User.{User}
 use Rattle.fsl_serve.specs.declared.said.SessionEnd.{SessionEnd}
 use Rattle.fsl_serve.specs.Calls.{Call, Gains}
@@ -15,12 +16,12 @@ use Rattle.fsl_serve.proofs.Telling.{gains_none, gains_more}
 use Rattle.fsl_serve.proofs.Passing.{no_session, session_more}
 
 -- what was served so far
-pub record IsServing (users : List User) (project : List ℕ) (n : ℕ) (p : Option Connection) (s : Standing) (q : Option Connection) (t : Standing) (told told' : Option (List Call)) (before after : Option Points) : Type 0 where
+pub record IsServing {D : Type 0} (tells : D → DiskState) (users : List User) (project : List ℕ) (n : ℕ) (p : Option Connection) (s : Standing) (q : Option Connection) (t : Standing) (told told' : Option (List Call)) (before after : Option Points) : Type 0 where
   pub served : List Served
   pub count : length served ≡ n
   pub each : AllServed users project served
   pub lists : Lists (listed s.earlier p) (listed t.earlier q) served
-  pub calls : Gains told told' (λ made. made ≡ calls_of served)
+  pub calls : Gains tells told told' (λ made. made ≡ calls_of served)
   pub faults : t.accept_faults ≡ s.accept_faults
   pub closings : t.closings ≡ s.closings
   pub passed : after ≡ option_map (λ ps. ps ++ points_from 0 served) before
@@ -37,7 +38,7 @@ lists_none : (o : Option (List Connection)) → Lists o o []
 lists_none None = tt
 lists_none (Some cs) = ([], ap Some (sym (append-nil cs)), refl)
 
-pub serving_none : (users : List User) (project : List ℕ) (p : Option Connection) (s : Standing) (told : Option (List Call)) (passed : Option Points) → IsServing users project 0 p s p s told told passed passed
+pub serving_none : {D : Type 0} {tells : D → DiskState} (users : List User) (project : List ℕ) (p : Option Connection) (s : Standing) (told : Option (List Call)) (passed : Option Points) → IsServing tells users project 0 p s p s told told passed passed
 serving_none users project p s told passed = record {
   served = [];
   count = refl;
@@ -78,9 +79,9 @@ lists_one users project (Some cs) earlier begun after xs made end l t s = more b
     more None u v = absurd u
     more (Some c) u v = let w = stays_told users project c after made end v in one w.0 w.1
 
-pub serving_more : (users : List User) (project : List ℕ) (n : ℕ) (p : Option Connection) (s : Standing) (q : Option Connection) (t : Standing) (b : Option Connection) (u : Standing) (r : Option Connection) (v : Standing) (o o' o'' : Option (List Call)) (h h' h'' : Option Points) (end : SessionEnd)
-    → IsServing users project n p s q t o o' h h' → HasBegun b → IsTold u.earlier b → u.earlier ≡ listed t.earlier q → u.accept_faults ≡ t.accept_faults → u.closings ≡ t.closings → v ≡ u
-    → Gains o' o'' (λ made. IsSession users project b r made end × Passes h' h'' n (points_of made end)) → IsServing users project (n + 1) p s r v o o'' h h''
+pub serving_more : {D : Type 0} {tells : D → DiskState} (users : List User) (project : List ℕ) (n : ℕ) (p : Option Connection) (s : Standing) (q : Option Connection) (t : Standing) (b : Option Connection) (u : Standing) (r : Option Connection) (v : Standing) (o o' o'' : Option (List Call)) (h h' h'' : Option Points) (end : SessionEnd)
+    → IsServing tells users project n p s q t o o' h h' → HasBegun b → IsTold u.earlier b → u.earlier ≡ listed t.earlier q → u.accept_faults ≡ t.accept_faults → u.closings ≡ t.closings → v ≡ u
+    → Gains tells o' o'' (λ made. IsSession users project b r made end × Passes h' h'' n (points_of made end)) → IsServing tells users project (n + 1) p s r v o o'' h h''
 serving_more users project n p s q t b u r v o o' o'' h h' h'' end w begun told earlier faults closings same k =
     let one : Served = record { connection = r; made = k.0; end = end } in
     let lists : Lists (listed s.earlier p) (listed u.earlier r) (w.served ++ one ∷ []) =
@@ -105,11 +106,11 @@ is_false true = ⊥
 pub never : {X : Type 0} → false ≡ true → X
 never {X} e = absurd (subst is_false e tt)
 
-module _ (users : List User) (project : List ℕ) (n : ℕ) (p : Option Connection) (s : Standing) (q : Option Connection) (t : Standing) (o o' : Option (List Call)) (h h' : Option Points) (w : IsServing users project n p s q t o o' h h') where
+module _ {D : Type 0} {tells : D → DiskState} (users : List User) (project : List ℕ) (n : ℕ) (p : Option Connection) (s : Standing) (q : Option Connection) (t : Standing) (o o' : Option (List Call)) (h h' : Option Points) (w : IsServing tells users project n p s q t o o' h h') where
   pub gated : (requests m : ℕ) (failed : Bool) (q' : Option Connection) (t' : Standing) → m ≡ n → n ≤ requests → q' ≡ q → t'.earlier ≡ t.earlier
       → (failed ≡ true → (t'.accept_faults ≡ next t.accept_faults) × (t'.closings ≡ t.closings) × (n < requests)) → (failed ≡ false → t'.accept_faults ≡ t.accept_faults)
       → (failed ≡ false → n < requests → t'.closings ≡ next t.closings) → (n ≡ requests → t'.closings ≡ t.closings)
-      → IsGated users project requests p s q' t' o o' (record { sessions = m; failed = failed }) h h'
+      → IsGated tells users project requests p s q' t' o o' (record { sessions = m; failed = failed }) h h'
   gated requests m failed q' t' count within present earlier fails not_fails closes not_closes =
       record {
         worked = record {

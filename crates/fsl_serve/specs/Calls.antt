@@ -1,11 +1,12 @@
 -- The calls of a session: events with their answers.
-use Rattle.std.specs.Prelude.{◌≡◌, ℕ, ⊤, List, [], ◌∷◌, ◌++◌, map, Option, Some, None, IfSome, Err}
+use Rattle.std.specs.Prelude.{◌≡◌, ⊤, List, [], ◌∷◌, ◌++◌, map, Option, Some, None, IfSome, Err}
+use Rattle.fsl_disk.specs.Disk.{DiskState}
 use Rattle.fsl_repo.specs.declared.ArriveFault.TheVariants as arrive_fault
 use Rattle.fsl_repo.specs.declared.Event.{Event}
 use Rattle.fsl_repo.specs.declared.Answer.{Answer}
 use Rattle.fsl_repo.specs.declared.Answer.TheVariants as answer
-use Rattle.fsl_repo.specs.Whole.{Seen, IsWhole}
-use Rattle.fsl_repo.specs.Onward.{Step}
+use Rattle.fsl_repo.specs.Whole.{Whole}
+use Rattle.fsl_repo.specs.Onward.{MayStep}
 use Rattle.fsl_serve.specs.declared.said.Halt.{Halt}
 use Rattle.fsl_serve.specs.declared.said.Halt.TheVariants as halt
 
@@ -19,22 +20,19 @@ asked calls = map (λ c. c.0) calls
 abbrev pub told : List Call → List Answer
 told calls = map (λ c. c.1) calls
 
--- the repository may answer so, between two of its states
-pub record May (e : Event) (a : Answer) : Type 0 where
-  pub old : Seen
-  pub new : Seen
-  pub old_whole : IsWhole old
-  pub new_whole : IsWhole new
-  pub step : Step old.state e a new.state
-  pub loaded : new.loaded ≡ old.loaded
+-- a repository over a disk of this type, whose states are told so, may answer so: between two of its states, each with its disk
+pub record May {D : Type 0} (tells : D → DiskState) (e : Event) (a : Answer) : Type 0 where
+  pub old : Whole D
+  pub new : Whole D
+  pub step : MayStep (tells old.disk) (tells new.disk) old e a new
 
-abbrev pub AllMay : List Call → Type 0
-AllMay [] = ⊤
-AllMay (c ∷ cs) = May c.0 c.1 × AllMay cs
+abbrev pub AllMay : {D : Type 0} → (D → DiskState) → List Call → Type 0
+AllMay tells [] = ⊤
+AllMay tells (c ∷ cs) = May tells c.0 c.1 × AllMay tells cs
 
--- some calls were made, which meet P; a pass that tells its calls tells these after those before
-abbrev pub Gains : Option (List Call) → Option (List Call) → (List Call → Type 0) → Type 0
-Gains before after P = (made : List Call) × IfSome before (λ calls. after ≡ Some (calls ++ made)) × AllMay made × P made
+-- some calls were made, which a repository over such a disk may answer so, and which meet P; a pass that tells its calls tells these after those before
+abbrev pub Gains : {D : Type 0} → (D → DiskState) → Option (List Call) → Option (List Call) → (List Call → Type 0) → Type 0
+Gains tells before after P = (made : List Call) × IfSome before (λ calls. after ≡ Some (calls ++ made)) × AllMay tells made × P made
 
 -- some calls were told behind those before, which meet P
 abbrev pub Adds : List Call → List Call → (List Call → Type 0) → Type 0

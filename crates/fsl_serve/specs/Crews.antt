@@ -1,5 +1,6 @@
 -- What the workers of all crews did.
 use Rattle.std.specs.Prelude.{◌≡◌, ℕ, ◌<◌, List, Option, None, length, map, slice_index_or, sum}
+use Rattle.fsl_disk.specs.Disk.{DiskState}
 use Rattle.fsl_outside.specs.Connections.{Connection, Standing, LinkState}
 use Rattle.fsl_login.specs.declared.User.{User}
 use Rattle.fsl_repo.specs.Machine.{State}
@@ -9,23 +10,23 @@ use Rattle.fsl_serve.specs.Points.{Points}
 use Rattle.fsl_serve.specs.Workers.{IsWorked, IsGated}
 
 -- one worker for each crew, in order, and what it did
-abbrev pub AllWorked : {X : Type 0} → (X → Option Connection) → (X → Standing) → List User → List ℕ → ℕ → List Work → List X → List X → Type 0
-AllWorked {X} present standing users project requests works xs ys =
+abbrev pub AllWorked : {D X : Type 0} → (D → DiskState) → (X → Option Connection) → (X → Standing) → List User → List ℕ → ℕ → List Work → List X → List X → Type 0
+AllWorked {X = X} tells present standing users project requests works xs ys =
     (length ys ≡ length xs) × (length works ≡ length xs)
-    × ((i : ℕ) (d : X) (w : Work) → i < length xs → (o : Option (List Call)) × (o' : Option (List Call)) × IsWorked users project requests (present (slice_index_or xs i d)) (standing (slice_index_or xs i d)) (present (slice_index_or ys i d)) (standing (slice_index_or ys i d)) o o' (slice_index_or works i w))
+    × ((i : ℕ) (d : X) (w : Work) → i < length xs → (o : Option (List Call)) × (o' : Option (List Call)) × IsWorked tells users project requests (present (slice_index_or xs i d)) (standing (slice_index_or xs i d)) (present (slice_index_or ys i d)) (standing (slice_index_or ys i d)) o o' (slice_index_or works i w))
 
 -- at each place the worker did this, and the gate there has the points of that worker's sessions
-abbrev pub AllGated : {X : Type 0} → (X → Option Connection) → (X → Standing) → (X → Option Points) → List User → List ℕ → ℕ → List Work → List X → List X → Type 0
-AllGated {X} present standing passed users project requests works xs ys =
-    (i : ℕ) (d : X) (w : Work) → i < length xs → (o : Option (List Call)) × (o' : Option (List Call)) × IsGated users project requests (present (slice_index_or xs i d)) (standing (slice_index_or xs i d)) (present (slice_index_or ys i d)) (standing (slice_index_or ys i d)) o o' (slice_index_or works i w) (passed (slice_index_or xs i d)) (passed (slice_index_or ys i d))
+abbrev pub AllGated : {D X : Type 0} → (D → DiskState) → (X → Option Connection) → (X → Standing) → (X → Option Points) → List User → List ℕ → ℕ → List Work → List X → List X → Type 0
+AllGated {X = X} tells present standing passed users project requests works xs ys =
+    (i : ℕ) (d : X) (w : Work) → i < length xs → (o : Option (List Call)) × (o' : Option (List Call)) × IsGated tells users project requests (present (slice_index_or xs i d)) (standing (slice_index_or xs i d)) (present (slice_index_or ys i d)) (standing (slice_index_or ys i d)) o o' (slice_index_or works i w) (passed (slice_index_or xs i d)) (passed (slice_index_or ys i d))
 
 -- both by the state of each door
-abbrev pub AreWorked : {X : Type 0} → (X → LinkState) → List User → List ℕ → ℕ → List Work → List X → List X → Type 0
-AreWorked {X} door users project requests works xs ys = AllWorked (λ x. (door x).present) (λ x. (door x).standing) users project requests works xs ys
+abbrev pub AreWorked : {D X : Type 0} → (D → DiskState) → (X → LinkState) → List User → List ℕ → ℕ → List Work → List X → List X → Type 0
+AreWorked {X = X} tells door users project requests works xs ys = AllWorked tells (λ x. (door x).present) (λ x. (door x).standing) users project requests works xs ys
 
-abbrev pub AreGated : {X : Type 0} → (X → LinkState) → (X → Option Points) → List User → List ℕ → ℕ → List Work → List X → List X → Type 0
-AreGated {X} door passed users project requests works xs ys =
-    AllGated (λ x. (door x).present) (λ x. (door x).standing) passed users project requests works xs ys
+abbrev pub AreGated : {D X : Type 0} → (D → DiskState) → (X → LinkState) → (X → Option Points) → List User → List ℕ → ℕ → List Work → List X → List X → Type 0
+AreGated {X = X} tells door passed users project requests works xs ys =
+    AllGated tells (λ x. (door x).present) (λ x. (door x).standing) passed users project requests works xs ys
 
 -- where it isn't stopped, all its records are committed
 abbrev pub AreAllCommitted : State → Type 0

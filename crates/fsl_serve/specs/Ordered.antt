@@ -28,6 +28,6 @@ pub record IsOneHistory {D X : Type 0} (tells : D → DiskState) (door : X → L
   pub answer : Answer
   pub history : IsHistory (steps_by tells) repo (turns ++ closing (length xs) answer) last
   pub crew : (i : ℕ) (d : X) (w : Work) → i < length xs
-      → IsGated users project requests (door (slice_index_or xs i d)).present (door (slice_index_or xs i d)).standing (door (slice_index_or ys i d)).present (door (slice_index_or ys i d)).standing
+      → IsGated tells users project requests (door (slice_index_or xs i d)).present (door (slice_index_or xs i d)).standing (door (slice_index_or ys i d)).present (door (slice_index_or ys i d)).standing
       (Some []) (Some (calls_by i turns)) (slice_index_or works i w) (passed (slice_index_or xs i d)) (passed (slice_index_or ys i d))
   pub others : (n : ℕ) → length xs ≤ n → calls_by n turns ≡ []

@@ -1,6 +1,7 @@
 -- The points that a session passes.
 use Rattle.std.specs.Prelude.{◌≡◌, ℕ, Bool, true, false, List, [], ◌∷◌, ◌++◌, map, Option, option_map, Result, Ok, Err}
 use Rattle.std.specs.List.{list_any}
+use Rattle.fsl_disk.specs.Disk.{DiskState}
 use Rattle.fsl_login.specs.declared.User.{User}
 use Rattle.fsl_outside.specs.Connections.{LinkState}
 use Rattle.fsl_outside.specs.declared.gate.Point.{Point}
@@ -51,9 +52,9 @@ reached (Err h) made = arrived made
 abbrev pub IsSessionOf : {K : Type 0} → List User → List ℕ → (K → LinkState) × K × K → SessionEnd → List Call → Type 0
 IsSessionOf users project link end made = IsSession users project (link.0 link.1).present (link.0 link.2).present made end
 
--- a session with its calls and its points, by what a pass, a link and a gate tell, before and after
-abbrev pub HasSession : {P K G : Type 0} → List User → List ℕ → ℕ → (P → Option (List Call)) × P × P → (K → LinkState) × K × K →
-    (G → Option Points) × G × G → SessionEnd → Type 0
-HasSession users project number pass link gate end =
-    Gains (pass.0 pass.1) (pass.0 pass.2)
+-- a session with its calls and its points, by what a disk, a pass, a link and a gate tell, the last three before and after
+abbrev pub HasSession : {D P K G : Type 0} → (D → DiskState) → List User → List ℕ → ℕ → (P → Option (List Call)) × P × P →
+    (K → LinkState) × K × K → (G → Option Points) × G × G → SessionEnd → Type 0
+HasSession tells users project number pass link gate end =
+    Gains tells (pass.0 pass.1) (pass.0 pass.2)
     (λ made. IsSessionOf users project link end made × Passes (gate.0 gate.1) (gate.0 gate.2) number (points_of made end))

@@ -19,6 +19,7 @@ use Rattle.fsl_login.specs.Logins.{granted}
 use Rattle.fsl_answer.specs.declared.reasons.Refusal.{Refusal}
 use Rattle.fsl_answer.specs.Refusals.{refusal}
 use Rattle.fsl_repo.specs.declared.Ask.{Ask}
+use Rattle.fsl_repo.specs.declared.BuildFault.TheVariants as build_fault
 use Rattle.fsl_repo.specs.declared.Event.TheVariants as event
 use Rattle.fsl_repo.specs.declared.Answer.{Answer}
 use Rattle.fsl_repo.specs.declared.Answer.TheVariants as answer
@@ -40,9 +41,11 @@ abbrev pub halted : Halt → Reply
 halted halt.Stopped = (500, [])
 halted halt.Memory = (503, [])
 
--- what is sent after the answers of the build and of the commit
+-- what is sent after the answers of the build and of the commit: 500 where one of them tells of the disk
 abbrev pub concluded : Answer → Answer → Reply
 concluded built (answer.Commit (Err e)) = (500, [])
+concluded (answer.Build (Err build_fault.Disk)) committed = (500, [])
+concluded (answer.Build (Err (build_fault.Damaged name found))) committed = (500, [])
 concluded (answer.Build (Ok reply)) (answer.Commit (Ok count)) = (200, reply)
 concluded built committed = (503, [])
 

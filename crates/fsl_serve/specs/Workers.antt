@@ -2,6 +2,7 @@
 use Rattle.std.specs.Prelude.{◌≡◌, ⊤, ℕ, ◌<◌, ◌≤◌, true, false, List, [], ◌∷◌, ◌++◌, ◌+◌, length, map, Option, option_map, Some, IfSome}
 use Rattle.fsl_outside.specs.Connections.{Connection, Standing, LinkState, listed, HasBegun}
 use Rattle.fsl_outside.specs.Memory.{next}
+use Rattle.fsl_disk.specs.Disk.{DiskState}
 use Rattle.fsl_login.specs.declared.User.{User}
 use Rattle.fsl_serve.specs.declared.said.SessionEnd.{SessionEnd}
 use Rattle.fsl_serve.specs.declared.work.Crew.{Crew}
@@ -34,13 +35,13 @@ abbrev pub Lists : Option (List Connection) → Option (List Connection) → Lis
 Lists before after served = IfSome before (λ cs. (ds : List Connection) × (after ≡ Some (cs ++ ds)) × (map Some ds ≡ map (λ s. s.connection) served))
 
 -- so many connections came, each had its session, and the door has its counts for an early end
-pub record IsWorked (users : List User) (project : List ℕ) (requests : ℕ) (p : Option Connection) (s : Standing) (q : Option Connection) (t : Standing) (told told' : Option (List Call)) (work : Work) : Type 0 where
+pub record IsWorked {D : Type 0} (tells : D → DiskState) (users : List User) (project : List ℕ) (requests : ℕ) (p : Option Connection) (s : Standing) (q : Option Connection) (t : Standing) (told told' : Option (List Call)) (work : Work) : Type 0 where
   pub served : List Served
   pub count : length served ≡ work.sessions
   pub within : work.sessions ≤ requests
   pub each : AllServed users project served
   pub lists : Lists (listed s.earlier p) (listed t.earlier q) served
-  pub calls : Gains told told' (λ made. made ≡ calls_of served)
+  pub calls : Gains tells told told' (λ made. made ≡ calls_of served)
   pub failed : work.failed ≡ true → t.accept_faults ≡ next s.accept_faults
   pub kept : work.failed ≡ true → t.closings ≡ s.closings
   pub not_failed : work.failed ≡ false → t.accept_faults ≡ s.accept_faults
@@ -54,20 +55,20 @@ points_from n [] = []
 points_from n (s ∷ more) = map (λ p. (n, p)) (points_of s.made s.end) ++ points_from (n + 1) more
 
 -- the worker did this, and its gate has the points of these sessions behind those before, numbered from 0
-pub record IsGated (users : List User) (project : List ℕ) (requests : ℕ) (p : Option Connection) (s : Standing) (q : Option Connection) (t : Standing) (told told' : Option (List Call)) (work : Work) (before after : Option Points) : Type 0 where
-  pub worked : IsWorked users project requests p s q t told told' work
+pub record IsGated {D : Type 0} (tells : D → DiskState) (users : List User) (project : List ℕ) (requests : ℕ) (p : Option Connection) (s : Standing) (q : Option Connection) (t : Standing) (told told' : Option (List Call)) (work : Work) (before after : Option Points) : Type 0 where
+  pub worked : IsWorked tells users project requests p s q t told told' work
   pub passed : after ≡ option_map (λ ps. ps ++ points_from 0 worked.served) before
 
--- both by what doors, gates and a pass tell, and the crew and the pass before and after
-abbrev pub HasWorked : {A G P : Type 0} → List User → List ℕ → ℕ → (A → LinkState) × Crew A G × Crew A G → (P → Option (List Call)) × P × P → Work → Type 0
-HasWorked users project requests crew pass work =
+-- both by what a disk, doors, gates and a pass tell, and the crew and the pass before and after
+abbrev pub HasWorked : {D A G P : Type 0} → (D → DiskState) → List User → List ℕ → ℕ → (A → LinkState) × Crew A G × Crew A G → (P → Option (List Call)) × P × P → Work → Type 0
+HasWorked tells users project requests crew pass work =
     let old = crew.0 crew.1.door in
     let new = crew.0 crew.2.door in
-    IsWorked users project requests old.present old.standing new.present new.standing (pass.0 pass.1) (pass.0 pass.2) work
+    IsWorked tells users project requests old.present old.standing new.present new.standing (pass.0 pass.1) (pass.0 pass.2) work
 
-abbrev pub HasPassed : {A G P : Type 0} → List User → List ℕ → ℕ → (A → LinkState) × (G → Option Points) × Crew A G × Crew A G →
+abbrev pub HasPassed : {D A G P : Type 0} → (D → DiskState) → List User → List ℕ → ℕ → (A → LinkState) × (G → Option Points) × Crew A G × Crew A G →
     (P → Option (List Call)) × P × P → Work → Type 0
-HasPassed users project requests crew pass work =
+HasPassed tells users project requests crew pass work =
     let old = crew.0 crew.2.door in
     let new = crew.0 crew.3.door in
-    IsGated users project requests old.present old.standing new.present new.standing (pass.0 pass.1) (pass.0 pass.2) work (crew.1 crew.2.gate) (crew.1 crew.3.gate)
+    IsGated tells users project requests old.present old.standing new.present new.standing (pass.0 pass.1) (pass.0 pass.2) work (crew.1 crew.2.gate) (crew.1 crew.3.gate)

@@ -96,7 +96,7 @@ fn arrive<T: Turns<Repo<D>>, D: Disk, R: Wait>(
     texts: &mut List<Text>,
 ) -> Result<(), Halt>
     ensures grown { T.grows pass.old pass.new }
-    ensures made { Gains (T.calls pass.old) (T.calls pass.new) (λ made. Phase (event.Arrive name bytes.old private ∷ []) made (result_err result) × OnOk result (texts.new ≡ texts.old ++ notices (asked made) (told made))) }
+    ensures made { Gains D.state (T.calls pass.old) (T.calls pass.new) (λ made. Phase (event.Arrive name bytes.old private ∷ []) made (result_err result) × OnOk result (texts.new ≡ texts.old ++ notices (asked made) (told made))) }
     ensures kept { bytes.new ≡ bytes.old }
 {
     let made = arrival(alloc, name, bytes, private);
@@ -123,7 +123,7 @@ fn arrive_card<T: Turns<Repo<D>>, D: Disk, R: Wait>(
     texts: &mut List<Text>,
 ) -> Result<(), Halt>
     ensures grown { T.grows pass.old pass.new }
-    ensures made { Gains (T.calls pass.old) (T.calls pass.new) (λ made. Phase (option_to_list (arrival_of marked card.old)) made (result_err result) × OnOk result (texts.new ≡ texts.old ++ notices (asked made) (told made))) }
+    ensures made { Gains D.state (T.calls pass.old) (T.calls pass.new) (λ made. Phase (option_to_list (arrival_of marked card.old)) made (result_err result) × OnOk result (texts.new ≡ texts.old ++ notices (asked made) (told made))) }
     ensures kept { card.new ≡ card.old }
 {
     match card {
@@ -154,7 +154,7 @@ pub(crate) fn arrive_all<T: Turns<Repo<D>>, D: Disk, R: Wait>(
     cards: &mut [WireCard],
 ) -> Result<List<Text>, Halt>
     ensures grown { T.grows pass.old pass.new }
-    ensures made { Gains (T.calls pass.old) (T.calls pass.new) (λ made. Phase (arrivals false cards.old) made (result_err result) × IfOk result (λ texts. texts ≡ notices (asked made) (told made))) }
+    ensures made { Gains D.state (T.calls pass.old) (T.calls pass.new) (λ made. Phase (arrivals false cards.old) made (result_err result) × IfOk result (λ texts. texts ≡ notices (asked made) (told made))) }
     ensures kept { OnOk result (cards.new ≡ cards.old) }
 {
     let mut marked = false;

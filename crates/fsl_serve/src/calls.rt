@@ -17,8 +17,8 @@ pub(crate) fn call<T: Turns<Repo<D>>, D: Disk, R: Wait>(
     event: &Event,
 ) -> Answer
     ensures grown { T.grows pass.old pass.new }
-    ensures may { May event.now result }
-    ensures made { Gains (T.calls pass.old) (T.calls pass.new) (λ made. made ≡ (event.now, result) ∷ []) }
+    ensures may { May D.state event.now result }
+    ensures made { Gains D.state (T.calls pass.old) (T.calls pass.new) (λ made. made ≡ (event.now, result) ∷ []) }
 {
     turns.turn(rt, pass, event)
 }

@@ -39,7 +39,7 @@ fn run_one<T: Turns<Repo<D>>, D: Disk, A: Door, G: Gate, R: Wait>(
     requests: u64,
 )
     ensures grown { T.grows job.old.pass job.new.pass }
-    ensures worked { HasPassed users.now project requests (A.state, G.passed, job.old.crew, job.new.crew) (T.calls, job.old.pass, job.new.pass) job.new.work }
+    ensures worked { HasPassed D.state users.now project requests (A.state, G.passed, job.old.crew, job.new.crew) (T.calls, job.old.pass, job.new.pass) job.new.work }
 {
     job.work = worker(
         turns,
@@ -73,7 +73,7 @@ where
     T::Pass: Send,
     requires { 0 < vec_len jobs.old }
     ensures len { vec_len jobs.new ≡ vec_len jobs.old }
-    ensures each { (i : ℕ) (d : _) → i < vec_len jobs.old → let before = slice_index_or jobs.old.items i d in let after = slice_index_or jobs.new.items i d in HasPassed users.now project requests (A.state, G.passed, before.crew, after.crew) (T.calls, before.pass, after.pass) after.work × T.grows before.pass after.pass }
+    ensures each { (i : ℕ) (d : _) → i < vec_len jobs.old → let before = slice_index_or jobs.old.items i d in let after = slice_index_or jobs.new.items i d in HasPassed D.state users.now project requests (A.state, G.passed, before.crew, after.crew) (T.calls, before.pass, after.pass) after.work × T.grows before.pass after.pass }
 {
     let threads = jobs.len();
     for_each_mut(
@@ -82,7 +82,7 @@ where
         threads,
         &|_, job: &mut Job<A, G, T::Pass>|
             ensures grown { T.grows job.old.pass job.new.pass }
-            ensures worked { HasPassed users.entry.now project requests (A.state, G.passed, job.old.crew, job.new.crew) (T.calls, job.old.pass, job.new.pass) job.new.work }
+            ensures worked { HasPassed D.state users.entry.now project requests (A.state, G.passed, job.old.crew, job.new.crew) (T.calls, job.old.pass, job.new.pass) job.new.work }
         { run_one(turns, rt, alloc, users, project, job, requests) },
     );
 }
@@ -125,8 +125,8 @@ pub fn serve_crews<D: Disk + Send, A: Door + Send, G: Gate + Send, R: Threads + 
     ensures stored { IfOk result (λ s. stored s.repo.seen ≡ stored repo.seen + s.stored) }
     // What is counted as stored is committed, unless the disk failed.
     ensures settled { IfOk result (λ s. AreAllCommitted s.repo.seen.state) }
-    ensures worked { IfOk result (λ s. AreWorked (λ c. A.state c.door) users.now project requests s.works.items crews.items s.crews.items) }
-    ensures gates { IfOk result (λ s. AreGated (λ c. A.state c.door) (λ c. G.passed c.gate) users.now project requests s.works.items crews.items s.crews.items) }
+    ensures worked { IfOk result (λ s. AreWorked D.state (λ c. A.state c.door) users.now project requests s.works.items crews.items s.crews.items) }
+    ensures gates { IfOk result (λ s. AreGated D.state (λ c. A.state c.door) (λ c. G.passed c.gate) users.now project requests s.works.items crews.items s.crews.items) }
     ensures history { IfOk result (λ s. IsOneHistory D.state (λ c. A.state c.door) (λ c. G.passed c.gate) users.now project requests s.works.items crews.items s.crews.items repo s.repo) }
     ensures refused { IfErr result (λ r. (r.0 ≡ repo) × (r.1.items ≡ crews.items)) }
 {
@@ -161,8 +161,8 @@ fn serve_housed<
     ensures later { IfOk result (λ s. IfSome B.first (λ f. IsLaterOn (D.state f.disk) (D.state s.repo.disk) f s.repo)) }
     ensures stored { IfOk result (λ s. IfSome B.first (λ f. stored s.repo.seen ≡ stored f.seen + s.stored)) }
     ensures settled { IfOk result (λ s. AreAllCommitted s.repo.seen.state) }
-    ensures worked { IfOk result (λ s. AreWorked (λ c. A.state c.door) users.now project requests s.works.items crews.items s.crews.items) }
-    ensures gates { IfOk result (λ s. AreGated (λ c. A.state c.door) (λ c. G.passed c.gate) users.now project requests s.works.items crews.items s.crews.items) }
+    ensures worked { IfOk result (λ s. AreWorked D.state (λ c. A.state c.door) users.now project requests s.works.items crews.items s.crews.items) }
+    ensures gates { IfOk result (λ s. AreGated D.state (λ c. A.state c.door) (λ c. G.passed c.gate) users.now project requests s.works.items crews.items s.crews.items) }
     ensures history { IfOk result (λ s. IfSome B.first (λ f. IsOneHistory D.state (λ c. A.state c.door) (λ c. G.passed c.gate) users.now project requests s.works.items crews.items s.crews.items f s.repo)) }
     ensures refused { IfErr result (λ r. (B.first ≡ Some r.0) × (r.1.items ≡ crews.items)) }
 {

@@ -16,7 +16,7 @@ use crate::said::{Halt, Said};
 use fsl_disk::Disk;
 use fsl_name::Name;
 use fsl_outside::{Gate, Point};
-use fsl_repo::{Answer, Ask, Event, Repo};
+use fsl_repo::{Answer, Ask, BuildFault, Event, Repo};
 use fsl_text::{List, Text};
 use fsl_turn::Turns;
 use fsl_wire::{Caps, Message, WireCard};
@@ -31,7 +31,7 @@ fn announce<T: Turns<Repo<D>>, D: Disk, R: Wait>(
     name: Name,
 ) -> Result<(), Halt>
     ensures grown { T.grows pass.old pass.new }
-    ensures made { Gains (T.calls pass.old) (T.calls pass.new) (λ made. Phase (event.Announce name ∷ []) made (result_err result)) }
+    ensures made { Gains D.state (T.calls pass.old) (T.calls pass.new) (λ made. Phase (event.Announce name ∷ []) made (result_err result)) }
 {
     heed(&call(turns, rt, pass, &Event::Announce { name }))
 }
@@ -45,7 +45,7 @@ fn announce_card<T: Turns<Repo<D>>, D: Disk, R: Wait>(
     caps: Caps,
 ) -> Result<(), Halt>
     ensures grown { T.grows pass.old pass.new }
-    ensures made { Gains (T.calls pass.old) (T.calls pass.new) (λ made. Phase (option_to_list (announcement caps card.now)) made (result_err result)) }
+    ensures made { Gains D.state (T.calls pass.old) (T.calls pass.new) (λ made. Phase (option_to_list (announcement caps card.now)) made (result_err result)) }
 {
     match announced(card, caps) {
         Some(name) => announce(turns, rt, pass, name),
@@ -72,7 +72,7 @@ fn announce_all<T: Turns<Repo<D>>, D: Disk, R: Wait>(
     caps: Caps,
 ) -> Result<(), Halt>
     ensures grown { T.grows pass.old pass.new }
-    ensures made { Gains (T.calls pass.old) (T.calls pass.new) (λ made. Phase (filter_map (announcement caps) cards.now) made (result_err result)) }
+    ensures made { Gains D.state (T.calls pass.old) (T.calls pass.new) (λ made. Phase (filter_map (announcement caps) cards.now) made (result_err result)) }
 {
     for card in cards {
         match announce_card(turns, rt, pass, card, caps) {
@@ -90,7 +90,7 @@ fn cluster<T: Turns<Repo<D>>, D: Disk, R: Wait>(
     pass: &mut T::Pass,
 ) -> Result<(), Halt>
     ensures grown { T.grows pass.old pass.new }
-    ensures made { Gains (T.calls pass.old) (T.calls pass.new) (λ made. Phase (event.Cluster ∷ []) made (result_err result) × IsTrue (list_any is_late (asked made))) }
+    ensures made { Gains D.state (T.calls pass.old) (T.calls pass.new) (λ made. Phase (event.Cluster ∷ []) made (result_err result) × IsTrue (list_any is_late (asked made))) }
 {
     heed(&call(turns, rt, pass, &Event::Cluster))
 }
@@ -122,7 +122,7 @@ fn announce_where_pushed<T: Turns<Repo<D>>, D: Disk, R: Wait>(
     caps: Caps,
 ) -> Result<(), Halt>
     ensures grown { T.grows pass.old pass.new }
-    ensures made { Gains (T.calls pass.old) (T.calls pass.new) (λ made. Phase (where_so (list_any is_push cards.now) (filter_map (announcement caps) cards.now)) made (result_err result)) }
+    ensures made { Gains D.state (T.calls pass.old) (T.calls pass.new) (λ made. Phase (where_so (list_any is_push cards.now) (filter_map (announcement caps) cards.now)) made (result_err result)) }
 {
     if has_push(cards) {
         announce_all(turns, rt, pass, cards, caps)
@@ -139,7 +139,7 @@ fn cluster_where_pulled<T: Turns<Repo<D>>, D: Disk, R: Wait>(
     cards: &[WireCard],
 ) -> Result<(), Halt>
     ensures grown { T.grows pass.old pass.new }
-    ensures made { Gains (T.calls pass.old) (T.calls pass.new) (λ made. Phase (where_so (list_any is_pull cards.now) (event.Cluster ∷ [])) made (result_err result) × OnErr result (IsTrue (list_any is_late (asked made)))) }
+    ensures made { Gains D.state (T.calls pass.old) (T.calls pass.new) (λ made. Phase (where_so (list_any is_pull cards.now) (event.Cluster ∷ [])) made (result_err result) × OnErr result (IsTrue (list_any is_late (asked made)))) }
 {
     if has_pull(cards) {
         cluster(turns, rt, pass)
@@ -160,7 +160,7 @@ fn before_build<T: Turns<Repo<D>>, D: Disk, G: Gate, R: Wait>(
     caps: Caps,
 ) -> Result<List<Text>, Halt>
     ensures grown { T.grows pass.old pass.new }
-    ensures made { Gains (T.calls pass.old) (T.calls pass.new) (λ made. (Phase (first_events cards.old caps) made (result_err result) × IfOk result (λ texts. texts ≡ notices (arrivals false cards.old) (told made))) × Passes (G.passed gate.old) (G.passed gate.new) number (reached result made)) }
+    ensures made { Gains D.state (T.calls pass.old) (T.calls pass.new) (λ made. (Phase (first_events cards.old caps) made (result_err result) × IfOk result (λ texts. texts ≡ notices (arrivals false cards.old) (told made))) × Passes (G.passed gate.old) (G.passed gate.new) number (reached result made)) }
     ensures kept { OnOk result (cards.new ≡ cards.old) }
 {
     let notices = match arrive_all(turns, rt, alloc, pass, cards) {
@@ -179,12 +179,15 @@ fn before_build<T: Turns<Repo<D>>, D: Disk, G: Gate, R: Wait>(
     Ok(notices)
 }
 
-/// What is said after the answers of the build and of the commit.
+/// What is said after the answers of the build and of the commit: a content that couldn't be read, or is damaged, is told as a
+/// repository that is stopped.
 fn conclusion(built: Answer, committed: Answer) -> Said
     ensures { sent_of result ≡ concluded built committed }
 {
     match (built, committed) {
         (_, Answer::Commit(Err(_))) => Said::Halted(Halt::Stopped),
+        (Answer::Build(Err(BuildFault::Disk)), _) => Said::Halted(Halt::Stopped),
+        (Answer::Build(Err(BuildFault::Damaged { .. })), _) => Said::Halted(Halt::Stopped),
         (Answer::Build(Ok(reply)), Answer::Commit(Ok(_))) => Said::Built(reply),
         _ => Said::Halted(Halt::Memory),
     }
@@ -198,7 +201,7 @@ fn conclude<T: Turns<Repo<D>>, D: Disk, R: Wait>(
     ask: Ask,
 ) -> Said
     ensures grown { T.grows pass.old pass.new }
-    ensures made { Gains (T.calls pass.old) (T.calls pass.new) (λ made. IsConcluded ask made (sent_of result)) }
+    ensures made { Gains D.state (T.calls pass.old) (T.calls pass.new) (λ made. IsConcluded ask made (sent_of result)) }
 {
     let built = call(turns, rt, pass, &Event::Build { ask });
     let committed = call(turns, rt, pass, &Event::Commit);
@@ -217,7 +220,7 @@ pub(crate) fn run<T: Turns<Repo<D>>, D: Disk, G: Gate, R: Wait>(
     caps: Caps,
 ) -> Said
     ensures grown { T.grows pass.old pass.new }
-    ensures made { Gains (T.calls pass.old) (T.calls pass.new) (λ made. IsRun message caps made (sent_of result) × Passes (G.passed gate.old) (G.passed gate.new) number (arrived made)) }
+    ensures made { Gains D.state (T.calls pass.old) (T.calls pass.new) (λ made. IsRun message caps made (sent_of result) × Passes (G.passed gate.old) (G.passed gate.new) number (arrived made)) }
 {
     let mut cards = message.into_cards().into_vec();
     let before = before_build(

@@ -10,6 +10,7 @@ mod bodies;
 mod calls;
 mod crews;
 mod events;
+mod laws;
 mod said;
 mod sending;
 mod serving;
@@ -18,6 +19,7 @@ mod work;
 
 pub use alone::session_alone;
 pub use crews::{Served, serve_crews};
+pub use laws::nothing_is_damaged;
 pub use said::SessionEnd;
 pub use serving::session;
 pub use work::{Crew, Work, worker};

@@ -19,7 +19,7 @@ pub enum SessionEnd {
 /// Why a session makes no further event.
 #[derive(Clone, Copy, Debug, PartialEq, Eq)]
 pub(crate) enum Halt {
-    /// The repository is stopped.
+    /// The repository is stopped, or a content of its disk couldn't be read or is damaged.
     Stopped,
     /// There was no memory.
     Memory,

@@ -58,7 +58,7 @@ fn said_to_message<T: Turns<Repo<D>>, D: Disk, G: Gate, R: Wait>(
 ) -> Said
     ensures grown { T.grows pass.old pass.new }
     ensures status { IsStatus (sent_of result).0 }
-    ensures made { Gains (T.calls pass.old) (T.calls pass.new) (λ made. ((users : Items User) → granted users message ≡ Ok caps → IsJudged users project message made (sent_of result)) × Passes (G.passed gate.old) (G.passed gate.new) number (arrived made)) }
+    ensures made { Gains D.state (T.calls pass.old) (T.calls pass.new) (λ made. ((users : Items User) → granted users message ≡ Ok caps → IsJudged users project message made (sent_of result)) × Passes (G.passed gate.old) (G.passed gate.new) number (arrived made)) }
 {
     match refusal(&message, caps, project) {
         Some(reason) => not_allowed(alloc, reason),
@@ -80,7 +80,7 @@ fn said_to<T: Turns<Repo<D>>, D: Disk, G: Gate, R: Wait>(
 ) -> Said
     ensures grown { T.grows pass.old pass.new }
     ensures status { IsStatus (sent_of result).0 }
-    ensures made { Gains (T.calls pass.old) (T.calls pass.new) (λ made. IsReplied users.now project (asked_as.Body body) made (sent_of result) × Passes (G.passed gate.old) (G.passed gate.new) number (arrived made)) }
+    ensures made { Gains D.state (T.calls pass.old) (T.calls pass.new) (λ made. IsReplied users.now project (asked_as.Body body) made (sent_of result) × Passes (G.passed gate.old) (G.passed gate.new) number (arrived made)) }
 {
     match hear(alloc, users, body) {
         Ok((message, caps)) => said_to_message(
@@ -104,7 +104,7 @@ pub fn session<T: Turns<Repo<D>>, D: Disk, K: Link, G: Gate, R: Wait>(
     number: u64,
 ) -> SessionEnd
     ensures grown { T.grows pass.old pass.new }
-    ensures session { HasSession users.now project number (T.calls, pass.old, pass.new) (K.state, link.old, link.new) (G.passed, gate.old, gate.new) result }
+    ensures session { HasSession D.state users.now project number (T.calls, pass.old, pass.new) (K.state, link.old, link.new) (G.passed, gate.old, gate.new) result }
     ensures cause { result ≡ end_as.Link → Rose ((K.state link.old).faults) ((K.state link.new).faults) }
     ensures same { result ≢ end_as.Link → (K.state link.new).faults ≡ (K.state link.old).faults }
     ensures stands { (K.state link.new).standing ≡ (K.state link.old).standing }

@@ -42,8 +42,8 @@ pub fn worker<T: Turns<Repo<D>>, D: Disk, A: Door, G: Gate, R: Wait>(
     requests: u64,
 ) -> Work
     ensures grown { T.grows pass.old pass.new }
-    ensures worked { HasWorked users.now project requests (A.state, crew.old, crew.new) (T.calls, pass.old, pass.new) result }
-    ensures gate { HasPassed users.now project requests (A.state, G.passed, crew.old, crew.new) (T.calls, pass.old, pass.new) result }
+    ensures worked { HasWorked D.state users.now project requests (A.state, crew.old, crew.new) (T.calls, pass.old, pass.new) result }
+    ensures gate { HasPassed D.state users.now project requests (A.state, G.passed, crew.old, crew.new) (T.calls, pass.old, pass.new) result }
 {
     for number in 0..requests {
         match crew.door.accept() {

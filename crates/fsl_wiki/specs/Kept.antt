@@ -60,7 +60,7 @@ Targets = List (Target × Unit {0})
 abbrev pub fact_at : List ℕ → Entry → Fact
 fact_at name (entry.Page e) = fact.Page (record { name = name; date = e.date; title = e.title; user = e.user })
 fact_at name (entry.Note e) = fact.Note (record { name = name; date = e.date; time = e.time; id = e.id })
-fact_at name (entry.Attached e) = fact.Attached (record { name = name; date = e.date; target = e.target; file = e.file; source = e.source })
+fact_at name (entry.Attached e) = fact.Attached (record { name = name; date = e.date; target = e.target; file = e.file; sourced = e.sourced })
 
 abbrev pub fact_of : List ℕ × Entry → Fact
 fact_of e = fact_at e.0 e.1
@@ -72,7 +72,7 @@ facts_of es = map fact_of es
 abbrev pub entry_of : Fact → Entry
 entry_of (fact.Page p) = entry.Page (record { date = p.date; title = p.title; user = p.user })
 entry_of (fact.Note n) = entry.Note (record { date = n.date; time = n.time; id = n.id })
-entry_of (fact.Attached a) = entry.Attached (record { date = a.date; target = a.target; file = a.file; source = a.source })
+entry_of (fact.Attached a) = entry.Attached (record { date = a.date; target = a.target; file = a.file; sourced = a.sourced })
 
 -- what an entry is a version of
 abbrev pub group_in : Entry → Group

@@ -33,7 +33,7 @@ pub struct FileEntry {
     pub date: Moment,
     pub target: Text,
     pub file: Text,
-    pub source: Option<Name>,
+    pub sourced: bool,
 }
 
 /// Of each kind.
@@ -73,7 +73,7 @@ impl Entry {
                 date: attached.date,
                 target: attached.target,
                 file: attached.file,
-                source: attached.source,
+                sourced: attached.sourced,
             }),
         }
     }
@@ -190,7 +190,7 @@ impl Entry {
                 date: file.date,
                 target: Text::of(alloc, file.target.bytes())?,
                 file: Text::of(alloc, file.file.bytes())?,
-                source: file.source,
+                sourced: file.sourced,
             })),
             _ => Ok(None),
         }

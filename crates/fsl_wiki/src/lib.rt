@@ -60,7 +60,7 @@ pub struct Note {
     pub id: Name,
 }
 
-/// An attachment of a file; without a source, it deletes the file's attachment.
+/// An attachment of a file; without a content, it deletes the file's attachment.
 #[derive(Drop)]
 pub struct Attached {
     /// The name of its artifact.
@@ -71,8 +71,8 @@ pub struct Attached {
     pub target: Text,
     /// The name of the file.
     pub file: Text,
-    /// The name of the file's content.
-    pub source: Option<Name>,
+    /// Whether it has a content.
+    pub sourced: bool,
 }
 
 impl Attached {
@@ -85,7 +85,7 @@ impl Attached {
             date: self.date,
             target: Text::of(alloc, self.target.bytes())?,
             file: Text::of(alloc, self.file.bytes())?,
-            source: self.source,
+            sourced: self.sourced,
         })
     }
 }

@@ -15,6 +15,10 @@ use std::sync::ledger::{Blank, Ledger};
 const CLUSTER: &[u8] =
     b"M a9993e364706816aba3e25717850c26c9cd0d89d\nM da39a3ee5e6b4b0d3255bfef95601890afd80709\nZ e0cf20572212c897087e610a9c073ee3\n";
 
+/// A cluster of a foreign name and an own one.
+const MIXED: &[u8] =
+    b"M 3333333333333333333333333333333333333333333333333333333333333333\nM a9993e364706816aba3e25717850c26c9cd0d89d\nZ 253c23911eae54f9a7f07dcabb42dd12\n";
+
 fn read_counted<L: Ledger>(alloc: Global, text: &[u8], blank: Blank) -> Result<Artifact, Memory>
     requires name { blank.name ≡ L.name }
     requires parts { blank.parts ≡ L.parts }
@@ -31,7 +35,7 @@ pub fn parsed(alloc: Global, text: &[u8]) -> Result<Artifact, Memory> {
 
 /// The references of an artifact, and how many members it has.
 fn references(alloc: Global, artifact: &Artifact) -> Result<(List<Name>, usize), Memory> {
-    let count = members(artifact).len();
+    let count = members(alloc, artifact)?.items().len();
     Ok((refs(alloc, artifact)?, count))
 }
 
@@ -49,5 +53,14 @@ fn tells_the_members_of_a_cluster(rt: HostRuntime) -> Result<(), Memory> {
     let (names, count) = names_of(rt.alloc(), CLUSTER)?;
     assert_eq!(rt; count, 2);
     assert_eq!(rt; names.items(), [Name::of(b"abc"), Name::of(b"")].as_slice());
+    Ok(())
+}
+
+/// Foreign names are no references, and no members that are told.
+#[test]
+fn leaves_foreign_names_out(rt: HostRuntime) -> Result<(), Memory> {
+    let (names, count) = names_of(rt.alloc(), MIXED)?;
+    assert_eq!(rt; count, 1);
+    assert_eq!(rt; names.items(), [Name::of(b"abc")].as_slice());
     Ok(())
 }

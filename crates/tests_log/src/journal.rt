@@ -14,11 +14,11 @@ use std::test::Fail;
 
 // A file with a Config without fields, 68 bytes.
 const CONFIG_ALONE: &[u8] =
-    b"fossil-blobs-1\nO\0\0\0\0\0\0\0\x2BCabcdefghijklmnopqrstABCDEFGHIJKLMNOPQRST\0\0C";
+    b"fossil-blobs-2\nO\0\0\0\0\0\0\0\x2BCabcdefghijklmnopqrstABCDEFGHIJKLMNOPQRST\0\0C";
 
 // And with a blob `abc` in a group of its own, 110 bytes.
 const ONE_BLOB: &[u8] =
-    b"fossil-blobs-1\nO\0\0\0\0\0\0\0\x2BCabcdefghijklmnopqrstABCDEFGHIJKLMNOPQRST\0\0O\0\0\0\0\0\0\0\x21B\0\xA9\x99>6G\x06\x81j\xBA>%qxP\xC2l\x9C\xD0\xD8\x9D\0\0\0\0\0\0\0\x03abcC";
+    b"fossil-blobs-2\nO\0\0\0\0\0\0\0\x2BCabcdefghijklmnopqrstABCDEFGHIJKLMNOPQRST\0\0O\0\0\0\0\0\0\0\x21B\0\xA9\x99>6G\x06\x81j\xBA>%qxP\xC2l\x9C\xD0\xD8\x9D\0\0\0\0\0\0\0\x03abcC";
 
 fn disk_of(alloc: Global, bytes: &[u8]) -> Result<MemoryDisk, Memory> {
     Ok(MemoryDisk::new(alloc, bytes.to_vec(alloc)?, Vec::new(alloc)))
@@ -28,6 +28,7 @@ fn blob(alloc: Global) -> Result<Record, Memory>
     ensures { IfOk result (λ entry. IsWritable entry × (is_config entry ≡ false)) }
 {
     Ok(Record::Blob {
+        receipt: None,
         private: false,
         name: Name::of(b"abc"),
         bytes: Text::of(alloc, b"abc")?,
@@ -68,7 +69,7 @@ fn commit_one<D: Disk>(
 
 /// The same over a file: what the commit answers, how many records there are, and how many of them are stable.
 fn committed<D: Disk>(alloc: Global, disk: &mut D) -> Result<(Option<u64>, u64, u64), Fail> {
-    let (mut journal, _) = Journal::load(alloc, disk)?;
+    let (mut journal, _, _) = Journal::load(alloc, disk)?;
     let done = commit_one(alloc, &mut journal, disk)?;
     Ok((done, journal.count(), journal.stable()))
 }

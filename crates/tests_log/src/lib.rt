@@ -4,6 +4,10 @@
 #[cfg(test)]
 mod blobs;
 #[cfg(test)]
+mod cases;
+#[cfg(test)]
 mod journal;
 #[cfg(test)]
 mod record;
+#[cfg(test)]
+mod versions;

@@ -1,5 +1,5 @@
 //! Each call of each disk once, a call that fails half done, and what crashes leave.
-use fsl_disk::{Disk, FileDisk, FuseDisk, MemoryDisk};
+use fsl_disk::{Disk, FileDisk, FlipDisk, FuseDisk, MemoryDisk};
 use fsl_outside::Failed;
 use fsl_text::Memory;
 use std::alloc::Global;
@@ -57,6 +57,32 @@ fn a_fuse_passes_so_many_calls(rt: HostRuntime) -> Result<(), Memory> {
         [passes(rt.alloc(), 7)?, passes(rt.alloc(), 6)?],
         [true, false]
     );
+    Ok(())
+}
+
+/// What two reads of `abc` give whose second byte is wrong behind the first one, a read past the end, how many calls failed
+/// then, and whether a write goes through.
+fn flipped(alloc: Global) -> Result<([u8; 3], [u8; 3], u64, bool), Memory> {
+    let mut flip = FlipDisk::new(disk_of(alloc, b"abc", &[])?, 1, 1);
+    let (mut first, mut second) = ([0u8; 3], [0u8; 3]);
+    let read = read_front(&mut flip, &mut first).is_ok()
+        & read_front(&mut flip, &mut second).is_ok();
+    let _ = flip.read_at(2, &mut [0u8; 2]);
+    let faults = flip.faults();
+    let written = append(&mut flip, b"d").is_ok();
+    let disk = flip.inner();
+    Ok((
+        first,
+        second,
+        faults,
+        read & written & (disk.bytes() == b"abcd".as_slice()),
+    ))
+}
+
+#[test]
+fn a_flip_turns_the_lowest_bit_of_one_byte(rt: HostRuntime) -> Result<(), Memory> {
+    let found = flipped(rt.alloc())?;
+    assert_eq!(rt; found, (*b"abc", *b"acc", 1, true));
     Ok(())
 }
 

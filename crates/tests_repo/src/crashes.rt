@@ -2,7 +2,7 @@
 use crate::events::arrives;
 use crate::histories::artifact;
 use crate::printing::{Shown, show_all, shown_by, unlike_all};
-use crate::repo::{ONE_BLOB, fused};
+use crate::repo::{ONE_BLOB, ONE_LATER_BLOB, fused};
 use fsl_disk::{FuseDisk, MemoryDisk};
 use fsl_name::Name;
 use fsl_repo::Repo;
@@ -71,8 +71,8 @@ fn are_none_or_all(alloc: Global, left: &Left) -> bool {
 
 /// Whether the three steps were committed, and each crash leaves none or all of them, over a disk that fails after so many
 /// calls; nothing where it fails before the repository is loaded.
-fn is_committed_after(alloc: Global, calls: u64) -> Option<(bool, bool)> {
-    let repo = fused(alloc, ONE_BLOB, calls)?;
+fn is_committed_after(alloc: Global, bytes: &[u8], calls: u64) -> Option<(bool, bool)> {
+    let repo = fused(alloc, bytes, calls)?;
     let left = take_and_commit(alloc, repo);
     let good = are_none_or_all(alloc, &left);
     let is_committed = left.is_committed;
@@ -80,20 +80,29 @@ fn is_committed_after(alloc: Global, calls: u64) -> Option<(bool, bool)> {
     Some((is_committed, good))
 }
 
-/// Whatever device call fails, a crash leaves none or all of a commit; and all where the commit was done. Three calls load the
-/// repository, and nine and more are enough for the commit too.
+/// The same, as it has to be where three calls load the repository, and so many are enough for the commit too.
+fn wanted(calls: u64, enough: u64) -> Option<(bool, bool)> {
+    if calls < 3 {
+        None
+    } else {
+        Some((enough <= calls, true))
+    }
+}
+
+/// Whatever device call fails, a crash leaves none or all of a commit; and all where the commit was done. A file of version 1 is
+/// carried over by two calls more.
 #[test]
 fn crashes_leave_none_or_all(rt: HostRuntime) -> Result<(), Fail> {
     for calls in 0..16 {
-        let wanted = if calls < 3 {
-            None
-        } else {
-            Some((9 <= calls, true))
-        };
         assert_eq!(rt;
-            is_committed_after(rt.alloc(), calls),
-            wanted,
+            is_committed_after(rt.alloc(), ONE_LATER_BLOB, calls),
+            wanted(calls, 9),
             "after {calls} calls"
+        );
+        assert_eq!(rt;
+            is_committed_after(rt.alloc(), ONE_BLOB, calls),
+            wanted(calls, 11),
+            "after {calls} calls, over version 1"
         );
     }
     Ok(())

@@ -21,6 +21,8 @@ mod pulls;
 #[cfg(test)]
 mod questions;
 #[cfg(test)]
+mod receipts;
+#[cfg(test)]
 mod repo;
 #[cfg(test)]
 mod stopping;

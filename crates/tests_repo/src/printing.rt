@@ -95,7 +95,7 @@ fn show_answer(alloc: Global, into: &mut Shown, answer: Result<Text, QueryFault>
             show_text(into, refusal_text(alloc, &refused));
             drop(refused);
         }
-        Err(QueryFault::Memory) => into.fails_unless(false),
+        Err(_) => into.fails_unless(false),
     }
 }
 

@@ -7,9 +7,13 @@ use fsl_text::Memory;
 use std::alloc::Global;
 use std::test::Fail;
 
-// A file with a Config without fields and a blob `abc`, 110 bytes.
+// A file of version 1 with a Config without fields and a blob `abc`, 110 bytes.
 pub(crate) const ONE_BLOB: &[u8] =
     b"fossil-blobs-1\nO\0\0\0\0\0\0\0\x2BCabcdefghijklmnopqrstABCDEFGHIJKLMNOPQRST\0\0O\0\0\0\0\0\0\0\x21B\0\xA9\x99>6G\x06\x81j\xBA>%qxP\xC2l\x9C\xD0\xD8\x9D\0\0\0\0\0\0\0\x03abcC";
+
+// The same file of version 2.
+pub(crate) const ONE_LATER_BLOB: &[u8] =
+    b"fossil-blobs-2\nO\0\0\0\0\0\0\0\x2BCabcdefghijklmnopqrstABCDEFGHIJKLMNOPQRST\0\0O\0\0\0\0\0\0\0\x21B\0\xA9\x99>6G\x06\x81j\xBA>%qxP\xC2l\x9C\xD0\xD8\x9D\0\0\0\0\0\0\0\x03abcC";
 
 // A file with a Config of the fields `comment` and `status`, 83 bytes.
 pub(crate) const CONFIGURED: &[u8] =

@@ -7,7 +7,7 @@ ghost use Rattle.fsl_files.specs.Conditions.{IsFilesFact};
 use crate::names::{add, letter, put_names};
 use crate::plays::{Play, shown, want};
 use fsl_files::{Change, Fact, FileRow, Files, How, Listing, Perm, Undo};
-use fsl_name::Name;
+use fsl_name::{Name, Ref};
 use fsl_text::{List, Memory, Steps, Text};
 use std::alloc::Global;
 use std::sync::ledger::Ledger;
@@ -21,7 +21,7 @@ fn checkin(alloc: Global, name: Name, baseline: Option<Name>, path: &[u8]) -> Re
     let mut files = List::new(alloc);
     files.append(FileRow {
         path,
-        hash: Some(name),
+        hash: Some(Ref::Own(name)),
         perm: Perm::Plain,
     })?;
     let parent = baseline;

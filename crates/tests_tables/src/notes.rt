@@ -35,7 +35,7 @@ fn attachment(alloc: Global, name: Name) -> Result<Fact, Memory>
         date,
         target,
         file: Text::of(alloc, b"f")?,
-        source: None,
+        sourced: false,
     }))
 }
 

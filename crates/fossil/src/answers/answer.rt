@@ -5,7 +5,7 @@ ghost use Rattle.fossil.specs.Outcome.{printed_of, not_repository};
 ghost use Rattle.fossil.specs.Arrivals.{refusal_of as refused_for};
 ghost use Rattle.fsl_repo.specs.declared.ArriveFault.TheVariants as arrive_fault;
 
-use crate::answers::status::{NOT_REPOSITORY, REFUSED};
+use crate::answers::status::{DAMAGED, NOT_REPOSITORY, REFUSED};
 use fsl_name::Name;
 use fsl_repo::ArriveFault;
 use fsl_text::{Memory, Text};
@@ -103,6 +103,21 @@ pub fn full(alloc: Global, name: Name) -> Result<Answer, Memory>
     ensures { IfOk result (λ a. a ≡ printing.full name) }
 {
     refusal_of(alloc, b"full ", name.text().as_slice())
+}
+
+/// A content whose bytes were read and have another name than its own.
+pub fn damaged(alloc: Global, name: Name, found: Name) -> Result<Answer, Memory>
+    ensures { IfOk result (λ a. a ≡ printing.damaged name found) }
+{
+    let mut text = Text::of(alloc, b"damaged ")?;
+    text.append(name.text().as_slice())?;
+    text.append(b" ")?;
+    text.append(found.text().as_slice())?;
+    text.append(b"\n")?;
+    Ok(Answer {
+        status: DAMAGED,
+        text,
+    })
 }
 
 /// The refusal of a file by its name and the fault of its arrival, which isn't that of a repository that is stopped.

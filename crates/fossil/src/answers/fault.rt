@@ -2,6 +2,7 @@
 ghost use Rattle.std.specs.Prelude.{◌≡◌};
 ghost use Rattle.fossil.specs.declared.answers.fault.Fault.TheVariants as fault_is;
 
+use fsl_name::Name;
 use fsl_text::Memory;
 
 /// Why a command has no outcome.
@@ -11,6 +12,8 @@ pub enum Fault {
     Disk,
     /// A read of the input failed.
     Input,
+    /// The bytes that were read for the artifact of a name have another name.
+    Damaged { name: Name, found: Name },
     /// There was no memory.
     Memory,
 }

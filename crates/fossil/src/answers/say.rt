@@ -2,12 +2,16 @@
 ghost use Rattle.std.specs.Prelude.{◌≡◌, Ok, IfOk, IfErr};
 ghost use Rattle.fossil.specs.declared.answers.fault.Fault.TheVariants as fault_is;
 ghost use Rattle.fossil.specs.Outcome.{without_commit, usage};
+ghost use Rattle.fossil.specs.Printed.{damaged};
 ghost use Rattle.fossil.specs.Run.{IsSaid, IsTold};
 ghost use Rattle.fossil.specs.Acts.{fault_status, fault_line, output_of, IsWritten};
 
 use crate::answers::answer::Answer;
 use crate::answers::fault::Fault;
-use crate::answers::status::{DISK_FAULT, DONE, INPUT_FAULT, NO_MEMORY, OUTPUT_FAULT, USAGE};
+use crate::answers::status::{
+    DAMAGED, DISK_FAULT, DONE, INPUT_FAULT, NO_MEMORY, OUTPUT_FAULT, USAGE,
+};
+use fsl_name::Name;
 use fsl_outside::{Sink, write_whole};
 use fsl_text::Memory;
 
@@ -31,6 +35,18 @@ pub fn tell<K: Sink>(out: &mut K, status: u8, text: &[u8]) -> u8
     }
 }
 
+/// The line of a content whose bytes were read and have another name than its own. Takes no memory.
+fn damaged_line(name: Name, found: Name) -> [u8; 90]
+    ensures { result ≡ (damaged name found).text }
+{
+    let mut line = [b' '; 90];
+    line[..8].copy_from_slice(b"damaged ");
+    line[8..48].copy_from_slice(&name.text());
+    line[49..89].copy_from_slice(&found.text());
+    line[89] = b'\n';
+    line
+}
+
 /// Writes the line of a fault, and gives its status.
 fn say_fault<K: Sink>(out: &mut K, fault: Fault) -> u8
     ensures status { result ≡ fault_status fault }
@@ -39,6 +55,7 @@ fn say_fault<K: Sink>(out: &mut K, fault: Fault) -> u8
     match fault {
         Fault::Disk => say(out, DISK_FAULT, b"disk fault\n"),
         Fault::Input => say(out, INPUT_FAULT, b"input fault\n"),
+        Fault::Damaged { name, found } => say(out, DAMAGED, &damaged_line(name, found)),
         Fault::Memory => say(out, NO_MEMORY, b"out of memory\n"),
     }
 }

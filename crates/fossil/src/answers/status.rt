@@ -24,3 +24,5 @@ pub const NO_MEMORY: u8 = 9;
 pub const MISSING: u8 = 10;
 /// A sync wasn't at its end behind the rounds that it may have.
 pub const TOO_MANY_ROUNDS: u8 = 11;
+/// A content was read whose bytes have another name.
+pub const DAMAGED: u8 = 12;

@@ -1,7 +1,7 @@
 //! What is due to be said of a sync.
 ghost use Rattle.fossil.specs.Syncing.{IsFaultDue, IsSyncDue, IsUnopenedDue, IsNoPeerDue};
 
-use crate::answers::answer::{full, not_repository, numbered_refusal, too_large};
+use crate::answers::answer::{damaged, full, not_repository, numbered_refusal, too_large};
 use crate::answers::due::{Due, answered};
 use crate::answers::sync_text::{
     missing, no_peer, other_project, synced, too_many_rounds, wrong_reply,
@@ -26,6 +26,7 @@ fn fault_due(alloc: Global, fault: PullFault) -> Due
         PullFault::Full { name } => answered(full(alloc, name)),
         PullFault::Missing { name } => answered(missing(alloc, name)),
         PullFault::Rounds => answered(too_many_rounds(alloc)),
+        PullFault::Damaged { name, found } => answered(damaged(alloc, name, found)),
         PullFault::Memory => Due::Memory,
     }
 }

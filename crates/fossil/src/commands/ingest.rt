@@ -18,12 +18,12 @@ use std::alloc::Global;
 fn report_on(alloc: Global, files: List<Sent>) -> Result<Answer, Memory>
     ensures { IfOk result (λ a. ingest.IsReported files a) }
 {
-    let mut set = Gathered::empty(alloc)?;
+    let mut set = Gathered::empty(alloc);
     match gather(alloc, files, &mut set)? {
         Some(refused) => Ok(refused),
         None => Ok(Answer {
             status: DONE,
-            text: print_set(alloc, &set)?,
+            text: print_set(alloc, set)?,
         }),
     }
 }

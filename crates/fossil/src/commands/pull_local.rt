@@ -2,6 +2,7 @@
 ghost use Rattle.std.specs.Prelude.{◌≡◌, ◌<◌};
 ghost use Rattle.fsl_disk.specs.Disk.{Keeps};
 ghost use Rattle.fsl_repo.specs.Whole.{IsWholeOn};
+ghost use Rattle.fsl_pull.specs.Reading.{IsOnlyRead};
 ghost use Rattle.fossil.specs.Syncing.{HasPulledFrom, PullsInto, PullsLocal};
 
 use crate::answers::due::Due;
@@ -23,23 +24,26 @@ fn pull_counted<D: Disk, P: Disk, L: Ledger>(
     requires name { blank.name ≡ L.name }
     requires parts { blank.parts ≡ L.parts }
     requires counts { 0 < L.parts }
-    ensures pulled { HasPulledFrom (D.state repo.old.disk, D.state repo.new.disk) repo.old.seen repo.new.seen peer.old.seen result }
+    ensures pulled { HasPulledFrom (D.state repo.old.disk, D.state repo.new.disk) repo.old.seen repo.new.seen (peer.old.seen, peer.new.seen) result }
     ensures whole { IsWholeOn (D.state repo.new.disk) repo.new }
     ensures keeps { Keeps (D.state repo.old.disk) (D.state repo.new.disk) }
-    ensures peer { peer.new ≡ peer.old }
+    ensures peer { IsOnlyRead P.state peer.old peer.new }
+    ensures peer_whole { IsWholeOn (P.state peer.new.disk) peer.new }
 {
     let mut steps: Steps<L> = Steps::new(blank);
     let made = fsl_pull::pull_local(alloc, repo, peer, &mut steps);
     repo.is_whole();
+    peer.is_whole();
     sync_due(alloc, made)
 }
 
 /// Pulls from one repository into another, and answers what is due of that.
 fn pull_between<D: Disk, P: Disk>(alloc: Global, repo: &mut Repo<D>, peer: &mut Repo<P>) -> Due
-    ensures pulled { HasPulledFrom (D.state repo.old.disk, D.state repo.new.disk) repo.old.seen repo.new.seen peer.old.seen result }
+    ensures pulled { HasPulledFrom (D.state repo.old.disk, D.state repo.new.disk) repo.old.seen repo.new.seen (peer.old.seen, peer.new.seen) result }
     ensures whole { IsWholeOn (D.state repo.new.disk) repo.new }
     ensures keeps { Keeps (D.state repo.old.disk) (D.state repo.new.disk) }
-    ensures peer { peer.new ≡ peer.old }
+    ensures peer { IsOnlyRead P.state peer.old peer.new }
+    ensures peer_whole { IsWholeOn (P.state peer.new.disk) peer.new }
 {
     pull_counted::<D, P, Brand>(alloc, repo, peer, Blank::new(1))
 }

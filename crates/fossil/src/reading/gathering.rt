@@ -1,32 +1,25 @@
-//! A set of artifacts in memory alone, in which files arrive as in a repository that holds nothing.
-ghost use Rattle.std.specs.Prelude.{◌≡◌, ◌∷◌, ◌++◌, [], ◌≤◌, ◌^◌, true, length, map, Ok, Err, IfOk, OnOk};
-ghost use Rattle.std.specs.List.{AllZip};
+//! A set of artifacts in memory alone, in which files arrive as in a repository that holds nothing. Of each artifact it keeps
+//! what that tells the table of clusters, and none of its bytes.
+ghost use Rattle.std.specs.Prelude.{◌≡◌, ◌∷◌, ◌++◌, ◌≤◌, ◌^◌, [], false, true, is_some, length, Ok, Err, IfOk, OnOk};
+ghost use Rattle.std.specs.BTreeMap.{get, insert_entry, values};
 ghost use Rattle.std.specs.Str.{bytes_eq};
-ghost use Rattle.fsl_order.specs.Names.{has};
+ghost use Rattle.fsl_order.specs.Names.{bytes_cmp, has};
 ghost use Rattle.fsl_name.specs.Name.{name_of};
-ghost use Rattle.fsl_record.specs.Records.{AreRecords};
-ghost use Rattle.fsl_record.specs.declared.Record.TheVariants as record_of;
-ghost use Rattle.fsl_blobs.specs.Fold.{contents};
-ghost use Rattle.fsl_blobs.specs.Held.{state_of};
-ghost use Rattle.fsl_blobs.specs.Seen.{held_as};
-ghost use Rattle.fsl_blobs.specs.declared.BlobState.TheVariants.{Absent as AbsentName};
 ghost use Rattle.fsl_cross.specs.Facts.{cluster_fact};
 ghost use Rattle.fsl_repo.specs.Machine.{State, room_of};
 ghost use Rattle.fossil.specs.Ingest.{fresh, IsSetPrinted};
-ghost use Rattle.fossil.specs.Taking.{IsConfigAlone, IsGathered, IsGatheredBy, HaveGathered, WantsUnheld, AreReferences, IsFactOf};
+ghost use Rattle.fossil.specs.Taking.{IsGathered, IsGatheredBy, HaveGathered, IsAdded, MakesPublic, WantsUnnoted, IsFactOf};
 
 use crate::answers::answer::{Answer, file_refusal};
 use crate::answers::ingest_report::report_of;
 use crate::reading::message::Sent;
 use fsl_artifact::{Artifact, members, refs};
-use fsl_blobs::{BlobState, Blobs, Holding, shunned_are_not_held};
 use fsl_cluster::Fact;
 use fsl_name::Name;
-use fsl_record::{Config, Record};
 use fsl_repo::{Arrival, ArriveFault, read_artifact};
 use fsl_text::{List, Memory, Text};
 use std::alloc::Global;
-use std::collections::BTreeSet;
+use std::collections::{BTreeMap, BTreeSet};
 
 /// So many bytes may be held.
 const MOST_BYTES: u128 = 1_073_741_824;
@@ -37,57 +30,85 @@ const MOST_NAMES: u64 = 1_048_576;
 /// An artifact has at most so many bytes.
 const MOST_SIZE: u64 = 16_777_216;
 
-/// Artifacts, and the names that they refer to and that aren't held.
+/// Artifacts by what each tells the table of clusters, under its name, the number of their bytes, and the names that they
+/// refer to and that aren't among theirs.
 #[derive(Drop)]
 pub struct Gathered {
-    pub blobs: Blobs,
+    pub facts: BTreeMap<Name, Fact>,
+    pub bytes: u64,
     pub wanted: BTreeSet<Name>,
 }
 
-/// The first record of what a set holds, whose codes and fields nothing asks for.
-fn first_record(alloc: Global) -> Result<List<Record>, Memory>
-    ensures fit { IfOk result AreRecords }
-    ensures config { IfOk result IsConfigAlone }
+/// The fact of an artifact of a name, by what it is.
+fn named_in(alloc: Global, name: Name, private: bool, artifact: &Artifact) -> Result<Fact, Memory>
+    ensures { IfOk result (λ fact. fact ≡ cluster_fact (record { name = name; private = private; artifact = artifact.now })) }
 {
-    let mut entries = Vec::new(alloc);
-    entries.push(Record::Config(Config {
-        project: Name::of(b""),
-        server: Name::of(b""),
-        fields: List::new(alloc),
-    }))?;
-    Ok(List::from_vec(entries))
+    Ok(Fact {
+        name,
+        private,
+        members: members(alloc, artifact)?,
+        refs: refs(alloc, artifact)?,
+    })
 }
 
-/// What bytes refer to, by what they are.
-fn references(alloc: Global, bytes: &[u8]) -> Result<List<Name>, Memory>
-    ensures { IfOk result (AreReferences bytes.now) }
+/// What an artifact tells the table of clusters. Its bytes are read once.
+fn fact_of(alloc: Global, name: Name, private: bool, bytes: &[u8]) -> Result<Fact, Memory>
+    ensures { IfOk result (IsFactOf (name, record { private = private; bytes = bytes.now })) }
 {
     let artifact = read_artifact(alloc, bytes)?;
-    let names = refs(alloc, &artifact);
+    let fact = named_in(alloc, name, private, &artifact);
     // An artifact has so many parts that it is let go here, and not at each end of a function.
     drop(artifact);
-    names
+    fact
 }
 
-/// Adds a name, unless it is held.
-fn want(wanted: &mut BTreeSet<Name>, blobs: &Blobs, name: Name) -> Result<(), Memory>
-    ensures { OnOk result (WantsUnheld (λ q. bytes_eq q name) blobs.now.records wanted.old wanted.new) }
+/// Adds a name, unless it is that of an artifact.
+fn want(wanted: &mut BTreeSet<Name>, facts: &BTreeMap<Name, Fact>, name: Name) -> Result<(), Memory>
+    ensures { OnOk result (WantsUnnoted (λ q. bytes_eq q name) facts.now wanted.old wanted.new) }
 {
-    if blobs.bytes_of(name).is_some() {
+    if facts.contains_key(&name) {
         return Ok(());
     }
     wanted.insert(name)?;
     Ok(())
 }
 
-/// Adds those of some names that aren't held.
-fn want_all(wanted: &mut BTreeSet<Name>, blobs: &Blobs, names: &[Name]) -> Result<(), Memory>
-    ensures { OnOk result (WantsUnheld (has names.now) blobs.now.records wanted.old wanted.new) }
+/// Adds those of some names that aren't those of artifacts.
+fn want_all(
+    wanted: &mut BTreeSet<Name>,
+    facts: &BTreeMap<Name, Fact>,
+    names: &[Name],
+) -> Result<(), Memory>
+    ensures { OnOk result (WantsUnnoted (has names.now) facts.now wanted.old wanted.new) }
 {
     for name in names {
-        want(wanted, blobs, *name)?;
+        want(wanted, facts, *name)?;
     }
     Ok(())
+}
+
+/// Puts a fact under its name, under which none stands.
+fn note(facts: &mut BTreeMap<Name, Fact>, name: Name, fact: Fact) -> Result<(), Memory>
+    ensures { OnOk result (facts.new.entries ≡ insert_entry bytes_cmp facts.old.entries name fact) }
+{
+    facts.insert(name, fact)?;
+    Ok(())
+}
+
+/// Makes an artifact public.
+fn make_public(facts: &mut BTreeMap<Name, Fact>, name: &Name)
+    ensures { MakesPublic name.now facts.old facts.new }
+{
+    if let Some(fact) = facts.get_mut(name) {
+        fact.private = false;
+    }
+}
+
+/// Facts in the order of their names.
+fn in_order(alloc: Global, facts: BTreeMap<Name, Fact>) -> Result<Vec<Fact>, Memory>
+    ensures { IfOk result (λ list. list.items ≡ values facts) }
+{
+    Ok(facts.into_values().collect(alloc)?)
 }
 
 /// Whether so many bytes, artifacts and wanted names fit the limits.
@@ -106,27 +127,34 @@ fn room(bytes: u128, count: u64, wants: u64) -> Result<Arrival, ArriveFault>
 }
 
 impl Gathered {
-    /// A set without artifacts. `Memory` is the only error.
-    pub fn empty(alloc: Global) -> Result<Gathered, Memory>
-        ensures { IfOk result (IsGathered fresh) }
+    /// A set without artifacts.
+    pub fn empty(alloc: Global) -> Gathered
+        ensures { IsGathered fresh result }
     {
-        let blobs = Blobs::fold(alloc, first_record(alloc)?)?;
-        Ok(Gathered {
-            blobs,
+        Gathered {
+            facts: BTreeMap::new(alloc),
+            bytes: 0,
             wanted: BTreeSet::new(alloc),
-        })
+        }
     }
 
-    /// Makes an artifact public.
-    fn publish(&mut self, name: Name) -> Result<(), Memory>
-        ensures { OnOk result ((s : State) → IsGathered s self.old → IsGathered (record s { records = s.records ++ record_of.Publish name ∷ [] }) self.new) }
+    /// Adds an artifact whose name isn't there.
+    fn add(&mut self, alloc: Global, name: Name, private: bool, bytes: &[u8]) -> Result<(), Memory>
+        requires few { self.old.bytes ≤ 2 ^ 30 }
+        requires small { length bytes.now ≤ 2 ^ 24 }
+        ensures { OnOk result (IsAdded name (record { private = private; bytes = bytes.now }) self.old self.new) }
     {
-        self.blobs.apply(Record::Publish { name })
+        let fact = fact_of(alloc, name, private, bytes)?;
+        want_all(&mut self.wanted, &self.facts, fact.refs.items())?;
+        self.wanted.remove(&name);
+        self.bytes += bytes.len() as u64;
+        note(&mut self.facts, name, fact)
     }
 
     /// Stores an artifact whose name isn't there, where there is room.
     fn store(&mut self, alloc: Global, file: Sent) -> Result<Arrival, ArriveFault>
-        requires absent { state_of (contents self.old.blobs.records) file.name ≡ AbsentName }
+        requires few { self.old.bytes ≤ 2 ^ 30 }
+        requires absent { is_some (get bytes_cmp self.old.facts file.name) ≡ false }
         requires named { bytes_eq (name_of file.bytes) file.name ≡ true }
         requires small { length file.bytes ≤ 2 ^ 24 }
         ensures { IsGatheredBy file self.old self.new result }
@@ -136,34 +164,22 @@ impl Gathered {
             bytes,
             private,
         } = file;
-        let size = bytes.bytes().len() as u64;
-        let Ok(refs) = references(alloc, bytes.bytes()) else {
-            return Err(ArriveFault::Memory);
-        };
-        let Ok(()) = want_all(&mut self.wanted, &self.blobs, refs.items()) else {
-            return Err(ArriveFault::Memory);
-        };
-        self.wanted.remove(&name);
-        let bytes_held = self.blobs.bytes() + u128::from(size);
-        let count = self.blobs.count() + 1;
-        let wants = self.wanted.len() as u64;
-        let stored = match room(bytes_held, count, wants) {
-            Ok(stored) => stored,
-            Err(fault) => return Err(fault),
-        };
-        let entry = Record::Blob {
-            private,
-            name,
-            bytes,
-        };
-        match self.blobs.apply(entry) {
-            Ok(()) => Ok(stored),
+        let added = self.add(alloc, name, private, bytes.bytes());
+        // The bytes are let go before there are several ends.
+        drop(bytes);
+        match added {
+            Ok(()) => {
+                let count = self.facts.len() as u64;
+                let wants = self.wanted.len() as u64;
+                room(u128::from(self.bytes), count, wants)
+            }
             Err(_) => Err(ArriveFault::Memory),
         }
     }
 
-    /// A file arrives, whose bytes are moved. On want of memory, and where there is no room for it, the set is of no use any more.
+    /// A file arrives, and is let go. On want of memory, and where there is no room for it, the set is of no use any more.
     pub fn arrive(&mut self, alloc: Global, file: Sent) -> Result<Arrival, ArriveFault>
+        requires { self.old.bytes ≤ 2 ^ 30 }
         ensures { IsGatheredBy file self.old self.new result }
     {
         let size = file.bytes.bytes().len() as u64;
@@ -174,16 +190,13 @@ impl Gathered {
         if found != file.name {
             return Err(ArriveFault::NameWrong { found });
         }
-        shunned_are_not_held();
-        match self.blobs.state(file.name) {
-            BlobState::Shunned => Ok(Arrival::Shunned),
-            BlobState::Public { .. } => Ok(Arrival::Present),
-            BlobState::Private { .. } if file.private => Ok(Arrival::Present),
-            BlobState::Private { .. } => match self.publish(file.name) {
-                Ok(()) => Ok(Arrival::Published),
-                Err(_) => Err(ArriveFault::Memory),
-            },
-            BlobState::Absent => self.store(alloc, file),
+        match self.facts.get(&file.name) {
+            Some(fact) if !fact.private || file.private => Ok(Arrival::Present),
+            Some(_) => {
+                make_public(&mut self.facts, &file.name);
+                Ok(Arrival::Published)
+            }
+            None => self.store(alloc, file),
         }
     }
 }
@@ -206,46 +219,16 @@ pub fn gather(
     Ok(None)
 }
 
-/// The fact of an artifact of a name, by what it is.
-fn named_in(alloc: Global, name: Name, private: bool, artifact: &Artifact) -> Result<Fact, Memory>
-    ensures { IfOk result (λ fact. fact ≡ cluster_fact (record { name = name; private = private; artifact = artifact.now })) }
-{
-    let members = members(artifact).to_vec(alloc)?;
-    Ok(Fact {
-        name,
-        private,
-        members: List::from_vec(members),
-        refs: refs(alloc, artifact)?,
-    })
-}
-
-/// What a held artifact tells the table of clusters.
-fn fact_of(alloc: Global, held: &Holding) -> Result<Fact, Memory>
-    ensures { IfOk result (IsFactOf (held_as held.now)) }
-{
-    let artifact = read_artifact(alloc, held.bytes)?;
-    let fact = named_in(alloc, held.name, held.private, &artifact);
-    // As above: no function ends while it holds an artifact.
-    drop(artifact);
-    fact
-}
-
-/// The same of each.
-fn facts_of(alloc: Global, held: &[Holding]) -> Result<List<Fact>, Memory>
-    ensures { IfOk result (λ facts. AllZip IsFactOf (map held_as held.now) facts) }
-{
-    let mut facts = Vec::new(alloc);
-    for holding in held {
-        facts.push(fact_of(alloc, holding)?)?;
-    }
-    Ok(List::from_vec(facts))
-}
-
 /// The unclustered and the wanted names of a set, each on a line.
-pub fn print_set(alloc: Global, set: &Gathered) -> Result<Text, Memory>
-    ensures { IfOk result (λ text. (s : State) → IsGathered s set.now → IsSetPrinted s (record { status = 0; text = text })) }
+pub fn print_set(alloc: Global, set: Gathered) -> Result<Text, Memory>
+    ensures { IfOk result (λ text. (s : State) → IsGathered s set → IsSetPrinted s (record { status = 0; text = text })) }
 {
-    let held = set.blobs.holdings(alloc)?;
-    let facts = facts_of(alloc, held.as_slice())?;
-    report_of(alloc, facts.items())
+    let Gathered {
+        facts,
+        bytes: _,
+        wanted,
+    } = set;
+    drop(wanted);
+    let facts = in_order(alloc, facts)?;
+    report_of(alloc, &facts)
 }

@@ -4,16 +4,19 @@ ghost use Rattle.fossil.specs.Acts.{IsOpened, IsUnopened, IsNotLoadedAnswer};
 
 use crate::answers::answer::{Answer, not_repository};
 use crate::answers::fault::Fault;
-use fsl_blobs::Blobs;
 use fsl_disk::Disk;
 use fsl_journal::{Journal, LoadFault};
+use fsl_record::Record;
+use fsl_text::List;
 use std::alloc::Global;
 
-/// What a repository file was loaded as: its journal, and the artifacts that its records leave.
+/// What a repository file was loaded as: its journal, its records, and for each of them the place in the file where its
+/// content begins.
 #[derive(Drop)]
 pub struct Loaded {
     pub journal: Journal,
-    pub blobs: Blobs,
+    pub places: List<u64>,
+    pub records: List<Record>,
 }
 
 /// Loads the file, in which whatever stands behind its records is cut off.
@@ -21,13 +24,13 @@ pub fn load<D: Disk>(alloc: Global, disk: &mut D) -> Result<Loaded, LoadFault>
     ensures ok { IfOk result (IsOpened (D.state disk.old) (D.state disk.new)) }
     ensures err { IfErr result (IsUnopened (D.state disk.old) (D.state disk.new)) }
 {
-    let (journal, records) = match Journal::load(alloc, disk) {
-        Ok(loaded) => loaded,
-        Err(fault) => return Err(fault),
-    };
-    match Blobs::fold(alloc, records) {
-        Ok(blobs) => Ok(Loaded { journal, blobs }),
-        Err(_) => Err(LoadFault::Memory),
+    match Journal::load(alloc, disk) {
+        Ok((journal, places, records)) => Ok(Loaded {
+            journal,
+            places,
+            records,
+        }),
+        Err(fault) => Err(fault),
     }
 }
 

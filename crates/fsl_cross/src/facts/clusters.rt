@@ -5,7 +5,6 @@ ghost use Rattle.fsl_order.specs.Names.{bytes_cmp};
 ghost use Rattle.fsl_cross.specs.Facts.{cluster_fact};
 ghost use Rattle.fsl_cross.specs.Tables.{cluster_facts};
 
-use crate::checkin::copied;
 use crate::held::Held;
 use crate::items::Items;
 use fsl_artifact::{members, refs};
@@ -20,7 +19,7 @@ pub(crate) fn fact_of(alloc: Global, item: &Held) -> Result<Fact, Memory>
     Ok(Fact {
         name: item.name(),
         private: item.is_private(),
-        members: copied(alloc, members(item.artifact()))?,
+        members: members(alloc, item.artifact())?,
         refs: refs(alloc, item.artifact())?,
     })
 }

@@ -2,6 +2,7 @@
 ghost use Rattle.std.specs.Prelude.{◌≡◌, [], All, IfOk, map, slice_get};
 ghost use Rattle.std.specs.List.Sorted.{IsStrictlySortedBy};
 ghost use Rattle.fsl_order.specs.Names.{bytes_cmp};
+ghost use Rattle.fsl_name.specs.Ref.{own_names};
 ghost use Rattle.fsl_cross.specs.Facts.{file_row, files_fact, row_perm_of};
 ghost use Rattle.fsl_cross.specs.Tables.{IsItem, files_facts};
 
@@ -12,7 +13,7 @@ use crate::items::Items;
 use fsl_files::{Fact, FileRow, Files, Perm};
 use fsl_manifest as manifests;
 use fsl_manifest::FileCard;
-use fsl_name::Name;
+use fsl_name::{Name, Ref};
 use fsl_text::{List, Memory, Text};
 use std::alloc::Global;
 
@@ -50,14 +51,16 @@ fn rows_of(alloc: Global, cards: &[FileCard]) -> Result<List<FileRow>, Memory>
     Ok(List::from_vec(rows))
 }
 
-/// The first of some names.
-fn first(names: &[Name]) -> Option<Name>
-    ensures { result ≡ slice_get names.now 0 }
+/// The first own name among references.
+fn first(refs: &[Ref]) -> Option<Name>
+    ensures { result ≡ slice_get (own_names refs.now) 0 }
 {
-    match names.first() {
-        Some(name) => Some(*name),
-        None => None,
+    for found in refs {
+        if let Some(name) = found.own() {
+            return Some(name);
+        }
     }
+    None
 }
 
 /// The fact that an artifact gives, where it is a check-in.

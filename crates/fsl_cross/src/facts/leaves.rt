@@ -7,7 +7,7 @@ ghost use Rattle.fsl_cross.specs.Tables.{leaves_facts};
 ghost use Rattle.fsl_cross.specs.Inside.{leaves_fact_over};
 
 use super::append;
-use crate::checkin::{branch, copied, manifest};
+use crate::checkin::{branch, manifest, own_names};
 use crate::held::Held;
 use crate::items::Items;
 use fsl_leaves::{Fact, Leaves};
@@ -24,7 +24,7 @@ pub(crate) fn fact_of(alloc: Global, tags: &Tags, item: &Held) -> Result<Option<
     };
     Ok(Some(Fact {
         name: item.name(),
-        parents: copied(alloc, manifest.parents.items())?,
+        parents: own_names(alloc, manifest.parents.items())?,
         branch: Text::of(alloc, branch(tags, item.name()))?,
     }))
 }

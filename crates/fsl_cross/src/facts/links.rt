@@ -6,7 +6,7 @@ ghost use Rattle.fsl_cross.specs.Facts.{links_fact};
 ghost use Rattle.fsl_cross.specs.Checkins.{links_facts};
 
 use super::append;
-use crate::checkin::{copied, manifest};
+use crate::checkin::{manifest, own_names};
 use crate::held::Held;
 use crate::items::Items;
 use fsl_links::{Fact, Links};
@@ -22,7 +22,7 @@ pub(crate) fn fact_of(alloc: Global, item: &Held) -> Result<Option<Fact>, Memory
     };
     Ok(Some(Fact {
         name: item.name(),
-        parents: copied(alloc, manifest.parents.items())?,
+        parents: own_names(alloc, manifest.parents.items())?,
     }))
 }
 

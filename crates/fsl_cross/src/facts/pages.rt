@@ -1,5 +1,5 @@
 //! The facts of pages: wiki pages, technotes and attachments.
-ghost use Rattle.std.specs.Prelude.{◌≡◌, [], IfOk, map};
+ghost use Rattle.std.specs.Prelude.{◌≡◌, [], IfOk, is_some, map};
 ghost use Rattle.std.specs.List.Sorted.{IsStrictlySortedBy};
 ghost use Rattle.fsl_order.specs.Names.{bytes_cmp};
 ghost use Rattle.fsl_cross.specs.Facts.{pages_fact};
@@ -29,14 +29,14 @@ fn page_of(alloc: Global, name: Name, page: &forms::Wiki) -> Result<Page, Memory
 
 /// An attachment, as the table has it.
 fn attached_of(alloc: Global, name: Name, file: &forms::Attachment) -> Result<Attached, Memory>
-    ensures { IfOk result (λ a. a ≡ record { name = name; date = file.now.date; target = file.now.target; file = file.now.file; source = file.now.source }) }
+    ensures { IfOk result (λ a. a ≡ record { name = name; date = file.now.date; target = file.now.target; file = file.now.file; sourced = is_some file.now.source }) }
 {
     Ok(Attached {
         name,
         date: file.date,
         target: Text::of(alloc, file.target.bytes())?,
         file: Text::of(alloc, file.file.bytes())?,
-        source: file.source,
+        sourced: file.source.is_some(),
     })
 }
 

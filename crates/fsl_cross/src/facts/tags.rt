@@ -1,10 +1,10 @@
 //! The facts of tags: what the T cards of check-ins, control artifacts and technotes say.
-ghost use Rattle.std.specs.Prelude.{◌≡◌, ◌++◌, ◌∷◌, [], IfOk, OnOk, map, filter_map, option_map, unwrap_or};
+ghost use Rattle.std.specs.Prelude.{◌≡◌, ◌++◌, ◌∷◌, [], IfOk, OnOk, filter_map, map, option_map, option_to_list, unwrap_or};
 ghost use Rattle.std.specs.List.{enumerate_from};
 ghost use Rattle.std.specs.List.Sorted.{IsStrictlySortedBy};
 ghost use Rattle.fsl_order.specs.Names.{bytes_cmp};
 ghost use Rattle.fsl_cross.specs.Checkins.{links_facts, tags_facts};
-ghost use Rattle.fsl_cross.specs.Facts.{assertion, tag_cards, tag_prefix_of};
+ghost use Rattle.fsl_cross.specs.Facts.{assertion, assertion_on, tag_cards, tag_prefix_of, target_of};
 ghost use Rattle.fsl_cross.specs.Inside.{tags_fact_over};
 
 use super::append;
@@ -16,7 +16,7 @@ use fsl_date::Moment;
 use fsl_grammar as grammar;
 use fsl_grammar::TagCard;
 use fsl_links::Links;
-use fsl_name::Name;
+use fsl_name::{Name, Ref};
 use fsl_tags::{Assertion, Fact, Prefix, Tags};
 use fsl_text::{List, Memory, Text};
 use std::alloc::Global;
@@ -54,15 +54,26 @@ fn value_of(alloc: Global, value: &Option<Text>) -> Result<Text, Memory>
     }
 }
 
-/// What the T card at a place of an artifact says. A card without a target is on the artifact itself.
+/// What a T card of an artifact is on: without a target the artifact itself. A foreign target is nothing that is held.
+fn target_of(source: Name, target: &Option<Ref>) -> Option<Name>
+    ensures { result ≡ target_of source target.now }
+{
+    match target {
+        Some(found) => found.own(),
+        None => Some(source),
+    }
+}
+
+/// What the T card at a place of an artifact says of a target.
 fn assertion_of(
     alloc: Global,
     date: Moment,
     source: Name,
     place: u64,
     card: &TagCard,
+    target: Name,
 ) -> Result<Assertion, Memory>
-    ensures { IfOk result (λ a. a ≡ assertion date source (place, card.now)) }
+    ensures { IfOk result (λ a. a ≡ assertion_on date source (place, card.now) target) }
 {
     Ok(Assertion {
         date,
@@ -71,7 +82,7 @@ fn assertion_of(
         prefix: prefix_of(card.prefix),
         tag: Text::of(alloc, card.tag.bytes())?,
         value: value_of(alloc, &card.value)?,
-        target: card.target.unwrap_or(source),
+        target,
     })
 }
 
@@ -84,21 +95,38 @@ fn push(list: &mut List<Assertion>, assertion: Assertion) -> Result<(), Memory>
     }
 }
 
-/// What the T cards of an artifact say, in their order.
+/// Puts what the T card at a place of an artifact says at the end, where its target isn't foreign.
+fn push_said(
+    alloc: Global,
+    list: &mut List<Assertion>,
+    date: Moment,
+    source: Name,
+    place: u64,
+    card: &TagCard,
+) -> Result<(), Memory>
+    ensures { OnOk result (list.new ≡ list.old ++ option_to_list (assertion date source (place, card.now))) }
+{
+    match target_of(source, &card.target) {
+        Some(target) => push(
+            list,
+            assertion_of(alloc, date, source, place, card, target)?,
+        ),
+        None => Ok(()),
+    }
+}
+
+/// What the T cards of an artifact say, in their order. Cards with a foreign target say nothing, but are counted.
 fn assertions_of(
     alloc: Global,
     date: Moment,
     source: Name,
     cards: &[TagCard],
 ) -> Result<List<Assertion>, Memory>
-    ensures { IfOk result (λ list. list ≡ map (assertion date source) (enumerate_from 0 cards.now)) }
+    ensures { IfOk result (λ list. list ≡ filter_map (assertion date source) (enumerate_from 0 cards.now)) }
 {
     let mut list = List::new(alloc);
     for (place, card) in cards.iter().enumerate() {
-        push(
-            &mut list,
-            assertion_of(alloc, date, source, place as u64, card)?,
-        )?;
+        push_said(alloc, &mut list, date, source, place as u64, card)?;
     }
     Ok(list)
 }

@@ -20,8 +20,8 @@ loop-place-preserved c =
     walk_goes c.args.most c.args.each (size_at c.args.held.now.entries) [] (map deref_pair c.loop-place.yielded) [] [] c.loop-place.names.items c.push.new.self.items c.loop-place.sum
     (record { place = c.in-Some.place.now; name = c.in-Some.name.now }) c.loop-place.invariant
     _ c.from-in-loop-place.result c.from-in-loop-place-2.result (map-append deref_pair c.loop-place.yielded _)
-    (omega (arith, c.if-sum-from.false, c.from.ensures)) (omega (arith, c.ranges.most.fits)) (omega (arith, c.ranges.each.fits)) (omega (arith, c.from-in-loop-place.ensures, c.size_of.ensures.fits))
-    (c.from-in-loop-place.ensures ∙ c.size_of.ensures.size) c.from-in-loop-place-2.ensures c.in_ok-push.ensures.items
+    (omega (arith, c.if-sum-from.false, c.from.ensures)) (omega (arith, c.ranges.most.fits)) (omega (arith, c.ranges.each.fits)) (omega (arith, c.from-in-loop-place.ensures, c.size_of.type_inv))
+    (c.from-in-loop-place.ensures ∙ c.size_of.ensures) c.from-in-loop-place-2.ensures c.in_ok-push.ensures.items
 
 pub returns-clause-names : goal.returns-clause-names
 returns-clause-names c =

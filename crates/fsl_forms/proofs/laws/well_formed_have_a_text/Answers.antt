@@ -27,8 +27,8 @@ returns c = record {
     λ w. let text = sealed_text (attachment_cards v) in (text, read_back.attachment v text named moment w refl),
     λ t. attachment_written t.1.0 t.1.1.each v t.1.2,
   );
-  technote = λ v named moment timed long. (
-    λ w. let text = sealed_text (technote_cards v) in (text, read_back.technote v text named moment timed long w refl),
+  technote = λ v id named moment timed long. (
+    λ w. let text = sealed_text (technote_cards v) in (text, read_back.technote v text id named moment timed long w refl),
     λ t. technote_written t.1.0 t.1.1.each v t.1.2,
   );
   forum = λ v named moment long. (

@@ -82,6 +82,7 @@ returns g c =
         faults = c.in_ok-write_file.ensures.cause.same ∙ c.in_ok-len.ensures.cause.same;
         was = λ held told. nil_from_length held (omega (arith, c.in_ok-len.ensures.answer.1 held told));
         file = λ held told. c.in_ok-write_file.ensures.file held (c.len.ensures.contents ∙ told);
+        mark = λ held told. c.in_ok-write_file.ensures.mark held (c.len.ensures.contents ∙ told);
       };
       fault = tt;
       untouched = λ held told. inl (nil_from_length held (omega (arith, c.in_ok-len.ensures.answer.1 held told)));

@@ -17,6 +17,7 @@ returns-in_err-write_header g c =
     let is = c.from_residual.ensures.1 in
     let failed = c.in_err-write_header.ensures.cause in record {
       file = no_success r _ is _;
+      mark = no_success r _ is _;
       durable = no_success r _ is _;
       written = no_success r _ is _;
       any_moment = λ modelled empty.
@@ -42,6 +43,7 @@ returns g c =
         wrote new_file (c.in_ok-write_header.ensures.contents held told),
         opened_stands config bytes body c.requires.fit c.requires.bytes c.requires.fits refl _ refl,
       )) c.write_group.ensures.contents;
+      mark = on_ok_weaker r (λ wrote held told. (gated new_file 15 79 body, wrote new_file (c.in_ok-write_header.ensures.contents held told), refl)) c.write_group.ensures.contents;
       durable = on_ok_weaker r (λ durable modelled f left.
           let told = told_contents _ modelled in
           opened_stands config bytes body c.requires.fit c.requires.bytes c.requires.fits refl f

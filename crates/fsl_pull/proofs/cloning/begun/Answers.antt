@@ -1,6 +1,7 @@
 use Rattle.std.proofs.Common.{◌≡◌, ℕ, List, [], ◌∷◌, Some, refl, inl, sym, subst, ◌∙◌}
 use Rattle.std.specs.Prelude.{IfOk, IfErr}
 use Rattle.fsl_disk.specs.Disk.{LeavesOnly}
+use Rattle.fsl_repo.specs.Whole.{is_modelled}
 use Rattle.fsl_pull.specs.Clones.{config_of, first_record}
 use Rattle.fsl_pull.specs.CloneCalls.{NoneOr}
 use Rattle.fsl_pull.specs.CloneTurns.{IsMadeBy, IsUnmadeBy, made_disk}
@@ -24,8 +25,8 @@ returns-in-Err-clause-moments g c = λ project is emptied. untouched_moments (g.
 
 pub returns-clause-begun : goal.returns-clause-begun
 returns-clause-begun g c =
-    begun_by g.D.Disk.state c.args.server c.args.fields.now c.args.cards.now c.in-Some.project c.args.disk (sym c.project_in.ensures ∙ c.in-Some.is) (g.D.Disk.state c.args.disk).faults c.made.result
-    (subst (λ (fs : List (List ℕ)). IfOk c.made.result (λ repo. IsMadeBy (config_of c.in-Some.project c.args.server fs) (g.D.Disk.state c.args.disk).faults repo.seen)) (c.in-Ok.ensures ∙ c.items.ensures) c.made.ensures.made)
+    begun_by g.D.Disk.state c.args.server c.args.fields.now c.args.cards.now c.in-Some.project c.args.disk (sym c.project_in.ensures ∙ c.in-Some.is) (g.D.Disk.state c.args.disk).faults (is_modelled (g.D.Disk.state c.args.disk)) c.made.result
+    (subst (λ (fs : List (List ℕ)). IfOk c.made.result (λ repo. IsMadeBy (config_of c.in-Some.project c.args.server fs) (g.D.Disk.state c.args.disk).faults (is_modelled (g.D.Disk.state c.args.disk)) repo.seen)) (c.in-Ok.ensures ∙ c.items.ensures) c.made.ensures.made)
 
 pub returns-clause-fault : goal.returns-clause-fault
 returns-clause-fault g c =

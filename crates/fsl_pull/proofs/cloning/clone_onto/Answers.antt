@@ -2,6 +2,7 @@ use Rattle.std.proofs.Common.{◌≡◌, List, Err, refl, ap, subst, ◌∙◌}
 use Rattle.fsl_disk.proofs.Moments.{keeps_on}
 use Rattle.fsl_wire.specs.declared.WireCard.{WireCard}
 use Rattle.fsl_repo.specs.Machine.{State}
+use Rattle.fsl_repo.specs.Whole.{is_modelled}
 use Rattle.fsl_pull.specs.declared.Pulled.{Pulled}
 use Rattle.fsl_pull.specs.Clones.{project_in}
 use Rattle.fsl_pull.specs.CloneTurns.{IsBegunBy, IsUnbegun, IsClosedOn}
@@ -33,7 +34,7 @@ pub returns-in-Ok-begun-clause-clones : goal.returns-in-Ok-begun-clause-clones
 returns-in-Ok-begun-clause-clones g c =
     let asked = c.in-Ok.ensures.asked in
     let begun =
-    subst (λ (cs : List WireCard). IsBegunBy c.args.server c.args.fields.now cs (g.D.Disk.state c.args.disk).faults c.in-Ok-begun.repo.seen) c.cards.ensures c.in-Ok-begun.ensures.begun in
+    subst (λ (cs : List WireCard). IsBegunBy c.args.server c.args.fields.now cs (g.D.Disk.state c.args.disk).faults (is_modelled (g.D.Disk.state c.args.disk)) c.in-Ok-begun.repo.seen) c.cards.ensures c.in-Ok-begun.ensures.begun in
     begun_answer g.D.Disk.state c.args.server c.args.fields.now c.args.login.now (g.N.Link.state c.args.dial.now) c.args.disk c.requires.empty (g.N.Link.state c.reply_from.new.dial) asked.0 c.in-Ok.first asked.1 asked.2
     c.in-Ok-begun.repo.disk c.closed_rounds.result.0 c.in-Ok-begun.repo.seen begun.0 begun.1 begun.2
     (λ project is. c.in-Ok-begun.ensures.moments project (ap project_in c.cards.ensures ∙ is)) c.closed_rounds.ensures.stands c.in-Ok-begun.ensures.keeps c.closed_rounds.ensures.keeps

@@ -1,13 +1,18 @@
-use Rattle.std.proofs.Common.{ℕ, sym, subst}
+use Rattle.std.proofs.Common.{ℕ, Bool, sym, subst}
 use Rattle.std.specs.Prelude.{IfOk}
 use Rattle.fsl_disk.proofs.Moments.{keeps_on, modelled_after}
+use Rattle.fsl_repo.specs.Whole.{is_modelled}
 use Rattle.fsl_pull.specs.declared.PullFault.{PullFault}
 use Rattle.fsl_pull.specs.CloneTurns.{IsMadeBy, IsUnmadeBy, made_disk}
-use Rattle.fsl_pull.proofs.CloneMaking.{unmade_by, both_moments, uncreated}
+use Rattle.fsl_pull.proofs.CloneMaking.{unmade_by, both_moments, uncreated, same_kind}
 use Rattle.fsl_pull.proofs.cloning.made.Goals as goal
 
 pub returns-in-Ok-clause-made : goal.returns-in-Ok-clause-made
-returns-in-Ok-clause-made g c = subst (λ (n : ℕ). IfOk c.opened_made.result (λ repo. IsMadeBy c.args.config.now n repo.seen)) c.in-Ok.ensures.made.faults c.opened_made.ensures.opened
+returns-in-Ok-clause-made g c =
+    let s0 = g.D.Disk.state c.args.disk in
+    let s1 = g.D.Disk.state c.create.new.disk in
+    subst (λ (b : Bool). IfOk c.opened_made.result (λ repo. IsMadeBy c.args.config.now s0.faults b repo.seen)) (same_kind s0 s1 c.create.ensures.keeps)
+    (subst (λ (n : ℕ). IfOk c.opened_made.result (λ repo. IsMadeBy c.args.config.now n (is_modelled s1) repo.seen)) c.in-Ok.ensures.made.faults c.opened_made.ensures.opened)
 
 pub returns-in-Ok-clause-fault : goal.returns-in-Ok-clause-fault
 returns-in-Ok-clause-fault g c =

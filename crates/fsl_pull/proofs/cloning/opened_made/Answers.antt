@@ -1,13 +1,14 @@
 use Rattle.std.proofs.Common.{sym, subst}
 use Rattle.fsl_disk.specs.Disk.{Keeps, LeavesOnly}
 use Rattle.fsl_journal.specs.File.{IsFileOf}
+use Rattle.fsl_repo.specs.Whole.{is_modelled}
 use Rattle.fsl_pull.specs.declared.PullFault.{PullFault}
 use Rattle.fsl_pull.specs.CloneTurns.{IsUnopened}
 use Rattle.fsl_pull.proofs.CloneMaking.{alone, stays_alone, unopened, opened_ok, opened_err}
 use Rattle.fsl_pull.proofs.cloning.opened_made.Goals as goal
 
 pub returns-in-Ok-clause-opened : goal.returns-in-Ok-clause-opened
-returns-in-Ok-clause-opened g c = opened_ok c.args.config.now (g.D.Disk.state c.args.disk).faults c.in-Ok.repo.seen c.as_made.result c.in-Ok.ensures.opened.state c.in-Ok.ensures.opened.loaded c.as_made.ensures.alone
+returns-in-Ok-clause-opened g c = opened_ok c.args.config.now (g.D.Disk.state c.args.disk).faults (is_modelled (g.D.Disk.state c.args.disk)) c.in-Ok.repo.seen c.as_made.result c.in-Ok.ensures.opened.state c.in-Ok.ensures.opened.loaded c.as_made.ensures.alone
 
 pub returns-in-Ok-clause-fault : goal.returns-in-Ok-clause-fault
 returns-in-Ok-clause-fault g c = opened_err g.D.Disk.state c.args.config.now (g.D.Disk.state c.args.disk) c.in-Ok.repo c.as_made.result c.in-Ok.ensures.opened c.as_made.ensures.disk c.as_made.ensures.other

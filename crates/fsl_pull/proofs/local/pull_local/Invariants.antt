@@ -1,8 +1,10 @@
-use Rattle.std.proofs.Common.{◌≡◌, ◌-◌, None, length}
+use Rattle.std.proofs.Common.{◌≡◌, None}
 use Rattle.std.specs.List.Sorted.{IsStrictlySortedBy}
 use Rattle.fsl_order.specs.Names.{bytes_cmp}
+use Rattle.fsl_repo.specs.Machine.{now}
 use Rattle.fsl_pull.specs.Calls.{MayBegin}
-use Rattle.fsl_pull.proofs.LocalEnds.{local_pulls_end}
+use Rattle.fsl_pull.specs.Reading.{IsOnlyRead}
+use Rattle.fsl_pull.proofs.LocalEnds.{rounds_left}
 use Rattle.fsl_pull.proofs.LocalSync.{LocalAt}
 use Rattle.fsl_pull.proofs.local.pull_local.Given as goal
 
@@ -12,8 +14,9 @@ invariant-loop-number g l = record {
   may : MayBegin l.initial.repo.seen.state l.initial.peer.seen.state;
   runs : l.repo.seen.state.stopped ≡ None;
   rising : IsStrictlySortedBy bytes_cmp l.names;
-  peer : l.peer ≡ l.initial.peer;
+  peer : l.peer.seen.state ≡ l.initial.peer.seen.state;
+  only : IsOnlyRead g.P.Disk.state l.initial.peer l.peer;
 }
 
 abbrev pub decreases-loop-number : goal.decreases-loop-number
-decreases-loop-number g l = length (local_pulls_end l.initial.repo.seen.state l.initial.peer.seen.state).0 - l.round
+decreases-loop-number g l = rounds_left (now l.initial.peer.seen.state) l.repo.seen.state l.round

@@ -1,25 +1,28 @@
-use Rattle.std.proofs.Common.{List, ℕ, Option, Ok, refl, sym, subst, ◌∙◌}
-use Rattle.fsl_repo.specs.Machine.{now}
-use Rattle.fsl_pull.specs.LocalTurns.{TakesGiven}
-use Rattle.fsl_pull.proofs.TakingLemmas.{file_ok}
-use Rattle.fsl_pull.proofs.LocalMore.{as_file, public_given}
-use Rattle.fsl_pull.specs.Requests.{file_card}
-use Rattle.std.specs.Prelude.{None}
+use Rattle.std.proofs.Common.{Option, List, ℕ, refl, sym, subst, inr}
 use Rattle.fsl_pull.specs.Calls.{IsLocalFault}
-use Rattle.fsl_pull.proofs.GivenLemmas.{IsGiven, given_fits, given_refused}
+use Rattle.fsl_pull.specs.Reads.{IsGiven, IsPublicRead}
+use Rattle.fsl_pull.proofs.LocalTaken.{one_taken, one_wrong}
+use Rattle.fsl_pull.proofs.GivenLemmas.{given_refused, failed_is_local}
 use Rattle.fsl_pull.proofs.local.take_given.Goals as goal
 
-pub returns-in-Ok-take_file-clause-taken : goal.returns-in-Ok-take_file-clause-taken
-returns-in-Ok-take_file-clause-taken g c =
-    let old = c.args.repo.now.seen in
-    let new = c.take_file.new.repo.seen in
-    subst (λ (o : Option (List ℕ × List ℕ)). TakesGiven old o (Ok c.moves.result) new)
-    (sym (public_given (now c.args.peer.now.seen.state) c.args.name c.in-Ok.bytes c.in-Public.size (sym c.state.ensures ∙ c.in-Public.is) c.in-Ok.ensures.bytes))
-    (file_ok old new None (file_card (as_file c.args.name c.in-Ok.bytes)) c.args.name c.in-Ok.bytes c.bytes-2.result.now c.in-Ok-take_file.arrival c.moves.result refl c.bytes-2.ensures c.moves.ensures c.in-Ok-take_file.ensures.arrived)
+pub returns-in-Err-clause-taken : goal.returns-in-Err-clause-taken
+returns-in-Err-clause-taken g c = inr (c.in-Err.fault, refl, c.in-Err.ensures.fault, refl)
+
+pub returns-in-Err-clause-faults : goal.returns-in-Err-clause-faults
+returns-in-Err-clause-faults g c = failed_is_local c.in-Err.fault c.args.peer.now.seen.state c.args.name c.read_public.new.repo.seen.state c.in-Err.ensures.fault
+
+pub returns-in-Ok-clause-taken : goal.returns-in-Ok-clause-taken
+returns-in-Ok-clause-taken g c =
+    one_taken c.args.peer.now.seen.state c.args.name c.in-Ok-Some.bytes c.bytes-2.result.now c.args.repo.now.seen c.take_file.new.repo.seen c.in-Ok.arrival c.moves.result c.read_public.new.repo.seen.state
+    (subst (λ (o : Option (List ℕ)). IsPublicRead c.args.peer.now.seen.state c.args.name o) c.in-Ok-Some.field-0-is c.in-Ok-Some.ensures.read) c.bytes-2.ensures c.moves.ensures c.in-Ok.ensures.arrived c.in-Ok-Some.ensures.count
+
+pub returns-clause-taken : goal.returns-clause-taken
+returns-clause-taken g c =
+    one_wrong c.args.peer.now.seen.state c.args.name c.in-Ok-Some.bytes c.bytes-2.result.now c.args.repo.now.seen c.take_file.new.repo.seen c.in-Err-take_file.fault c.file_fault.result c.read_public.new.repo.seen.state
+    (subst (λ (o : Option (List ℕ)). IsPublicRead c.args.peer.now.seen.state c.args.name o) c.in-Ok-Some.field-0-is c.in-Ok-Some.ensures.read) c.bytes-2.ensures c.file_fault.ensures c.in-Err-take_file.ensures.arrived c.in-Ok-Some.ensures.count
 
 pub returns-clause-faults : goal.returns-clause-faults
 returns-clause-faults g c =
-    let name = c.args.name in
-    let given = given_fits c.args.peer.now.seen.state name c.in-Ok.bytes (c.is_whole.ensures.seen).records c.in-Ok.ensures.bytes in
+    let read = subst (λ (o : Option (List ℕ)). IsPublicRead c.args.peer.now.seen.state c.args.name o) c.in-Ok-Some.field-0-is c.in-Ok-Some.ensures.read in
     subst IsLocalFault (sym c.file_fault.ensures)
-    (given_refused c.args.repo.now.seen c.take_file.new.repo.seen name c.bytes-2.result.now c.in-Err-take_file.fault (subst (IsGiven name) (sym c.bytes-2.ensures) given) c.in-Err-take_file.ensures.arrived)
+    (given_refused c.args.repo.now.seen c.take_file.new.repo.seen c.args.name c.bytes-2.result.now c.in-Err-take_file.fault (subst (IsGiven c.args.name) (sym c.bytes-2.ensures) read.fits) c.in-Err-take_file.ensures.arrived)

@@ -9,6 +9,7 @@ use Rattle.fsl_pull.specs.Asking.{IsDialCounted}
 use Rattle.fsl_pull.proofs.DialCounts.{counts_on}
 use Rattle.fsl_pull.specs.Steps.{NamesRise}
 use Rattle.fsl_pull.specs.PullTurns.{SameNames}
+use Rattle.fsl_pull.proofs.KeptLemmas.{same_quiet}
 use Rattle.fsl_pull.proofs.PullRuns.{from_here, pull_runs, turn_is, stopped}
 use Rattle.fsl_pull.proofs.SyncLoop.{begins, wants_memory, goes, ends_later, ends_well, fails, gives_up}
 use Rattle.fsl_pull.proofs.pulling.pull.Goals as goal
@@ -42,7 +43,7 @@ overflow_sub-result g c =
     let is : c.pull_round.result ≡ Ok None = c.in-Ok-None.is ∙ ap (λ (o : Option (List (List ℕ))). Ok o) c.in-Ok-None.field-0-is in
     let later = ends_later g.D.Disk.state (PullRound c.args.login.now) (PullAsks c.args.login.now) (BrokenPull c.args.login.now) (g.N.Link.state c.args.dial.now) c.args.repo.now.disk c.args.repo.now.seen (a_pull c.args.login.now c.args.repo.now.seen.state) (from_here c.args.repo.now.seen) (pull_runs c.args.login.now c.args.repo.now.seen c.loop-round.invariant.none (c.is_whole.ensures.seen).items)
     (λ (m : List (List ℕ)). m ≡ c.loop-round.names) (g.N.Link.state c.loop-round.dial) c.loop-round.repo.disk c.loop-round.repo.seen (stored c.args.repo.now.seen) (stored c.loop-round.repo.seen) c.loop-round.round c.loop-round.invariant.at
-    SameNames (g.N.Link.state c.pull_round.new.dial) c.pull_round.new.repo.disk c.pull_round.new.repo.seen (stored c.pull_round.new.repo.seen) (turn_is c.args.login.now c.items.result.now c.loop-round.names (g.N.Link.state c.loop-round.dial) (g.N.Link.state c.pull_round.new.dial) (g.D.Disk.state c.loop-round.repo.disk) (g.D.Disk.state c.pull_round.new.repo.disk) c.loop-round.repo.seen c.pull_round.new.repo.seen (c.pull_round.new.repo.disk ≡ c.loop-round.repo.disk) c.pull_round.result (Ok None) c.items.ensures is c.pull_round.ensures.round) in
+    SameNames (g.N.Link.state c.pull_round.new.dial) c.pull_round.new.repo.disk c.pull_round.new.repo.seen (stored c.pull_round.new.repo.seen) (turn_is c.args.login.now c.items.result.now c.loop-round.names (g.N.Link.state c.loop-round.dial) (g.N.Link.state c.pull_round.new.dial) (g.D.Disk.state c.loop-round.repo.disk) (g.D.Disk.state c.pull_round.new.repo.disk) c.loop-round.repo.seen c.pull_round.new.repo.seen (c.pull_round.new.repo.disk ≡ c.loop-round.repo.disk) (same_quiet g.D.Disk.state c.loop-round.repo.disk c.pull_round.new.repo.disk) c.pull_round.result (Ok None) c.items.ensures is c.pull_round.ensures.round) in
     omega (arith, later, c.stored-before.ensures, c.stored.ensures)
 
 pub returns-in-Ok-None-clause-pulls : goal.returns-in-Ok-None-clause-pulls
@@ -50,7 +51,7 @@ returns-in-Ok-None-clause-pulls g c =
     let is : c.pull_round.result ≡ Ok None = c.in-Ok-None.is ∙ ap (λ (o : Option (List (List ℕ))). Ok o) c.in-Ok-None.field-0-is in
     ends_well g.D.Disk.state (PullRound c.args.login.now) (PullAsks c.args.login.now) (BrokenPull c.args.login.now) (g.N.Link.state c.args.dial.now) c.args.repo.now.disk c.args.repo.now.seen (a_pull c.args.login.now c.args.repo.now.seen.state) (from_here c.args.repo.now.seen) (pull_runs c.args.login.now c.args.repo.now.seen c.loop-round.invariant.none (c.is_whole.ensures.seen).items)
     (λ (m : List (List ℕ)). m ≡ c.loop-round.names) (g.N.Link.state c.loop-round.dial) c.loop-round.repo.disk c.loop-round.repo.seen (stored c.args.repo.now.seen) (stored c.loop-round.repo.seen) c.loop-round.round c.loop-round.invariant.at
-    SameNames (g.N.Link.state c.pull_round.new.dial) c.pull_round.new.repo.disk c.pull_round.new.repo.seen (stored c.pull_round.new.repo.seen) (c.loop-round.round + 1) (c.stored.result - c.stored-before.result) (turn_is c.args.login.now c.items.result.now c.loop-round.names (g.N.Link.state c.loop-round.dial) (g.N.Link.state c.pull_round.new.dial) (g.D.Disk.state c.loop-round.repo.disk) (g.D.Disk.state c.pull_round.new.repo.disk) c.loop-round.repo.seen c.pull_round.new.repo.seen (c.pull_round.new.repo.disk ≡ c.loop-round.repo.disk) c.pull_round.result (Ok None) c.items.ensures is c.pull_round.ensures.round) (omega (arith, c.loop-round-test.true)) refl
+    SameNames (g.N.Link.state c.pull_round.new.dial) c.pull_round.new.repo.disk c.pull_round.new.repo.seen (stored c.pull_round.new.repo.seen) (c.loop-round.round + 1) (c.stored.result - c.stored-before.result) (turn_is c.args.login.now c.items.result.now c.loop-round.names (g.N.Link.state c.loop-round.dial) (g.N.Link.state c.pull_round.new.dial) (g.D.Disk.state c.loop-round.repo.disk) (g.D.Disk.state c.pull_round.new.repo.disk) c.loop-round.repo.seen c.pull_round.new.repo.seen (c.pull_round.new.repo.disk ≡ c.loop-round.repo.disk) (same_quiet g.D.Disk.state c.loop-round.repo.disk c.pull_round.new.repo.disk) c.pull_round.result (Ok None) c.items.ensures is c.pull_round.ensures.round) (omega (arith, c.loop-round-test.true)) refl
     (λ i. c.stored.ensures i - c.stored-before.ensures i)
 
 pub returns-in-Err-pull_round-clause-pulls : goal.returns-in-Err-pull_round-clause-pulls
@@ -58,7 +59,7 @@ returns-in-Err-pull_round-clause-pulls g c =
     let is = c.in-Err-pull_round.is in
     fails g.D.Disk.state (PullRound c.args.login.now) (PullAsks c.args.login.now) (BrokenPull c.args.login.now) (g.N.Link.state c.args.dial.now) c.args.repo.now.disk c.args.repo.now.seen (a_pull c.args.login.now c.args.repo.now.seen.state) (from_here c.args.repo.now.seen) (pull_runs c.args.login.now c.args.repo.now.seen c.loop-round.invariant.none (c.is_whole.ensures.seen).items)
     (λ (m : List (List ℕ)). m ≡ c.loop-round.names) (g.N.Link.state c.loop-round.dial) c.loop-round.repo.disk c.loop-round.repo.seen (stored c.args.repo.now.seen) (stored c.loop-round.repo.seen) c.loop-round.round c.loop-round.invariant.at
-    SameNames (g.N.Link.state c.pull_round.new.dial) c.pull_round.new.repo.disk c.pull_round.new.repo.seen (stored c.pull_round.new.repo.seen) c.in-Err-pull_round.fault (turn_is c.args.login.now c.items.result.now c.loop-round.names (g.N.Link.state c.loop-round.dial) (g.N.Link.state c.pull_round.new.dial) (g.D.Disk.state c.loop-round.repo.disk) (g.D.Disk.state c.pull_round.new.repo.disk) c.loop-round.repo.seen c.pull_round.new.repo.seen (c.pull_round.new.repo.disk ≡ c.loop-round.repo.disk) c.pull_round.result (Err c.in-Err-pull_round.fault) c.items.ensures is c.pull_round.ensures.round) (omega (arith, c.loop-round-test.true)) c.pull_round.ensures.dialled
+    SameNames (g.N.Link.state c.pull_round.new.dial) c.pull_round.new.repo.disk c.pull_round.new.repo.seen (stored c.pull_round.new.repo.seen) c.in-Err-pull_round.fault (turn_is c.args.login.now c.items.result.now c.loop-round.names (g.N.Link.state c.loop-round.dial) (g.N.Link.state c.pull_round.new.dial) (g.D.Disk.state c.loop-round.repo.disk) (g.D.Disk.state c.pull_round.new.repo.disk) c.loop-round.repo.seen c.pull_round.new.repo.seen (c.pull_round.new.repo.disk ≡ c.loop-round.repo.disk) (same_quiet g.D.Disk.state c.loop-round.repo.disk c.pull_round.new.repo.disk) c.pull_round.result (Err c.in-Err-pull_round.fault) c.items.ensures is c.pull_round.ensures.round) (omega (arith, c.loop-round-test.true)) c.pull_round.ensures.dialled
 
 pub loop-round-preserved : goal.loop-round-preserved
 loop-round-preserved g c =
@@ -66,7 +67,7 @@ loop-round-preserved g c =
     record {
       at = goes g.D.Disk.state (PullRound c.args.login.now) (PullAsks c.args.login.now) (BrokenPull c.args.login.now) (g.N.Link.state c.args.dial.now) c.args.repo.now.disk c.args.repo.now.seen (a_pull c.args.login.now c.args.repo.now.seen.state) (from_here c.args.repo.now.seen) (pull_runs c.args.login.now c.args.repo.now.seen c.loop-round.invariant.none (c.is_whole.ensures.seen).items)
           (λ (m : List (List ℕ)). m ≡ c.loop-round.names) (g.N.Link.state c.loop-round.dial) c.loop-round.repo.disk c.loop-round.repo.seen (stored c.args.repo.now.seen) (stored c.loop-round.repo.seen) c.loop-round.round c.loop-round.invariant.at
-          SameNames (g.N.Link.state c.pull_round.new.dial) c.pull_round.new.repo.disk c.pull_round.new.repo.seen (stored c.pull_round.new.repo.seen) c.in-Ok-Some.next (turn_is c.args.login.now c.items.result.now c.loop-round.names (g.N.Link.state c.loop-round.dial) (g.N.Link.state c.pull_round.new.dial) (g.D.Disk.state c.loop-round.repo.disk) (g.D.Disk.state c.pull_round.new.repo.disk) c.loop-round.repo.seen c.pull_round.new.repo.seen (c.pull_round.new.repo.disk ≡ c.loop-round.repo.disk) c.pull_round.result (Ok (Some c.in-Ok-Some.next)) c.items.ensures is c.pull_round.ensures.round) c.pull_round.ensures.keeps c.pull_round.ensures.loaded c.pull_round.ensures.later c.pull_round.ensures.dialled;
+          SameNames (g.N.Link.state c.pull_round.new.dial) c.pull_round.new.repo.disk c.pull_round.new.repo.seen (stored c.pull_round.new.repo.seen) c.in-Ok-Some.next (turn_is c.args.login.now c.items.result.now c.loop-round.names (g.N.Link.state c.loop-round.dial) (g.N.Link.state c.pull_round.new.dial) (g.D.Disk.state c.loop-round.repo.disk) (g.D.Disk.state c.pull_round.new.repo.disk) c.loop-round.repo.seen c.pull_round.new.repo.seen (c.pull_round.new.repo.disk ≡ c.loop-round.repo.disk) (same_quiet g.D.Disk.state c.loop-round.repo.disk c.pull_round.new.repo.disk) c.pull_round.result (Ok (Some c.in-Ok-Some.next)) c.items.ensures is c.pull_round.ensures.round) c.pull_round.ensures.keeps c.pull_round.ensures.loaded c.pull_round.ensures.later c.pull_round.ensures.dialled;
       counts = subst (λ (r : Answer). IsDialCounted (g.N.Link.state c.loop-round.dial) (g.N.Link.state c.pull_round.new.dial) r) is c.pull_round.ensures.counts ∙ c.loop-round.invariant.counts;
       none = c.loop-round.invariant.none;
       runs = subst (λ (r : Answer). OnOk r (c.pull_round.new.repo.seen.state.stopped ≡ None)) is c.pull_round.ensures.runs;

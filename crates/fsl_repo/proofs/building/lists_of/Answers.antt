@@ -1,4 +1,4 @@
-use Rattle.std.proofs.Common.{◌≡◌, ap, refl, ◌∙◌, ◌++◌, take, []}
+use Rattle.std.proofs.Common.{◌≡◌, ap, ◌∙◌, ◌++◌, take, []}
 use Rattle.std.specs.Prelude.{◌||◌, if◌then◌else◌}
 use Rattle.std.specs.List.{list_any}
 use Rattle.std.specs.Option.{option_map}
@@ -8,9 +8,8 @@ use Rattle.fsl_cluster.specs.Clusters as clusters
 use Rattle.fsl_answer.specs.Contents as reply
 use Rattle.fsl_answer.specs.Refusals.{is_push}
 use Rattle.fsl_repo.specs.Replies.{placed_in}
-use Rattle.fsl_repo.specs.Sending.{files_by, seen_by, told, told_public, told_private}
-use Rattle.fsl_repo.proofs.Placings.{all_held}
-use Rattle.fsl_repo.proofs.Sendings.{files_are, codes_are}
+use Rattle.fsl_repo.specs.Sending.{seen_by, told, told_public, told_private}
+use Rattle.fsl_repo.proofs.Sendings.{codes_are}
 use Rattle.fsl_repo.proofs.building.lists_of.Goals as goal
 
 pub returns : goal.returns
@@ -36,15 +35,11 @@ returns c =
     c.in_ok-told_names.ensures
     ∙ (λ i. told (told_public (placed_in blobs.records) free (all i) (pull i)) (told_private (placed_in blobs.records) (private i) (pull i || all i))) in
     let gimmes = c.in_ok-asked_for.ensures ∙ ap (λ b. if b then ascending (s.wants ++ s.announced) else []) push in
-    let files =
-    c.in_ok-files.ensures
-    ∙ (λ i. files_by blobs.records (placed_in blobs.records) (message i) (private i) (clone i))
-    ∙ files_are blobs.records (all_held blobs.records) s refl ask.message ask.caps in
     λ i. record {
       notices = notices i;
       codes = codes i;
       igots = igots i;
       gimmes = gimmes i;
-      files = (files i).0;
-      sequel = (files i).1;
+      files = c.args.files;
+      sequel = c.args.sequel;
     }

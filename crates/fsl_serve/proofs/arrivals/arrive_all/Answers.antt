@@ -28,7 +28,7 @@ returns-in-Err-clause-made g c =
     let eq = ap (arrivals m) (at_same c.loop-at.cards cs i c.index-cards-at-in-loop-at.result c.loop-at.invariant.2 c.loop-at-test.true) in
     let Q : List Call → Type 0 = λ made. c.loop-at.texts ≡ notices (asked made) (told made) in
     let R : List Call → Type 0 = λ made. OnOk c.arrive_card.result (c.arrive_card.new.texts ≡ c.loop-at.texts ++ notices (asked made) (told made)) in
-    let F : List Event → Type 0 = λ d. Gains (g.T.Turns.calls c.args.pass.now) (g.T.Turns.calls c.loop-at.pass) (λ made. IsAt (arrivals false cs) made d × Q made) in
+    let F : List Event → Type 0 = λ d. Gains g.D.Disk.state (g.T.Turns.calls c.args.pass.now) (g.T.Turns.calls c.loop-at.pass) (λ made. IsAt (arrivals false cs) made d × Q made) in
     loop_halts _ _ _ (arrivals false cs) (option_to_list (arrival_of m x)) (arrivals (mark_after m x) (drop (i + 1) cs)) Q R c.arrive_card.result c.in-Err.halt (subst F eq c.loop-at.invariant.1) c.arrive_card.ensures.made c.in-Err.is
 
 pub loop-at-preserved : goal.loop-at-preserved
@@ -41,9 +41,9 @@ loop-at-preserved g c = (
       let eq = ap (arrivals m) (at_same c.loop-at.cards cs i c.index-cards-at-in-loop-at.result c.loop-at.invariant.2 c.loop-at-test.true) in
       let old = c.loop-at.texts in
       let new = c.arrive_card.new.texts in
-      let F : List Event → Type 0 = λ d. Gains (g.T.Turns.calls c.args.pass.now) (g.T.Turns.calls c.loop-at.pass) (λ made. IsAt (arrivals false cs) made d × (old ≡ notices (asked made) (told made))) in
+      let F : List Event → Type 0 = λ d. Gains g.D.Disk.state (g.T.Turns.calls c.args.pass.now) (g.T.Turns.calls c.loop-at.pass) (λ made. IsAt (arrivals false cs) made d × (old ≡ notices (asked made) (told made))) in
       let end = loop_goes_on _ _ _ (arrivals false cs) (option_to_list (arrival_of m x)) (arrivals (mark_after m x) (drop (i + 1) cs)) old old new c.arrive_card.result (subst F eq c.loop-at.invariant.1) c.arrive_card.ensures.made c.in-Ok.is in
-      let H : Bool → Type 0 = λ b. Gains (g.T.Turns.calls c.args.pass.now) (g.T.Turns.calls c.arrive_card.new.pass) (λ made. IsAt (arrivals false cs) made (arrivals b (drop (i + 1) cs)) × (new ≡ notices (asked made) (told made))) in
+      let H : Bool → Type 0 = λ b. Gains g.D.Disk.state (g.T.Turns.calls c.args.pass.now) (g.T.Turns.calls c.arrive_card.new.pass) (λ made. IsAt (arrivals false cs) made (arrivals b (drop (i + 1) cs)) × (new ≡ notices (asked made) (told made))) in
       let next = c.marks-next.ensures ∙ ap (mark_after m) (same_within c.loop-at.cards i c.index-cards-at.result c.index-cards-at-in-loop-at.result c.loop-at-test.true) in
       subst H (sym next) end,
   ap (λ (w : WireCard). slice_set c.loop-at.cards c.loop-at.at w) c.arrive_card.ensures.kept ∙ set-get_or c.loop-at.cards c.loop-at.at c.index-cards-at-in-loop-at.result ∙ c.loop-at.invariant.2,

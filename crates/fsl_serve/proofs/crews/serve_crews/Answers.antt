@@ -1,4 +1,4 @@
-use Rattle.std.proofs.Common.{rules, ◌≡◌, subst, Some}
+use Rattle.std.proofs.Common.{rules, ◌≡◌, subst}
 use Rattle.std.specs.Prelude.{IfOk, IfSome, ◌+◌}
 use Rattle.fsl_repo.specs.Onward.{IsLaterOn}
 use Rattle.fsl_repo.specs.Whole.{stored}

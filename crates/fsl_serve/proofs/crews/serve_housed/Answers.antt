@@ -2,7 +2,7 @@ use mir.Syntax.{of_param}
 use denote.Param.{param}
 use denote.Param.Send.{Quiet-if}
 use Rattle.fsl_repo.specs.contracts.machine.RepoMachine.TheImpl as machine
-use Rattle.std.proofs.Common.{◌≡◌, None, Some, sym, ap, ◌∙◌, arith, length}
+use Rattle.std.proofs.Common.{◌≡◌, Some, sym, ap, ◌∙◌, arith, length}
 use Rattle.std.proofs.lemmas.List.{length-map}
 use Rattle.fsl_repo.specs.contracts.Event.{the_row as event_row}
 use Rattle.fsl_repo.specs.contracts.Answer.{the_row as answer_row}
@@ -34,14 +34,14 @@ pub returns-clause-worked : goal.returns-clause-worked
 returns-clause-worked g c =
     let js = c.staffed-jobs.result.items in
     let ks = c.run_all.new.jobs.items in
-    all_worked (λ j. j.crew) (λ j. j.work) (λ k. (g.A.Link.state k.door).present) (λ k. (g.A.Link.state k.door).standing) c.args.users.now c.args.project c.args.requests (λ j. Some j.pass.mine) js ks c.args.crews.items c.dismissed-works.new.crews.items c.dismissed-works.result.items
+    all_worked g.D.Disk.state (λ j. j.crew) (λ j. j.work) (λ k. (g.A.Link.state k.door).present) (λ k. (g.A.Link.state k.door).standing) c.args.users.now c.args.project c.args.requests (λ j. Some j.pass.mine) js ks c.args.crews.items c.dismissed-works.new.crews.items c.dismissed-works.result.items
     c.staffed-jobs.ensures.crews (sym c.dismissed-works.ensures.crews) (sym c.dismissed-works.ensures.works) (omega arith) (λ i d l. (c.run_all.ensures.each i d (omega arith)).0.worked)
 
 pub returns-clause-gates : goal.returns-clause-gates
 returns-clause-gates g c =
     let js = c.staffed-jobs.result.items in
     let ks = c.run_all.new.jobs.items in
-    all_gated (λ j. j.crew) (λ j. j.work) (λ k. (g.A.Link.state k.door).present) (λ k. (g.A.Link.state k.door).standing) (λ k. g.G.Gate.passed k.gate) c.args.users.now c.args.project c.args.requests (λ j. Some j.pass.mine) js ks c.args.crews.items c.dismissed-works.new.crews.items c.dismissed-works.result.items
+    all_gated g.D.Disk.state (λ j. j.crew) (λ j. j.work) (λ k. (g.A.Link.state k.door).present) (λ k. (g.A.Link.state k.door).standing) (λ k. g.G.Gate.passed k.gate) c.args.users.now c.args.project c.args.requests (λ j. Some j.pass.mine) js ks c.args.crews.items c.dismissed-works.new.crews.items c.dismissed-works.result.items
     c.staffed-jobs.ensures.crews (sym c.dismissed-works.ensures.crews) (sym c.dismissed-works.ensures.works) (omega arith) (λ i d l. (c.run_all.ensures.each i d (omega arith)).0)
 
 pub make-requires-clause-table : goal.make-requires-clause-table
@@ -88,8 +88,8 @@ returns-clause-history g c =
     let long : length ks ≡ length js = omega (arith, c.run_all.ensures.len, c.run_all.new.jobs.ok.0, c.staffed-jobs.result.ok.0) in
     let was = job_pass (λ j. j.pass) js c.len-count.result new many in
     if_on g.B.Chronicle.first _ _
-    (λ f done. one_history (λ j. j.crew) (λ j. j.work) (λ k. g.A.Link.state k.door) (λ k. g.G.Gate.passed k.gate) c.args.users.now c.args.project c.args.requests
-    g.D.Disk.state _ (λ j. j.pass) f c.finish-repo.result.0 c.settle.new.repo c.settle.ensures.step.0 js ks c.args.crews.items c.dismissed-works.new.crews.items c.dismissed-works.result.items c.dismissed-works.new.passes.items
+    (λ f done. one_history g.D.Disk.state (λ j. j.crew) (λ j. j.work) (λ k. g.A.Link.state k.door) (λ k. g.G.Gate.passed k.gate) c.args.users.now c.args.project c.args.requests
+    _ (λ j. j.pass) f c.finish-repo.result.0 c.settle.new.repo c.settle.ensures.step.0 js ks c.args.crews.items c.dismissed-works.new.crews.items c.dismissed-works.result.items c.dismissed-works.new.passes.items
     c.staffed-jobs.ensures.crews (sym c.dismissed-works.ensures.crews) (sym c.dismissed-works.ensures.works) (sym c.dismissed-works.ensures.passes) long (sym n)
     (λ i d l. ap (λ t. t.mine) (was i d l))
     (λ i d l. (c.run_all.ensures.each i d (omega (arith, l, c.staffed-jobs.result.ok.0))).1.number ∙ ap (λ t. t.number) (was i d l))

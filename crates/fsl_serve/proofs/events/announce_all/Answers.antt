@@ -13,7 +13,7 @@ returns-in-Err-clause-made g c =
     let cs = c.args.cards.now in
     let x = c.card-item.result in
     let eq = ap (filter_map f) (at_card cs i x c.loop-card-test.true c.card-item.is) ∙ filter_map_first f x (drop (i + 1) cs) in
-    let F : List Event → Type 0 = λ d. Gains (g.T.Turns.calls c.args.pass.now) (g.T.Turns.calls c.loop-card.pass) (λ made. IsAt (filter_map f cs) made d) in
+    let F : List Event → Type 0 = λ d. Gains g.D.Disk.state (g.T.Turns.calls c.args.pass.now) (g.T.Turns.calls c.loop-card.pass) (λ made. IsAt (filter_map f cs) made d) in
     loop_halts_plain _ _ _ (filter_map f cs) (option_to_list (f x)) (filter_map f (drop (i + 1) cs)) c.announce_card.result c.in-Err.halt (subst F eq c.loop-card.invariant.1) c.announce_card.ensures.made c.in-Err.is
 
 pub loop-card-preserved : goal.loop-card-preserved
@@ -24,6 +24,6 @@ loop-card-preserved g c = (
       let cs = c.args.cards.now in
       let x = c.card-item.result in
       let eq = ap (filter_map f) (at_card cs i x c.loop-card-test.true c.card-item.is) ∙ filter_map_first f x (drop (i + 1) cs) in
-      let F : List Event → Type 0 = λ d. Gains (g.T.Turns.calls c.args.pass.now) (g.T.Turns.calls c.loop-card.pass) (λ made. IsAt (filter_map f cs) made d) in
+      let F : List Event → Type 0 = λ d. Gains g.D.Disk.state (g.T.Turns.calls c.args.pass.now) (g.T.Turns.calls c.loop-card.pass) (λ made. IsAt (filter_map f cs) made d) in
       loop_goes_on_plain _ _ _ (filter_map f cs) (option_to_list (f x)) (filter_map f (drop (i + 1) cs)) c.announce_card.result (subst F eq c.loop-card.invariant.1) c.announce_card.ensures.made c.in-Ok.is,
 )

@@ -1,4 +1,4 @@
-use Rattle.std.proofs.Common.{◌≡◌, ◌∷◌, [], false, Some, None, Err, List, subst}
+use Rattle.std.proofs.Common.{◌∷◌, [], false, Some, None, Err, List, subst}
 use Rattle.std.specs.Prelude.{filter_map, Result, OnErr, IsTrue}
 use Rattle.std.specs.List.{list_any}
 use Rattle.fsl_answer.specs.Refusals.{is_push}
@@ -8,7 +8,7 @@ use Rattle.std.specs.Result.{result_err}
 use Rattle.fsl_wire.specs.declared.WireCard.{WireCard}
 use Rattle.fsl_serve.specs.declared.said.Halt.{Halt}
 use Rattle.fsl_outside.specs.declared.gate.Point.TheVariants as point
-use Rattle.fsl_serve.specs.Calls.{Call, Gains, Phase, asked}
+use Rattle.fsl_serve.specs.Calls.{Gains, Phase, asked}
 use Rattle.fsl_serve.specs.Points.{Passes, arrived, is_late}
 use Rattle.fsl_serve.proofs.Passing.{not_arrived, not_arrived_twice, did_arrive, arrivals_not_late, where_announced_not_late}
 use Rattle.fsl_serve.specs.Session.{announcement, arrivals, where_so}
@@ -26,7 +26,7 @@ returns-in-Err-clause-made g c =
 pub returns-in-Err-announce_where_pushed-clause-made : goal.returns-in-Err-announce_where_pushed-clause-made
 returns-in-Err-announce_where_pushed-clause-made g c =
     let m = c.args.cards.now in
-    let A : List WireCard → Type 0 = λ l. Gains (g.T.Turns.calls c.arrive_all.new.pass) (g.T.Turns.calls c.announce_where_pushed.new.pass) (λ made. Phase (where_so (list_any is_push l) (filter_map (announcement c.args.caps) l)) made (result_err c.announce_where_pushed.result)) in
+    let A : List WireCard → Type 0 = λ l. Gains g.D.Disk.state (g.T.Turns.calls c.arrive_all.new.pass) (g.T.Turns.calls c.announce_where_pushed.new.pass) (λ made. Phase (where_so (list_any is_push l) (filter_map (announcement c.args.caps) l)) made (result_err c.announce_where_pushed.result)) in
     let announced = subst A c.in-Ok.ensures.kept c.announce_where_pushed.ensures.made in
     let announcements = where_so (list_any is_push m) (filter_map (announcement c.args.caps) m) in
     second_halts (arrivals false m) announcements (where_so (list_any is_pull m) (event.Cluster ∷ [])) c.arrive_all.result c.announce_where_pushed.result c.announce_where_pushed.result _ _ _
@@ -40,9 +40,9 @@ returns-in-Err-announce_where_pushed-clause-made g c =
 pub returns-in-Err-cluster_where_pulled-clause-made : goal.returns-in-Err-cluster_where_pulled-clause-made
 returns-in-Err-cluster_where_pulled-clause-made g c =
     let m = c.args.cards.now in
-    let A : List WireCard → Type 0 = λ l. Gains (g.T.Turns.calls c.arrive_all.new.pass) (g.T.Turns.calls c.announce_where_pushed.new.pass) (λ made. Phase (where_so (list_any is_push l) (filter_map (announcement c.args.caps) l)) made (result_err c.announce_where_pushed.result)) in
+    let A : List WireCard → Type 0 = λ l. Gains g.D.Disk.state (g.T.Turns.calls c.arrive_all.new.pass) (g.T.Turns.calls c.announce_where_pushed.new.pass) (λ made. Phase (where_so (list_any is_push l) (filter_map (announcement c.args.caps) l)) made (result_err c.announce_where_pushed.result)) in
     let announced = subst A c.in-Ok.ensures.kept c.announce_where_pushed.ensures.made in
-    let B : List WireCard → Type 0 = λ l. Gains (g.T.Turns.calls c.announce_where_pushed.new.pass) (g.T.Turns.calls c.cluster_where_pulled.new.pass) (λ made. Phase (where_so (list_any is_pull l) (event.Cluster ∷ [])) made (result_err c.cluster_where_pulled.result) × OnErr c.cluster_where_pulled.result (IsTrue (list_any is_late (asked made)))) in
+    let B : List WireCard → Type 0 = λ l. Gains g.D.Disk.state (g.T.Turns.calls c.announce_where_pushed.new.pass) (g.T.Turns.calls c.cluster_where_pulled.new.pass) (λ made. Phase (where_so (list_any is_pull l) (event.Cluster ∷ [])) made (result_err c.cluster_where_pulled.result) × OnErr c.cluster_where_pulled.result (IsTrue (list_any is_late (asked made)))) in
     let clustered = subst B c.in-Ok.ensures.kept c.cluster_where_pulled.ensures.made in
     let a = arrivals false m in
     let b = where_so (list_any is_push m) (filter_map (announcement c.args.caps) m) in
@@ -58,9 +58,9 @@ returns-in-Err-cluster_where_pulled-clause-made g c =
 pub returns-clause-made : goal.returns-clause-made
 returns-clause-made g c =
     let m = c.args.cards.now in
-    let A : List WireCard → Type 0 = λ l. Gains (g.T.Turns.calls c.arrive_all.new.pass) (g.T.Turns.calls c.announce_where_pushed.new.pass) (λ made. Phase (where_so (list_any is_push l) (filter_map (announcement c.args.caps) l)) made (result_err c.announce_where_pushed.result)) in
+    let A : List WireCard → Type 0 = λ l. Gains g.D.Disk.state (g.T.Turns.calls c.arrive_all.new.pass) (g.T.Turns.calls c.announce_where_pushed.new.pass) (λ made. Phase (where_so (list_any is_push l) (filter_map (announcement c.args.caps) l)) made (result_err c.announce_where_pushed.result)) in
     let announced = subst A c.in-Ok.ensures.kept c.announce_where_pushed.ensures.made in
-    let B : List WireCard → Type 0 = λ l. Gains (g.T.Turns.calls c.announce_where_pushed.new.pass) (g.T.Turns.calls c.cluster_where_pulled.new.pass) (λ made. Phase (where_so (list_any is_pull l) (event.Cluster ∷ [])) made (result_err c.cluster_where_pulled.result) × OnErr c.cluster_where_pulled.result (IsTrue (list_any is_late (asked made)))) in
+    let B : List WireCard → Type 0 = λ l. Gains g.D.Disk.state (g.T.Turns.calls c.announce_where_pushed.new.pass) (g.T.Turns.calls c.cluster_where_pulled.new.pass) (λ made. Phase (where_so (list_any is_pull l) (event.Cluster ∷ [])) made (result_err c.cluster_where_pulled.result) × OnErr c.cluster_where_pulled.result (IsTrue (list_any is_late (asked made)))) in
     let clustered = subst B c.in-Ok.ensures.kept c.cluster_where_pulled.ensures.made in
     let a = arrivals false m in
     let b = where_so (list_any is_push m) (filter_map (announcement c.args.caps) m) in

@@ -1,11 +1,11 @@
-use Rattle.std.proofs.Common.{◌≡◌, List, [], ◌∷◌, Bool, true, false, None, Ok, Err, sym, ◌∙◌, subst}
+use Rattle.std.proofs.Common.{List, [], ◌∷◌, Bool, None, Ok, Err, sym, ◌∙◌, subst}
 use Rattle.std.specs.Prelude.{IsTrue, OnErr, Result}
 use Rattle.std.specs.Result.{result_err}
 use Rattle.std.specs.List.{list_any}
 use Rattle.fsl_answer.specs.Contents.{is_pull}
 use Rattle.fsl_repo.specs.declared.Event.TheVariants as event
 use Rattle.fsl_serve.specs.declared.said.Halt.{Halt}
-use Rattle.fsl_serve.specs.Calls.{Call, Gains, Phase, asked}
+use Rattle.fsl_serve.specs.Calls.{Call, Phase, asked}
 use Rattle.fsl_serve.specs.Points.{is_late}
 use Rattle.fsl_serve.specs.Session.{where_so}
 use Rattle.fsl_serve.proofs.Telling.{gains_weaker, gains_none}

@@ -1,4 +1,4 @@
-use Rattle.std.proofs.Common.{◌≡◌, ℕ, List, [], refl, subst}
+use Rattle.std.proofs.Common.{◌≡◌, List, [], refl, subst}
 use Rattle.fsl_outside.specs.Connections.{Connection}
 use Rattle.std.specs.Prelude.{Option}
 use Rattle.fsl_http.specs.declared.request.Asked.{Asked}

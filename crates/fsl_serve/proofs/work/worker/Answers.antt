@@ -1,4 +1,4 @@
-use Rattle.std.proofs.Common.{◌≡◌, ◌≤◌, ◌<◌, Ok, ◌+◌, Bool, true, false, refl, ap, sym, ◌∙◌, subst, arith}
+use Rattle.std.proofs.Common.{◌≡◌, Ok, ◌+◌, true, false, refl, ap, sym, ◌∙◌, subst, arith}
 use Rattle.std.specs.Prelude.{Result, OnErr}
 use Rattle.fsl_outside.specs.declared.link.Accepted.{Accepted}
 use Rattle.fsl_outside.specs.declared.outside.Failed.{Failed}
@@ -23,7 +23,7 @@ loop-number-preserved g c = (
       let counts = subst G (c.in-Ok-Connection.is ∙ ap Ok c.in-Ok-Connection.field-0-is) c.accept.ensures.counts in
       let served = serving_more c.args.users.now c.args.project c.loop-number.number _ _ q t b u (g.A.Link.state c.session.new.link).present (g.A.Link.state c.session.new.link).standing _ _ _ (g.G.Gate.passed c.args.crew.now.gate) (g.G.Gate.passed c.loop-number.crew.gate) (g.G.Gate.passed c.session.new.gate) c.session.result
       c.loop-number.invariant.1 lists.begun lists.told lists.earlier counts.0 counts.1 c.session.ensures.stands c.session.ensures.session in
-      let H : LinkState → Type 0 = λ l. IsServing c.args.users.now c.args.project (c.loop-number.number + 1) (g.A.Link.state c.args.crew.now.door).present (g.A.Link.state c.args.crew.now.door).standing l.present l.standing (g.T.Turns.calls c.args.pass.now) (g.T.Turns.calls c.session.new.pass) (g.G.Gate.passed c.args.crew.now.gate) (g.G.Gate.passed c.session.new.gate) in
+      let H : LinkState → Type 0 = λ l. IsServing g.D.Disk.state c.args.users.now c.args.project (c.loop-number.number + 1) (g.A.Link.state c.args.crew.now.door).present (g.A.Link.state c.args.crew.now.door).standing l.present l.standing (g.T.Turns.calls c.args.pass.now) (g.T.Turns.calls c.session.new.pass) (g.G.Gate.passed c.args.crew.now.gate) (g.G.Gate.passed c.session.new.gate) in
       subst H (sym c.leave.ensures.same) served,
 )
 

@@ -8,4 +8,4 @@ pub returns-in_err-append-clause-belongs : goal.returns-in_err-append-clause-bel
 returns-in_err-append-clause-belongs g c = subst (λ (log : Log). Belongs log (g.D.Disk.state c.args.disk.now)) (sym c.in_err-append.ensures.err) c.requires.belongs
 
 pub returns-clause-belongs : goal.returns-clause-belongs
-returns-clause-belongs g c = belongs_append c.args.journal.now c.append.new.self c.args.entry.now (g.D.Disk.state c.args.disk.now) c.requires.belongs c.requires.runs c.in_ok-append.ensures.ok
+returns-clause-belongs g c = belongs_append c.args.journal.now c.append.new.self c.args.entry.now _ (g.D.Disk.state c.args.disk.now) c.requires.belongs c.requires.runs c.in_ok-append.ensures.ok

@@ -1,13 +1,16 @@
 use Rattle.std.proofs.Common.{Some}
 use Rattle.fsl_words.specs.declared.Command.TheVariants as command_of
 use Rattle.fossil.proofs.ActLemmas.{ask_loads, not_loaded_acted}
-use Rattle.fossil.proofs.QuestionLemmas.{report_acted}
 use Rattle.fossil.proofs.answers.reporting.report.Goals as goal
 
+pub report_on-requires-clause-open : goal.report_on-requires-clause-open
+report_on-requires-clause-open g c = c.in-Ok.ensures.ok.is_open
+
+pub report_on-requires-clause-belongs : goal.report_on-requires-clause-belongs
+report_on-requires-clause-belongs g c = c.in-Ok.ensures.ok.belongs
+
 pub returns-in-Ok : goal.returns-in-Ok
-returns-in-Ok g c = λ input.
-    report_acted c.args.question.now input (g.D.Disk.state c.args.disk.now) (g.D.Disk.state c.load.new.disk) c.in-Ok.loaded c.in-Ok.ensures.ok c.made.result c.report_on.result
-    c.made.ensures.ok c.made.ensures.err c.report_on.ensures
+returns-in-Ok g c = λ input. c.report_on.ensures c.args.disk.now input c.in-Ok.ensures.ok
 
 pub returns-in-Err : goal.returns-in-Err
 returns-in-Err g c = λ input.

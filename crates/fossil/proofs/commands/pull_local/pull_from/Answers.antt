@@ -1,4 +1,4 @@
-use Rattle.std.proofs.Common.{◌≡◌, ◌∙◌, sym, subst}
+use Rattle.std.proofs.Common.{◌≡◌, sym, subst}
 use Rattle.fsl_disk.specs.Disk.{DiskState}
 use Rattle.fsl_words.specs.declared.Command.TheVariants as command_of
 use Rattle.fossil.specs.Syncing.{ComesTo}
@@ -16,12 +16,15 @@ returns-in-Ok g c = λ disk ready path dial.
     let left = g.D.Disk.state new.disk in
     let peer = g.P.Disk.state c.args.peer in
     let there = c.in-Ok.there in
-    let peer_left = g.P.Disk.state there.disk in
-    let same : g.P.Disk.state c.close.result ≡ peer_left = λ i. g.P.Disk.state ((c.close.ensures ∙ (λ j. (c.pull_between-due.ensures.peer j).disk)) i) in
+    let later = c.pull_between-due.new.peer in
+    let peer_mid = g.P.Disk.state there.disk in
+    let peer_left = g.P.Disk.state later.disk in
+    let same : g.P.Disk.state c.close.result ≡ peer_left = λ i. g.P.Disk.state (c.close.ensures i) in
     subst (λ (s : DiskState). ComesTo (command_of.PullLocal path) (file, left) (peer, s) (dial, dial) c.pull_between-due.result) (sym same)
     (local_comes path dial file mid left old new ready c.pull_between-due.ensures.whole c.pull_between-due.ensures.keeps
-    (λ held model told. g.met.D.Disk.reads_as_image disk held model told) (λ held model told. g.met.D.Disk.reads_as_image new.disk held model told) peer peer_left there
-    (ready_of peer peer_left there c.in-Ok.ensures.opened c.is_whole.ensures c.in-Ok.ensures.any_moment c.in-Ok.ensures.keeps) c.in-Ok.ensures.spared c.in-Ok.ensures.harmless c.pull_between-due.result c.pull_between-due.ensures.pulled)
+    (λ held model told. g.met.D.Disk.reads_as_image disk held model told) (λ held model told. g.met.D.Disk.reads_as_image new.disk held model told) peer peer_mid peer_left there later
+    (ready_of peer peer_mid there c.in-Ok.ensures.opened c.is_whole.ensures c.in-Ok.ensures.any_moment c.in-Ok.ensures.keeps) c.in-Ok.ensures.spared c.in-Ok.ensures.harmless
+    c.pull_between-due.ensures.peer.quiet c.pull_between-due.ensures.peer_whole (λ model f held. g.met.P.Disk.only_now there.disk f model held) c.pull_between-due.result c.pull_between-due.ensures.pulled)
 
 pub returns-in-Err : goal.returns-in-Err
 returns-in-Err g c = λ disk ready path dial.

@@ -9,7 +9,7 @@ finished-requires-clause-few g c = omega (arith, c.in-Ok.ensures.worked.1, c.req
 
 pub finished-requires-clause-within : goal.finished-requires-clause-within
 finished-requires-clause-within g c =
-    within_of c.args.crews.items (λ k. (g.A.Link.state k.door).present) (λ k. (g.A.Link.state k.door).standing) c.args.users.now c.config.result.now.project c.args.requests
+    within_of g.D.Disk.state c.args.crews.items (λ k. (g.A.Link.state k.door).present) (λ k. (g.A.Link.state k.door).standing) c.args.users.now c.config.result.now.project c.args.requests
     c.in-Ok.worked.works.items c.in-Ok.worked.crews.items c.in-Ok.ensures.worked c.requires.requests
 
 pub returns-in-Ok : goal.returns-in-Ok

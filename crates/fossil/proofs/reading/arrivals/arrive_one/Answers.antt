@@ -1,4 +1,4 @@
-use Rattle.std.proofs.Common.{◌≡◌, ℕ, ◌++◌, List, Result, Ok, Err, ap, subst, ◌∙◌}
+use Rattle.std.proofs.Common.{◌≡◌, ℕ, ◌++◌, List, Result, Ok, Err, ap, subst, ◌∙◌, None}
 use Rattle.fsl_repo.specs.declared.Arrival.{Arrival}
 use Rattle.fsl_repo.specs.declared.ArriveFault.{ArriveFault}
 use Rattle.fsl_repo.specs.Machine.{State, ArriveStep}
@@ -8,8 +8,8 @@ use Rattle.fossil.proofs.ArrivalLemmas.{not_stopped}
 use Rattle.fossil.proofs.reading.arrivals.arrive_one.Goals as goal
 
 -- the bytes that arrive are those of the file
-stepped : (s new : State) (f : Sent) (bytes : List ℕ) (r : Result Arrival ArriveFault) → bytes ≡ f.bytes → ArriveStep s f.name bytes f.private r new → ArriveStep s f.name f.bytes f.private r new
-stepped s new f bytes r same step = subst (λ (b : List ℕ). ArriveStep s f.name b f.private r new) same step
+stepped : (s new : State) (f : Sent) (bytes : List ℕ) (r : Result Arrival ArriveFault) → bytes ≡ f.bytes → ArriveStep s f.name None bytes f.private r new → ArriveStep s f.name None f.bytes f.private r new
+stepped s new f bytes r same step = subst (λ (b : List ℕ). ArriveStep s f.name None b f.private r new) same step
 
 pub file_refusal-requires : goal.file_refusal-requires
 file_refusal-requires g c =

@@ -7,7 +7,7 @@ use Rattle.fsl_cross.proofs.FactLemmas.{leaves_own}
 use Rattle.fsl_cross.proofs.Gifts.{if_some}
 use Rattle.fsl_cross.proofs.Added.{some-absent, some-mixed, none-mixed}
 use Rattle.fsl_cross.proofs.Quiet.{gives-not, most-given}
-use Rattle.fsl_cross.specs.Facts.{as_manifest}
+use Rattle.fsl_cross.specs.Facts.{as_manifest, parent_names}
 use Rattle.fsl_cross.specs.Touches.{parents_most}
 use Rattle.std.specs.List.{list_any}
 use Rattle.fsl_order.specs.Names.{has}
@@ -41,7 +41,7 @@ returns-in-None-clause-facts g c =
 pub returns-in-Some-clause-idle : goal.returns-in-Some-clause-idle
 returns-in-Some-clause-idle g c = λ none.
     let item = c.args.item.now in
-    absurd (gives-not (λ m. let f : Fact = record { name = item.name; parents = m.parents; branch = branch_over c.args.tags.now.facts item.name } in f) (as_manifest item.artifact) c.in-Some.fact (sym c.in_ok-fact.ensures ∙ c.in-Some.is) none)
+    absurd (gives-not (λ m. let f : Fact = record { name = item.name; parents = parent_names m; branch = branch_over c.args.tags.now.facts item.name } in f) (as_manifest item.artifact) c.in-Some.fact (sym c.in_ok-fact.ensures ∙ c.in-Some.is) none)
 
 pub returns-in-Some-clause-cost : goal.returns-in-Some-clause-cost
 returns-in-Some-clause-cost g c = λ none.
@@ -50,5 +50,5 @@ returns-in-Some-clause-cost g c = λ none.
     let is = sym c.in_ok-fact.ensures ∙ c.in-Some.is in
     let own : c.in-Some.fact.name ≡ item.name = if_some (λ (f : Fact). f.name ≡ item.name) (leaves_fact items item) c.in-Some.fact (ap (λ ts. leaves_fact_over ts item) (sym c.requires.tags) ∙ is) (leaves_own items item) in
     let most : parents_most item.artifact ≡ 6 * (1 + length c.in-Some.fact.parents)
-    = most-given (λ m. let f : Fact = record { name = item.name; parents = m.parents; branch = branch_over c.args.tags.now.facts item.name } in f) (λ m. 6 * (1 + length m.parents)) (λ f. 6 * (1 + length f.parents)) (λ m. refl) (as_manifest item.artifact) c.in-Some.fact is in
+    = most-given (λ m. let f : Fact = record { name = item.name; parents = parent_names m; branch = branch_over c.args.tags.now.facts item.name } in f) (λ m. 6 * (1 + length (parent_names m))) (λ f. 6 * (1 + length f.parents)) (λ m. refl) (as_manifest item.artifact) c.in-Some.fact is in
     rw most (c.put.ensures.cost (ap (λ q. list_any (λ (f : Fact). has f.parents q) c.args.leaves.now.facts) own ∙ none))

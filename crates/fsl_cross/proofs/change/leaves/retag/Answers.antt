@@ -2,6 +2,7 @@ use Rattle.std.proofs.Common.{rules, ◌≡◌, true, false, sym, ap, ◌∙◌}
 use Rattle.std.specs.Prelude.{option_and_then}
 use Rattle.std.specs.Str.{bytes_eq}
 use Rattle.fsl_order.specs.Rows.{named}
+use Rattle.fsl_cross.specs.Facts.{parent_names}
 use Rattle.fsl_cross.specs.Inside.{leaves_fact_over, branch_over}
 use Rattle.fsl_cross.proofs.Moved.{item_name}
 use Rattle.fsl_cross.proofs.Retagged.{leaves-there-at, leaves-goes, leaves-goes-none, leaves-goes-same}
@@ -38,4 +39,4 @@ returns-in-Some-clause-idle g c = λ out.
     let items = c.args.items.now in
     let apart : bytes_eq c.args.name c.args.item.now.name ≡ false = search rules in
     absurd (true-not (is_other_checkin items c.args.item.now.name c.args.name)
-    (leaf-other items c.args.item.now.name c.args.name apart (λ item m. record { name = item.name; parents = m.parents; branch = branch_over c.args.tags.now.facts item.name }) c.in-Some.fact (sym c.in_ok-fact.ensures ∙ c.in-Some.is)) out)
+    (leaf-other items c.args.item.now.name c.args.name apart (λ item m. record { name = item.name; parents = parent_names m; branch = branch_over c.args.tags.now.facts item.name }) c.in-Some.fact (sym c.in_ok-fact.ensures ∙ c.in-Some.is)) out)

@@ -1,6 +1,6 @@
 use Rattle.std.proofs.Common.{◌≡◌, sym, ◌∙◌, ◌+◌, ◌*◌, length, Some, refl}
 use Rattle.fsl_links.specs.declared.Fact.{Fact}
-use Rattle.fsl_cross.specs.Facts.{links_fact, as_manifest}
+use Rattle.fsl_cross.specs.Facts.{links_fact, as_manifest, parent_names}
 use Rattle.fsl_cross.proofs.Moved.{item_name}
 use Rattle.fsl_cross.proofs.FactLemmas.{links_own}
 use Rattle.fsl_cross.proofs.Gifts.{if_some}
@@ -28,7 +28,7 @@ returns-in-None-clause-facts g c =
 pub returns-in-Some-clause-idle : goal.returns-in-Some-clause-idle
 returns-in-Some-clause-idle g c = λ none.
     let item = c.args.item.now in
-    absurd (gives-not (λ m. let f : Fact = record { name = item.name; parents = m.parents } in f) (as_manifest item.artifact) c.in-Some.fact (sym c.in_ok-fact.ensures ∙ c.in-Some.is) none)
+    absurd (gives-not (λ m. let f : Fact = record { name = item.name; parents = parent_names m } in f) (as_manifest item.artifact) c.in-Some.fact (sym c.in_ok-fact.ensures ∙ c.in-Some.is) none)
 
 pub returns-in-Some-clause-cost : goal.returns-in-Some-clause-cost
 returns-in-Some-clause-cost g c = λ none.
@@ -36,5 +36,5 @@ returns-in-Some-clause-cost g c = λ none.
     let is : links_fact item ≡ Some c.in-Some.fact = sym c.in_ok-fact.ensures ∙ c.in-Some.is in
     let own : c.in-Some.fact.name ≡ item.name = if_some (λ (f : Fact). f.name ≡ item.name) (links_fact item) c.in-Some.fact is (links_own item) in
     let most : parents_most item.artifact ≡ 6 * (1 + length c.in-Some.fact.parents)
-    = most-given (λ m. let f : Fact = record { name = item.name; parents = m.parents } in f) (λ m. 6 * (1 + length m.parents)) (λ f. 6 * (1 + length f.parents)) (λ m. refl) (as_manifest item.artifact) c.in-Some.fact is in
+    = most-given (λ m. let f : Fact = record { name = item.name; parents = parent_names m } in f) (λ m. 6 * (1 + length (parent_names m))) (λ f. 6 * (1 + length f.parents)) (λ m. refl) (as_manifest item.artifact) c.in-Some.fact is in
     rw most (c.put.ensures.cost ((λ i. children (c.requires.facts i) (own i)) ∙ none))

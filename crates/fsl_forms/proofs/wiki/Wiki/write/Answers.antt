@@ -8,4 +8,4 @@ returns c =
     let v = c.args.self.now in
     let made = c.in_ok-write_cards.ensures in
     let text : IsWikiText c.finish.new.lines v = sealed _ _ _ (wiki_cards v) c.empty-lines.ensures made.1 c.in_ok-finish.ensures.ok in
-    record { written = text; read = wiki_again v (rw c.items.ensures at c.know_names.ensures) made.0 c.know_length.ensures c.requires c.finish.new.lines text }
+    record { written = text; read = wiki_again v (rw c.items.ensures at c.know_refs.ensures) made.0 c.know_length.ensures c.requires c.finish.new.lines text }

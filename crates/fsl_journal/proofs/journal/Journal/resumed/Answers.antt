@@ -1,25 +1,17 @@
-use Rattle.std.proofs.Common.{◌∙◌, length, map, None, refl, ap, arith}
-use Rattle.std.proofs.lemmas.List.{take_all}
-use Rattle.fsl_journal.proofs.Appended.{taken_on, sound_fresh}
+use Rattle.std.proofs.Common.{length, None, refl}
+use Rattle.fsl_journal.proofs.Appended.{sound_fresh}
 use Rattle.fsl_journal.proofs.Ends.{no_answer}
 use Rattle.fsl_journal.proofs.journal.Journal.resumed.Goals as goal
 
-pub loop-record-init : goal.loop-record-init
-loop-record-init c = ap (map (λ s. s.value)) c.new-records.ensures.items
+pub returns-in_err-records : goal.returns-in_err-records
+returns-in_err-records c = no_answer c.from_residual.result _ c.from_residual.ensures.1 _
 
-pub loop-record-preserved : goal.loop-record-preserved
-loop-record-preserved c =
-    taken_on (λ s. s.value) c.loop-record.records.items c.push.new.self.items c.of.result c.record-item.result c.in_ok-push.ensures.items c.of.ensures c.args.loaded.now c.loop-record.record-index c.loop-record-test.true c.record-item.is c.loop-record.invariant
-
-pub returns-in_err-push : goal.returns-in_err-push
-returns-in_err-push c = no_answer c.from_residual.result _ c.from_residual.ensures.1 _
+pub returns-in_err-places : goal.returns-in_err-places
+returns-in_err-places c = no_answer c.from_residual-in_err-places.result _ c.from_residual-in_err-places.ensures.1 _
 
 pub invariant_of-result : goal.invariant_of-result
 invariant_of-result c =
-    let all = c.loop-record.invariant ∙ take_all c.loop-record.record-index c.args.loaded.now (omega arith) in
-    sound_fresh _ c.args.loaded.now all c.empty.ensures c.new.ensures.items refl c.requires.fit c.requires.place
+    sound_fresh _ c.args.loaded.now c.args.places.now c.in_ok-records.ensures c.in_ok-places.ensures c.empty.ensures c.new.ensures.items refl c.requires.fit c.requires.place c.requires.header c.requires.as_many c.requires.inside
 
 pub returns : goal.returns
-returns c =
-    let all = c.loop-record.invariant ∙ take_all c.loop-record.record-index c.args.loaded.now (omega arith) in
-    λ i. record { records = all i; stable = length c.args.loaded.now; stopped = None; place = c.args.place }
+returns c = λ i. record { records = c.in_ok-records.ensures i; places = c.in_ok-places.ensures i; stable = length c.args.loaded.now; stopped = None; mark = c.args.mark; place = c.args.place }
