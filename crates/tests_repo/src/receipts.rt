@@ -32,15 +32,19 @@ fn receive_counted<D: Disk, L: Ledger>(
     repo.receive(Name::of(TEXT), TEXT, false, receipt, &mut steps)
 }
 
+/// The text arrives with a receipt.
+fn receive<D: Disk>(repo: &mut Repo<D>, receipt: &Receipt) -> Result<Arrival, ArriveFault> {
+    receive_counted::<D, Brand>(repo, receipt, Blank::new(1))
+}
+
 /// Whether the text is stored that somebody brings at this moment.
 fn receives(alloc: Global, repo: &mut Repo<MemoryDisk>, moment: Moment) -> bool {
     let Ok(receipt) = Receipt::of_login(alloc, LOGIN, moment) else {
         return false;
     };
-    matches!(
-        receive_counted::<MemoryDisk, Brand>(repo, &receipt, Blank::new(1)),
-        Ok(Arrival::Stored)
-    )
+    let received = receive(repo, &receipt);
+    drop(receipt);
+    matches!(received, Ok(Arrival::Stored))
 }
 
 /// Whether the text was brought at this moment, and nobody is known to have brought the other one.
