@@ -21,7 +21,7 @@ use Rattle.fsl_pull.specs.declared.PullFault.TheVariants as fault
 use Rattle.fsl_pull.specs.Rounds.{Round, Point, End, Then, goes_on, ends, Course, GoOn, EndsIn, IsSync}
 use Rattle.fsl_pull.specs.Replies.{announced_in}
 use Rattle.fsl_pull.specs.Arrivals.{Taken, Takes, AreWants, stopped_by, is_onward}
-use Rattle.fsl_pull.specs.Pulls.{next_names, is_end, missing, missing_fault, behind, ended, uncommitted, unread, pull_then, IsPullReply, PullRound, pull_start, IsPull}
+use Rattle.fsl_pull.specs.Pulls.{next_names, is_end, missing, missing_fault, behind, ended, uncommitted, pull_then, IsPullReply, PullRound, pull_start, IsPull}
 use Rattle.fsl_pull.specs.Pushes.{Sending, files_to_send, asked_here, sent_on, push_ended, quiet_then, push_then, push_uncommitted, IsPushReply, PushRound, push_start, IsPush}
 use Rattle.fsl_pull.specs.Locals.{local_then, LocalRound, AreLocalRounds, IsLocalPull, project_code, other_project_end}
 use Rattle.fsl_pull.proofs.TakesLemmas.{FileTaken}

@@ -4,13 +4,13 @@ use Rattle.std.specs.Prelude.{◌^◌, ◌&&◌, ◌||◌, nat_lt, filter, flat_
 use Rattle.std.proofs.lemmas.Bool.{le-ltb, ltb-false, or_parts}
 use Rattle.std.specs.List.{AllZip, list_any}
 use Rattle.std.specs.List.Sorted.{IsStrictlySortedBy}
-use Rattle.std.specs.Option.{option_map, option_map_or}
+use Rattle.std.specs.Option.{option_map_or}
 use Rattle.std.specs.Str.{bytes_eq}
 use Rattle.std.specs.Cmp.Lexicographic.{texts_ties, bytes_decides}
 use Rattle.std.specs.BTreeSet.{BTreeSet, contains, Updates}
 use Rattle.std.specs.Prelude.{IfOk, OnOk}
 use Rattle.std.specs.Cmp.{eq_by_cmp_equiv}
-use Rattle.std.proofs.lemmas.List.{take_more, map-append}
+use Rattle.std.proofs.lemmas.List.{take_more}
 use Rattle.std.proofs.lemmas.List.Folds.{list_any-append}
 use Rattle.fsl_order.proofs.Orders.{bytes_cmp-IsTotalOrder}
 use Rattle.fsl_text.specs.declared.memory.Memory.{Memory}
@@ -39,7 +39,7 @@ use Rattle.fsl_repo.specs.declared.Arrival.TheVariants as arrival
 use Rattle.fsl_repo.specs.declared.ArriveFault.{ArriveFault}
 use Rattle.fsl_repo.specs.declared.ArriveFault.TheVariants as arrive_fault
 use Rattle.fsl_repo.specs.Machine.{State, now, AreItems, IsItemOf, IsArrival, arrived, room, room_of, IsRoom, with_blob}
-use Rattle.fsl_repo.proofs.HeldMore.{absent_is, blob_after, contents_more, count_more}
+use Rattle.fsl_repo.proofs.HeldMore.{absent_is, blob_after, contents_more}
 use Rattle.fsl_repo.proofs.OneList.{are_one_list}
 use Rattle.fsl_repo.proofs.Arrivals as steps
 use Rattle.fossil.specs.declared.reading.gathering.Gathered.{Gathered}

@@ -1,5 +1,5 @@
 -- Facts under the names of held artifacts.
-use Rattle.std.proofs.Common.{◌≡◌, ℕ, Bool, true, false, cond, List, [], ◌∷◌, Option, Some, None, refl, sym, ap, subst, ◌∙◌}
+use Rattle.std.proofs.Common.{◌≡◌, ℕ, false, cond, List, [], ◌∷◌, Option, Some, None, refl, sym, ap, subst, ◌∙◌}
 use Rattle.std.specs.Prelude.{T, ⊤, is_some}
 use Rattle.std.specs.List.{AllZip}
 use Rattle.std.specs.Map.{lookup, set_value, values_of}
@@ -15,8 +15,6 @@ use Rattle.fsl_artifact.specs.Kind.{IsKind}
 use Rattle.fsl_blobs.specs.Fold.{Held, HeldSet}
 use Rattle.fsl_blobs.proofs.Totals.{front_first, front_second, below_less, none_below}
 use Rattle.fsl_cluster.specs.declared.Fact.{Fact}
-use Rattle.fsl_cross.specs.declared.Item.{Item}
-use Rattle.fsl_cross.specs.Facts.{cluster_fact}
 use Rattle.fossil.specs.Taking.{IsFactOf, IsNotedAs, AreNoted, MakesPublic, is_noted}
 use Rattle.fossil.proofs.SetLemmas.{public}
 

@@ -1,7 +1,6 @@
 -- A question has one report at most.
-use Rattle.std.proofs.Common.{◌≡◌, ℕ, Bool, true, false, not, List, length, Result, Ok, Err, IsTrue, refl, sym, ap, subst, ◌∙◌}
+use Rattle.std.proofs.Common.{◌≡◌, ℕ, Bool, true, false, not, List, Result, Ok, Err, IsTrue, refl, sym, ap, subst, ◌∙◌}
 use Rattle.std.specs.Prelude.{◌||◌, is_some}
-use Rattle.fsl_name.specs.Name.{name_of}
 use Rattle.fsl_blobs.specs.Fold.{Contents}
 use Rattle.fsl_cross.specs.declared.Item.{Item}
 use Rattle.fsl_repo.specs.Machine.{AreItems}

@@ -7,7 +7,7 @@ use Rattle.fossil.specs.declared.answers.due.Due.TheVariants as due_is
 use Rattle.fossil.specs.Printed.{Printed}
 use Rattle.fossil.specs.Printed as printing
 use Rattle.fossil.specs.Run.{Output, disk_fault, input_fault}
-use Rattle.fossil.specs.Served.{with_text, link_fault, no_memory, bad_users, Serving, serving_in, IsWrittenAs}
+use Rattle.fossil.specs.Served.{with_text, link_fault, no_memory, bad_users, serving_in, IsWrittenAs}
 
 -- what is printed
 abbrev pub printed : Due → Printed

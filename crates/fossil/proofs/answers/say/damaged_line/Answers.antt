@@ -1,4 +1,4 @@
-use Rattle.std.proofs.Common.{rules, ◌≡◌, ℕ, List, ◌∷◌, [], ◌++◌, length, ap, sym, ◌∙◌, arith}
+use Rattle.std.proofs.Common.{rules, ◌≡◌, ℕ, List, ◌∷◌, [], ◌++◌, length, ap, ◌∙◌}
 use Rattle.std.specs.Prelude.{codes, replicate}
 use Rattle.fsl_name.specs.Name.{name_text}
 use Rattle.fossil.proofs.DamagedLine.{line_is}
