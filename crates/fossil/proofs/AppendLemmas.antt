@@ -1,5 +1,5 @@
 -- What a command did that appends to the file in one commit, once the file was loaded.
-use Rattle.std.proofs.Common.{◌≡◌, ◌≢◌, ◌⊎◌, inl, inr, ⊎_elim, ℕ, ◌<◌, ◌≤◌, List, [], ◌∷◌, ◌++◌, length, take, Option, Some, Ok, Err, IsTrue, refl, sym, ap, subst, ◌∙◌, arith, length-append, Bool}
+use Rattle.std.proofs.Common.{◌≡◌, ◌≢◌, ◌⊎◌, inl, inr, ⊎_elim, ℕ, ◌<◌, ◌≤◌, List, [], ◌∷◌, ◌++◌, length, take, Option, Some, Ok, Err, IsTrue, refl, sym, ap, subst, ◌∙◌, arith, length-append, Bool, true, false}
 use Rattle.std.specs.Io.KnownBytes.{IsAtEnd}
 use Rattle.std.specs.Prelude.{is_some}
 use Rattle.std.proofs.lemmas.List.{append-nil, take_at}
@@ -17,12 +17,13 @@ use Rattle.fossil.specs.declared.reading.load.Loaded.{Loaded}
 use Rattle.fossil.specs.Printed.{Printed}
 use Rattle.fsl_repo.specs.Whole.{is_modelled}
 use Rattle.fossil.specs.Outcome.{Outcome, with_commit, one_commit, IsSaidOutcome}
-use Rattle.fossil.specs.Run.{Input, Agrees, AreImages, StandsFor, StandsForAll, StandsForSome, IsLeft, IsWholeAtAnyMoment, reads}
+use Rattle.fossil.specs.Run.{Input, Clock, Agrees, IsTimed, AreImages, StandsFor, StandsForAll, StandsForSome, IsLeft, IsWholeAtAnyMoment, reads}
 use Rattle.fossil.specs.Acts.{HasActed, Touches, IsOpened, IsUnread, KeepsUnreadable}
 use Rattle.fossil.proofs.InputLemmas.{some_bytes}
 use Rattle.fossil.proofs.FileLemmas.{both, Loads, stands, agrees, none_committed, all_committed, one_is_all, readable, loaded_touches}
 use Rattle.fossil.proofs.SomeOutcome.{some_said_outcome}
-use Rattle.fossil.proofs.ActLemmas.{unread_by, memory_by, disk_by}
+use Rattle.fossil.proofs.CommitLemmas.{idle_contents, idle_durable}
+use Rattle.fossil.proofs.ActLemmas.{still, fault_still, fault_timed, unread_by, memory_by, disk_by}
 
 -- the status is 0, or 3 with nothing appended
 abbrev pub IsPlain : Printed → List Record → Type 0
@@ -33,11 +34,13 @@ no_commit [] e = refl
 no_commit (r ∷ records) e = absurd (cc)
 
 -- what a command read, answers and appended in memory
-pub record IsAppended (command : Option Command) (input : Input) (bytes : List ℕ) (before after : Loaded) (answer : Printed) : Type 0 where
+pub record IsAppended (command : Option Command) (input : Input) (clock : Clock) (bytes : List ℕ) (before after : Loaded) (answer : Printed) : Type 0 where
   pub read : List ℕ
+  pub moment : ℕ
   pub appended : List Record
   pub told : Agrees input.before.left read
-  pub outcome : IsFileOf bytes before.journal.records → (honest : Bool) → IsSaidOutcome honest command read bytes (with_commit answer appended)
+  pub outcome : IsFileOf bytes before.journal.records → (honest : Bool) → IsSaidOutcome honest command read moment bytes (with_commit answer appended)
+  pub timed : IsFileOf bytes before.journal.records → IsTimed command clock true read moment bytes
   pub plain : IsPlain answer appended
   pub records : after.journal.records ≡ before.journal.records ++ appended
   pub stable : after.journal.stable ≡ before.journal.stable
@@ -58,34 +61,43 @@ module _ (command : Option Command) (loads : Loads command) (input : Input) (fil
   unreadable left = readable file left (bytes, opened.stands.1, (l.journal.records, opened.stands.2))
 
   -- the input wasn't read
-  pub unread_acted : (fault : Fault) → IsUnread fault input → IsTrue (reads command) → HasActed command input (both file mid) (Err fault)
-  unread_acted fault un reads_it =
+  pub unread_acted : (told : Option (List ℕ)) (fault : Fault) → IsUnread fault input → IsTrue (reads command) → HasActed command input (still told) (both file mid) (Err fault)
+  unread_acted told fault un reads_it =
       let read = some_bytes input.before.left in
-      let o = some_said_outcome (is_modelled file) command read.0 bytes loads.alone in (
+      let o = some_said_outcome (is_modelled file) command read.0 0 bytes loads.alone in (
         read.0,
+        0,
         bytes,
         o.0,
-        unread_by command loads input file mid read.0 bytes o.0 read.1 file_told o.1
+        unread_by command loads input file mid read.0 0 bytes o.0 read.1 file_told o.1
             (loaded_touches command loads file mid bytes o.0 (unreadable mid) opened.any_moment opened.keeps) fault un reads_it l.journal.records opened.stands.2 opened.contents,
+        fault_still command told read.0 0 bytes,
       )
 
-  -- there was no memory for what is appended
-  pub memory_acted : HasActed command input (both file mid) (Err fault_is.Memory)
-  memory_acted =
-      let read = some_bytes input.before.left in
-      let o = some_said_outcome (is_modelled file) command read.0 bytes loads.alone in (
-        read.0,
+  -- there was no memory for what is appended, behind a moment that was taken
+  pub memory_timed : (clock : Clock) (read : List ℕ) (moment : ℕ) → Agrees input.before.left read → IsTimed command clock false read moment bytes → HasActed command input clock (both file mid) (Err fault_is.Memory)
+  memory_timed clock read moment told timed =
+      let o = some_said_outcome (is_modelled file) command read moment bytes loads.alone in (
+        read,
+        moment,
         bytes,
         o.0,
-        memory_by command loads input file mid read.0 bytes o.0 read.1 file_told o.1
+        memory_by command loads input file mid read moment bytes o.0 told file_told o.1
             (loaded_touches command loads file mid bytes o.0 (unreadable mid) opened.any_moment opened.keeps) opened.contents,
+        timed,
       )
 
-  module _ (after : Loaded) (answer : Printed) (run : IsAppended command input bytes l after answer) where
+  -- and before one is
+  pub memory_acted : (told : Option (List ℕ)) → HasActed command input (still told) (both file mid) (Err fault_is.Memory)
+  memory_acted told =
+      let read = some_bytes input.before.left in
+      memory_timed (still told) read.0 0 read.1 (fault_still command told read.0 0 bytes)
+
+  module _ (clock : Clock) (after : Loaded) (answer : Printed) (run : IsAppended command input clock bytes l after answer) where
     abbrev outcome : Outcome
     outcome = with_commit answer run.appended
 
-    is_outcome : IsSaidOutcome (is_modelled file) command run.read bytes outcome
+    is_outcome : IsSaidOutcome (is_modelled file) command run.read run.moment bytes outcome
     is_outcome = run.outcome opened.stands.2 (is_modelled file)
 
     small : answer.status ≤ 3
@@ -133,16 +145,18 @@ module _ (command : Option Command) (loads : Loads command) (input : Input) (fil
 
       -- the commit failed
       pub failed_acted : ((held : List ℕ) → IsTrue left.is_model → left.contents ≡ Some held → left.images held) → Rose mid.faults left.faults → after.journal.stable < length after.journal.records
-          → HasActed command input (both file left) (Err fault_is.Disk)
+          → HasActed command input clock (both file left) (Err fault_is.Disk)
       failed_acted reads rose due = (
         run.read,
+        run.moment,
         bytes,
         outcome,
-        disk_by command loads input file left run.read bytes outcome run.told file_told is_outcome touches (subst (λ (n : ℕ). Rose n left.faults) opened.faults rose) (inr (has_commit due))
+        disk_by command loads input file left run.read run.moment bytes outcome run.told file_told is_outcome touches (subst (λ (n : ℕ). Rose n left.faults) opened.faults rose) (inr (has_commit due))
             (λ old held told left_told are known.
             let modelled : IsModelled file = record { tells = ap is_some told; model = (known refl).0 } in
             some_stand old held (old_is bytes old told (loads.old old bytes are))
             ((moments (modelled_after file mid opened.keeps modelled)).now held (reads held (commit_keeps.model ∙ opened.keeps.model ∙ (known refl).0) left_told))),
+        fault_timed command clock run.read run.moment bytes (run.timed opened.stands.2),
       )
 
       module _ (contents : Told left (λ held. IsFileOf held after.journal.records)) (durable : IsModelled mid → (c : List ℕ) → left.images c → IsFileOf c after.journal.records) where
@@ -153,9 +167,10 @@ module _ (command : Option Command) (loads : Loads command) (input : Input) (fil
             (subst (λ (rs : List Record). StandsFor rs held) (append-nil old)
             (subst (λ (rs : List Record). StandsForAll old (one_commit rs) held) three.1 all))
 
-        pub appended_acted : HasActed command input (both file left) (Ok answer)
+        pub appended_acted : HasActed command input clock (both file left) (Ok answer)
         appended_acted = (
           run.read,
+          run.moment,
           bytes,
           outcome,
           record {
@@ -171,4 +186,14 @@ module _ (command : Option Command) (loads : Loads command) (input : Input) (fil
             durable = λ last opens modelled told old are c image. all_stand old c (old_is bytes old told (loads.old old bytes are)) (durable (modelled_after file mid opened.keeps modelled) c image);
             spared = λ nine begun. absurd (loads.begun begun);
           },
+          run.timed opened.stands.2,
         )
+
+-- nothing was appended, and no device was called
+pub idle_acted : (command : Option Command) (loads : Loads command) (input : Input) (clock : Clock) (file mid : DiskState) (l : Loaded) (opened_is : IsOpened file mid l) (answer : Printed)
+    → IsAppended command input clock opened_is.stands.0 l l answer
+    → (IsModelled mid → LeavesOnly mid mid (BeforeOrAll l.journal)) → ((held : List ℕ) → IsTrue file.is_model → file.contents ≡ Some held → file.images held)
+    → HasActed command input clock (both file mid) (Ok answer)
+idle_acted command loads input clock file mid l opened_is answer run moments reads =
+    appended_acted command loads input file mid l opened_is clock l answer run mid ((record { tells = refl; model = refl })) moments reads
+    (idle_contents l.journal mid opened_is.belongs opened_is.is_open.runs opened_is.is_open.stable) (idle_durable l.journal mid opened_is.belongs opened_is.is_open.runs opened_is.is_open.stable)

@@ -27,12 +27,18 @@ few_by (command_of.Init project server fields) r fit e = absurd (cc)
 few_by command_of.Ingest r fit e = absurd (cc)
 few_by command_of.Put r fit e = absurd (cc)
 few_by (command_of.Shun name) r fit e = absurd (cc)
+few_by (command_of.Unshun name) r fit e = absurd (cc)
 few_by (command_of.Ask question) r fit e = absurd (cc)
 few_by (command_of.Gen count reversed) r fit e = absurd (cc)
 few_by (command_of.Pull address login) r fit e = absurd (cc)
 few_by (command_of.Push address login) r fit e = absurd (cc)
 few_by (command_of.Clone address server fields) r fit e = absurd (cc)
 few_by (command_of.PullLocal path) r fit e = absurd (cc)
+few_by (command_of.Checkin parent user comment) r fit e = absurd (cc)
+few_by (command_of.Export prefix) r fit e = absurd (cc)
+few_by (command_of.Verify prefix) r fit e = absurd (cc)
+few_by (command_of.Scrub path) r fit e = absurd (cc)
+few_by (command_of.Unversioned asked) r fit e = absurd (cc)
 few_by (command_of.Serve address users workers requests) r fit e = let same : requests ≡ r = cc in subst (λ (n : ℕ). n ≤ 65536) same fit.2
 
 -- a worker takes few connections

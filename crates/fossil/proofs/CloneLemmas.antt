@@ -14,7 +14,8 @@ use Rattle.fsl_words.specs.declared.Command.TheVariants as command_of
 use Rattle.fossil.specs.declared.answers.due.Due.{Due}
 use Rattle.fossil.specs.declared.answers.fault.Fault.TheVariants as fault_is
 use Rattle.fossil.specs.Printed.{Printed}
-use Rattle.fossil.specs.Outcome.{without_commit, command_clones}
+use Rattle.fossil.specs.Uses.{command_clones}
+use Rattle.fossil.specs.Outcome.{without_commit}
 use Rattle.fossil.specs.Run.{Output, IsTold, disk_fault}
 use Rattle.fossil.specs.Acts.{IsWritten}
 use Rattle.fossil.specs.Served.{IsWrittenAs, with_text, link_fault, no_memory}

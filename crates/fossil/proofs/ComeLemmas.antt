@@ -41,7 +41,8 @@ use Rattle.fossil.specs.Run.{Agrees, disk_fault}
 use Rattle.fossil.specs.Served.{with_text, no_memory}
 use Rattle.fossil.specs.Serving.{printed, IsDue}
 use Rattle.fossil.specs.Syncs.{fault_printed, end_printed, with_commits, IsEndOutcome, login_of, LocalRoundsGoOn}
-use Rattle.fossil.specs.Synced.{Read, honesty, IsSyncOutcome, AreCommits, ReadsContent, command_asks_peer, IsAnswer, Far, AreMade, reached, IsPeerKept, SyncsBy, objects_of}
+use Rattle.fossil.specs.Uses.{command_asks_peer}
+use Rattle.fossil.specs.Synced.{Read, honesty, IsSyncOutcome, AreCommits, ReadsContent, IsAnswer, Far, AreMade, reached, IsPeerKept, SyncsBy, objects_of}
 use Rattle.fossil.specs.Syncing.{IsSyncDue, ComesTo, IsReady, IsMadeOver, HasMade, HasPulledFrom, command_by}
 use Rattle.fossil.proofs.InputLemmas.{some_bytes}
 use Rattle.fossil.proofs.FileLemmas.{both, agrees, readable}

@@ -17,12 +17,13 @@ use Rattle.fossil.specs.Printed as printing
 use Rattle.fossil.specs.Gen.{IsGenPrinted}
 use Rattle.fossil.specs.Ingest as ingest
 use Rattle.fossil.specs.Outcome.{Outcome, without_commit, printed_of, usage, meets, IsSaidOutcome}
-use Rattle.fossil.specs.Run.{Input, Output, Agrees, reads, opens, IsSaid, IsTold, cut_off_status, HasRun}
+use Rattle.fossil.specs.Run.{Input, Output, Agrees, reads, opens, TakesMoment, IsSaid, IsTold, cut_off_status, HasRun}
 use Rattle.fossil.specs.Acts.{HasActed, IsCaused, IsUnread, IsIngestRun, fault_status}
 use Rattle.fossil.proofs.InputLemmas.{some_bytes}
 use Rattle.fossil.proofs.MessageLemmas.{refused_status}
 use Rattle.fossil.proofs.FileLemmas.{both, quiet_none, idle_left, idle_touches, fault_undone, fault_fades}
 use Rattle.fossil.proofs.SomeOutcome.{some_said_outcome}
+use Rattle.fossil.proofs.ActLemmas.{still, fault_still, none_due}
 use Rattle.fossil.proofs.PrintedLemmas.{written}
 
 no_zero : (fault : Fault) → fault_status fault ≡ 0 → ⊥
@@ -36,16 +37,18 @@ said_told : (o : Printed) (status : ℕ) (out : Output) → status ≡ o.status 
 said_told o status out e stays (inl whole) = inl (e, whole)
 said_told o status out e stays (inr cut) = inr (e ∙ sym stays, cut)
 
-module _ (command : Option Command) (input : Input) (file : DiskState) (no_other : IsTrue file.is_model → (c : List ℕ) → file.since file.moment c → file.images c) where
+module _ (command : Option Command) (input : Input) (clock : Option (List ℕ)) (file : DiskState) (no_other : IsTrue file.is_model → (c : List ℕ) → file.since file.moment c → file.images c) where
   abbrev Acted : Result Printed Fault → Type 0
-  Acted result = HasActed command input (both file file) result
+  Acted result = HasActed command input (still clock) (both file file) result
 
   -- nothing was done but the outcome, which commits nothing
-  pub idle_acted : (IsTrue (opens command) → ⊥) → (read : List ℕ) (o : Outcome) → Agrees input.before.left read → IsSaidOutcome (is_modelled file) command read (some_bytes file.contents).0 o → o.status ≤ 3
+  pub idle_acted : (IsTrue (opens command) → ⊥) → ((read bytes : List ℕ) → TakesMoment command read bytes → ⊥) → (read : List ℕ) (o : Outcome) → Agrees input.before.left read
+      → IsSaidOutcome (is_modelled file) command read 0 (some_bytes file.contents).0 o → o.status ≤ 3
       → (o.status ≡ 0 → IsTrue (reads command) → IsAtEnd input.after.left) → o.commits ≡ [] → Acted (Ok (printed_of o))
-  idle_acted closed read o told is small end none =
+  idle_acted closed never read o told is small end none =
       let bytes = some_bytes file.contents in (
         read,
+        0,
         bytes.0,
         o,
         record {
@@ -61,6 +64,7 @@ module _ (command : Option Command) (input : Input) (file : DiskState) (no_other
           durable = λ last opened. absurd (closed opened);
           spared = λ nine begun. quiet_none file;
         },
+        none_due command clock true read 0 bytes.0 (never read bytes.0),
       )
 
   -- a fault before anything was done
@@ -68,8 +72,9 @@ module _ (command : Option Command) (input : Input) (file : DiskState) (no_other
   idle_fault plain fault other cause =
       let read = some_bytes input.before.left in
       let bytes = some_bytes file.contents in
-      let o = some_said_outcome (is_modelled file) command read.0 bytes.0 plain in (
+      let o = some_said_outcome (is_modelled file) command read.0 0 bytes.0 plain in (
         read.0,
+        0,
         bytes.0,
         o.0,
         record {
@@ -85,6 +90,7 @@ module _ (command : Option Command) (input : Input) (file : DiskState) (no_other
           durable = λ last. absurd (fault_fades command fault last);
           spared = λ nine begun. quiet_none file;
         },
+        fault_still command clock read.0 0 bytes.0,
       )
 
   pub idle_memory : meets command ≡ false → Acted (Err fault_is.Memory)
@@ -97,28 +103,30 @@ module _ (command : Option Command) (input : Input) (file : DiskState) (no_other
   idle_unread plain fault_is.Memory un reads_it closed = idle_memory plain
 
 -- what opens no file and comes to the usage
-usage_of : (command : Option Command) → (IsTrue (opens command) → ⊥) → ((honest : Bool) (read bytes : List ℕ) → IsSaidOutcome honest command read bytes usage) → (input : Input) (file : DiskState)
-    → (IsTrue file.is_model → (c : List ℕ) → file.since file.moment c → file.images c) → (out : Output) (status : ℕ) → status ≡ 1 → IsSaid out usage.text → HasRun command input out (both file file) status
-usage_of command closed is input file no_other out status one said =
+pub usage_of : (command : Option Command) → (IsTrue (opens command) → ⊥) → ((read bytes : List ℕ) → TakesMoment command read bytes → ⊥) → ((honest : Bool) (read : List ℕ) (moment : ℕ) (bytes : List ℕ) → IsSaidOutcome honest command read moment bytes usage)
+    → (input : Input) (clock : Option (List ℕ)) (file : DiskState)
+    → (IsTrue file.is_model → (c : List ℕ) → file.since file.moment c → file.images c) → (out : Output) (status : ℕ) → status ≡ 1 → IsSaid out usage.text → HasRun command input (still clock) out (both file file) status
+usage_of command closed never is input clock file no_other out status one said =
     let read = some_bytes input.before.left in
-    written command input (both file file) (Ok (printed_of usage)) out status (idle_acted command input file no_other closed read.0 usage read.1 (is (is_modelled file) read.0 (some_bytes file.contents).0) (omega arith) (λ z. absurd (cc)) refl)
+    written command input (still clock) (both file file) (Ok (printed_of usage)) out status
+    (idle_acted command input clock file no_other closed never read.0 usage read.1 (is (is_modelled file) read.0 0 (some_bytes file.contents).0) (omega arith) (λ z. absurd (cc)) refl)
     (said_told (printed_of usage) status out one refl said)
 
 -- words that are no command
-pub usage_run : (input : Input) (file : DiskState) → (IsTrue file.is_model → (c : List ℕ) → file.since file.moment c → file.images c) → (out : Output) (status : ℕ) → status ≡ 1 → IsSaid out usage.text
-    → HasRun None input out (both file file) status
-usage_run = usage_of None (λ opened. cc) (λ honest read bytes. refl)
+pub usage_run : (input : Input) (clock : Option (List ℕ)) (file : DiskState) → (IsTrue file.is_model → (c : List ℕ) → file.since file.moment c → file.images c) → (out : Output) (status : ℕ) → status ≡ 1 → IsSaid out usage.text
+    → HasRun None input (still clock) out (both file file) status
+usage_run = usage_of None (λ opened. cc) (λ read bytes due. due) (λ honest read moment bytes. refl)
 
 -- a serve, which is no command of a run
-pub serve_run : (address users : List ℕ) (workers requests : ℕ) (input : Input) (file : DiskState) → (IsTrue file.is_model → (c : List ℕ) → file.since file.moment c → file.images c)
-    → (out : Output) (status : ℕ) → status ≡ 1 → IsSaid out usage.text → HasRun (Some (command_of.Serve address users workers requests)) input out (both file file) status
-serve_run address users workers requests = usage_of (Some (command_of.Serve address users workers requests)) (λ opened. cc) (λ honest read bytes. refl)
+pub serve_run : (address users : List ℕ) (workers requests : ℕ) (input : Input) (clock : Option (List ℕ)) (file : DiskState) → (IsTrue file.is_model → (c : List ℕ) → file.since file.moment c → file.images c)
+    → (out : Output) (status : ℕ) → status ≡ 1 → IsSaid out usage.text → HasRun (Some (command_of.Serve address users workers requests)) input (still clock) out (both file file) status
+serve_run address users workers requests = usage_of (Some (command_of.Serve address users workers requests)) (λ opened. cc) (λ read bytes due. due) (λ honest read moment bytes. refl)
 
 -- ---- ingest
 
-small_printed : (files : List Sent) (result : Result Taken Printed) (answer : Printed) → Arrive (none_taken ingest.fresh) files result → ingest.IsPrintedBy result answer → answer.status ≤ 3
+small_printed : (files : List Sent) (result : Result Taken Printed) (answer : Printed) → Arrive None (none_taken ingest.fresh) files result → ingest.IsPrintedBy result answer → answer.status ≤ 3
 small_printed files (Ok t) answer arrive is = let z = ap (λ (a : Printed). a.status) is.2 in omega (arith, z)
-small_printed files (Err refusal) answer arrive is = let e = refused_files files (none_taken ingest.fresh) refusal arrive in let same = ap (λ (a : Printed). a.status) is in omega (arith, e, same)
+small_printed files (Err refusal) answer arrive is = let e = refused_files None files (none_taken ingest.fresh) refusal arrive in let same = ap (λ (a : Printed). a.status) is in omega (arith, e, same)
 
 small_read : (read : List ℕ) (answer : Printed) → ingest.IsRead read answer → answer.status ≤ 3
 small_read read answer (inl h) = let e = refused_status read answer h in omega (arith, e)
@@ -128,21 +136,21 @@ small_ingest : (read : List ℕ) (t : Bool) (answer : Printed) → MatchBool t (
 small_ingest read true answer h = let e = ap (λ (a : Printed). a.status) h in omega (arith, e)
 small_ingest read false answer h = small_read read answer h
 
-pub ingest_acted : (input : Input) (file : DiskState) → (IsTrue file.is_model → (c : List ℕ) → file.since file.moment c → file.images c) → (result : Result Printed Fault)
-    → IfOk result (IsIngestRun input) → IfErr result (λ fault. IsUnread fault input) → HasActed (Some command_of.Ingest) input (both file file) result
-ingest_acted input file no_other (Ok answer) run un =
-    idle_acted (Some command_of.Ingest) input file no_other (λ opened. cc) run.read (without_commit answer) run.told (answer, run.ingested, refl) (small_ingest run.read (nat_lt (2 ^ 27) (length run.read)) answer run.ingested) (λ z reads. run.end z) refl
-ingest_acted input file no_other (Err fault) run un = idle_unread (Some command_of.Ingest) input file no_other refl fault un refl (λ e. cc)
+pub ingest_acted : (input : Input) (clock : Option (List ℕ)) (file : DiskState) → (IsTrue file.is_model → (c : List ℕ) → file.since file.moment c → file.images c) → (result : Result Printed Fault)
+    → IfOk result (IsIngestRun input) → IfErr result (λ fault. IsUnread fault input) → HasActed (Some command_of.Ingest) input (still clock) (both file file) result
+ingest_acted input clock file no_other (Ok answer) run un =
+    idle_acted (Some command_of.Ingest) input clock file no_other (λ opened. cc) (λ read bytes due. due) run.read (without_commit answer) run.told (answer, run.ingested, refl) (small_ingest run.read (nat_lt (2 ^ 27) (length run.read)) answer run.ingested) (λ z reads. run.end z) refl
+ingest_acted input clock file no_other (Err fault) run un = idle_unread (Some command_of.Ingest) input clock file no_other refl fault un refl (λ e. cc)
 
 -- ---- gen
 
-pub gen_acted : (count : ℕ) (reversed : Bool) (input : Input) (file : DiskState) → (IsTrue file.is_model → (c : List ℕ) → file.since file.moment c → file.images c) → (made : Result Printed Memory) (result : Result Printed Fault)
+pub gen_acted : (count : ℕ) (reversed : Bool) (input : Input) (clock : Option (List ℕ)) (file : DiskState) → (IsTrue file.is_model → (c : List ℕ) → file.since file.moment c → file.images c) → (made : Result Printed Memory) (result : Result Printed Fault)
     → IfOk made (IsGenPrinted count reversed) → IfOk result (λ a. made ≡ Ok a) → IfErr result (λ fault. fault ≡ fault_is.Memory)
-    → HasActed (Some (command_of.Gen count reversed)) input (both file file) result
-gen_acted count reversed input file no_other made (Ok answer) is ok err =
+    → HasActed (Some (command_of.Gen count reversed)) input (still clock) (both file file) result
+gen_acted count reversed input clock file no_other made (Ok answer) is ok err =
     let read = some_bytes input.before.left in
     let printed : IsGenPrinted count reversed answer = subst (λ (m : Result Printed Memory). IfOk m (IsGenPrinted count reversed)) ok is in
     let small : answer.status ≤ 3 = let z = ap (λ (a : Printed). a.status) printed.2 in omega (arith, z) in
-    idle_acted (Some (command_of.Gen count reversed)) input file no_other (λ opened. cc) read.0 (without_commit answer) read.1 (answer, printed, refl) small (λ z reads. absurd (cc)) refl
-gen_acted count reversed input file no_other made (Err fault) is ok err =
-    subst (λ (f : Fault). HasActed (Some (command_of.Gen count reversed)) input (both file file) (Err f)) (sym err) (idle_memory (Some (command_of.Gen count reversed)) input file no_other refl)
+    idle_acted (Some (command_of.Gen count reversed)) input clock file no_other (λ opened. cc) (λ read bytes due. due) read.0 (without_commit answer) read.1 (answer, printed, refl) small (λ z reads. absurd (cc)) refl
+gen_acted count reversed input clock file no_other made (Err fault) is ok err =
+    subst (λ (f : Fault). HasActed (Some (command_of.Gen count reversed)) input (still clock) (both file file) (Err f)) (sym err) (idle_memory (Some (command_of.Gen count reversed)) input clock file no_other refl)

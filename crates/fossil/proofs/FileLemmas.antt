@@ -13,7 +13,7 @@ use Rattle.fsl_words.specs.declared.Command.{Command}
 use Rattle.fossil.specs.declared.answers.fault.Fault.{Fault}
 use Rattle.fossil.specs.declared.answers.fault.Fault.TheVariants as fault_is
 use Rattle.fossil.specs.Outcome.{Outcome, one_commit, not_repository, meets, IsSaidOutcome}
-use Rattle.fossil.specs.Run.{File, Agrees, opens, begins, StandsFor, StandsForAll, StandsForSome, AreOldBy, AreOld, AreImages, is_done, IsLeft, IsFileLeft, IsNoRepository, IsRefused, IsWholeAtAnyMoment, lasts, IsDurable, after_commits}
+use Rattle.fossil.specs.Run.{File, Agrees, opens, begins, StandsFor, StandsForAll, StandsForSome, AreOldBy, AreOld, AreImages, is_done, IsLeft, IsFileLeft, IsNoRepository, IsRefused, IsWholeAtAnyMoment, lasts, IsDurable, TakesMoment, after_commits}
 use Rattle.fossil.specs.Acts.{KeepsContents, KeepsImages, KeepsUnreadable, Touches, fault_status}
 
 -- a file stands for some records
@@ -156,8 +156,10 @@ pub record Loads (command : Option Command) : Type 0 where
   pub begun : IsTrue (begins command) → ⊥
   pub old : (old : List Record) (bytes : List ℕ) → AreOld command old bytes → IsFileOf bytes old
   pub refused : (bytes : List ℕ) → IsRefused command bytes → IsNoRepository bytes
-  pub fails : (honest : Bool) (read bytes : List ℕ) (at : ℕ) → FailsAt bytes at → IsSaidOutcome honest command read bytes (not_repository at)
+  pub fails : (honest : Bool) (read : List ℕ) (moment : ℕ) (bytes : List ℕ) (at : ℕ) → FailsAt bytes at → IsSaidOutcome honest command read moment bytes (not_repository at)
   pub alone : meets command ≡ false
+  -- it takes a moment behind a file of records alone
+  pub due : (read bytes : List ℕ) → TakesMoment command read bytes → (records : List Record) × IsFileOf bytes records
 
 module _ (command : Option Command) (loads : Loads command) (file left : DiskState) (bytes : List ℕ) (o : Outcome) where
   -- what the contents stand for stays

@@ -250,7 +250,7 @@ module _ (s : State) (g : Gathered) (is : IsGathered s g) where
       stored_arrival told small named is_room =
           let due = arrived s name None bytes private told in
           let storing : IsRoom (with_blob s name bytes private) told = (with_item item old, subst (λ (d : Contents). AreItems d.held (with_item item old)) (sym after_is) items2_are, is_room ∙ room_is) in
-          (is_arrival s due name bytes private told
+          (is_arrival None s due name bytes private told
           (steps.stored_step s name None bytes private is.runs small named (absent_here name none) told due
           (inl (due, (storing, refl), record { state = refl; faults = omega (arith, faults_same s name bytes private told) })))
           (λ e. room_no_memory new.bytes (length new.facts.entries) (length new.wanted.keys) (sym is_room ∙ e))).0
@@ -286,13 +286,13 @@ fault_of f g new arrive_fault.Memory by other s is = absurd (other refl)
 
 module _ (f : Sent) (g : Gathered) where
   pub large_in : (new : Gathered) → nat_lt (2 ^ 24) (length f.bytes) ≡ true → IsGatheredBy f g new (Err (arrive_fault.TooLarge (length f.bytes)))
-  large_in new large s is = (is_arrival s s f.name f.bytes f.private (Err (arrive_fault.TooLarge (length f.bytes))) (steps.large_step s f.name None f.bytes f.private is.runs large) (λ e. cc)).0
+  large_in new large s is = (is_arrival None s s f.name f.bytes f.private (Err (arrive_fault.TooLarge (length f.bytes))) (steps.large_step s f.name None f.bytes f.private is.runs large) (λ e. cc)).0
 
   module _ (small : nat_lt (2 ^ 24) (length f.bytes) ≡ false) where
     pub wrong_in : (new : Gathered) (found : List ℕ) → found ≡ name_of f.bytes → bytes_eq (name_of f.bytes) f.name ≡ false → IsGatheredBy f g new (Err (arrive_fault.NameWrong found))
     wrong_in new found named other =
         subst (λ (n : List ℕ). IsGatheredBy f g new (Err (arrive_fault.NameWrong n))) (sym named)
-        (λ s is. (is_arrival s s f.name f.bytes f.private (Err (arrive_fault.NameWrong (name_of f.bytes))) (steps.wrong_step s f.name None f.bytes f.private is.runs small other) (λ e. cc)).0)
+        (λ s is. (is_arrival None s s f.name f.bytes f.private (Err (arrive_fault.NameWrong (name_of f.bytes))) (steps.wrong_step s f.name None f.bytes f.private is.runs small other) (λ e. cc)).0)
 
     module _ (named : bytes_eq (name_of f.bytes) f.name ≡ true) where
       pub present_in : ShunnedAreNotHeld → (fact : Fact) → get bytes_cmp g.facts f.name ≡ Some fact → (not fact.private || f.private) ≡ true → IsGatheredBy f g g (Ok arrival.Present)
@@ -301,10 +301,10 @@ module _ (f : Sent) (g : Gathered) where
         present_by law s is h true e =
             let at : state_of (now s) f.name ≡ blob.Private (length (h.0).bytes) = h.2 ∙ ap (λ (p : Bool). if p then blob.Private (length (h.0).bytes) else blob.Public (length (h.0).bytes)) e in
             let kept : f.private ≡ true = sym (ap (λ (p : Bool). not p || f.private) e) ∙ stays in
-            (is_arrival s s f.name f.bytes f.private (Ok arrival.Present) (steps.private_step s f.name None f.bytes f.private is.runs small named law (length (h.0).bytes) at kept) (λ e. cc)).0
+            (is_arrival None s s f.name f.bytes f.private (Ok arrival.Present) (steps.private_step s f.name None f.bytes f.private is.runs small named law (length (h.0).bytes) at kept) (λ e. cc)).0
         present_by law s is h false e =
             let at : state_of (now s) f.name ≡ blob.Public (length (h.0).bytes) = h.2 ∙ ap (λ (p : Bool). if p then blob.Private (length (h.0).bytes) else blob.Public (length (h.0).bytes)) e in
-            (is_arrival s s f.name f.bytes f.private (Ok arrival.Present) (steps.public_step s f.name None f.bytes f.private is.runs small named law (length (h.0).bytes) at) (λ e. cc)).0
+            (is_arrival None s s f.name f.bytes f.private (Ok arrival.Present) (steps.public_step s f.name None f.bytes f.private is.runs small named law (length (h.0).bytes) at) (λ e. cc)).0
 
       pub published_in : ShunnedAreNotHeld → (fact : Fact) (new : Gathered) → get bytes_cmp g.facts f.name ≡ Some fact → (not fact.private || f.private) ≡ false
           → MakesPublic f.name g.facts new.facts → new.bytes ≡ g.bytes → new.wanted ≡ g.wanted → IsGatheredBy f g new (Ok arrival.Published)
@@ -314,7 +314,7 @@ module _ (f : Sent) (g : Gathered) where
           let private : fact.private ≡ true = turned_true fact.private parts.0 in
           let at : state_of (now s) f.name ≡ blob.Private (length (h.0).bytes) = h.2 ∙ ap (λ (p : Bool). if p then blob.Private (length (h.0).bytes) else blob.Public (length (h.0).bytes)) private in
           let due : State = record s { records = s.records ++ record_of.Publish f.name ∷ [] } in (
-            (is_arrival s due f.name f.bytes f.private (Ok arrival.Published)
+            (is_arrival None s due f.name f.bytes f.private (Ok arrival.Published)
                 (steps.published_step s f.name None f.bytes f.private is.runs small named law (length (h.0).bytes) at parts.1 (Ok arrival.Published) due
                 (inl (due, (refl, refl), record { state = refl; faults = omega arith }))) (λ e. cc)).0,
             published_gathered s g is new f.name h.0 h.1 turns bytes wanted,
@@ -349,26 +349,26 @@ module _ (f : Sent) (g : Gathered) where
 -- files were taken, and these are left of all
 pub record AreGathered (all left : List Sent) (g : Gathered) : Type 0 where
   pub taken : Taken
-  pub goes_on : GoesOn (none_taken fresh) all taken left
+  pub goes_on : GoesOn None (none_taken fresh) all taken left
   pub state : IsGathered taken.state g
 
 module _ (all left rest : List Sent) (f : Sent) (g new : Gathered) (are : AreGathered all left g) (split : left ≡ f ∷ rest) where
   pub gathered_more : (a : Arrival) → IsGatheredBy f g new (Ok a) → AreGathered all rest new
   gathered_more a by = let one = by are.taken.state are.state in
-      record { taken = and_taken are.taken f (Ok a); goes_on = one_more (none_taken fresh) are.taken all left rest f a are.goes_on split one.0; state = one.1 }
+      record { taken = and_taken None are.taken f (Ok a); goes_on = one_more None (none_taken fresh) are.taken all left rest f a are.goes_on split one.0; state = one.1 }
 
   module _ (fault : ArriveFault) (by : IsGatheredBy f g new (Err fault)) where
     pub never_so : (n : ℕ) → fault ≡ arrive_fault.Stopped n → ⊥
     never_so n same =
         never_stopped are.taken.state f.name f.bytes f.private n are.state.runs (subst (λ (x : ArriveFault). IsGatheredBy f g new (Err x)) same by are.taken.state are.state)
 
-    pub gathered_refused : (refusal : Printed) → refusal_of f.name (Err fault) ≡ Some refusal → Arrive (none_taken fresh) all (Err refusal)
+    pub gathered_refused : (refusal : Printed) → refusal_of f.name (Err fault) ≡ Some refusal → Arrive None (none_taken fresh) all (Err refusal)
     gathered_refused refusal refuses =
         let other : fault ≡ arrive_fault.Memory → ⊥ = (λ e. let same : refusal_of f.name (Err arrive_fault.Memory) ≡ Some refusal = subst (λ (x : ArriveFault). refusal_of f.name (Err x) ≡ Some refusal) e refuses in cc) in
-        refused_here (none_taken fresh) are.taken all left rest f fault refusal are.goes_on split (fault_of f g new fault by other are.taken.state are.state) refuses
+        refused_here None (none_taken fresh) are.taken all left rest f fault refusal are.goes_on split (fault_of f g new fault by other are.taken.state are.state) refuses
 
-pub all_gathered : (all left : List Sent) (g : Gathered) → AreGathered all left g → left ≡ [] → (taken : Taken) × Arrive (none_taken fresh) all (Ok taken) × IsGathered taken.state g
-all_gathered all left g are none = (are.taken, none_left (none_taken fresh) are.taken all left are.goes_on none, are.state)
+pub all_gathered : (all left : List Sent) (g : Gathered) → AreGathered all left g → left ≡ [] → (taken : Taken) × Arrive None (none_taken fresh) all (Ok taken) × IsGathered taken.state g
+all_gathered all left g are none = (are.taken, none_left None (none_taken fresh) are.taken all left are.goes_on none, are.state)
 
 -- ---- what is printed
 

@@ -18,9 +18,10 @@ use Rattle.fossil.specs.declared.answers.fault.Fault.TheVariants as fault_is
 use Rattle.fossil.specs.Printed.{Printed}
 use Rattle.fossil.specs.Printed as printing
 use Rattle.fossil.specs.Outcome.{Outcome, init_outcome, without_commit, one_commit, printed_of}
-use Rattle.fossil.specs.Run.{Input, Agrees, StandsFor, StandsForAll, StandsForSome, AreOldBy, AreImages, is_done, lasts, IsFileLeft, IsWholeAtAnyMoment, IsSpared}
+use Rattle.fossil.specs.Run.{Input, Agrees, IsTimed, StandsFor, StandsForAll, StandsForSome, AreOldBy, AreImages, is_done, lasts, IsFileLeft, IsWholeAtAnyMoment, IsSpared}
 use Rattle.fossil.specs.Acts.{ActsBy, HasActed, IsCaused, Touches, result_status}
 use Rattle.fossil.proofs.InputLemmas.{some_bytes}
+use Rattle.fossil.proofs.ActLemmas.{still, none_due}
 use Rattle.fossil.proofs.FileLemmas.{both, some_same, agrees, agreed, empty_file, old_stands, none_committed, all_committed, one_is_all, left_same, left_failed, fault_fades}
 
 -- some bytes of a length, or those that are told
@@ -35,7 +36,7 @@ is_empty : (bytes : List ℕ) → (bytes ≡ []) ⊎ (bytes ≢ [])
 is_empty [] = inl refl
 is_empty (b ∷ bytes) = inr (λ e. cc)
 
-module _ (config : Config) (source : SourceState) (file left : DiskState) (keeps : Keeps file left) (moments : IsModelled file → ((c : List ℕ) → file.images c → c ≡ []) → LeavesOnly file left (NothingOr config))
+module _ (config : Config) (source : SourceState) (clock : Option (List ℕ)) (file left : DiskState) (keeps : Keeps file left) (moments : IsModelled file → ((c : List ℕ) → file.images c → c ≡ []) → LeavesOnly file left (NothingOr config))
     (file_reads : (held : List ℕ) → IsTrue file.is_model → file.contents ≡ Some held → file.images held) (untouched : Told file (λ held. (held ≡ []) ⊎ Quiet file left))
     (only_now : IsTrue file.is_model → (c : List ℕ) → file.since file.moment c → file.images c) where
   abbrev command : Option Command
@@ -101,7 +102,7 @@ module _ (config : Config) (source : SourceState) (file left : DiskState) (keeps
 
     -- a fault after which the contents are as they were, or the disk failed
     pub fault_acted : (fault : Fault) → (fault ≡ fault_is.Input → ⊥) → IsCaused command input (both file left) bytes (outcome bytes) fault → IsFileLeft command (both file left) (result_status (Err fault)) bytes (outcome bytes)
-        → IsSpared command (both file left) (result_status (Err fault)) → ActsBy command input (both file left) (Err fault) (some_bytes source.left).0 bytes (outcome bytes)
+        → IsSpared command (both file left) (result_status (Err fault)) → ActsBy command input (both file left) (Err fault) (some_bytes source.left).0 0 bytes (outcome bytes)
     fault_acted fault other cause contents spared = record {
       input_told = (some_bytes source.left).1;
       file_told = file_told;
@@ -117,7 +118,10 @@ module _ (config : Config) (source : SourceState) (file left : DiskState) (keeps
     }
 
   abbrev Acted : Result Printed Fault → Type 0
-  Acted result = HasActed command input (both file left) result
+  Acted result = HasActed command input (still clock) (both file left) result
+
+  unasked : (answered : Bool) (read bytes : List ℕ) → IsTimed command (still clock) answered read 0 bytes
+  unasked answered read bytes = none_due command clock answered read 0 bytes (λ due. due)
 
   -- ---- the answers
 
@@ -126,6 +130,7 @@ module _ (config : Config) (source : SourceState) (file left : DiskState) (keeps
       let read = some_bytes source.left in
       let told = agrees file.contents [] (λ held told. sym (made.was held told)) in (
         read.0,
+        0,
         [],
         outcome [],
         record {
@@ -143,6 +148,7 @@ module _ (config : Config) (source : SourceState) (file left : DiskState) (keeps
           durable = λ last opened modelled file_told old are c image. all_stand old (outcome []).commits c (old_none old [] refl are) refl (durable modelled c image);
           spared = λ nine begun. absurd (cc);
         },
+        unasked true read.0 [],
       )
 
   pub made_acted : (text : List ℕ) → text ≡ [] → IsMade config file left → (IsModelled file → (c : List ℕ) → left.images c → IsFileOf c first) → Acted (Ok (record { status = 0; text = text }))
@@ -159,6 +165,7 @@ module _ (config : Config) (source : SourceState) (file left : DiskState) (keeps
       let bytes = of_length file.contents len is in
       let three : answer.status ≡ 3 = ap (λ (a : Printed). a.status) refusal in (
         read.0,
+        0,
         bytes.0,
         outcome bytes.0,
         record {
@@ -174,19 +181,22 @@ module _ (config : Config) (source : SourceState) (file left : DiskState) (keeps
           durable = λ last. absurd (let none = subst (λ (n : ℕ). IsTrue (lasts command n)) three last in cc);
           spared = λ nine begun. absurd (omega (arith, three, nine));
         },
+        unasked true read.0 bytes.0,
       )
 
   pub memory_acted : left.contents ≡ file.contents → Quiet file left → Acted (Err fault_is.Memory)
   memory_acted same quiet =
       let bytes = some_bytes file.contents in
-      ((some_bytes source.left).0, bytes.0, outcome bytes.0, fault_acted bytes.0 bytes.1 fault_is.Memory (λ e. cc) tt (left_same command file left bytes.0 (outcome bytes.0) 9 (λ done. absurd (cc)) same) (λ nine begun. quiet))
+      ((some_bytes source.left).0, 0, bytes.0, outcome bytes.0, fault_acted bytes.0 bytes.1 fault_is.Memory (λ e. cc) tt (left_same command file left bytes.0 (outcome bytes.0) 9 (λ done. absurd (cc)) same) (λ nine begun. quiet), unasked false (some_bytes source.left).0 bytes.0)
 
   pub disk_acted : ((held : List ℕ) → IsTrue left.is_model → left.contents ≡ Some held → left.images held) → Rose file.faults left.faults → Acted (Err fault_is.Disk)
   disk_acted reads rose =
       let bytes = some_bytes file.contents in (
         (some_bytes source.left).0,
+        0,
         bytes.0,
         outcome bytes.0,
         fault_acted bytes.0 bytes.1 fault_is.Disk (λ e. cc) (record { opened = refl; rose = rose; moment = inl refl })
             (left_failed command file left bytes.0 (outcome bytes.0) refl keeps reads (touches bytes.0 bytes.1).any_moment) (λ nine begun. absurd (cc)),
+        unasked false (some_bytes source.left).0 bytes.0,
       )

@@ -1,6 +1,7 @@
 pub mod DamagedLine
 pub mod OneReport
 pub mod GenLemmas
+pub mod UvOutcomes
 pub mod OneOutcome
 pub mod SomeOutcome
 pub mod MessageLemmas
@@ -19,7 +20,9 @@ pub mod CommitLemmas
 pub mod AppendLemmas
 pub mod PutLemmas
 pub mod ShunLemmas
+pub mod UnshunLemmas
 pub mod InitLemmas
+pub mod UvLemmas
 pub mod CommandLemmas
 pub mod WordsLemmas
 pub mod QuestionLemmas
@@ -39,3 +42,6 @@ pub mod CloneLemmas
 pub mod CloneOutcomes
 pub mod OneSync
 pub mod SomeSync
+pub mod UvSyncOutcomes
+pub mod UvFileLemmas
+pub mod UvSyncLemmas

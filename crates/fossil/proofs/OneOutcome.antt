@@ -1,12 +1,14 @@
 -- Words, an input and a file have one outcome.
-use Rattle.std.proofs.Common.{◌≡◌, ℕ, Bool, true, false, not, List, [], length, ltb, Option, Some, None, Result, Ok, Err, IsTrue, refl, sym, ap, subst, ◌∙◌, inl, inr}
+use Rattle.std.proofs.Common.{◌≡◌, ℕ, Bool, true, false, not, codes, List, [], ◌∷◌, length, ltb, Option, Some, None, Result, Ok, Err, IsTrue, refl, sym, ap, subst, ◌∙◌, inl, inr}
 use Rattle.std.specs.Prelude.{◌^◌, ◌||◌, MatchBool, is_some}
-use Rattle.fsl_blobs.specs.Fold.{contents}
+use Rattle.fsl_blobs.specs.Fold.{Contents, contents}
 use Rattle.fsl_journal.proofs.Failing.{no_file, one_place}
 use Rattle.fsl_journal.proofs.Unique.{one_file}
 use Rattle.fsl_record.specs.declared.Record.{Record}
+use Rattle.fsl_record.specs.declared.Record.TheVariants as record_of
 use Rattle.fsl_cross.specs.declared.Item.{Item}
-use Rattle.fsl_repo.specs.Machine.{State, now}
+use Rattle.std.specs.FinSet as set
+use Rattle.fsl_repo.specs.Machine.{State, now, AreItems}
 use Rattle.fsl_repo.specs.Whole.{opened}
 use Rattle.fsl_repo.proofs.OneList.{are_one_list}
 use Rattle.fsl_words.specs.declared.Question.{Question}
@@ -17,9 +19,15 @@ use Rattle.fossil.specs.Arrivals.{Taken, none_taken}
 use Rattle.fossil.specs.Printed.{Printed}
 use Rattle.fossil.specs.Printed as printing
 use Rattle.fossil.specs.Ingest as ingest
-use Rattle.fossil.specs.Put.{IsPut, IsPutRead, IsPutFiles, printed_by, appended_by}
+use Rattle.fossil.specs.Put.{IsPut, IsPutRead, IsPutFiles, put_receipt, printed_by, appended_by}
+use Rattle.fossil.specs.Unshun.{wanted_without, IsUnshun}
 use Rattle.fsl_query.specs.Answers.{prefix_of}
-use Rattle.fossil.specs.Outcome.{Outcome, without_commit, with_commit, not_repository, report_outcome, IsAnswered, IsIngestOfFiles, IsPutOfFiles, IsShunOf, IsLoaded, IsCommandOutcome, said, IsSaidOutcome, command_reads_content, reads_content, AreAlike, HasOneOutcome}
+use Rattle.fossil.specs.Outcome.{Outcome, without_commit, with_commit, not_repository, report_outcome, IsAnswered, IsIngestOfFiles, IsPutOfFiles, IsShunOf, IsUnshunOf, IsUvOf, IsUvOutcome, IsLoaded, IsCommandOutcome, said, IsSaidOutcome, command_reads_content, reads_content, AreAlike, HasOneOutcome}
+use Rattle.fsl_uv.specs.Entries.{Version}
+use Rattle.fsl_uv.specs.Reports.{Done, list_done, cat_done, add_done, remove_done}
+use Rattle.fsl_words.specs.declared.Unversioned.{Unversioned}
+use Rattle.fsl_words.specs.declared.Unversioned.TheVariants as uv
+use Rattle.fossil.proofs.UvOutcomes.{one_uv}
 use Rattle.fossil.proofs.GenLemmas.{one_gen}
 use Rattle.fossil.proofs.OneReport.{one_result, alike_result, same_alike}
 use Rattle.fossil.proofs.MessageLemmas.{one_files, one_refused, not_both}
@@ -37,7 +45,7 @@ one_printed (Err refusal) a b h k = h ∙ sym k
 
 one_report : (files : List Sent) (a b : Printed) → ingest.IsReported files a → ingest.IsReported files b → a ≡ b
 one_report files a b h k =
-    one_printed k.0 a b (subst (λ (r : Result Taken Printed). ingest.IsPrintedBy r a) (one_arrive files (none_taken ingest.fresh) h.0 k.0 h.1 k.1) h.2) k.2
+    one_printed k.0 a b (subst (λ (r : Result Taken Printed). ingest.IsPrintedBy r a) (one_arrive None files (none_taken ingest.fresh) h.0 k.0 h.1 k.1) h.2) k.2
 
 one_read : (input : List ℕ) (a b : Printed) → ingest.IsRead input a → ingest.IsRead input b → a ≡ b
 one_read input a b (inl h) (inl k) = one_refused input a b h k
@@ -61,29 +69,60 @@ one_ingested input a b h k = h.2 ∙ ap without_commit (one_ingest input h.0 k.0
 abbrev Same : Printed → Printed → List Record → List Record → Type 0
 Same a b xs ys = (a ≡ b) × (xs ≡ ys)
 
-module _ (old : List Record) (a b : Printed) (xs ys : List Record) where
+module _ (moment : ℕ) (old : List Record) (a b : Printed) (xs ys : List Record) where
   same_refusal : (refusal : Printed) → (a ≡ refusal) × (xs ≡ []) → (b ≡ refusal) × (ys ≡ []) → Same a b xs ys
   same_refusal refusal h k = (h.0 ∙ sym k.0, h.1 ∙ sym k.1)
 
-  same_read : (input : List ℕ) → IsPutRead input old a xs → IsPutRead input old b ys → Same a b xs ys
+  same_read : (input : List ℕ) → IsPutRead input moment old a xs → IsPutRead input moment old b ys → Same a b xs ys
   same_read input (inl h) (inl k) = (one_refused input a b h.0 k.0, h.1 ∙ sym k.1)
   same_read input (inl h) (inr k) = absurd (not_both input k.0 a k.1 h.0)
   same_read input (inr h) (inl k) = absurd (not_both input h.0 b h.1 k.0)
   same_read input (inr h) (inr k) =
-      let f = subst (λ (files : List Sent). IsPutFiles files old a xs) (one_files input h.0 k.0 h.1 k.1) h.2 in
-      let same = one_arrive k.0 (none_taken (opened old 0 true)) f.0 k.2.0 f.1 k.2.1 in
+      let f = subst (λ (files : List Sent). IsPutFiles files moment old a xs) (one_files input h.0 k.0 h.1 k.1) h.2 in
+      let same = one_arrive (Some (put_receipt moment)) k.0 (none_taken (opened old 0 true)) f.0 k.2.0 f.1 k.2.1 in
       (f.2 ∙ ap printed_by same ∙ sym k.2.2, f.3 ∙ ap (appended_by old) same ∙ sym k.2.3)
 
-  same_put : (input : List ℕ) (t : Bool) → MatchBool t ((a ≡ printing.too_long) × (xs ≡ [])) (IsPutRead input old a xs) → MatchBool t ((b ≡ printing.too_long) × (ys ≡ [])) (IsPutRead input old b ys) → Same a b xs ys
+  same_put : (input : List ℕ) (t : Bool) → MatchBool t ((a ≡ printing.too_long) × (xs ≡ [])) (IsPutRead input moment old a xs) → MatchBool t ((b ≡ printing.too_long) × (ys ≡ [])) (IsPutRead input moment old b ys) → Same a b xs ys
   same_put input true h k = same_refusal printing.too_long h k
   same_put input false h k = same_read input h k
 
-pub one_put : (input : List ℕ) (old : List Record) (a b : Printed) (xs ys : List Record) → IsPut input old a xs → IsPut input old b ys → (a ≡ b) × (xs ≡ ys)
-one_put input old a b xs ys h k = same_put old a b xs ys input (ltb (2 ^ 27) (length input)) h k
+pub one_put : (input : List ℕ) (moment : ℕ) (old : List Record) (a b : Printed) (xs ys : List Record) → IsPut input moment old a xs → IsPut input moment old b ys → (a ≡ b) × (xs ≡ ys)
+one_put input moment old a b xs ys h k = same_put moment old a b xs ys input (ltb (2 ^ 27) (length input)) h k
 
-pub one_put_outcome : (input : List ℕ) (old : List Record) (a b : Outcome) → IsPutOfFiles input old a → IsPutOfFiles input old b → a ≡ b
-one_put_outcome input old a b h k =
-    let same = one_put input old h.0 k.0 h.1 k.1 h.2 k.2 in
+pub one_put_outcome : (input : List ℕ) (moment : ℕ) (old : List Record) (a b : Outcome) → IsPutOfFiles input moment old a → IsPutOfFiles input moment old b → a ≡ b
+one_put_outcome input moment old a b h k =
+    let same = one_put input moment old h.0 k.0 h.1 k.1 h.2 k.2 in
+    h.3 ∙ (λ i. with_commit (same.0 i) (same.1 i)) ∙ sym k.3
+
+-- ---- unshun
+
+-- what is printed and appended of a shunned name, by whether too many names would be wanted; and of a name, by whether it is shunned
+abbrev AreRoom : Bool → List ℕ → Printed → List Record → Type 0
+AreRoom full name printed appended =
+    MatchBool full ((printed ≡ printing.full name) × (appended ≡ []))
+    ((printed ≡ record { status = 0; text = printing.name_line (codes "unshunned") name }) × (appended ≡ record_of.Unshun name ∷ []))
+
+abbrev Unshuns : Bool → List ℕ → Contents → Printed → List Record → Type 0
+Unshuns listed name c printed appended =
+    MatchBool listed ((items : List Item) × AreItems c.held items × AreRoom (ltb (2 ^ 20) (wanted_without name c items)) name printed appended)
+    ((printed ≡ record { status = 0; text = printing.name_line (codes "not shunned") name }) × (appended ≡ []))
+
+one_unshun : (name : List ℕ) (c : Contents) (a b : Printed) (xs ys : List Record) → IsUnshun name c a xs → IsUnshun name c b ys → Same a b xs ys
+one_unshun name c a b xs ys h k = by_list (set.contains c.shunned name) h k
+  where
+    by_room : (full : Bool) (items : List Item) → AreRoom full name a xs → AreRoom full name b ys → Same a b xs ys
+    by_room true items h k = same_refusal 0 [] a b xs ys (printing.full name) h k
+    by_room false items h k = (h.0 ∙ sym k.0, h.1 ∙ sym k.1)
+
+    by_list : (listed : Bool) → Unshuns listed name c a xs → Unshuns listed name c b ys → Same a b xs ys
+    by_list true h k =
+        let same : h.0 ≡ k.0 = are_one_list c.held h.0 k.0 h.1 k.1 in
+        by_room (ltb (2 ^ 20) (wanted_without name c k.0)) k.0 (subst (λ (items : List Item). AreRoom (ltb (2 ^ 20) (wanted_without name c items)) name a xs) same h.2) k.2
+    by_list false h k = (h.0 ∙ sym k.0, h.1 ∙ sym k.1)
+
+one_unshun_outcome : (name : List ℕ) (old : List Record) (a b : Outcome) → IsUnshunOf name old a → IsUnshunOf name old b → a ≡ b
+one_unshun_outcome name old a b h k =
+    let same = one_unshun name (contents old) h.0 k.0 h.1 k.1 h.2 k.2 in
     h.3 ∙ (λ i. with_commit (same.0 i) (same.1 i)) ∙ sym k.3
 
 -- ---- the file
@@ -103,6 +142,9 @@ one_loaded ByRecords bytes one a b h k = loaded_by (λ a b. a ≡ b) (λ a b sam
 
 -- ---- a run
 
+abbrev Map : Type 0
+Map = List (List ℕ × Version)
+
 one_answered : (honest : Bool) (question : Question) → IsTrue (honest || not (is_some (prefix_of question))) → (old : List Record) (a b : Outcome)
     → IsAnswered honest question old a → IsAnswered honest question old b → a ≡ b
 one_answered honest question kind old a b h k = h.2 ∙ ap report_outcome (one_result honest (contents old) question kind h.0 k.0 h.1 k.1) ∙ sym k.2
@@ -111,45 +153,70 @@ alike_answered : (honest : Bool) (question : Question) (old : List Record) (a b 
 alike_answered honest question old a b h k =
     subst (λ (x : Outcome). AreAlike x b) (sym h.2) (subst (AreAlike (report_outcome h.0)) (sym k.2) (alike_result honest (contents old) question h.0 k.0 h.1 k.1))
 
-pub one_command_outcome : (honest : Bool) (command : Command) → IsTrue (honest || not (command_reads_content command)) → (input bytes : List ℕ) (a b : Outcome)
-    → IsCommandOutcome honest command input bytes a → IsCommandOutcome honest command input bytes b → a ≡ b
-one_command_outcome honest (command_of.Init project server fields) kind input bytes a b h k = h ∙ sym k
-one_command_outcome honest command_of.Ingest kind input bytes a b h k = one_ingested input a b h k
-one_command_outcome honest command_of.Put kind input bytes a b h k = one_loaded (IsPutOfFiles input) bytes (λ old x y p q. one_put_outcome input old x y p q) a b h k
-one_command_outcome honest (command_of.Shun name) kind input bytes a b h k = one_loaded (IsShunOf name) bytes (λ old x y p q. p ∙ sym q) a b h k
-one_command_outcome honest (command_of.Ask question) kind input bytes a b h k = one_loaded (IsAnswered honest question) bytes (one_answered honest question kind) a b h k
-one_command_outcome honest (command_of.Serve address users workers requests) kind input bytes a b h k = h ∙ sym k
-one_command_outcome honest (command_of.Gen count reversed) kind input bytes a b h k = one_gen count reversed a b h k
-one_command_outcome honest (command_of.Pull address login) kind input bytes a b h k = absurd h
-one_command_outcome honest (command_of.Push address login) kind input bytes a b h k = absurd h
-one_command_outcome honest (command_of.Clone address server fields) kind input bytes a b h k = absurd h
-one_command_outcome honest (command_of.PullLocal path) kind input bytes a b h k = absurd h
+one_uv_outcome : (asked : Unversioned) (input : List ℕ) (moment : ℕ) (bytes : List ℕ) (a b : Outcome) → IsUvOutcome asked input moment bytes a → IsUvOutcome asked input moment bytes b → a ≡ b
+one_uv_outcome (uv.Init project server) input moment bytes a b h k = h ∙ sym k
+one_uv_outcome (uv.Add path) input moment bytes a b h k = let does : Map → Done = λ m. add_done m path moment input in one_loaded (IsUvOf does) bytes (one_uv does) a b h k
+one_uv_outcome (uv.Remove path) input moment bytes a b h k = let does : Map → Done = λ m. remove_done m path moment in one_loaded (IsUvOf does) bytes (one_uv does) a b h k
+one_uv_outcome uv.List input moment bytes a b h k = one_loaded (IsUvOf list_done) bytes (one_uv list_done) a b h k
+one_uv_outcome (uv.Cat path) input moment bytes a b h k = let does : Map → Done = λ m. cat_done m path in one_loaded (IsUvOf does) bytes (one_uv does) a b h k
+one_uv_outcome (uv.Sync peer) input moment bytes a b h k = absurd h
 
-pub one_said_outcome : (honest : Bool) (command : Option Command) → IsTrue (honest || not (reads_content command)) → (input bytes : List ℕ) (a b : Outcome)
-    → IsSaidOutcome honest command input bytes a → IsSaidOutcome honest command input bytes b → a ≡ b
-one_said_outcome honest None kind input bytes a b h k = h ∙ sym k
-one_said_outcome honest (Some command) kind input bytes a b h k = one_command_outcome honest command kind input bytes a b h k
+pub one_command_outcome : (honest : Bool) (command : Command) → IsTrue (honest || not (command_reads_content command)) → (input : List ℕ) (moment : ℕ) (bytes : List ℕ) (a b : Outcome)
+    → IsCommandOutcome honest command input moment bytes a → IsCommandOutcome honest command input moment bytes b → a ≡ b
+one_command_outcome honest (command_of.Init project server fields) kind input moment bytes a b h k = h ∙ sym k
+one_command_outcome honest command_of.Ingest kind input moment bytes a b h k = one_ingested input a b h k
+one_command_outcome honest command_of.Put kind input moment bytes a b h k = one_loaded (IsPutOfFiles input moment) bytes (λ old x y p q. one_put_outcome input moment old x y p q) a b h k
+one_command_outcome honest (command_of.Shun name) kind input moment bytes a b h k = one_loaded (IsShunOf name) bytes (λ old x y p q. p ∙ sym q) a b h k
+one_command_outcome honest (command_of.Unshun name) kind input moment bytes a b h k = one_loaded (IsUnshunOf name) bytes (one_unshun_outcome name) a b h k
+one_command_outcome honest (command_of.Ask question) kind input moment bytes a b h k = one_loaded (IsAnswered honest question) bytes (one_answered honest question kind) a b h k
+one_command_outcome honest (command_of.Serve address users workers requests) kind input moment bytes a b h k = h ∙ sym k
+one_command_outcome honest (command_of.Checkin parent user comment) kind input moment bytes a b h k = h ∙ sym k
+one_command_outcome honest (command_of.Export prefix) kind input moment bytes a b h k = h ∙ sym k
+one_command_outcome honest (command_of.Verify prefix) kind input moment bytes a b h k = h ∙ sym k
+one_command_outcome honest (command_of.Scrub path) kind input moment bytes a b h k = h ∙ sym k
+one_command_outcome honest (command_of.Unversioned asked) kind input moment bytes a b h k = one_uv_outcome asked input moment bytes a b h k
+one_command_outcome honest (command_of.Gen count reversed) kind input moment bytes a b h k = one_gen count reversed a b h k
+one_command_outcome honest (command_of.Pull address login) kind input moment bytes a b h k = absurd h
+one_command_outcome honest (command_of.Push address login) kind input moment bytes a b h k = absurd h
+one_command_outcome honest (command_of.Clone address server fields) kind input moment bytes a b h k = absurd h
+one_command_outcome honest (command_of.PullLocal path) kind input moment bytes a b h k = absurd h
 
-alike_command : (command : Command) (input bytes : List ℕ) (a b : Outcome) → IsCommandOutcome false command input bytes a → IsCommandOutcome false command input bytes b → AreAlike a b
-alike_command (command_of.Init project server fields) input bytes a b h k = same_alike a b (one_command_outcome false (command_of.Init project server fields) refl input bytes a b h k)
-alike_command command_of.Ingest input bytes a b h k = same_alike a b (one_command_outcome false command_of.Ingest refl input bytes a b h k)
-alike_command command_of.Put input bytes a b h k = same_alike a b (one_command_outcome false command_of.Put refl input bytes a b h k)
-alike_command (command_of.Shun name) input bytes a b h k = same_alike a b (one_command_outcome false (command_of.Shun name) refl input bytes a b h k)
-alike_command (command_of.Ask question) input bytes a b h k = loaded_by AreAlike same_alike (IsAnswered false question) bytes (alike_answered false question) a b h k
-alike_command (command_of.Serve address users workers requests) input bytes a b h k =
-    same_alike a b (one_command_outcome false (command_of.Serve address users workers requests) refl input bytes a b h k)
-alike_command (command_of.Gen count reversed) input bytes a b h k = same_alike a b (one_command_outcome false (command_of.Gen count reversed) refl input bytes a b h k)
-alike_command (command_of.Pull address login) input bytes a b h k = absurd h
-alike_command (command_of.Push address login) input bytes a b h k = absurd h
-alike_command (command_of.Clone address server fields) input bytes a b h k = absurd h
-alike_command (command_of.PullLocal path) input bytes a b h k = absurd h
+pub one_said_outcome : (honest : Bool) (command : Option Command) → IsTrue (honest || not (reads_content command)) → (input : List ℕ) (moment : ℕ) (bytes : List ℕ) (a b : Outcome)
+    → IsSaidOutcome honest command input moment bytes a → IsSaidOutcome honest command input moment bytes b → a ≡ b
+one_said_outcome honest None kind input moment bytes a b h k = h ∙ sym k
+one_said_outcome honest (Some command) kind input moment bytes a b h k = one_command_outcome honest command kind input moment bytes a b h k
 
-alike_said : (command : Option Command) (input bytes : List ℕ) (a b : Outcome) → IsSaidOutcome false command input bytes a → IsSaidOutcome false command input bytes b → AreAlike a b
-alike_said None input bytes a b h k = same_alike a b (h ∙ sym k)
-alike_said (Some command) input bytes a b h k = alike_command command input bytes a b h k
+alike_command : (command : Command) (input : List ℕ) (moment : ℕ) (bytes : List ℕ) (a b : Outcome) → IsCommandOutcome false command input moment bytes a → IsCommandOutcome false command input moment bytes b → AreAlike a b
+alike_command (command_of.Init project server fields) input moment bytes a b h k = same_alike a b (one_command_outcome false (command_of.Init project server fields) refl input moment bytes a b h k)
+alike_command command_of.Ingest input moment bytes a b h k = same_alike a b (one_command_outcome false command_of.Ingest refl input moment bytes a b h k)
+alike_command command_of.Put input moment bytes a b h k = same_alike a b (one_command_outcome false command_of.Put refl input moment bytes a b h k)
+alike_command (command_of.Shun name) input moment bytes a b h k = same_alike a b (one_command_outcome false (command_of.Shun name) refl input moment bytes a b h k)
+alike_command (command_of.Unshun name) input moment bytes a b h k = same_alike a b (one_command_outcome false (command_of.Unshun name) refl input moment bytes a b h k)
+alike_command (command_of.Ask question) input moment bytes a b h k = loaded_by AreAlike same_alike (IsAnswered false question) bytes (alike_answered false question) a b h k
+alike_command (command_of.Serve address users workers requests) input moment bytes a b h k =
+    same_alike a b (one_command_outcome false (command_of.Serve address users workers requests) refl input moment bytes a b h k)
+alike_command (command_of.Checkin parent user comment) input moment bytes a b h k =
+    same_alike a b (one_command_outcome false (command_of.Checkin parent user comment) refl input moment bytes a b h k)
+alike_command (command_of.Export prefix) input moment bytes a b h k =
+    same_alike a b (one_command_outcome false (command_of.Export prefix) refl input moment bytes a b h k)
+alike_command (command_of.Verify prefix) input moment bytes a b h k =
+    same_alike a b (one_command_outcome false (command_of.Verify prefix) refl input moment bytes a b h k)
+alike_command (command_of.Scrub path) input moment bytes a b h k =
+    same_alike a b (one_command_outcome false (command_of.Scrub path) refl input moment bytes a b h k)
+alike_command (command_of.Unversioned asked) input moment bytes a b h k =
+    same_alike a b (one_command_outcome false (command_of.Unversioned asked) refl input moment bytes a b h k)
+alike_command (command_of.Gen count reversed) input moment bytes a b h k = same_alike a b (one_command_outcome false (command_of.Gen count reversed) refl input moment bytes a b h k)
+alike_command (command_of.Pull address login) input moment bytes a b h k = absurd h
+alike_command (command_of.Push address login) input moment bytes a b h k = absurd h
+alike_command (command_of.Clone address server fields) input moment bytes a b h k = absurd h
+alike_command (command_of.PullLocal path) input moment bytes a b h k = absurd h
+
+alike_said : (command : Option Command) (input : List ℕ) (moment : ℕ) (bytes : List ℕ) (a b : Outcome) → IsSaidOutcome false command input moment bytes a → IsSaidOutcome false command input moment bytes b → AreAlike a b
+alike_said None input moment bytes a b h k = same_alike a b (h ∙ sym k)
+alike_said (Some command) input moment bytes a b h k = alike_command command input moment bytes a b h k
 
 pub one_outcome : HasOneOutcome
 one_outcome = record {
-  one = λ honest words input bytes a b kind h k. one_said_outcome honest (said words) kind input bytes a b h k;
-  alike = λ words input bytes a b h k. alike_said (said words) input bytes a b h k;
+  one = λ honest words input moment bytes a b kind h k. one_said_outcome honest (said words) kind input moment bytes a b h k;
+  alike = λ words input moment bytes a b h k. alike_said (said words) input moment bytes a b h k;
 }

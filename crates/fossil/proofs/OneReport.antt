@@ -44,6 +44,7 @@ one_by c by a b h k = h.2 ∙ ap by (are_one_list c.held h.0 k.0 h.1 k.1) ∙ sy
 pub one_result : (honest : Bool) (c : Contents) (question : Question) → IsTrue (honest || not (is_some (prefix_of question))) → (a b : Result (List ℕ) Refused)
     → IsReport honest c question a → IsReport honest c question b → a ≡ b
 one_result honest c (question_of.Cat prefix) kind a b h k = one_content honest (content c prefix) a b (honest_of honest kind) h k
+one_result honest c (question_of.Receipt prefix) kind a b h k = h ∙ sym k
 one_result honest c (question_of.Timeline count) kind a b h k = one_by c (λ items. report c items (question_of.Timeline count)) a b h k
 one_result honest c question_of.Leaves kind a b h k = one_by c (λ items. report c items question_of.Leaves) a b h k
 one_result honest c (question_of.Tags prefix) kind a b h k = one_by c (λ items. report c items (question_of.Tags prefix)) a b h k
@@ -66,6 +67,7 @@ alike_by honest c question kind a b h k = same_alike (report_outcome a) (report_
 pub alike_result : (honest : Bool) (c : Contents) (question : Question) (a b : Result (List ℕ) Refused) → IsReport honest c question a → IsReport honest c question b
     → AreAlike (report_outcome a) (report_outcome b)
 alike_result honest c (question_of.Cat prefix) a b h k = alike_content honest (content c prefix) a b h k
+alike_result honest c (question_of.Receipt prefix) a b h k = alike_by honest c (question_of.Receipt prefix) (kind_of honest) a b h k
 alike_result honest c (question_of.Timeline count) a b h k = alike_by honest c (question_of.Timeline count) (kind_of honest) a b h k
 alike_result honest c question_of.Leaves a b h k = alike_by honest c question_of.Leaves (kind_of honest) a b h k
 alike_result honest c (question_of.Tags prefix) a b h k = alike_by honest c (question_of.Tags prefix) (kind_of honest) a b h k

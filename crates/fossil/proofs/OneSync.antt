@@ -14,7 +14,8 @@ use Rattle.fsl_words.specs.declared.Command.{Command}
 use Rattle.fsl_words.specs.declared.Command.TheVariants as command_of
 use Rattle.fossil.specs.Outcome.{Outcome, not_repository}
 use Rattle.fossil.specs.Syncs.{Honesty, end_printed, with_commits, no_peer, login_of, IsEndOutcome, IsPullOutcome, IsPushOutcome, IsLocalOutcomeOn, IsLocalOutcome}
-use Rattle.fossil.specs.Synced.{IsLoadedBy, IsSyncOutcome, command_dials}
+use Rattle.fossil.specs.Uses.{command_dials}
+use Rattle.fossil.specs.Synced.{IsLoadedBy, IsSyncOutcome}
 use Rattle.fossil.specs.SyncLaws.{reading, HasOneSyncOutcome}
 use Rattle.fossil.proofs.CountLemmas.{end_so, pull_counted, push_counted, local_counted}
 use Rattle.fossil.proofs.SyncLemmas.{printed_one}
@@ -89,8 +90,14 @@ module _ (honest : Honesty) (file peer : List ℕ) where
   over_dial command_of.Ingest xs ys more a b dials same h k = absurd h
   over_dial command_of.Put xs ys more a b dials same h k = absurd h
   over_dial (command_of.Shun name) xs ys more a b dials same h k = absurd h
+  over_dial (command_of.Unshun name) xs ys more a b dials same h k = absurd h
   over_dial (command_of.Ask question) xs ys more a b dials same h k = absurd h
   over_dial (command_of.Serve address users workers requests) xs ys more a b dials same h k = absurd h
+  over_dial (command_of.Checkin parent user comment) xs ys more a b dials same h k = absurd h
+  over_dial (command_of.Export prefix) xs ys more a b dials same h k = absurd h
+  over_dial (command_of.Verify prefix) xs ys more a b dials same h k = absurd h
+  over_dial (command_of.Scrub path) xs ys more a b dials same h k = absurd h
+  over_dial (command_of.Unversioned asked) xs ys more a b dials same h k = absurd h
   over_dial (command_of.Gen count reversed) xs ys more a b dials same h k = absurd h
   over_dial (command_of.Pull address login) xs ys more a b dials same h k = over_file (IsPullOutcome honest.0 login) (one_so honest.0 (IsPullOutcome honest.0 login) (one_pull honest.0 login)) xs ys more a b same h k
   over_dial (command_of.Push address login) xs ys more a b dials same h k = over_file (IsPushOutcome honest.0 login) (one_push honest.0 login) xs ys more a b same h k
@@ -112,8 +119,14 @@ one_honest (command_of.Init project server fields) file peer xs ys more a b same
 one_honest command_of.Ingest file peer xs ys more a b same h k = absurd h
 one_honest command_of.Put file peer xs ys more a b same h k = absurd h
 one_honest (command_of.Shun name) file peer xs ys more a b same h k = absurd h
+one_honest (command_of.Unshun name) file peer xs ys more a b same h k = absurd h
 one_honest (command_of.Ask question) file peer xs ys more a b same h k = absurd h
 one_honest (command_of.Serve address users workers requests) file peer xs ys more a b same h k = absurd h
+one_honest (command_of.Checkin parent user comment) file peer xs ys more a b same h k = absurd h
+one_honest (command_of.Export prefix) file peer xs ys more a b same h k = absurd h
+one_honest (command_of.Verify prefix) file peer xs ys more a b same h k = absurd h
+one_honest (command_of.Scrub path) file peer xs ys more a b same h k = absurd h
+one_honest (command_of.Unversioned asked) file peer xs ys more a b same h k = absurd h
 one_honest (command_of.Gen count reversed) file peer xs ys more a b same h k = absurd h
 one_honest (command_of.Pull address login) file peer xs ys more a b same h k = let is = over_dial (true, true) file peer (command_of.Pull address login) xs ys more a b refl same h k in (is.2 refl, is.1)
 one_honest (command_of.Push address login) file peer xs ys more a b same h k = let is = over_dial (true, true) file peer (command_of.Push address login) xs ys more a b refl same h k in (is.2 refl, is.1)

@@ -1,6 +1,6 @@
 -- What a run says once the text of what it did is written.
 use Rattle.std.proofs.Common.{◌≡◌, ◌⊎◌, inl, inr, ⊎_elim, ℕ, Bool, true, false, cond, List, Result, Ok, Err, Option, Some, None, IsTrue, refl, sym, subst, ◌∙◌, arith}
-use Rattle.std.specs.Prelude.{◌==◌, ◌&&◌}
+use Rattle.std.specs.Prelude.{◌==◌, ◌&&◌, is_ok}
 use Rattle.fsl_order.specs.Causes.{Rose}
 use Rattle.fsl_disk.specs.Disk.{DiskState, IsModelled}
 use Rattle.fsl_repo.specs.Whole.{is_modelled}
@@ -10,7 +10,7 @@ use Rattle.fossil.specs.declared.answers.fault.Fault.{Fault}
 use Rattle.fossil.specs.declared.answers.fault.Fault.TheVariants as fault_is
 use Rattle.fossil.specs.Printed.{Printed}
 use Rattle.fossil.specs.Outcome.{Outcome, without_commit}
-use Rattle.fossil.specs.Run.{Input, Output, File, IsSaid, IsTold, IsDamaged, IsFaulted, IsFileLeft, IsLeft, lasts, IsDurable, IsSpared, cut_off_status, RunsBy, HasRun}
+use Rattle.fossil.specs.Run.{Input, Clock, Output, File, is_answered, IsTimed, IsSaid, IsTold, IsDamaged, IsFaulted, IsFileLeft, IsLeft, lasts, IsDurable, IsSpared, cut_off_status, RunsBy, HasRun}
 use Rattle.fossil.specs.Acts.{ActsBy, HasActed, IsWritten, IsCaused, result_status, fault_status, fault_line}
 
 abbrev OutputRose : Output → Type 0
@@ -32,6 +32,29 @@ ends (Ok answer) status out (inl told) = inl told.0
 ends (Ok answer) status out (inr cut) = cut_ends answer status out cut.0 cut.1.4
 ends (Err fault) status out said = inl said.0
 
+no_zero : (fault : Fault) → fault_status fault ≡ 0 → ⊥
+no_zero fault_is.Disk z = cc
+no_zero fault_is.Input z = cc
+no_zero (fault_is.Damaged name found) z = cc
+no_zero fault_is.Memory z = cc
+
+-- a status of no fault is that of an answer
+fault_answered : (fault : Fault) → IsTrue (is_answered (fault_status fault)) → ⊥
+fault_answered fault_is.Disk e = cc
+fault_answered fault_is.Input e = cc
+fault_answered (fault_is.Damaged name found) e = cc
+fault_answered fault_is.Memory e = cc
+
+no_fault : (result : Result Printed Fault) (status : ℕ) (out : Output) → Ends result status out → IsTrue (is_answered status) → IsTrue (is_ok result)
+no_fault (Ok answer) status out e answered = refl
+no_fault (Err fault) status out (inl e) answered = absurd (fault_answered fault (subst (λ (n : ℕ). IsTrue (is_answered n)) e answered))
+no_fault (Err fault) status out (inr cut) answered = absurd (no_zero fault cut.0)
+
+answered_timed : (command : Option Command) (clock : Clock) (result : Result Printed Fault) (status : ℕ) (read : List ℕ) (moment : ℕ) (bytes : List ℕ) → (IsTrue (is_answered status) → IsTrue (is_ok result))
+    → IsTimed command clock (is_ok result) read moment bytes → IsTimed command clock (is_answered status) read moment bytes
+answered_timed command clock result status read moment bytes ok (inl one) = inl one
+answered_timed command clock result status read moment bytes ok (inr none) = inr ((λ answered. none.0 (ok answered)), none.1)
+
 -- over a disk that tells its contents and meets the disk model no content has another name
 modelled_kind : (disk : DiskState) → IsModelled disk → is_modelled disk ≡ true
 modelled_kind disk m = λ i. m.tells i && m.model i
@@ -43,14 +66,20 @@ not_spoilt (Some (command_of.Init project server fields)) bytes name found m h =
 not_spoilt (Some command_of.Ingest) bytes name found m h = h
 not_spoilt (Some command_of.Put) bytes name found m h = h
 not_spoilt (Some (command_of.Shun other)) bytes name found m h = h
+not_spoilt (Some (command_of.Unshun other)) bytes name found m h = h
 not_spoilt (Some (command_of.Serve address users workers requests)) bytes name found m h = h
+not_spoilt (Some (command_of.Checkin parent user comment)) bytes name found m h = h
+not_spoilt (Some (command_of.Export prefix)) bytes name found m h = h
+not_spoilt (Some (command_of.Verify prefix)) bytes name found m h = h
+not_spoilt (Some (command_of.Scrub path)) bytes name found m h = h
+not_spoilt (Some (command_of.Unversioned asked)) bytes name found m h = h
 not_spoilt (Some (command_of.Gen count reversed)) bytes name found m h = h
 not_spoilt (Some (command_of.Pull address login)) bytes name found m h = h
 not_spoilt (Some (command_of.Push address login)) bytes name found m h = h
 not_spoilt (Some (command_of.Clone address server fields)) bytes name found m h = h
 not_spoilt (Some (command_of.PullLocal path)) bytes name found m h = h
 
-module _ (command : Option Command) (input : Input) (file : File) (read bytes : List ℕ) (o : Outcome) where
+module _ (command : Option Command) (input : Input) (file : File) (read : List ℕ) (moment : ℕ) (bytes : List ℕ) (o : Outcome) where
   -- a status of a fault is that of this fault
   of_disk : (fault : Fault) → fault_status fault ≡ 4 → IsCaused command input file bytes o fault → Rose file.before.faults file.after.faults
   of_disk fault_is.Disk e h = h.rose
@@ -70,15 +99,15 @@ module _ (command : Option Command) (input : Input) (file : File) (read bytes : 
   no_output (fault_is.Damaged name found) e = cc
   no_output fault_is.Memory e = cc
 
-  disk_of : (result : Result Printed Fault) → ActsBy command input file result read bytes o → result_status result ≡ 4 → Rose file.before.faults file.after.faults
+  disk_of : (result : Result Printed Fault) → ActsBy command input file result read moment bytes o → result_status result ≡ 4 → Rose file.before.faults file.after.faults
   disk_of (Ok answer) acts four = let plain = acts.plain in absurd (omega (arith, plain, four))
   disk_of (Err fault) acts four = of_disk fault four acts.cause
 
-  input_of_result : (result : Result Printed Fault) → ActsBy command input file result read bytes o → result_status result ≡ 5 → Rose input.before.faults input.after.faults
+  input_of_result : (result : Result Printed Fault) → ActsBy command input file result read moment bytes o → result_status result ≡ 5 → Rose input.before.faults input.after.faults
   input_of_result (Ok answer) acts five = let plain = acts.plain in absurd (omega (arith, plain, five))
   input_of_result (Err fault) acts five = of_input fault five acts.cause
 
-  no_six : (result : Result Printed Fault) → ActsBy command input file result read bytes o → result_status result ≡ 6 → ⊥
+  no_six : (result : Result Printed Fault) → ActsBy command input file result read moment bytes o → result_status result ≡ 6 → ⊥
   no_six (Ok answer) acts six = let plain = acts.plain in omega (arith, plain, six)
   no_six (Err fault) acts six = no_output fault six
 
@@ -89,7 +118,7 @@ module _ (command : Option Command) (input : Input) (file : File) (read bytes : 
   never_damaged (fault_is.Damaged name found) e h modelled = not_spoilt command bytes name found modelled h.0
   never_damaged fault_is.Memory e h modelled = cc
 
-  undamaged_of : (result : Result Printed Fault) → ActsBy command input file result read bytes o → IsModelled file.before → result_status result ≡ 12 → ⊥
+  undamaged_of : (result : Result Printed Fault) → ActsBy command input file result read moment bytes o → IsModelled file.before → result_status result ≡ 12 → ⊥
   undamaged_of (Ok answer) acts modelled twelve = let plain = acts.plain in omega (arith, plain, twelve)
   undamaged_of (Err fault) acts modelled twelve = never_damaged fault twelve acts.cause modelled
 
@@ -100,11 +129,11 @@ module _ (command : Option Command) (input : Input) (file : File) (read bytes : 
     faulted (fault_is.Damaged name found) cause said = inr (inr (inr (said.0, record { name = name; found = found; damaged = cause.0; faults = cause.1; said = said.1 })))
     faulted fault_is.Memory cause said = inr (inr (inl said))
 
-    answer_by : (result : Result Printed Fault) → ActsBy command input file result read bytes o → IsWritten result status out → IsTold o status out ⊎ IsFaulted command input out file status bytes o
+    answer_by : (result : Result Printed Fault) → ActsBy command input file result read moment bytes o → IsWritten result status out → IsTold o status out ⊎ IsFaulted command input out file status bytes o
     answer_by (Ok answer) acts written = inl (subst (λ (a : Printed). IsTold (without_commit a) status out) acts.answer written)
     answer_by (Err fault) acts written = inr (faulted fault acts.cause written)
 
-    module _ (result : Result Printed Fault) (acts : ActsBy command input file result read bytes o) where
+    module _ (clock : Clock) (result : Result Printed Fault) (acts : ActsBy command input file result read moment bytes o) (timed : IsTimed command clock (is_ok result) read moment bytes) where
       left_by : Ends result status out → IsFileLeft command file status bytes o
       left_by (inl e) = subst (λ (n : ℕ). IsFileLeft command file n bytes o) (sym e) acts.contents
       left_by (inr cut) = λ old held file_told left_told are known.
@@ -139,13 +168,18 @@ module _ (command : Option Command) (input : Input) (file : File) (read bytes : 
       undamaged_by (inl e) modelled twelve = undamaged_of result acts modelled (sym e ∙ twelve)
       undamaged_by (inr cut) modelled twelve = let six = cut.1 in cc
 
-      written_by : IsWritten result status out → RunsBy command input out file status read bytes o
+      -- a status of no fault is one of an answer
+      timed_by : Ends result status out → IsTimed command clock (is_answered status) read moment bytes
+      timed_by e = answered_timed command clock result status read moment bytes (no_fault result status out e) timed
+
+      written_by : IsWritten result status out → RunsBy command input clock out file status read moment bytes o
       written_by written =
           let end = ends result status out written in
           record {
             input_told = acts.input_told;
             file_told = acts.file_told;
             outcome = acts.outcome;
+            timed = timed_by end;
             answer = answer_by result acts written;
             end = λ z. acts.end (zero_by end z);
             contents = left_by end;
@@ -160,5 +194,7 @@ module _ (command : Option Command) (input : Input) (file : File) (read bytes : 
             undamaged = undamaged_by end;
           }
 
-pub written : (command : Option Command) (input : Input) (file : File) (result : Result Printed Fault) (out : Output) (status : ℕ) → HasActed command input file result → IsWritten result status out → HasRun command input out file status
-written command input file result out status acted is = (acted.0, acted.1, acted.2, written_by command input file acted.0 acted.1 acted.2 out status result acted.3 is)
+pub written : (command : Option Command) (input : Input) (clock : Clock) (file : File) (result : Result Printed Fault) (out : Output) (status : ℕ) → HasActed command input clock file result → IsWritten result status out
+    → HasRun command input clock out file status
+written command input clock file result out status acted is =
+    (acted.0, acted.1, acted.2, acted.3, written_by command input file acted.0 acted.1 acted.2 acted.3 out status clock result acted.4 acted.5 is)

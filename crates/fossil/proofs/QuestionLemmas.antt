@@ -1,5 +1,5 @@
 -- What is answered to questions.
-use Rattle.std.proofs.Common.{◌≡◌, inl, inr, ℕ, ◌≤◌, Bool, List, [], Option, Some, Result, Ok, Err, IsTrue, refl, sym, ap, subst, ◌∙◌, arith}
+use Rattle.std.proofs.Common.{◌≡◌, inl, inr, ℕ, ◌≤◌, Bool, true, false, List, [], Option, Some, Result, Ok, Err, IsTrue, refl, sym, ap, subst, ◌∙◌, arith}
 use Rattle.fsl_order.specs.Causes.{Rose}
 use Rattle.fsl_outside.specs.Streams.{SourceState}
 use Rattle.fsl_record.specs.declared.Record.{Record}
@@ -23,12 +23,12 @@ use Rattle.fossil.specs.declared.reading.load.Loaded.{Loaded}
 use Rattle.fossil.specs.Printed.{Printed}
 use Rattle.fossil.specs.Printed as printing
 use Rattle.fossil.specs.Outcome.{Outcome, without_commit, printed_of, report_outcome, IsAnswered}
-use Rattle.fossil.specs.Run.{Input, Agrees}
+use Rattle.fossil.specs.Run.{Input, Agrees, IsTimed}
 use Rattle.fossil.specs.Acts.{HasActed, Touches, IsOpened, IsAnsweredBy, IsAnswerOf, KeepsContents, KeepsImages}
 use Rattle.fossil.proofs.InputLemmas.{some_bytes}
 use Rattle.fossil.proofs.FileLemmas.{both, agrees, stands, none_committed, readable, loaded_left, loaded_touches, loaded_durable}
 use Rattle.fossil.proofs.SomeOutcome.{some_said_outcome}
-use Rattle.fossil.proofs.ActLemmas.{ask_loads, memory_by, disk_by, damaged_by}
+use Rattle.fossil.proofs.ActLemmas.{still, none_due, ask_loads, memory_by, disk_by, damaged_by}
 use Rattle.fossil.proofs.CommitLemmas.{idle_durable}
 use Rattle.fossil.proofs.LoadLemmas.{images_quiet}
 
@@ -40,7 +40,7 @@ answered_none : (r : Result (List ℕ) Refused) → (report_outcome r).commits �
 answered_none (Ok text) = refl
 answered_none (Err refused) = refl
 
-module _ (question : Question) (source : SourceState) (file mid left : DiskState) where
+module _ (question : Question) (source : SourceState) (clock : Option (List ℕ)) (file mid left : DiskState) where
   abbrev command : Option Command
   command = Some (command_of.Ask question)
 
@@ -48,7 +48,10 @@ module _ (question : Question) (source : SourceState) (file mid left : DiskState
   input = record { before = source; after = source }
 
   abbrev Acted : Result Printed Fault → Type 0
-  Acted result = HasActed command input (both file left) result
+  Acted result = HasActed command input (still clock) (both file left) result
+
+  unasked : (answered : Bool) (read bytes : List ℕ) → IsTimed command (still clock) answered read 0 bytes
+  unasked answered read bytes = none_due command clock answered read 0 bytes (λ due. due)
 
   -- it was loaded, and then only read
   module _ (no_other : IsTrue mid.is_model → (c : List ℕ) → mid.since mid.moment c → mid.images c) (l : Loaded) (opened : IsOpened file mid l) (quiet : Quiet mid left) where
@@ -72,14 +75,15 @@ module _ (question : Question) (source : SourceState) (file mid left : DiskState
     pub no_memory : Acted (Err fault_is.Memory)
     no_memory =
         let read = some_bytes source.left in
-        let o = some_said_outcome (is_modelled file) command read.0 bytes refl in
-        (read.0, bytes, o.0, memory_by command (ask_loads question) input file left read.0 bytes o.0 read.1 file_told o.1 (touches o.0) kept)
+        let o = some_said_outcome (is_modelled file) command read.0 0 bytes refl in
+        (read.0, 0, bytes, o.0, memory_by command (ask_loads question) input file left read.0 0 bytes o.0 read.1 file_told o.1 (touches o.0) kept, unasked false read.0 bytes)
 
     result_acted : (result : Result (List ℕ) Refused) → IsReport (is_modelled file) (contents l.journal.records) question result → Acted (Ok (printed_of (report_outcome result)))
     result_acted result is =
         let read = some_bytes source.left in
         let o = report_outcome result in (
           read.0,
+          0,
           bytes,
           o,
           record {
@@ -98,6 +102,7 @@ module _ (question : Question) (source : SourceState) (file mid left : DiskState
                 (quiet.images (opened.keeps.model ∙ modelled.model) c image));
             spared = λ nine begun. absurd (cc);
           },
+          unasked true read.0 bytes,
         )
 
     answer_acted : (a : Printed) → IsAnswered (is_modelled file) question l.journal.records (without_commit a) → Acted (Ok a)
@@ -106,24 +111,28 @@ module _ (question : Question) (source : SourceState) (file mid left : DiskState
     disk_acted : Rose mid.faults left.faults → Acted (Err fault_is.Disk)
     disk_acted rose =
         let read = some_bytes source.left in
-        let o = some_said_outcome (is_modelled file) command read.0 bytes refl in (
+        let o = some_said_outcome (is_modelled file) command read.0 0 bytes refl in (
           read.0,
+          0,
           bytes,
           o.0,
-          disk_by command (ask_loads question) input file left read.0 bytes o.0 read.1 file_told o.1 (touches o.0) (subst (λ (n : ℕ). Rose n left.faults) opened.faults rose) (inl refl)
+          disk_by command (ask_loads question) input file left read.0 0 bytes o.0 read.1 file_told o.1 (touches o.0) (subst (λ (n : ℕ). Rose n left.faults) opened.faults rose) (inl refl)
               (λ old held told left_told are known. none_committed old (o.0).commits held (stands old held (kept bytes told old are held left_told))),
+          unasked false read.0 bytes,
         )
 
     damaged_acted : (name found : List ℕ) → content_asked (contents l.journal.records) question ≡ Some name → IsSpoiltIn (is_modelled file) (contents l.journal.records) name found
         → left.faults ≡ mid.faults → Acted (Err (fault_is.Damaged name found))
     damaged_acted name found asked spoilt same =
         let read = some_bytes source.left in
-        let o = some_said_outcome (is_modelled file) command read.0 bytes refl in (
+        let o = some_said_outcome (is_modelled file) command read.0 0 bytes refl in (
           read.0,
+          0,
           bytes,
           o.0,
-          damaged_by command (ask_loads question) input file left read.0 bytes o.0 read.1 file_told o.1 (touches o.0) name found
+          damaged_by command (ask_loads question) input file left read.0 0 bytes o.0 read.1 file_told o.1 (touches o.0) name found
               (l.journal.records, opened.stands.2, asked, spoilt) (same ∙ opened.faults) kept,
+          unasked false read.0 bytes,
         )
 
     by_answer : (made : Result Printed Fault) → IsAnsweredBy (is_modelled file) l.journal.records question mid.faults left.faults made → Acted made

@@ -25,6 +25,7 @@ use Rattle.fossil.specs.Shun.{TextAndRecords, shunning, word_of}
 use Rattle.fossil.specs.Acts.{loaded_of}
 use Rattle.fossil.proofs.InputLemmas.{some_bytes}
 use Rattle.fossil.proofs.CommitLemmas.{idle_contents}
+use Rattle.fossil.proofs.ActLemmas.{still, none_due}
 use Rattle.fossil.proofs.AppendLemmas.{IsAppended}
 
 -- ---- what is appended
@@ -91,17 +92,19 @@ has_shunned old new name done runs (inl due) =
       runs = ap (λ (s : State). s.stopped) due.2.state ∙ ap (λ (s : State). s.stopped) state ∙ stopped_after old name done ∙ runs;
     }
 
-pub shun_appended : {D : Type 0} (name : List ℕ) (source : SourceState) (bytes : List ℕ) (before after : Whole D) (done : Shunning) (answer : Printed)
+pub shun_appended : {D : Type 0} (name : List ℕ) (source : SourceState) (clock : Option (List ℕ)) (bytes : List ℕ) (before after : Whole D) (done : Shunning) (answer : Printed)
     → answer ≡ record { status = 0; text = name_line (word_of done) name } → HasShunned before.seen.state after.seen.state name done
-    → IsAppended (Some (command_of.Shun name)) (record { before = source; after = source }) bytes (loaded_of before) (loaded_of after) answer
-shun_appended name source bytes before after done answer line has =
+    → IsAppended (Some (command_of.Shun name)) (record { before = source; after = source }) (still clock) bytes (loaded_of before) (loaded_of after) answer
+shun_appended name source clock bytes before after done answer line has =
     let read = some_bytes source.left in
     let t = shunning (now before.seen.state) name in
     let is : answer ≡ record { status = 0; text = t.text } = line ∙ ap (λ (text : List ℕ). record { status = 0; text = text }) has.text in
     record {
       read = read.0;
+      moment = 0;
       appended = t.records;
       told = read.1;
+      timed = λ file. none_due (Some (command_of.Shun name)) clock true read.0 0 bytes (λ due. due);
       outcome = λ file honest. inr (before.seen.state.records, file, ap (λ (a : Printed). with_commit a t.records) is);
       plain = inl (ap (λ (a : Printed). a.status) line);
       records = has.records;

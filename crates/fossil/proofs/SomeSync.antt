@@ -12,9 +12,12 @@ use Rattle.fsl_pull.proofs.SomeEnd.{syncs_have_some_end}
 use Rattle.fsl_pull.proofs.LocalEnds.{local_pulls_end}
 use Rattle.fsl_words.specs.declared.Command.{Command}
 use Rattle.fsl_words.specs.declared.Command.TheVariants as command_of
-use Rattle.fossil.specs.Outcome.{Outcome, not_repository, command_syncs}
+use Rattle.fsl_words.specs.declared.Unversioned.{Unversioned}
+use Rattle.fsl_words.specs.declared.Unversioned.TheVariants as uv
+use Rattle.fossil.specs.Uses.{command_syncs, command_dials}
+use Rattle.fossil.specs.Outcome.{Outcome, not_repository}
 use Rattle.fossil.specs.Syncs.{Honesty, with_commits, no_peer, login_of, IsEndOutcome, IsPullOutcome, IsPushOutcome, IsLocalOutcomeOn, IsLocalOutcome}
-use Rattle.fossil.specs.Synced.{IsSyncOutcome, IsLoadedBy, command_dials}
+use Rattle.fossil.specs.Synced.{IsSyncOutcome, IsLoadedBy}
 use Rattle.fossil.specs.SyncLaws.{reading, HasSomeSyncOutcome}
 use Rattle.fsl_journal.proofs.SomeFile.{some_file}
 use Rattle.fossil.proofs.TakenLemmas.{IsTellable, Start, IsAt}
@@ -84,14 +87,29 @@ over_file : (honest : Honesty) (ByRounds : Rounds → List Record → Outcome �
 over_file honest ByRounds some file peer came many (inl fails) = ([], came, not_repository fails.0, refl, inl (fails.0, fails.1, refl, refl))
 over_file honest ByRounds some file peer came many (inr is) = let o = some is.0 came many in (o.0, o.1, o.2, o.3, inr (is.0, is.1, o.4))
 
+-- no command of unversioned files has rounds
+no_rounds : (asked : Unversioned) → IsTrue (command_syncs (command_of.Unversioned asked)) → ⊥
+no_rounds (uv.Init project server) syncs = cc
+no_rounds (uv.Add path) syncs = cc
+no_rounds (uv.Remove path) syncs = cc
+no_rounds uv.List syncs = cc
+no_rounds (uv.Cat path) syncs = cc
+no_rounds (uv.Sync path) syncs = cc
+
 over : (honest : Honesty) (command : Command) (file peer : List ℕ) (came : List Exchanged) → IsTrue (command_syncs command) → IsTrue (command_dials command) → length came ≡ most_rounds
     → (rounds : Rounds) × (rest : List Exchanged) × (o : Outcome) × (came ≡ replies rounds ++ rest) × IsSyncOutcome command (reading honest file peer rounds) o
 over honest (command_of.Init project server fields) file peer came syncs dials many = absurd (cc)
 over honest command_of.Ingest file peer came syncs dials many = absurd (cc)
 over honest command_of.Put file peer came syncs dials many = absurd (cc)
 over honest (command_of.Shun name) file peer came syncs dials many = absurd (cc)
+over honest (command_of.Unshun name) file peer came syncs dials many = absurd (cc)
 over honest (command_of.Ask question) file peer came syncs dials many = absurd (cc)
 over honest (command_of.Serve address users workers requests) file peer came syncs dials many = absurd (cc)
+over honest (command_of.Checkin parent user comment) file peer came syncs dials many = absurd (cc)
+over honest (command_of.Export prefix) file peer came syncs dials many = absurd (cc)
+over honest (command_of.Verify prefix) file peer came syncs dials many = absurd (cc)
+over honest (command_of.Scrub path) file peer came syncs dials many = absurd (cc)
+over honest (command_of.Unversioned asked) file peer came syncs dials many = absurd (no_rounds asked syncs)
 over honest (command_of.Gen count reversed) file peer came syncs dials many = absurd (cc)
 over honest (command_of.Clone address server fields) file peer came syncs dials many = absurd (cc)
 over honest (command_of.Pull address login) file peer came syncs dials many = over_file honest (IsPullOutcome honest.0 login) (some_pull honest.0 login) file peer came many (some_file file)

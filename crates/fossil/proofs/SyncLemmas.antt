@@ -29,7 +29,8 @@ use Rattle.fossil.specs.Run.{Agrees, disk_fault}
 use Rattle.fossil.specs.Served.{with_text, link_fault, no_memory}
 use Rattle.fossil.specs.Serving.{printed, IsDue}
 use Rattle.fossil.specs.Syncs.{synced, fault_printed, end_printed, with_commits, IsEndOutcome}
-use Rattle.fossil.specs.Synced.{Read, Objects, IsSyncOutcome, AreCommitsSoFar, AreCommits, IsDue as IsAsked, command_asks_peer, AreCommitsBefore, ReadsContent, IsFileDue, IsAnswer, Far, AreCutOff, AreMade, reached, IsWholeAtAnyMoment, IsPeerKept, SyncsBy, objects_of}
+use Rattle.fossil.specs.Uses.{command_asks_peer}
+use Rattle.fossil.specs.Synced.{Read, Objects, IsSyncOutcome, AreCommitsSoFar, AreCommits, IsDue as IsAsked, AreCommitsBefore, ReadsContent, IsFileDue, IsAnswer, Far, AreCutOff, AreMade, reached, IsWholeAtAnyMoment, IsPeerKept, SyncsBy, objects_of}
 use Rattle.fossil.specs.Syncing.{IsSyncDue, IsReady}
 use Rattle.fossil.proofs.FileLemmas.{both, agrees}
 use Rattle.fossil.proofs.TakenLemmas.{IsTellable, Start, IsAt, same_at, IsEndAt}

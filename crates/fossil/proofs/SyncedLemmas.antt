@@ -18,16 +18,18 @@ use Rattle.fsl_pull.specs.Kept.{all_of_them, StandsForSome, IsKeptAtAnyMoment}
 use Rattle.fsl_pull.proofs.KeptLemmas.{none_of_them}
 use Rattle.fsl_words.specs.declared.Command.{Command}
 use Rattle.fsl_words.specs.declared.Command.TheVariants as command_of
+use Rattle.fsl_words.specs.declared.Unversioned.TheVariants as uv
 use Rattle.fossil.specs.declared.answers.due.Due.{Due}
 use Rattle.fossil.specs.declared.commands.sync.Way.{Way}
 use Rattle.fossil.specs.declared.commands.sync.Way.TheVariants as way
 use Rattle.fossil.specs.Printed.{Printed}
-use Rattle.fossil.specs.Outcome.{Outcome, without_commit, printed_of, command_syncs, command_clones, command_meets}
+use Rattle.fossil.specs.Uses.{command_syncs, command_clones, command_merges, command_meets, command_asks_peer}
+use Rattle.fossil.specs.Outcome.{Outcome, without_commit, printed_of}
 use Rattle.fossil.specs.Run.{File, Output, Agrees, IsTold}
 use Rattle.fossil.specs.Acts.{file_of, KeepsImages}
 use Rattle.fossil.specs.Served.{IsWrittenAs, all, front}
 use Rattle.fossil.specs.Serving.{printed}
-use Rattle.fossil.specs.Synced.{Read, Objects, IsSyncOutcome, AreCommitsSoFar, AreCommits, IsDue, IsCutOff, command_asks_peer, IsFileDue, HasFailed, objects_of, IsAnswer, IsDamaged, IsFaulted, Far, AreCutOff, AreMade, reached, StandsForAll, StandsAsFar, StandsOrWasLeft, IsFileLeft, IsWholeAtAnyMoment, IsDurable, IsPeerKept, IsUntouched, SyncsBy, HasSynced}
+use Rattle.fossil.specs.Synced.{Read, Objects, IsSyncOutcome, AreCommitsSoFar, AreCommits, IsDue, IsCutOff, IsFileDue, HasFailed, objects_of, IsAnswer, IsDamaged, IsFaulted, Far, AreCutOff, AreMade, reached, StandsForAll, StandsAsFar, StandsOrWasLeft, IsFileLeft, IsWholeAtAnyMoment, IsDurable, IsPeerKept, IsUntouched, SyncsBy, HasSynced}
 use Rattle.fossil.specs.Syncing.{command_by}
 use Rattle.fossil.proofs.InputLemmas.{some_bytes}
 use Rattle.fossil.proofs.FileLemmas.{both, some_same, agreed, quiet_none}
@@ -380,22 +382,37 @@ IsNoClone command = (address server : List ℕ) (fields : List (List ℕ)) → c
 abbrev pub IsNoLocal : Command → Type 0
 IsNoLocal command = (path : List ℕ) → command ≡ command_of.PullLocal path → ⊥
 
-pub is_alone : (command : Command) → IsNoPull command → IsNoPush command → IsNoClone command → IsNoLocal command → command_meets command ≡ false
-is_alone (command_of.Init project server fields) no_pull no_push no_clone no_local = refl
-is_alone command_of.Ingest no_pull no_push no_clone no_local = refl
-is_alone command_of.Put no_pull no_push no_clone no_local = refl
-is_alone (command_of.Shun name) no_pull no_push no_clone no_local = refl
-is_alone (command_of.Ask question) no_pull no_push no_clone no_local = refl
-is_alone (command_of.Serve address users workers requests) no_pull no_push no_clone no_local = refl
-is_alone (command_of.Gen count reversed) no_pull no_push no_clone no_local = refl
-is_alone (command_of.Pull address login) no_pull no_push no_clone no_local = absurd (no_pull address login refl)
-is_alone (command_of.Push address login) no_pull no_push no_clone no_local = absurd (no_push address login refl)
-is_alone (command_of.Clone address server fields) no_pull no_push no_clone no_local = absurd (no_clone address server fields refl)
-is_alone (command_of.PullLocal path) no_pull no_push no_clone no_local = absurd (no_local path refl)
+abbrev pub IsNoMerge : Command → Type 0
+IsNoMerge command = (path : List ℕ) → command ≡ command_of.Unversioned (uv.Sync path) → ⊥
+
+pub is_alone : (command : Command) → IsNoPull command → IsNoPush command → IsNoClone command → IsNoLocal command → IsNoMerge command → command_meets command ≡ false
+is_alone (command_of.Init project server fields) no_pull no_push no_clone no_local no_merge = refl
+is_alone command_of.Ingest no_pull no_push no_clone no_local no_merge = refl
+is_alone command_of.Put no_pull no_push no_clone no_local no_merge = refl
+is_alone (command_of.Shun name) no_pull no_push no_clone no_local no_merge = refl
+is_alone (command_of.Unshun name) no_pull no_push no_clone no_local no_merge = refl
+is_alone (command_of.Ask question) no_pull no_push no_clone no_local no_merge = refl
+is_alone (command_of.Serve address users workers requests) no_pull no_push no_clone no_local no_merge = refl
+is_alone (command_of.Checkin parent user comment) no_pull no_push no_clone no_local no_merge = refl
+is_alone (command_of.Export prefix) no_pull no_push no_clone no_local no_merge = refl
+is_alone (command_of.Verify prefix) no_pull no_push no_clone no_local no_merge = refl
+is_alone (command_of.Scrub path) no_pull no_push no_clone no_local no_merge = refl
+is_alone (command_of.Unversioned (uv.Init project server)) no_pull no_push no_clone no_local no_merge = refl
+is_alone (command_of.Unversioned (uv.Add path)) no_pull no_push no_clone no_local no_merge = refl
+is_alone (command_of.Unversioned (uv.Remove path)) no_pull no_push no_clone no_local no_merge = refl
+is_alone (command_of.Unversioned uv.List) no_pull no_push no_clone no_local no_merge = refl
+is_alone (command_of.Unversioned (uv.Cat path)) no_pull no_push no_clone no_local no_merge = refl
+is_alone (command_of.Unversioned (uv.Sync path)) no_pull no_push no_clone no_local no_merge = absurd (no_merge path refl)
+is_alone (command_of.Gen count reversed) no_pull no_push no_clone no_local no_merge = refl
+is_alone (command_of.Pull address login) no_pull no_push no_clone no_local no_merge = absurd (no_pull address login refl)
+is_alone (command_of.Push address login) no_pull no_push no_clone no_local no_merge = absurd (no_push address login refl)
+is_alone (command_of.Clone address server fields) no_pull no_push no_clone no_local no_merge = absurd (no_clone address server fields refl)
+is_alone (command_of.PullLocal path) no_pull no_push no_clone no_local no_merge = absurd (no_local path refl)
 
 -- one that syncs meets a peer
 syncs_meets : (command : Command) → IsTrue (command_syncs command) → command_meets command ≡ true
-syncs_meets command asks = (λ i. (asks i) || command_clones command)
+syncs_meets command asks = (λ i. (asks i) || (command_clones command || command_merges command))
 
-pub not_alone : (command : Command) → IsNoPull command → IsNoPush command → IsNoClone command → IsNoLocal command → IsTrue (command_syncs command) → ⊥
-not_alone command no_pull no_push no_clone no_local asks = let e : true ≡ false = sym (syncs_meets command asks) ∙ is_alone command no_pull no_push no_clone no_local in cc
+pub not_alone : (command : Command) → IsNoPull command → IsNoPush command → IsNoClone command → IsNoLocal command → IsNoMerge command → IsTrue (command_syncs command) → ⊥
+not_alone command no_pull no_push no_clone no_local no_merge asks =
+    let e : true ≡ false = sym (syncs_meets command asks) ∙ is_alone command no_pull no_push no_clone no_local no_merge in cc

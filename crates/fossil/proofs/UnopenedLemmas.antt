@@ -28,7 +28,8 @@ use Rattle.fossil.specs.Acts.{KeepsContents, IsUnopened, IsWritten}
 use Rattle.fossil.specs.Served.{with_text, no_memory}
 use Rattle.fossil.specs.Serving.{printed}
 use Rattle.fossil.specs.Syncs.{with_commits, no_peer}
-use Rattle.fossil.specs.Synced.{Read, Objects, IsSyncOutcome, command_asks_peer, IsFileDue, IsAnswer, reached, StandsAsFar, MayBeUnloaded, StandsOrWasLeft, IsFileLeft, IsDurable, IsPeerKept, SyncsBy, HasSynced, objects_of}
+use Rattle.fossil.specs.Uses.{command_asks_peer}
+use Rattle.fossil.specs.Synced.{Read, Objects, IsSyncOutcome, IsFileDue, IsAnswer, reached, StandsAsFar, MayBeUnloaded, StandsOrWasLeft, IsFileLeft, IsDurable, IsPeerKept, SyncsBy, HasSynced, objects_of}
 use Rattle.fossil.specs.Syncing.{IsUnopenedDue, IsNoPeerDue, ComesTo, IsReady, command_by}
 use Rattle.fossil.proofs.InputLemmas.{some_bytes}
 use Rattle.fossil.proofs.FileLemmas.{both, agrees, some_same, quiet_none}

@@ -1,5 +1,5 @@
 -- What words say, as a command that can be obeyed.
-use Rattle.std.proofs.Common.{◌≡◌, ℕ, ◌<◌, ◌≤◌, Bool, true, false, not, cond, List, [], ◌∷◌, length, Option, Some, None, refl, ap, subst, arith}
+use Rattle.std.proofs.Common.{◌≡◌, ℕ, ◌<◌, ◌≤◌, Bool, true, false, not, cond, List, [], ◌∷◌, length, Option, Some, None, IsTrue, refl, ap, subst, arith}
 use Rattle.std.specs.Prelude.{◌&&◌, nat_le, IfSome, option_and_then, codes}
 use Rattle.std.specs.Option.{option_map}
 use Rattle.std.specs.List.{IsDistinct, AllByRecursion, list_any, list_all}
@@ -12,9 +12,12 @@ use Rattle.fsl_record.specs.Records.{is_field, AreFields}
 use Rattle.fsl_words.specs.declared.Question.{Question}
 use Rattle.fsl_words.specs.declared.Command.{Command}
 use Rattle.fsl_words.specs.declared.Command.TheVariants as command_of
+use Rattle.fsl_words.specs.declared.Unversioned.{Unversioned}
+use Rattle.fsl_words.specs.declared.Unversioned.TheVariants as uv
 use Rattle.fsl_words.specs.declared.Words.{Words}
-use Rattle.fsl_words.specs.Grammar.{words_in, parts_in, command_in, plain_command, question_in, init_command, serve_command, gen_command, clone_command, served_in, number_in, is_up_to, fields_in, are_fields, all_differ, is_word}
+use Rattle.fsl_words.specs.Grammar.{words_in, parts_in, command_in, plain_command, other_command, question_in, init_command, serve_command, gen_command, clone_command, checkin_command, uv_init_command, served_in, prefix_in, parent_in, path_in, is_path, number_in, is_up_to, fields_in, are_fields, all_differ, is_word}
 use Rattle.fossil.specs.Outcome.{said}
+use Rattle.fossil.specs.Unversioned.{IsUvObeyable}
 use Rattle.fossil.specs.Acts.{IsObeyable}
 
 -- ---- fields
@@ -73,11 +76,77 @@ shunned : (o : Option (List ℕ)) → Obeyed (option_map command_of.Shun o)
 shunned None = tt
 shunned (Some name) = tt
 
+unshunned : (o : Option (List ℕ)) → Obeyed (option_map command_of.Unshun o)
+unshunned None = tt
+unshunned (Some name) = tt
+
+exported : (o : Option (List ℕ)) → Obeyed (option_map command_of.Export o)
+exported None = tt
+exported (Some prefix) = tt
+
+verified : (o : Option (List ℕ)) → Obeyed (option_map command_of.Verify o)
+verified None = tt
+verified (Some prefix) = tt
+
+checked_in : (user comment : List ℕ) (o : Option (Option (List ℕ))) → Obeyed (option_map (λ p. command_of.Checkin p user comment) o)
+checked_in user comment None = tt
+checked_in user comment (Some parent) = tt
+
+checkin_obeyed : (words : List (List ℕ)) → Obeyed (checkin_command words)
+checkin_obeyed [] = tt
+checkin_obeyed (parent ∷ []) = tt
+checkin_obeyed (parent ∷ user ∷ []) = tt
+checkin_obeyed (parent ∷ user ∷ comment ∷ []) = checked_in user comment (parent_in parent)
+checkin_obeyed (parent ∷ user ∷ comment ∷ other ∷ words) = tt
+
+-- a command of unversioned files
+unversioned : {A : Type 0} (asks : A → Unversioned) (o : Option A) → IfSome o (λ x. IsUvObeyable (asks x)) → Obeyed (option_map (λ x. command_of.Unversioned (asks x)) o)
+unversioned asks None fit = tt
+unversioned asks (Some x) fit = fit
+
+-- a word that is a path is one that an entry may have
+fit_path : (word : List ℕ) (fit : Bool) → is_path word ≡ fit → IfSome (cond fit (Some word) None) (λ path. IsTrue (is_path path))
+fit_path word false e = tt
+fit_path word true e = e
+
+path_fit : (word : List ℕ) → IfSome (path_in word) (λ path. IsTrue (is_path path))
+path_fit word = fit_path word (is_path word) refl
+
+any_path : (word : List ℕ) → IfSome (path_in word) (λ path. IsUvObeyable (uv.Cat path))
+any_path word = some_cat (path_in word)
+  where
+    some_cat : (o : Option (List ℕ)) → IfSome o (λ path. IsUvObeyable (uv.Cat path))
+    some_cat None = tt
+    some_cat (Some path) = tt
+
+any_server : (project : List ℕ) (o : Option (List ℕ)) → IfSome o (λ server. IsUvObeyable (uv.Init project server))
+any_server project None = tt
+any_server project (Some server) = fields_fit [] refl
+
+uv_init_by : (server : List ℕ) (project : Option (List ℕ)) → Obeyed (option_and_then (λ p. option_map (λ s. command_of.Unversioned (uv.Init p s)) (name_in server)) project)
+uv_init_by server None = tt
+uv_init_by server (Some project) = unversioned (uv.Init project) (name_in server) (any_server project (name_in server))
+
+uv_init_obeyed : (words : List (List ℕ)) → Obeyed (uv_init_command words)
+uv_init_obeyed [] = tt
+uv_init_obeyed (project ∷ []) = tt
+uv_init_obeyed (project ∷ server ∷ []) = uv_init_by server (name_in project)
+uv_init_obeyed (project ∷ server ∷ other ∷ words) = tt
+
+other_obeyed : (command word : List ℕ) → Obeyed (other_command command word)
+other_obeyed command word =
+    command_by (bytes_eq command (codes "uv-add")) _ _ (unversioned uv.Add (path_in word) (path_fit word))
+    (command_by (bytes_eq command (codes "uv-remove")) _ _ (unversioned uv.Remove (path_in word) (path_fit word))
+    (command_by (bytes_eq command (codes "uv-cat")) _ _ (unversioned uv.Cat (path_in word) (any_path word)) (command_by (bytes_eq command (codes "uv-sync")) _ _ tt (asked (question_in command word)))))
+
 plain_obeyed : (command : List ℕ) (words : List (List ℕ)) → Obeyed (plain_command command words)
 plain_obeyed command [] =
     command_by (bytes_eq command (codes "ingest")) _ _ tt
-    (command_by (bytes_eq command (codes "put")) _ _ tt (command_by (bytes_eq command (codes "leaves")) _ _ tt (command_by (bytes_eq command (codes "phantoms")) _ _ tt tt)))
-plain_obeyed command (word ∷ []) = command_by (bytes_eq command (codes "shun")) _ _ (shunned (name_in word)) (command_by (bytes_eq command (codes "pull-local")) _ _ tt (asked (question_in command word)))
+    (command_by (bytes_eq command (codes "put")) _ _ tt (command_by (bytes_eq command (codes "leaves")) _ _ tt (command_by (bytes_eq command (codes "phantoms")) _ _ tt (command_by (bytes_eq command (codes "uv-list")) _ _ tt tt))))
+plain_obeyed command (word ∷ []) = command_by (bytes_eq command (codes "shun")) _ _ (shunned (name_in word))
+    (command_by (bytes_eq command (codes "unshun")) _ _ (unshunned (name_in word))
+    (command_by (bytes_eq command (codes "pull-local")) _ _ tt (command_by (bytes_eq command (codes "export")) _ _ (exported (prefix_in word))
+    (command_by (bytes_eq command (codes "verify")) _ _ (verified (prefix_in word)) (command_by (bytes_eq command (codes "scrub")) _ _ tt (other_obeyed command word))))))
 plain_obeyed command (word ∷ other ∷ words) = tt
 
 at_least : (n : ℕ) → nat_le 1 n ≡ true → 0 < n
@@ -156,7 +225,7 @@ parts_obeyed [] = tt
 parts_obeyed (repository ∷ []) = tt
 parts_obeyed (repository ∷ command ∷ words) =
     named_by repository (command_in command words)
-    (command_by (bytes_eq command (codes "init")) _ _ (init_obeyed words) (command_by (bytes_eq command (codes "serve")) _ _ (serve_obeyed words) (command_by (bytes_eq command (codes "gen")) _ _ (gen_obeyed words) (command_by (bytes_eq command (codes "pull")) _ _ (pull_by (served_in words)) (command_by (bytes_eq command (codes "push")) _ _ (push_by (served_in words)) (command_by (bytes_eq command (codes "clone")) _ _ (clone_obeyed words) (plain_obeyed command words)))))))
+    (command_by (bytes_eq command (codes "init")) _ _ (init_obeyed words) (command_by (bytes_eq command (codes "serve")) _ _ (serve_obeyed words) (command_by (bytes_eq command (codes "gen")) _ _ (gen_obeyed words) (command_by (bytes_eq command (codes "pull")) _ _ (pull_by (served_in words)) (command_by (bytes_eq command (codes "push")) _ _ (push_by (served_in words)) (command_by (bytes_eq command (codes "clone")) _ _ (clone_obeyed words) (command_by (bytes_eq command (codes "checkin")) _ _ (checkin_obeyed words) (command_by (bytes_eq command (codes "uv-init")) _ _ (uv_init_obeyed words) (plain_obeyed command words)))))))))
 
 words_by : (fit : Bool) (o : Option Words) → IfSome o (λ w. IsObeyable w.command) → IfSome (cond fit o None) (λ w. IsObeyable w.command)
 words_by true o h = h

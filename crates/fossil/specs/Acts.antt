@@ -1,5 +1,5 @@
 -- What the parts of a run say of what they did.
-use Rattle.std.specs.Prelude.{◌≡◌, ◌≢◌, ◌⊎◌, ◌<◌, ◌≤◌, ℕ, false, List, length, nat_lt, true, Bool, Option, Some, None, Result, Ok, Err, IfOk, IfErr, IsTrue, ⊤}
+use Rattle.std.specs.Prelude.{◌≡◌, ◌≢◌, ◌⊎◌, ◌<◌, ◌≤◌, ℕ, false, List, length, nat_lt, true, Bool, Option, Some, None, Result, Ok, Err, is_ok, IfOk, IfErr, IsTrue, ⊤}
 use Rattle.std.specs.Io.KnownBytes.{IsAtEnd}
 use Rattle.fsl_order.specs.Causes.{Rose}
 use Rattle.fsl_text.specs.Limits.{most_of_message}
@@ -15,7 +15,7 @@ use Rattle.fsl_blobs.specs.Fold.{contents}
 use Rattle.fsl_repo.specs.Whole.{Whole, log_of, is_modelled}
 use Rattle.fsl_words.specs.declared.Question.{Question}
 use Rattle.fsl_words.specs.declared.Command.{Command}
-use Rattle.fsl_words.specs.declared.Command.TheVariants.{Init, Ingest, Put, Shun, Ask, Serve, Gen, Pull, Push, Clone, PullLocal}
+use Rattle.fsl_words.specs.declared.Command.TheVariants.{Init, Ingest, Put, Shun, Unshun, Ask, Serve, Gen, Pull, Push, Clone, PullLocal, Checkin, Export, Verify, Scrub, Unversioned}
 use Rattle.fossil.specs.declared.answers.fault.Fault.{Fault}
 use Rattle.fossil.specs.declared.answers.fault.Fault.TheVariants as fault_is
 use Rattle.fossil.specs.declared.reading.load.Loaded.{Loaded}
@@ -23,13 +23,17 @@ use Rattle.fossil.specs.Printed.{Printed, damaged}
 use Rattle.fossil.specs.Ingest.{IsIngested}
 use Rattle.fsl_query.specs.declared.QueryFault.{QueryFault}
 use Rattle.fsl_query.specs.Answers.{content_asked, IsRead, IsReported, IsSpoiltIn}
+use Rattle.fossil.specs.Unversioned.{IsUvObeyable}
 use Rattle.fossil.specs.Outcome.{Outcome, without_commit, printed_of, not_repository, IsAnswered, IsSaidOutcome}
-use Rattle.fossil.specs.Run.{Input, Output, File, Agrees, reads, IsSaid, IsTold, IsDiskFault, IsInputFault, IsDamaged, IsFileLeft, IsRefusedKept, IsWholeAtAnyMoment, lasts, IsDurable, IsSpared, disk_fault, input_fault, out_of_memory}
+use Rattle.fossil.specs.Run.{Input, Clock, Output, File, Agrees, reads, IsTimed, IsSaid, IsTold, IsDiskFault, IsInputFault, IsDamaged, IsFileLeft, IsRefusedKept, IsWholeAtAnyMoment, lasts, IsDurable, IsSpared, disk_fault, input_fault, out_of_memory}
 
 -- ---- objects before and after
 
 abbrev pub input_of : SourceState × SourceState → Input
 input_of s = record { before = s.0; after = s.1 }
+
+abbrev pub clock_of : Option (List ℕ) × Option (List ℕ) → Clock
+clock_of s = record { before = s.0; after = s.1 }
 
 abbrev pub output_of : SinkState × SinkState → Output
 output_of s = record { before = s.0; after = s.1 }
@@ -144,11 +148,12 @@ pub record Touches (command : Option Command) (file : File) (bytes : List ℕ) (
   pub any_moment : IsWholeAtAnyMoment command file o
   pub keeps : Keeps file.before file.after
 
--- what a command did, by what was read of the input and of the file, and by their outcome
-pub record ActsBy (command : Option Command) (input : Input) (file : File) (result : Result Printed Fault) (read bytes : List ℕ) (o : Outcome) : Type 0 where
+-- what a command did, by what was read of the input and of the file, by a moment, and by their outcome
+pub record ActsBy (command : Option Command) (input : Input) (file : File) (result : Result Printed Fault) (read : List ℕ) (moment : ℕ) (bytes : List ℕ)
+    (o : Outcome) : Type 0 where
   pub input_told : Agrees input.before.left read
   pub file_told : Agrees file.before.contents bytes
-  pub outcome : IsSaidOutcome (is_modelled file.before) command read bytes o
+  pub outcome : IsSaidOutcome (is_modelled file.before) command read moment bytes o
   pub answer : IfOk result (λ answer. answer ≡ printed_of o)
   pub plain : IfOk result (λ answer. answer.status ≤ 3)
   pub cause : IfErr result (IsCaused command input file bytes o)
@@ -158,12 +163,15 @@ pub record ActsBy (command : Option Command) (input : Input) (file : File) (resu
   pub durable : IsTrue (lasts command (result_status result)) → IsDurable command file bytes o
   pub spared : IsSpared command file (result_status result)
 
-abbrev pub HasActed : Option Command → Input → File → Result Printed Fault → Type 0
-HasActed command input file result = (read bytes : List ℕ) × (o : Outcome) × ActsBy command input file result read bytes o
+-- and the moment is the one that the clock answered
+abbrev pub HasActed : Option Command → Input → Clock → File → Result Printed Fault → Type 0
+HasActed command input clock file result =
+    (read : List ℕ) × (moment : ℕ) × (bytes : List ℕ) × (o : Outcome) × ActsBy command input file result read moment bytes o
+    × IsTimed command clock (is_ok result) read moment bytes
 
 -- the same of a command, by each object before and after
-abbrev pub Acts : Command → SourceState × SourceState → DiskState × DiskState → Result Printed Fault → Type 0
-Acts command input file result = HasActed (Some command) (input_of input) (file_of file) result
+abbrev pub Acts : Command → SourceState × SourceState → Option (List ℕ) × Option (List ℕ) → DiskState × DiskState → Result Printed Fault → Type 0
+Acts command input clock file result = HasActed (Some command) (input_of input) (clock_of clock) (file_of file) result
 
 -- ---- the printing
 
@@ -172,12 +180,13 @@ abbrev pub IsWritten : Result Printed Fault → ℕ → Output → Type 0
 IsWritten (Ok answer) status out = IsTold (without_commit answer) status out
 IsWritten (Err fault) status out = (status ≡ fault_status fault) × IsSaid out (fault_line fault)
 
--- the fields of a new repository are in their form, workers and their connections within their bounds, and so is the number of artifacts
+-- the fields of a new repository are in their form, a path of unversioned files is one that may be put in, workers and their connections within their bounds, and so is the number of artifacts
 abbrev pub IsObeyable : Command → Type 0
 IsObeyable (Init project server fields) = AreFields fields
 IsObeyable Ingest = ⊤
 IsObeyable Put = ⊤
 IsObeyable (Shun name) = ⊤
+IsObeyable (Unshun name) = ⊤
 IsObeyable (Ask question) = ⊤
 IsObeyable (Serve address users workers requests) = (0 < workers) × (workers ≤ 16) × (requests ≤ 65536)
 IsObeyable (Gen count reversed) = (1 ≤ count) × (count ≤ 100000)
@@ -185,6 +194,11 @@ IsObeyable (Pull address login) = ⊤
 IsObeyable (Push address login) = ⊤
 IsObeyable (Clone address server fields) = AreFields fields
 IsObeyable (PullLocal path) = ⊤
+IsObeyable (Checkin parent user comment) = ⊤
+IsObeyable (Export prefix) = ⊤
+IsObeyable (Verify prefix) = ⊤
+IsObeyable (Scrub path) = ⊤
+IsObeyable (Unversioned asked) = IsUvObeyable asked
 
 -- ---- questions
 

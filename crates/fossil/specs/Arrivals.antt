@@ -1,5 +1,6 @@
 -- How files arrive one after another, in a repository or in a set of their own.
 use Rattle.std.specs.Prelude.{◌≡◌, ℕ, List, [], ◌∷◌, ◌++◌, codes, Option, Some, None, Result, Ok, Err, MatchOption}
+use Rattle.fsl_record.specs.Receipts.{Brought}
 use Rattle.fsl_repo.specs.declared.Arrival.{Arrival}
 use Rattle.fsl_repo.specs.declared.Arrival.TheVariants as arrival
 use Rattle.fsl_repo.specs.declared.ArriveFault.{ArriveFault}
@@ -36,13 +37,14 @@ refusal_of name (Err (arrive_fault.NameWrong found)) = Some (wrong (name, found)
 refusal_of name (Err (arrive_fault.Full bytes count wants)) = Some (full name)
 refusal_of name _ = None
 
--- what was taken, and one file more, by the answer of its arrival
-abbrev pub and_taken : Taken → Sent → Result Arrival ArriveFault → Taken
-and_taken t f answer = record { state = arrived t.state f.name None f.bytes f.private answer; text = t.text ++ arrival_line f.name answer }
+-- what was taken, and one file more, by the answer of its arrival; it is stored with this receipt, or without one
+abbrev pub and_taken : Option Brought → Taken → Sent → Result Arrival ArriveFault → Taken
+and_taken receipt t f answer =
+    record { state = arrived t.state f.name receipt f.bytes f.private answer; text = t.text ++ arrival_line f.name answer }
 
 -- the files arrive one after another: the first that is refused refuses all, and without one all are taken
-abbrev pub Arrive : Taken → List Sent → Result Taken Printed → Type 0
-Arrive t [] result = result ≡ Ok t
-Arrive t (f ∷ files) result =
+abbrev pub Arrive : Option Brought → Taken → List Sent → Result Taken Printed → Type 0
+Arrive receipt t [] result = result ≡ Ok t
+Arrive receipt t (f ∷ files) result =
     (answer : Result Arrival ArriveFault) × IsArrival t.state f.name f.bytes f.private answer
-    × MatchOption (refusal_of f.name answer) (Arrive (and_taken t f answer) files result) (λ refusal. result ≡ Err refusal)
+    × MatchOption (refusal_of f.name answer) (Arrive receipt (and_taken receipt t f answer) files result) (λ refusal. result ≡ Err refusal)

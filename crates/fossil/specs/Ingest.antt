@@ -1,5 +1,5 @@
 -- What `ingest` prints, by its input.
-use Rattle.std.specs.Prelude.{◌≡◌, ℕ, ◌⊎◌, true, nat_lt, List, [], ◌++◌, length, flat_map, codes, Result, Ok, Err, MatchBool}
+use Rattle.std.specs.Prelude.{◌≡◌, ℕ, ◌⊎◌, true, nat_lt, List, [], ◌++◌, length, flat_map, codes, None, Result, Ok, Err, MatchBool}
 use Rattle.fsl_text.specs.Limits.{most_of_message}
 use Rattle.fsl_blobs.specs.Fold.{Contents}
 use Rattle.fsl_cross.specs.declared.Item.{Item}
@@ -27,9 +27,9 @@ abbrev pub IsPrintedBy : Result Taken Printed → Printed → Type 0
 IsPrintedBy (Ok t) printed = IsSetPrinted t.state printed
 IsPrintedBy (Err refusal) printed = printed ≡ refusal
 
--- the files arrive in a set of their own
+-- the files arrive in a set of their own, without receipts
 abbrev pub IsReported : List Sent → Printed → Type 0
-IsReported files printed = (result : Result Taken Printed) × Arrive (none_taken fresh) files result × IsPrintedBy result printed
+IsReported files printed = (result : Result Taken Printed) × Arrive None (none_taken fresh) files result × IsPrintedBy result printed
 
 -- a message is refused, or its files are reported
 abbrev pub IsRead : List ℕ → Printed → Type 0

@@ -1,9 +1,14 @@
 pub mod Printed
+pub mod Use
+pub mod UvUses
+pub mod Uses
 pub mod Messages
 pub mod Arrivals
 pub mod Ingest
 pub mod Put
 pub mod Shun
+pub mod Unshun
+pub mod Unversioned
 pub mod Gen
 pub mod Outcome
 pub mod Run
@@ -16,6 +21,9 @@ pub mod Syncs
 pub mod Synced
 pub mod Cloned
 pub mod RunCall
+pub mod UvCalls
+pub mod UvSyncs
+pub mod UvMerging
 pub mod Syncing
 pub mod SyncLaws
 pub mod CloneLaws

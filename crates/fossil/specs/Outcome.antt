@@ -1,5 +1,5 @@
 -- The outcome of a run: the status, the text, and the commits that the command appends to the file.
-use Rattle.std.specs.Prelude.{◌≡◌, ℕ, Bool, true, false, ◌==◌, ◌||◌, ◌⊎◌, List, [], ◌∷◌, ◌++◌, length, not, Option, Some, None, is_some, option_map, IsTrue, Result, Ok, Err, if◌then◌else◌, codes, decimal}
+use Rattle.std.specs.Prelude.{◌≡◌, ℕ, Bool, true, false, ◌==◌, ◌||◌, ◌⊎◌, List, [], ◌∷◌, ◌++◌, length, map, not, Option, Some, None, is_some, option_map, IsTrue, Result, Ok, Err, if◌then◌else◌, codes, decimal}
 use Rattle.std.specs.Option.{option_map_or}
 use Rattle.fsl_name.specs.Name.{name_of}
 use Rattle.fsl_record.specs.declared.Record.{Record}
@@ -8,7 +8,9 @@ use Rattle.fsl_journal.specs.File.{IsFileOf, FailsAt}
 use Rattle.fsl_blobs.specs.Fold.{contents}
 use Rattle.fsl_words.specs.declared.Question.{Question}
 use Rattle.fsl_words.specs.declared.Command.{Command}
-use Rattle.fsl_words.specs.declared.Command.TheVariants.{Init, Ingest, Put, Shun, Ask, Serve, Gen, Pull, Push, Clone, PullLocal}
+use Rattle.fsl_words.specs.declared.Command.TheVariants.{Init, Ingest, Put, Shun, Unshun, Ask, Serve, Gen, Pull, Push, Clone, PullLocal, Checkin, Export, Verify, Scrub, Unversioned}
+use Rattle.fsl_words.specs.declared.Unversioned as asked_type
+use Rattle.fsl_words.specs.declared.Unversioned.TheVariants as uv
 use Rattle.fsl_words.specs.Grammar.{words_in}
 use Rattle.fsl_query.specs.declared.Refused.{Refused}
 use Rattle.fsl_query.specs.Refusals.{refusal_text}
@@ -20,6 +22,12 @@ use Rattle.fossil.specs.Ingest as ingest
 use Rattle.fossil.specs.Gen.{IsGenPrinted}
 use Rattle.fossil.specs.Put.{IsPut}
 use Rattle.fossil.specs.Shun.{shunning}
+use Rattle.fossil.specs.Unshun.{IsUnshun}
+use Rattle.fossil.specs.Unversioned.{said_printed, IsUvDone}
+use Rattle.fsl_uv.specs.Entries.{Version}
+use Rattle.fsl_uv.specs.Stores.{blob_of}
+use Rattle.fsl_uv.specs.Reports.{Done, list_done, cat_done, add_done, remove_done}
+use Rattle.fossil.specs.Uses.{command_meets}
 
 -- the status, the text that is written, and the records that are appended, a list for each commit
 pub record Outcome : Type 0 where
@@ -64,9 +72,10 @@ init_outcome project server fields len =
 abbrev pub IsIngestOfFiles : List ℕ → Outcome → Type 0
 IsIngestOfFiles input o = (printed : Printed) × ingest.IsIngested input printed × (o ≡ without_commit printed)
 
--- what `put` prints and appends
-abbrev pub IsPutOfFiles : List ℕ → List Record → Outcome → Type 0
-IsPutOfFiles input old o = (printed : Printed) × (appended : List Record) × IsPut input old printed appended × (o ≡ with_commit printed appended)
+-- what `put` prints and appends, at the moment that the clock answered
+abbrev pub IsPutOfFiles : List ℕ → ℕ → List Record → Outcome → Type 0
+IsPutOfFiles input moment old o =
+    (printed : Printed) × (appended : List Record) × IsPut input moment old printed appended × (o ≡ with_commit printed appended)
 
 -- what `shun` prints and appends
 abbrev pub shun_outcome : List ℕ → List Record → Outcome
@@ -74,6 +83,11 @@ shun_outcome name old = let t = shunning (contents old) name in with_commit (rec
 
 abbrev pub IsShunOf : List ℕ → List Record → Outcome → Type 0
 IsShunOf name old o = o ≡ shun_outcome name old
+
+-- what `unshun` prints and appends
+abbrev pub IsUnshunOf : List ℕ → List Record → Outcome → Type 0
+IsUnshunOf name old o =
+    (printed : Printed) × (appended : List Record) × IsUnshun name (contents old) printed appended × (o ≡ with_commit printed appended)
 
 -- the text of a report, or the refusal of its question
 abbrev pub report_outcome : Result (List ℕ) Refused → Outcome
@@ -95,45 +109,47 @@ abbrev pub IsLoaded : (List Record → Outcome → Type 0) → List ℕ → Outc
 IsLoaded ByRecords bytes o =
     ((at : ℕ) × FailsAt bytes at × (o ≡ not_repository at)) ⊎ ((records : List Record) × IsFileOf bytes records × ByRecords records o)
 
+-- ---- unversioned files
+
+-- what is said, and one commit of the entries that are stored
+abbrev pub uv_outcome : Done → Outcome
+uv_outcome d = with_commit (said_printed d.said) (map blob_of d.here)
+
+-- what a command prints and appends that does this by the map of the records
+abbrev pub IsUvOf : (List (List ℕ × Version) → Done) → List Record → Outcome → Type 0
+IsUvOf does records o = (d : Done) × IsUvDone does records d × (o ≡ uv_outcome d)
+
+-- the outcome of each; a sync meets a peer
+abbrev pub IsUvOutcome : asked_type.Unversioned → List ℕ → ℕ → List ℕ → Outcome → Type 0
+IsUvOutcome (uv.Init project server) input moment bytes o = o ≡ init_outcome project server [] (length bytes)
+IsUvOutcome (uv.Add path) input moment bytes o = IsLoaded (IsUvOf (λ m. add_done m path moment input)) bytes o
+IsUvOutcome (uv.Remove path) input moment bytes o = IsLoaded (IsUvOf (λ m. remove_done m path moment)) bytes o
+IsUvOutcome uv.List input moment bytes o = IsLoaded (IsUvOf list_done) bytes o
+IsUvOutcome (uv.Cat path) input moment bytes o = IsLoaded (IsUvOf (λ m. cat_done m path)) bytes o
+IsUvOutcome (uv.Sync peer) input moment bytes o = ⊥
+
 -- ---- a run
 
--- whether a command syncs with a peer; its outcome is told by what it read of the peer, too
-abbrev pub command_syncs : Command → Bool
-command_syncs (Init project server fields) = false
-command_syncs Ingest = false
-command_syncs Put = false
-command_syncs (Shun name) = false
-command_syncs (Ask question) = false
-command_syncs (Serve address users workers requests) = false
-command_syncs (Gen count reversed) = false
-command_syncs (Pull address login) = true
-command_syncs (Push address login) = true
-command_syncs (Clone address server fields) = false
-command_syncs (PullLocal path) = true
-
--- whether it clones; that has no outcome of a command that syncs, since it begins the file
-abbrev pub command_clones : Command → Bool
-command_clones (Clone address server fields) = true
-command_clones command = false
-
--- whether it meets a peer: it syncs or clones
-abbrev pub command_meets : Command → Bool
-command_meets command = command_syncs command || command_clones command
-
--- the outcome of a command that meets none, over its input and the bytes of the file, and whether the file's disk is honest: `init` looks at their number
--- alone, `ingest` at none, and `gen` at neither; `serve` is no command of a run
-abbrev pub IsCommandOutcome : Bool → Command → List ℕ → List ℕ → Outcome → Type 0
-IsCommandOutcome honest (Init project server fields) input bytes o = o ≡ init_outcome project server fields (length bytes)
-IsCommandOutcome honest Ingest input bytes o = IsIngestOfFiles input o
-IsCommandOutcome honest Put input bytes o = IsLoaded (IsPutOfFiles input) bytes o
-IsCommandOutcome honest (Shun name) input bytes o = IsLoaded (IsShunOf name) bytes o
-IsCommandOutcome honest (Ask question) input bytes o = IsLoaded (IsAnswered honest question) bytes o
-IsCommandOutcome honest (Serve address users workers requests) input bytes o = o ≡ usage
-IsCommandOutcome honest (Gen count reversed) input bytes o = IsGen count reversed o
-IsCommandOutcome honest (Pull address login) input bytes o = ⊥
-IsCommandOutcome honest (Push address login) input bytes o = ⊥
-IsCommandOutcome honest (Clone address server fields) input bytes o = ⊥
-IsCommandOutcome honest (PullLocal path) input bytes o = ⊥
+-- the outcome of a command that meets no peer, over its input, a moment and the bytes of the file, and whether the file's disk is honest: `init` looks at their
+-- number alone, `ingest` at none, and `gen` at neither; `put`, `uv-add` and `uv-remove` look at the moment; `serve` is no command of a run
+abbrev pub IsCommandOutcome : Bool → Command → List ℕ → ℕ → List ℕ → Outcome → Type 0
+IsCommandOutcome honest (Init project server fields) input moment bytes o = o ≡ init_outcome project server fields (length bytes)
+IsCommandOutcome honest Ingest input moment bytes o = IsIngestOfFiles input o
+IsCommandOutcome honest Put input moment bytes o = IsLoaded (IsPutOfFiles input moment) bytes o
+IsCommandOutcome honest (Shun name) input moment bytes o = IsLoaded (IsShunOf name) bytes o
+IsCommandOutcome honest (Unshun name) input moment bytes o = IsLoaded (IsUnshunOf name) bytes o
+IsCommandOutcome honest (Ask question) input moment bytes o = IsLoaded (IsAnswered honest question) bytes o
+IsCommandOutcome honest (Serve address users workers requests) input moment bytes o = o ≡ usage
+IsCommandOutcome honest (Checkin parent user comment) input moment bytes o = o ≡ usage
+IsCommandOutcome honest (Export prefix) input moment bytes o = o ≡ usage
+IsCommandOutcome honest (Verify prefix) input moment bytes o = o ≡ usage
+IsCommandOutcome honest (Scrub path) input moment bytes o = o ≡ usage
+IsCommandOutcome honest (Unversioned asked) input moment bytes o = IsUvOutcome asked input moment bytes o
+IsCommandOutcome honest (Gen count reversed) input moment bytes o = IsGen count reversed o
+IsCommandOutcome honest (Pull address login) input moment bytes o = ⊥
+IsCommandOutcome honest (Push address login) input moment bytes o = ⊥
+IsCommandOutcome honest (Clone address server fields) input moment bytes o = ⊥
+IsCommandOutcome honest (PullLocal path) input moment bytes o = ⊥
 
 -- the command that words say, where they are in the grammar
 abbrev pub said : List (List ℕ) → Option Command
@@ -144,13 +160,13 @@ abbrev pub meets : Option Command → Bool
 meets command = option_map_or command_meets command false
 
 -- the outcome of what words say, if anything
-abbrev pub IsSaidOutcome : Bool → Option Command → List ℕ → List ℕ → Outcome → Type 0
-IsSaidOutcome honest None input bytes o = o ≡ usage
-IsSaidOutcome honest (Some command) input bytes o = IsCommandOutcome honest command input bytes o
+abbrev pub IsSaidOutcome : Bool → Option Command → List ℕ → ℕ → List ℕ → Outcome → Type 0
+IsSaidOutcome honest None input moment bytes o = o ≡ usage
+IsSaidOutcome honest (Some command) input moment bytes o = IsCommandOutcome honest command input moment bytes o
 
--- the outcome: the words first, then the file, then the input
-abbrev pub IsOutcome : Bool → List (List ℕ) → List ℕ → List ℕ → Outcome → Type 0
-IsOutcome honest words input bytes o = IsSaidOutcome honest (said words) input bytes o
+-- the outcome: the words first, then the file, then the input, then the moment
+abbrev pub IsOutcome : Bool → List (List ℕ) → List ℕ → ℕ → List ℕ → Outcome → Type 0
+IsOutcome honest words input moment bytes o = IsSaidOutcome honest (said words) input moment bytes o
 
 -- whether a command reads a content: `cat` does, and no other that meets no peer
 abbrev pub command_reads_content : Command → Bool
@@ -168,14 +184,16 @@ pub record AreAlike (a b : Outcome) : Type 0 where
   pub sized : length a.text ≡ length b.text
   pub commits : a.commits ≡ b.commits
 
--- Law. Words, an input and a file have one outcome at most. Where a content is read from a disk that isn't honest, the texts of two have one name and one size
+-- Law. Words, an input, a moment and a file have one outcome at most. Where a content is read from a disk that isn't honest, the texts of two have one name and
+-- one size
 pub record HasOneOutcome : Type 0 where
-  pub one : (honest : Bool) (words : List (List ℕ)) (input bytes : List ℕ) (a b : Outcome) → IsTrue (honest || not (reads_content (said words))) →
-      IsOutcome honest words input bytes a → IsOutcome honest words input bytes b → a ≡ b
-  pub alike : (words : List (List ℕ)) (input bytes : List ℕ) (a b : Outcome) →
-      IsOutcome false words input bytes a → IsOutcome false words input bytes b → AreAlike a b
+  pub one : (honest : Bool) (words : List (List ℕ)) (input : List ℕ) (moment : ℕ) (bytes : List ℕ) (a b : Outcome) →
+      IsTrue (honest || not (reads_content (said words))) → IsOutcome honest words input moment bytes a → IsOutcome honest words input moment bytes b → a ≡ b
+  pub alike : (words : List (List ℕ)) (input : List ℕ) (moment : ℕ) (bytes : List ℕ) (a b : Outcome) →
+      IsOutcome false words input moment bytes a → IsOutcome false words input moment bytes b → AreAlike a b
 
 -- Law. And they have one, where the words say no command that meets a peer, whatever the disk
 abbrev pub HasSomeOutcome : Type 0
 HasSomeOutcome =
-    (honest : Bool) (words : List (List ℕ)) (input bytes : List ℕ) → meets (said words) ≡ false → (o : Outcome) × IsOutcome honest words input bytes o
+    (honest : Bool) (words : List (List ℕ)) (input : List ℕ) (moment : ℕ) (bytes : List ℕ) → meets (said words) ≡ false →
+    (o : Outcome) × IsOutcome honest words input moment bytes o

@@ -1,8 +1,10 @@
--- What a run says of its status, its output, its input and its file, by one reading of what it was handed and one outcome.
-use Rattle.std.specs.Prelude.{◌≡◌, ◌≢◌, ℕ, ◌≤◌, ◌⊎◌, ◌==◌, ◌||◌, ◌&&◌, not, Bool, true, false, List, [], ◌∷◌, ◌++◌, length, take, flat_map, Option, Some, None, IsTrue, MatchBool, ⊤, if◌then◌else◌, codes}
+-- What a run says of its status, its output, its input, its clock and its file, by one reading of what it was handed and one outcome.
+use Rattle.std.specs.Prelude.{◌≡◌, ◌≢◌, ℕ, ◌≤◌, ◌⊎◌, ◌==◌, ◌||◌, ◌&&◌, nat_le, nat_lt, not, Bool, true, false, List, [], ◌∷◌, ◌++◌, length, take, flat_map, Option, Some, None, IsTrue, MatchBool, ⊤, if◌then◌else◌, codes}
 use Rattle.std.specs.Option.{option_map_or}
 use Rattle.std.specs.Io.KnownBytes.{Appends, IsAtEnd}
 use Rattle.fsl_order.specs.Causes.{Rose}
+use Rattle.fsl_text.specs.Limits.{most_of_message}
+use Rattle.fsl_outside.specs.Clocks.{Asks}
 use Rattle.fsl_outside.specs.Streams.{SourceState, SinkState}
 use Rattle.fsl_record.specs.declared.Record.{Record}
 use Rattle.fsl_disk.specs.Disk.{DiskState, IsModelled, Keeps, Quiet, LeavesOnly}
@@ -11,8 +13,12 @@ use Rattle.fsl_blobs.specs.Fold.{contents}
 use Rattle.fsl_repo.specs.Whole.{is_modelled}
 use Rattle.fsl_query.specs.Answers.{content_asked, IsSpoiltIn}
 use Rattle.fsl_words.specs.declared.Command.{Command}
-use Rattle.fsl_words.specs.declared.Command.TheVariants.{Init, Ingest, Put, Shun, Ask, Serve, Gen, Pull, Push, Clone, PullLocal}
+use Rattle.fsl_words.specs.declared.Command.TheVariants.{Init, Ingest, Put, Shun, Unshun, Ask, Serve, Gen, Pull, Push, Clone, PullLocal, Checkin, Export, Verify, Scrub, Unversioned}
+use Rattle.fossil.specs.declared.reading.message.Sent.{Sent}
 use Rattle.fossil.specs.Printed as printing
+use Rattle.fossil.specs.Messages.{IsFileList}
+use Rattle.fossil.specs.Unversioned.{TakesUvMoment, IsUvRefused}
+use Rattle.fossil.specs.Uses.{command_reads, command_opens, command_begins, command_ticks}
 use Rattle.fossil.specs.Outcome.{Outcome, said, IsSaidOutcome}
 
 -- ---- what a run is handed and leaves
@@ -27,6 +33,11 @@ pub record Output : Type 0 where
   pub before : SinkState
   pub after : SinkState
 
+-- the clock, by the moments that it answered, where it tells them
+pub record Clock : Type 0 where
+  pub before : Option (List ℕ)
+  pub after : Option (List ℕ)
+
 -- the disk of the repository file
 pub record File : Type 1 where
   pub before : DiskState
@@ -38,45 +49,6 @@ Agrees None bytes = ⊤
 Agrees (Some told) bytes = bytes ≡ told
 
 -- ---- what a command uses
-
-abbrev pub command_reads : Command → Bool
-command_reads (Init project server fields) = false
-command_reads Ingest = true
-command_reads Put = true
-command_reads (Shun name) = false
-command_reads (Ask question) = false
-command_reads (Serve address users workers requests) = false
-command_reads (Gen count reversed) = false
-command_reads (Pull address login) = false
-command_reads (Push address login) = false
-command_reads (Clone address server fields) = false
-command_reads (PullLocal path) = false
-
-abbrev pub command_opens : Command → Bool
-command_opens (Init project server fields) = true
-command_opens Ingest = false
-command_opens Put = true
-command_opens (Shun name) = true
-command_opens (Ask question) = true
-command_opens (Serve address users workers requests) = false
-command_opens (Gen count reversed) = false
-command_opens (Pull address login) = true
-command_opens (Push address login) = true
-command_opens (Clone address server fields) = true
-command_opens (PullLocal path) = true
-
-abbrev pub command_begins : Command → Bool
-command_begins (Init project server fields) = true
-command_begins Ingest = false
-command_begins Put = false
-command_begins (Shun name) = false
-command_begins (Ask question) = false
-command_begins (Serve address users workers requests) = false
-command_begins (Gen count reversed) = false
-command_begins (Pull address login) = false
-command_begins (Push address login) = false
-command_begins (Clone address server fields) = true
-command_begins (PullLocal path) = false
 
 -- whether a command reads the input
 abbrev pub reads : Option Command → Bool
@@ -90,12 +62,19 @@ opens command = option_map_or command_opens command false
 abbrev pub begins : Option Command → Bool
 begins command = option_map_or command_begins command false
 
+-- whether it may ask the clock
+abbrev pub ticks : Option Command → Bool
+ticks command = option_map_or command_ticks command false
+
 -- the same of words
 abbrev pub reads_input : List (List ℕ) → Bool
 reads_input words = reads (said words)
 
 abbrev pub opens_file : List (List ℕ) → Bool
 opens_file words = opens (said words)
+
+abbrev pub asks_clock : List (List ℕ) → Bool
+asks_clock words = ticks (said words)
 
 -- ---- the status and the text
 
@@ -163,6 +142,35 @@ IsFaulted command input out file status bytes o =
     ⊎ ((status ≡ 9) × IsSaid out out_of_memory)
     ⊎ ((status ≡ 12) × IsDamagedFault command out file bytes)
 
+-- ---- the clock
+
+-- a message of files that isn't too long, of which each line reads and each card is of files
+abbrev pub HasForm : List ℕ → Type 0
+HasForm message = (nat_lt most_of_message (length message) ≡ false) × ((files : List Sent) × IsFileList message files)
+
+-- `put` takes a moment where its file stands for records and its message has its form, and two commands of unversioned files take one; no other command does
+abbrev pub TakesMoment : Option Command → List ℕ → List ℕ → Type 0
+TakesMoment (Some Put) read bytes = ((records : List Record) × IsFileOf bytes records) × HasForm read
+TakesMoment (Some (Unversioned asked)) read bytes = TakesUvMoment asked read bytes
+TakesMoment command read bytes = ⊥
+
+-- one moment was taken, which is now the last that is told
+abbrev pub TakesOne : Clock → ℕ → Type 0
+TakesOne clock moment = Asks clock.before clock.after (moment ∷ [])
+
+-- none was taken, and what is told stays
+abbrev pub TakesNone : Clock → Type 0
+TakesNone clock = clock.after ≡ clock.before
+
+-- whether no fault ended a run, by its status
+abbrev pub is_answered : ℕ → Bool
+is_answered status = nat_le status 3 || (status == 6)
+
+-- a moment was taken where the command takes one, and else none; a run that a fault ends may end before it takes one
+abbrev pub IsTimed : Option Command → Clock → Bool → List ℕ → ℕ → List ℕ → Type 0
+IsTimed command clock answered read moment bytes =
+    (TakesMoment command read bytes × TakesOne clock moment) ⊎ ((IsTrue answered → ¬ (TakesMoment command read bytes)) × TakesNone clock)
+
 -- ---- the file
 
 -- bytes stand for records, and for none where they are no repository
@@ -224,8 +232,14 @@ IsRefused (Some (Init project server fields)) bytes = bytes ≢ []
 IsRefused (Some Ingest) bytes = ⊥
 IsRefused (Some Put) bytes = IsNoRepository bytes
 IsRefused (Some (Shun name)) bytes = IsNoRepository bytes
+IsRefused (Some (Unshun name)) bytes = IsNoRepository bytes
 IsRefused (Some (Ask question)) bytes = IsNoRepository bytes
 IsRefused (Some (Serve address users workers requests)) bytes = ⊥
+IsRefused (Some (Checkin parent user comment)) bytes = ⊥
+IsRefused (Some (Export prefix)) bytes = ⊥
+IsRefused (Some (Verify prefix)) bytes = ⊥
+IsRefused (Some (Scrub path)) bytes = ⊥
+IsRefused (Some (Unversioned asked)) bytes = IsUvRefused asked bytes
 IsRefused (Some (Gen count reversed)) bytes = ⊥
 IsRefused (Some (Pull address login)) bytes = IsNoRepository bytes
 IsRefused (Some (Push address login)) bytes = IsNoRepository bytes
@@ -258,12 +272,15 @@ IsSpared command file status = status ≡ 9 → IsTrue (begins command) → Quie
 
 -- ---- a run
 
--- by what was read of the input and of the file, and by their outcome
-pub record RunsBy (command : Option Command) (input : Input) (out : Output) (file : File) (status : ℕ) (read bytes : List ℕ) (o : Outcome) : Type 0 where
+-- by what was read of the input and of the file, by a moment, and by their outcome
+pub record RunsBy (command : Option Command) (input : Input) (clock : Clock) (out : Output) (file : File) (status : ℕ) (read : List ℕ) (moment : ℕ)
+    (bytes : List ℕ) (o : Outcome) : Type 0 where
   -- what was read is what was told
   pub input_told : Agrees input.before.left read
   pub file_told : Agrees file.before.contents bytes
-  pub outcome : IsSaidOutcome (is_modelled file.before) command read bytes o
+  pub outcome : IsSaidOutcome (is_modelled file.before) command read moment bytes o
+  -- the moment is the one that the clock answered
+  pub timed : IsTimed command clock (is_answered status) read moment bytes
   -- the text is that of the outcome, or the line of a fault
   pub answer : IsTold o status out ⊎ IsFaulted command input out file status bytes o
   -- after status 0 an input that the command reads was read to its end
@@ -281,5 +298,6 @@ pub record RunsBy (command : Option Command) (input : Input) (out : Output) (fil
   pub undamaged : IsModelled file.before → status ≢ 12
 
 -- what a command, or words outside the grammar, came to
-abbrev pub HasRun : Option Command → Input → Output → File → ℕ → Type 0
-HasRun command input out file status = (read bytes : List ℕ) × (o : Outcome) × RunsBy command input out file status read bytes o
+abbrev pub HasRun : Option Command → Input → Clock → Output → File → ℕ → Type 0
+HasRun command input clock out file status =
+    (read : List ℕ) × (moment : ℕ) × (bytes : List ℕ) × (o : Outcome) × RunsBy command input clock out file status read moment bytes o

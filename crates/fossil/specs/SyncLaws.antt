@@ -6,9 +6,10 @@ use Rattle.fsl_pull.specs.Dialled.{Rounds}
 use Rattle.fsl_pull.specs.Laws.{replies}
 use Rattle.fsl_words.specs.declared.Command.{Command}
 use Rattle.fsl_words.specs.declared.Command.TheVariants.{PullLocal}
-use Rattle.fossil.specs.Outcome.{Outcome, command_syncs}
+use Rattle.fossil.specs.Uses.{command_syncs, command_dials}
+use Rattle.fossil.specs.Outcome.{Outcome}
 use Rattle.fossil.specs.Syncs.{Honesty}
-use Rattle.fossil.specs.Synced.{Read, IsSyncOutcome, command_dials}
+use Rattle.fossil.specs.Synced.{Read, IsSyncOutcome}
 
 -- what was read of two files, whose disks are of these kinds, and the rounds
 abbrev pub reading : Honesty → List ℕ → List ℕ → Rounds → Read

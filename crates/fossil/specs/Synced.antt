@@ -19,6 +19,7 @@ use Rattle.fsl_pull.specs.Calls.{Dialled, dialled}
 use Rattle.fsl_words.specs.declared.Command.{Command}
 use Rattle.fsl_words.specs.declared.Command.TheVariants.{Pull, Push, Clone, PullLocal}
 use Rattle.fossil.specs.Printed.{Printed, damaged}
+use Rattle.fossil.specs.Uses.{command_asks_peer, command_dials}
 use Rattle.fossil.specs.Outcome.{Outcome, without_commit, said, printed_of, not_repository}
 use Rattle.fossil.specs.Run.{File, Agrees, IsNoRepository, IsTold, disk_fault}
 use Rattle.fossil.specs.Acts.{file_of, output_of, KeepsContents, KeepsImages, KeepsUnreadable}
@@ -81,19 +82,7 @@ ReadsContent command r commits Says = ⊥
 
 -- ---- what a command uses
 
--- whether it reads the peer's file
-abbrev pub command_asks_peer : Command → Bool
-command_asks_peer (PullLocal path) = true
-command_asks_peer command = false
-
--- whether it uses the dial
-abbrev pub command_dials : Command → Bool
-command_dials (Pull address login) = true
-command_dials (Push address login) = true
-command_dials (Clone address server fields) = true
-command_dials command = false
-
--- the same of words
+-- whether words say a command that reads the peer's file, and one that uses the dial
 abbrev pub asks_peer : List (List ℕ) → Bool
 asks_peer words = option_map_or command_asks_peer (said words) false
 

@@ -1,5 +1,5 @@
 -- What the parts of `put` and `ingest` say of the files of a message.
-use Rattle.std.specs.Prelude.{◌≡◌, ◌≤◌, ◌+◌, ◌&&◌, ◌||◌, not, true, false, ℕ, Bool, List, ◌++◌, length, drop, map, flat_map, codes, Option, Some, None, is_some, if◌then◌else◌, Result, Ok, Err, ⊤}
+use Rattle.std.specs.Prelude.{◌≡◌, ◌≤◌, ◌+◌, ◌&&◌, ◌||◌, not, true, false, ℕ, Bool, List, [], ◌∷◌, ◌++◌, length, drop, map, flat_map, codes, Option, Some, None, is_some, if◌then◌else◌, Result, Ok, Err, ⊤}
 use Rattle.std.specs.FinSet as set
 use Rattle.std.specs.FinMap as map_of
 use Rattle.std.specs.List.{AllZip}
@@ -7,7 +7,9 @@ use Rattle.std.specs.Str.{bytes_eq}
 use Rattle.std.specs.BTreeMap.{BTreeMap, get, insert_entry}
 use Rattle.std.specs.BTreeSet.{BTreeSet, contains}
 use Rattle.fsl_order.specs.Names.{bytes_cmp, has}
+use Rattle.fsl_outside.specs.Clocks.{Asks}
 use Rattle.fsl_outside.specs.Streams.{SourceState}
+use Rattle.fsl_record.specs.Receipts.{Brought}
 use Rattle.fsl_disk.specs.Disk.{DiskState}
 use Rattle.fsl_text.specs.Limits.{most_held_bytes}
 use Rattle.fsl_blobs.specs.Fold.{Held, HeldSet, held_bytes}
@@ -33,7 +35,8 @@ use Rattle.fossil.specs.Printed.{Printed, name_line}
 use Rattle.fossil.specs.Arrivals.{Taken, none_taken, arrival_word, refusal_of, Arrive}
 use Rattle.fossil.specs.Ingest.{fresh}
 use Rattle.fossil.specs.Acts.{input_of, loaded_of, IsInput, IsOpened, Acts}
-use Rattle.fossil.specs.RunCall.{states}
+use Rattle.fossil.specs.Put.{put_receipt}
+use Rattle.fossil.specs.RunCall.{Moments, states}
 
 -- what is told of a message before its files arrive
 abbrev pub IsChecked : List ℕ → Checked → Type 0
@@ -42,39 +45,55 @@ IsChecked message (checked.Refused refusal) = IsMessageRefused message refusal
 
 -- ---- put
 
--- all files were taken behind the old records, with these lines
-pub record AreAllTaken (files : List Sent) (old new : State) (lines : List ℕ) : Type 0 where
+-- all files were taken behind the old records, each with this receipt, with these lines
+pub record AreAllTaken (receipt : Brought) (files : List Sent) (old new : State) (lines : List ℕ) : Type 0 where
   pub taken : Taken
-  pub arrive : Arrive (none_taken (opened old.records 0 true)) files (Ok taken)
+  pub arrive : Arrive (Some receipt) (none_taken (opened old.records 0 true)) files (Ok taken)
   pub printed : lines ≡ taken.text
   pub records : new.records ≡ old.records ++ drop (length old.records) taken.state.records
   pub committed : new.committed ≡ old.committed
   pub runs : new.stopped ≡ None
 
 -- what a file came to that arrived in a repository: its line comes behind those of the files before it, or else it is refused
-abbrev pub HasCome : Sent → State × State → List ℕ × List ℕ → Option Printed → Type 0
-HasCome f repo lines None = (a : Arrival) × ArriveStep repo.0 f.name None f.bytes f.private (Ok a) repo.1 × (lines.1 ≡ lines.0 ++ name_line (arrival_word a) f.name)
-HasCome f repo lines (Some refusal) = (fault : ArriveFault) × ArriveStep repo.0 f.name None f.bytes f.private (Err fault) repo.1 × (refusal_of f.name (Err fault) ≡ Some refusal)
+abbrev pub HasCome : Brought → Sent → State × State → List ℕ × List ℕ → Option Printed → Type 0
+HasCome receipt f repo lines None =
+    (a : Arrival) × ArriveStep repo.0 f.name (Some receipt) f.bytes f.private (Ok a) repo.1 × (lines.1 ≡ lines.0 ++ name_line (arrival_word a) f.name)
+HasCome receipt f repo lines (Some refusal) =
+    (fault : ArriveFault) × ArriveStep repo.0 f.name (Some receipt) f.bytes f.private (Err fault) repo.1 × (refusal_of f.name (Err fault) ≡ Some refusal)
 
--- what files came to that arrived in a repository
-abbrev pub HaveArrived : List Sent → State → State → Arrivals → Type 0
-HaveArrived files old new (came.Taken lines) = AreAllTaken files old new lines
-HaveArrived files old new (came.Refused refusal) = Arrive (none_taken (opened old.records 0 true)) files (Err refusal)
+-- what files came to that arrived in a repository, each with this receipt
+abbrev pub HaveArrived : Brought → List Sent → State → State → Arrivals → Type 0
+HaveArrived receipt files old new (came.Taken lines) = AreAllTaken receipt files old new lines
+HaveArrived receipt files old new (came.Refused refusal) = Arrive (Some receipt) (none_taken (opened old.records 0 true)) files (Err refusal)
 
--- what `put` did with a message over a repository that was opened, of whatever input and file these are
-abbrev pub PutsMessage : {D : Type 0} → List ℕ → (D → DiskState) × Whole D × Whole D → Result Printed Fault → Type 0
-PutsMessage message repo result =
+-- what a clock gave of one moment: the receipt of what is put, which has the moment that it answered
+pub record IsPutReceipt (before after : Moments) (receipt : Brought) : Type 0 where
+  pub put : receipt ≡ put_receipt receipt.moment
+  pub answered : Asks before after (receipt.moment ∷ [])
+
+-- what `put` did with a message over a repository that was opened, under this clock, of whatever input and file these are
+abbrev pub PutsMessage : {C D : Type 0} → List ℕ → (C → Moments) × C × C → (D → DiskState) × Whole D × Whole D → Result Printed Fault → Type 0
+PutsMessage message clock repo result =
     (disk : _) (input : SourceState × SourceState) → IsInput (input_of input) (Some message)
-    → IsOpened (repo.0 disk) (repo.0 repo.1.disk) (loaded_of repo.1) → Acts command_of.Put input (repo.0 disk, repo.0 repo.2.disk) result
+    → IsOpened (repo.0 disk) (repo.0 repo.1.disk) (loaded_of repo.1) → Acts command_of.Put input (states clock) (repo.0 disk, repo.0 repo.2.disk) result
 
 -- the same of its files
-abbrev pub PutsFiles : {D : Type 0} → List Sent → (D → DiskState) × Whole D × Whole D → Result Printed Fault → Type 0
-PutsFiles files repo result = (message : List ℕ) → IsFileList message files → PutsMessage message repo result
+abbrev pub PutsFiles : {C D : Type 0} → List Sent → (C → Moments) × C × C → (D → DiskState) × Whole D × Whole D → Result Printed Fault → Type 0
+PutsFiles files clock repo result = (message : List ℕ) → IsFileList message files → PutsMessage message clock repo result
+
+-- the same of its files, behind the moment of this receipt
+abbrev pub PutsWith : {D : Type 0} → Brought → List Sent → (D → DiskState) × Whole D × Whole D → Result Printed Fault → Type 0
+PutsWith receipt files repo result =
+    (message : List ℕ) (clock : Moments × Moments) → IsFileList message files → IsPutReceipt clock.0 clock.1 receipt →
+    (disk : _) (input : SourceState × SourceState) → IsInput (input_of input) (Some message)
+    → IsOpened (repo.0 disk) (repo.0 repo.1.disk) (loaded_of repo.1) → Acts command_of.Put input clock (repo.0 disk, repo.0 repo.2.disk) result
 
 -- the same of an input, which is read here
-abbrev pub PutsInput : {S D : Type 0} → (S → SourceState) × S × S → (D → DiskState) × Whole D × Whole D → Result Printed Fault → Type 0
-PutsInput input repo result =
-    (disk : _) → IsOpened (repo.0 disk) (repo.0 repo.1.disk) (loaded_of repo.1) → Acts command_of.Put (states input) (repo.0 disk, repo.0 repo.2.disk) result
+abbrev pub PutsInput : {S C D : Type 0} → (S → SourceState) × S × S → (C → Moments) × C × C → (D → DiskState) × Whole D × Whole D →
+    Result Printed Fault → Type 0
+PutsInput input clock repo result =
+    (disk : _) → IsOpened (repo.0 disk) (repo.0 repo.1.disk) (loaded_of repo.1)
+    → Acts command_of.Put (states input) (states clock) (repo.0 disk, repo.0 repo.2.disk) result
 
 -- ---- ingest
 
@@ -115,8 +134,8 @@ IsGatheredBy f old new (Err fault) = (s : State) → IsGathered s old → IsArri
 
 -- what files came to that arrived in a set: all were taken, or a refusal
 abbrev pub HaveGathered : List Sent → Gathered → Option Printed → Type 0
-HaveGathered files new None = (taken : Taken) × Arrive (none_taken fresh) files (Ok taken) × IsGathered taken.state new
-HaveGathered files new (Some refusal) = Arrive (none_taken fresh) files (Err refusal)
+HaveGathered files new None = (taken : Taken) × Arrive None (none_taken fresh) files (Ok taken) × IsGathered taken.state new
+HaveGathered files new (Some refusal) = Arrive None (none_taken fresh) files (Err refusal)
 
 -- whether a fact stands under a name
 abbrev pub is_noted : BTreeMap (List ℕ) Fact → List ℕ → Bool

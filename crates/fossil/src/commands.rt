@@ -10,3 +10,6 @@ pub(crate) mod put;
 pub(crate) mod serving;
 pub(crate) mod shun;
 pub(crate) mod sync;
+pub(crate) mod unshun;
+pub(crate) mod unversioned;
+pub(crate) mod uv_sync;

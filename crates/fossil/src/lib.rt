@@ -1,6 +1,7 @@
 //! A repository of artifacts. `fossil REPOSITORY init PROJECT SERVER [FIELD ...]` makes its file, `put` takes a message
-//! of files into it, `cat PREFIX` writes the content of an artifact, and `shun NAME` takes a name out for good. `timeline
-//! COUNT` prints so many of the latest events, `leaves` the check-ins without a child in their branch, `tags PREFIX` the
+//! of files into it, `cat PREFIX` writes the content of an artifact, `receipt PREFIX` prints when it was brought and under which
+//! login, `shun NAME` takes a name out, and `unshun NAME` takes it off the list of the shunned ones. `timeline COUNT` prints so
+//! many of the latest events, `leaves` the check-ins without a child in their branch, `tags PREFIX` the
 //! tags in force on an artifact, `tip SYMBOL` the latest check-in of a symbolic name, `files PREFIX` the files of a check-in
 //! and what it changed, `wiki TITLE` the versions of a page, `ticket ID` the fields of a ticket, `thread NAME` the posts of
 //! a thread, and `phantoms` the names that are referred to and neither held nor shunned. `ingest` reads a message of files
@@ -8,7 +9,9 @@
 //! ADDRESS USERS WORKERS N` serves the repository to the users of a file. `pull ADDRESS [USER SECRET]` pulls artifacts from
 //! the repository that is served at an address, `push ADDRESS [USER SECRET]` sends it those that it asks for, and `pull-local PEER`
 //! pulls from the repository of another file. `clone ADDRESS SERVER [FIELD ...]` makes a file of its own of the repository
-//! that is served at an address. `gen N` and `gen N reversed` take so many generated
+//! that is served at an address. `uv-init PROJECT SERVER` makes a file for files without history, of which the newest counts:
+//! `uv-add PATH` makes the input the content of a path, `uv-remove PATH` deletes it, `uv-list` prints the paths that are there,
+//! and `uv-cat PATH` a content. `gen N` and `gen N reversed` take so many generated
 //! artifacts one after another into a set of their own, and print how many of each sort there are.
 #![tactic(auto)]
 

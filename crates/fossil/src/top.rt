@@ -1,12 +1,16 @@
 //! The program over whatever source, sink and disk it is handed.
 ghost use Rattle.std.specs.Prelude.{◌≡◌, false};
 ghost use Rattle.fsl_artifact.specs.Kind.{IsKind, IsOneAtMost};
-ghost use Rattle.fossil.specs.Outcome.{HasOneOutcome, HasSomeOutcome, command_meets};
-ghost use Rattle.fossil.specs.Run.{reads_input, opens_file, command_reads, command_opens};
+ghost use Rattle.fossil.specs.Outcome.{HasOneOutcome, HasSomeOutcome};
+ghost use Rattle.fsl_words.specs.declared.Command.TheVariants as command_of;
+ghost use Rattle.fossil.specs.Uses.{command_reads, command_opens, command_meets, command_asks_peer, command_dials, command_ticks};
+ghost use Rattle.fossil.specs.Run.{reads_input, opens_file, asks_clock};
 ghost use Rattle.fossil.specs.Acts.{IsObeyable};
 ghost use Rattle.fossil.specs.SyncLaws.{HasOneSyncOutcome, HasSomeSyncOutcome};
 ghost use Rattle.fossil.specs.CloneLaws.{HasOneCloneOutcome, HasSomeCloneOutcome};
-ghost use Rattle.fossil.specs.Synced.{command_asks_peer, command_dials, asks_peer, dials};
+ghost use Rattle.fossil.specs.Synced.{asks_peer, dials};
+ghost use Rattle.fossil.specs.UvSyncs.{HasOneUvSync, HasSomeUvSync};
+ghost use Rattle.fossil.specs.UvMerging.{MergesFor, MergesAs};
 ghost use Rattle.fossil.specs.RunCall.{texts, RunsCommand, RunsFor, SyncsFor, ClonesFor, RunsAlone, SyncsAs, ClonesAs};
 
 use crate::answers::due::print_due;
@@ -21,25 +25,30 @@ use crate::commands::pull_local::pull_local;
 use crate::commands::put::put;
 use crate::commands::shun::shun;
 use crate::commands::sync::{Way, sync};
+use crate::commands::unshun::unshun;
+use crate::commands::unversioned::unversioned;
+use crate::commands::uv_sync::uv_sync;
 use crate::ran::{Done, Ran};
 use fsl_disk::Disk;
-use fsl_outside::{Dial, Sink, Source};
+use fsl_outside::{Clock, Dial, Sink, Source};
 use fsl_record::Config;
-use fsl_words::{Command, WordsFault, read};
+use fsl_words::{Command, Unversioned, WordsFault, read};
 use std::alloc::Global;
 
 /// Does what a command says that meets no peer, prints what it comes to, and gives the status and the disk.
-fn obey<S: Source, K: Sink, D: Disk>(
+fn obey<S: Source, C: Clock, K: Sink, D: Disk>(
     alloc: Global,
     command: Command,
     input: &mut S,
+    clock: &mut C,
     out: &mut K,
     repo: D,
 ) -> Done<D>
     requires obeyable { IsObeyable command }
     requires alone { command_meets command ≡ false }
-    ensures runs { RunsCommand command (S.state, input.old, input.new) (K.state, out.old, out.new) (D.state, repo, result.repo) result.status }
+    ensures runs { RunsCommand command (S.state, input.old, input.new) (C.told, clock.old, clock.new) (K.state, out.old, out.new) (D.state, repo) result }
     ensures unread { command_reads command ≡ false → input.new ≡ input.old }
+    ensures unasked_clock { command_ticks command ≡ false → clock.new ≡ clock.old }
     ensures untouched { command_opens command ≡ false → result.repo ≡ repo }
 {
     let mut repo = repo;
@@ -62,7 +71,7 @@ fn obey<S: Source, K: Sink, D: Disk>(
             Done { status, repo }
         }
         Command::Put => {
-            let (answer, repo) = put(alloc, input, repo);
+            let (answer, repo) = put(alloc, input, clock, repo);
             let status = print(out, answer);
             Done { status, repo }
         }
@@ -71,9 +80,19 @@ fn obey<S: Source, K: Sink, D: Disk>(
             let status = print(out, answer);
             Done { status, repo }
         }
+        Command::Unshun { name } => {
+            let (answer, repo) = unshun(alloc, name, repo);
+            let status = print(out, answer);
+            Done { status, repo }
+        }
         Command::Ask(question) => ask(alloc, &question, out, repo),
         Command::Serve { .. } => {
             let status = say_usage(out);
+            Done { status, repo }
+        }
+        Command::Unversioned(asked) => {
+            let (answer, repo) = unversioned(alloc, asked, input, clock, repo);
+            let status = print(out, answer);
             Done { status, repo }
         }
         Command::Gen { count, reversed } => {
@@ -84,11 +103,59 @@ fn obey<S: Source, K: Sink, D: Disk>(
         Command::Push { .. } => unreachable!(),
         Command::Clone { .. } => unreachable!(),
         Command::PullLocal { .. } => unreachable!(),
+        Command::Checkin { .. } => {
+            let status = say_usage(out);
+            Done { status, repo }
+        }
+        Command::Export { .. } => {
+            let status = say_usage(out);
+            Done { status, repo }
+        }
+        Command::Verify { .. } => {
+            let status = say_usage(out);
+            Done { status, repo }
+        }
+        Command::Scrub { .. } => {
+            let status = say_usage(out);
+            Done { status, repo }
+        }
+    }
+}
+
+/// Does what a command of unversioned files says, prints what it comes to, and gives the status and the disks.
+fn start_unversioned<S: Source, K: Sink, D: Disk, P: Disk, C: Clock>(
+    alloc: Global,
+    asked: Unversioned,
+    input: &mut S,
+    out: &mut K,
+    repo: D,
+    peer: P,
+    clock: &mut C,
+) -> Ran<D, P>
+    requires { IsObeyable (command_of.Unversioned asked) }
+    ensures runs { RunsFor (command_of.Unversioned asked) (S.state, input.old, input.new) (C.told, clock.old, clock.new) (K.state, out.old, out.new) (D.state, repo) result }
+    ensures merged { MergesFor (command_of.Unversioned asked) (D.state, repo) (P.state, peer) (K.state, out.old, out.new) result }
+    ensures unread { command_reads (command_of.Unversioned asked) ≡ false → input.new ≡ input.old }
+    ensures untouched { command_opens (command_of.Unversioned asked) ≡ false → result.repo ≡ repo }
+    ensures unasked { command_asks_peer (command_of.Unversioned asked) ≡ false → result.peer ≡ peer }
+    ensures unasked_clock { command_ticks (command_of.Unversioned asked) ≡ false → clock.new ≡ clock.old }
+{
+    match asked {
+        Unversioned::Sync { .. } => {
+            let (due, repo, peer) = uv_sync(alloc, repo, peer);
+            let status = print_due(out, &due);
+            Ran { status, repo, peer }
+        }
+        asked => {
+            let command = Command::Unversioned(asked);
+            let Done { status, repo } = obey(alloc, command, input, clock, out, repo);
+            Ran { status, repo, peer }
+        }
     }
 }
 
 /// Does what a command says, prints what it comes to, and gives the status and the disks.
-fn start<S: Source, K: Sink, D: Disk, P: Disk, N: Dial>(
+fn start<S: Source, K: Sink, D: Disk, P: Disk, N: Dial, C: Clock>(
     alloc: Global,
     command: Command,
     input: &mut S,
@@ -96,15 +163,18 @@ fn start<S: Source, K: Sink, D: Disk, P: Disk, N: Dial>(
     repo: D,
     peer: P,
     dial: &mut N,
+    clock: &mut C,
 ) -> Ran<D, P>
     requires { IsObeyable command }
-    ensures runs { RunsFor command (S.state, input.old, input.new) (K.state, out.old, out.new) (D.state, repo) result }
+    ensures runs { RunsFor command (S.state, input.old, input.new) (C.told, clock.old, clock.new) (K.state, out.old, out.new) (D.state, repo) result }
     ensures syncs { SyncsFor command (D.state, repo) (P.state, peer) (N.state, dial.old, dial.new) (K.state, out.old, out.new) result }
     ensures cloned { ClonesFor command (D.state, repo) (N.state, dial.old, dial.new) (K.state, out.old, out.new) result }
+    ensures merged { MergesFor command (D.state, repo) (P.state, peer) (K.state, out.old, out.new) result }
     ensures unread { command_reads command ≡ false → input.new ≡ input.old }
     ensures untouched { command_opens command ≡ false → result.repo ≡ repo }
     ensures unasked { command_asks_peer command ≡ false → result.peer ≡ peer }
     ensures undialled { command_dials command ≡ false → dial.new ≡ dial.old }
+    ensures unasked_clock { command_ticks command ≡ false → clock.new ≡ clock.old }
 {
     match command {
         Command::Pull { login, .. } => {
@@ -131,24 +201,34 @@ fn start<S: Source, K: Sink, D: Disk, P: Disk, N: Dial>(
             let status = print_due(out, &due);
             Ran { status, repo, peer }
         }
+        Command::Unversioned(asked) => {
+            start_unversioned(alloc, asked, input, out, repo, peer, clock)
+        }
         command => {
-            let Done { status, repo } = obey(alloc, command, input, out, repo);
+            let Done { status, repo } = obey(alloc, command, input, clock, out, repo);
             Ran { status, repo, peer }
         }
     }
 }
 
 /// Runs the command that the words say over the input and the repository's disk, prints to the output, and gives the
-/// status and the disks: 0 after a report, 1 for words outside the grammar and for `serve`, 2 where a file isn't a
+/// status and the disks: 0 after a report, 1 for words outside the grammar, for `serve`, and for `checkin`, `export`, `verify` and `scrub`, which nothing answers yet, 2 where a file isn't a
 /// repository, 3 where the command or its input is refused, 4, 5, 6 and 7 where a disk, the input, the output or the
 /// dial failed, 8 where a reply of the peer is wrong, 9 for want of memory, 10 where a name that the peer announced
 /// isn't sent, 11 after 100,000 rounds of a sync, 12 where the bytes that were read for an artifact have another name. Only
 /// `cat`, `push` and `pull-local` read a content, and over a disk that tells its contents and meets the disk model none is
 /// damaged. A command that reads no input leaves it, and so `ingest` leaves the disk; `gen` and words outside the grammar
-/// leave both. Only `pull-local` uses the peer's disk, and only `pull`, `push` and `clone` use the dial. Where the line of
-/// a refusal or of a fault can't be written, the status stays.
+/// leave both. Only `pull-local` and `uv-sync` use the peer's disk, only `pull`, `push` and `clone` use the dial, and only `put`,
+/// `uv-add` and `uv-remove` ask the clock. Where the line of a refusal or of a fault can't be written, the status stays.
 ///
-/// The file is loaded first, then the input is read, then what it appends is committed, then the text is printed.
+/// The file is loaded first, then the input is read, then its form, then `put` takes its one moment, then what it appends is
+/// committed, then the text is printed. A `put` takes no moment over a file that is no repository, nor where its message is too
+/// long or is refused for a line or a card; one that a fault ends may take none; each other one takes one, also where its message
+/// has no file or a file is refused.
+///
+/// Of the commands of unversioned files all but `uv-init` load the file as a store, and refuse it where one of its Blobs is no
+/// entry, before `uv-add` reads its input; `uv-add` takes one moment behind an input that isn't too long, and `uv-remove` one
+/// where its path is there.
 ///
 /// Of a command that meets no peer: after status 0 and 6 the file stands for the records that it stood for and those of
 /// the command, after 4 for the old ones, with all or none of the command's, and after each other status for the old
@@ -160,7 +240,13 @@ fn start<S: Source, K: Sink, D: Disk, P: Disk, N: Dial>(
 /// crash leaves some first ones. A clone refuses a file with bytes, which stays as it is; into an empty one the commit of
 /// its first reply writes the record of the repository too. What the peer's file stands for stays, unless its disk failed;
 /// and it isn't looked at where the repository's own file isn't one.
-pub fn run<S: Source, K: Sink, D: Disk, P: Disk, N: Dial>(
+///
+/// A sync of unversioned files opens its own file and then the peer's, and has one commit for each, its own first. At each
+/// moment each of them stands for its old records, or for these with its one commit; the peer's file takes nothing in unless
+/// the own one has, and it isn't looked at unless that was opened. After status 0 both stand for stores whose map is the merge
+/// of the two, as far as versions of a path with one moment and one hash are the same. After 9 none, the own or both commits
+/// were made.
+pub fn run<S: Source, K: Sink, D: Disk, P: Disk, N: Dial, C: Clock>(
     alloc: Global,
     words: &[String],
     input: &mut S,
@@ -168,17 +254,20 @@ pub fn run<S: Source, K: Sink, D: Disk, P: Disk, N: Dial>(
     repo: D,
     peer: P,
     dial: &mut N,
+    clock: &mut C,
 ) -> Ran<D, P>
-    ensures runs { RunsAlone (texts words.now) (S.state, input.old, input.new) (K.state, out.old, out.new) (D.state, repo) result }
+    ensures runs { RunsAlone (texts words.now) (S.state, input.old, input.new) (C.told, clock.old, clock.new) (K.state, out.old, out.new) (D.state, repo) result }
     ensures synced { SyncsAs (texts words.now) (D.state, repo) (P.state, peer) (N.state, dial.old, dial.new) (K.state, out.old, out.new) result }
     ensures cloned { ClonesAs (texts words.now) (D.state, repo) (N.state, dial.old, dial.new) (K.state, out.old, out.new) result }
+    ensures merged { MergesAs (texts words.now) (D.state, repo) (P.state, peer) (K.state, out.old, out.new) result }
     ensures unread { reads_input (texts words.now) ≡ false → input.new ≡ input.old }
     ensures untouched { opens_file (texts words.now) ≡ false → result.repo ≡ repo }
     ensures unasked { asks_peer (texts words.now) ≡ false → result.peer ≡ peer }
     ensures undialled { dials (texts words.now) ≡ false → dial.new ≡ dial.old }
+    ensures unasked_clock { asks_clock (texts words.now) ≡ false → clock.new ≡ clock.old }
 {
     match read(alloc, words) {
-        Ok(words) => start(alloc, words.command, input, out, repo, peer, dial),
+        Ok(words) => start(alloc, words.command, input, out, repo, peer, dial, clock),
         Err(WordsFault::Usage) => {
             let status = say_usage(out);
             Ran { status, repo, peer }
@@ -190,18 +279,22 @@ pub fn run<S: Source, K: Sink, D: Disk, P: Disk, N: Dial>(
     }
 }
 
-/// A law and no code: words, an input and a file have one outcome at most, and so have a sync and a clone by what they read.
+/// A law and no code: words, an input, a moment and a file have one outcome at most, and so have a sync and a clone by what they read,
+/// and a sync of unversioned files by both files.
 pub fn one_outcome()
     ensures kinds { IsOneAtMost IsKind }
     ensures outcome { HasOneOutcome }
     ensures synced { HasOneSyncOutcome }
     ensures cloned { HasOneCloneOutcome }
+    ensures merged { HasOneUvSync }
 {}
 
-/// A law and no code: words, an input and a file have an outcome, where the words say no command that meets a peer. A sync
-/// has one over any files and of as many replies as it may have, and so has a clone.
+/// A law and no code: words, an input, a moment and a file have an outcome, where the words say no command that meets a peer. A sync
+/// has one over any files and of as many replies as it may have, and so has a clone. A sync of unversioned files has one over any
+/// two files.
 pub fn some_outcome()
     ensures outcome { HasSomeOutcome }
     ensures synced { HasSomeSyncOutcome }
     ensures cloned { HasSomeCloneOutcome }
+    ensures merged { HasSomeUvSync }
 {}

@@ -79,11 +79,11 @@ fn due_of(alloc: Global, stopped: Option<u64>, works: &[Work], stored: u64) -> D
 }
 
 /// Says what is due after the workers, and gives the status with what they left.
-pub(crate) fn finished<D: Disk, A, G, K: Sink>(
+pub(crate) fn finished<D: Disk, A, G, C, K: Sink>(
     alloc: Global,
-    done: Worked<D, A, G>,
+    done: Worked<D, A, G, C>,
     out: &mut K,
-) -> Served<D, A, G>
+) -> Served<D, A, G, C>
     requires few { length done.works.items ≤ 16 }
     requires within { AreWithin 65536 done.works.items }
     ensures said { IsSaidOf (worked done.repo.seen.state.stopped done.works.items done.stored) (output_of (K.state out.old, K.state out.new)) result.status }

@@ -8,7 +8,7 @@ mod sockets;
 
 use fossil::{NO_MEMORY, run};
 use fsl_disk::FileDisk;
-use fsl_outside::{StdSink, StdSource, TcpDial};
+use fsl_outside::{StdClock, StdSink, StdSource, TcpDial};
 use fsl_words::{Command, WordsFault, read};
 use open::{Disks, dial, listen, open, open_served, open_users};
 use sockets::serve_at;
@@ -18,7 +18,7 @@ use std::io;
 use std::io::ErrorKind;
 use std::process::ExitCode;
 
-/// Runs a command over the real input, the real output, its files and its dial, and gives the status.
+/// Runs a command over the real input, the real output, its files, its dial and the system's clock, and gives the status.
 fn over_file(rt: &HostRuntime, words: &[String], command: &Command) -> u8 {
     match dial(rt, words, command) {
         Some(mut dial) => {
@@ -39,8 +39,19 @@ fn over_dial(
 ) -> u8 {
     let mut input = StdSource::new(rt.stdin());
     let mut out = StdSink::new(io::writer(rt));
+    let mut clock = StdClock::new(rt);
     let Disks { own, peer } = open(rt, words, command);
-    run(rt.alloc(), words, &mut input, &mut out, own, peer, dial).status
+    run(
+        rt.alloc(),
+        words,
+        &mut input,
+        &mut out,
+        own,
+        peer,
+        dial,
+        &mut clock,
+    )
+    .status
 }
 
 /// Runs words outside the grammar, which get no input, no file and no dial.
@@ -48,6 +59,7 @@ fn over_nothing(rt: &HostRuntime, words: &[String]) -> u8 {
     let mut input: StdSource<io::Empty> = StdSource::none();
     let mut out = StdSink::new(io::writer(rt));
     let mut dial: TcpDial<HostRuntime> = TcpDial::none();
+    let mut clock = StdClock::new(rt);
     run(
         rt.alloc(),
         words,
@@ -56,6 +68,7 @@ fn over_nothing(rt: &HostRuntime, words: &[String]) -> u8 {
         FileDisk::none(),
         FileDisk::none(),
         &mut dial,
+        &mut clock,
     )
     .status
 }

@@ -2,7 +2,7 @@
 use crate::lock::{Opened, alone, beside_readers};
 use fsl_disk::FileDisk;
 use fsl_outside::{StdSource, TcpDial};
-use fsl_words::Command;
+use fsl_words::{Command, Unversioned};
 use std::alloc::{AllocError, Global};
 use std::fs::{File, OpenOptions};
 use std::io;
@@ -47,8 +47,9 @@ fn tell_unguarded(rt: &HostRuntime, is_unguarded: bool) {
     }
 }
 
-/// The file that the first word names, which is made for `init` and `clone` alone where it is missing. The disk's calls fail where the
-/// file can't be opened or another process holds it, and for `ingest` and `gen`, which open none.
+/// The file that the first word names, which is made for `init`, `clone` and `uv-init` alone where it is missing. The disk's calls fail
+/// where the file can't be opened or another process holds it, and for `ingest`, `gen` and the words that no command answers yet, which
+/// open none.
 fn open_own(rt: &HostRuntime, words: &[String], command: &Command) -> Opened {
     let Some(path) = words.first() else {
         return Opened::none();
@@ -56,17 +57,26 @@ fn open_own(rt: &HostRuntime, words: &[String], command: &Command) -> Opened {
     let mut options = OpenOptions::new();
     options.read(true).write(true);
     match command {
-        Command::Ingest | Command::Gen { .. } => return Opened::none(),
-        Command::Init { .. } | Command::Clone { .. } => {
+        Command::Ingest
+        | Command::Gen { .. }
+        | Command::Checkin { .. }
+        | Command::Export { .. }
+        | Command::Verify { .. }
+        | Command::Scrub { .. } => return Opened::none(),
+        Command::Init { .. }
+        | Command::Clone { .. }
+        | Command::Unversioned(Unversioned::Init { .. }) => {
             options.create(true);
         }
         Command::Put
         | Command::Shun { .. }
+        | Command::Unshun { .. }
         | Command::Ask(_)
         | Command::Serve { .. }
         | Command::Pull { .. }
         | Command::Push { .. }
-        | Command::PullLocal { .. } => {}
+        | Command::PullLocal { .. }
+        | Command::Unversioned(_) => {}
     }
     match options.open(rt, path.as_str()) {
         Ok(file) => alone(file),
@@ -74,18 +84,38 @@ fn open_own(rt: &HostRuntime, words: &[String], command: &Command) -> Opened {
     }
 }
 
-/// The peer's file, which the third word of a `pull-local` names: for writing where that is allowed, since a load cuts what stands behind
-/// the closed gate, and else for reading alone. The disk's calls fail where the file can't be opened, where another process holds it or
-/// this one does as its own, and for every other command.
+/// What a command does with a peer's file.
+#[derive(Clone, Copy)]
+enum Peer {
+    /// It reads it. It writes to it only where a load cuts what stands behind the closed gate.
+    Read,
+    /// It writes to it.
+    Written,
+}
+
+/// What a command does with the peer's file, which its third word names; none for one without a peer's file.
+fn peer_of(command: &Command) -> Option<Peer> {
+    match command {
+        Command::PullLocal { .. } => Some(Peer::Read),
+        Command::Unversioned(Unversioned::Sync { .. }) => Some(Peer::Written),
+        _ => None,
+    }
+}
+
+/// The peer's file, which the third word of a `pull-local` and of a `uv-sync` names: for writing where that is allowed; for `pull-local`
+/// else for reading alone. The disk's calls fail where the file can't be opened, where another process holds it or this one
+/// does as its own, and for every other command.
 fn open_peer(rt: &HostRuntime, words: &[String], command: &Command) -> Opened {
-    let (Command::PullLocal { .. }, Some(path)) = (command, words.get(2)) else {
+    let (Some(peer), Some(path)) = (peer_of(command), words.get(2)) else {
         return Opened::none();
     };
     let mut options = OpenOptions::new();
     options.read(true).write(true);
     match options.open(rt, path.as_str()) {
         Ok(file) => alone(file),
-        Err(fault) if is_read_only(fault) => open_to_read(rt, path.as_str()),
+        Err(fault) if matches!(peer, Peer::Read) && is_read_only(fault) => {
+            open_to_read(rt, path.as_str())
+        }
         Err(_) => Opened::none(),
     }
 }

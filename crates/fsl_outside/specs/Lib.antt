@@ -1,5 +1,6 @@
 pub mod Accepts
 pub mod Adapted
+pub mod Clocks
 pub mod Connections
 pub mod Dials
 pub mod Lines

@@ -1,8 +1,9 @@
-//! Bytes that come in and bytes that go out, and connections with both. Each call of a source, a sink or a link answers
+//! Bytes that come in and bytes that go out, connections with both, and clocks. Each call of a source, a sink or a link answers
 //! `Failed` only where its count of faults rose, and a call that answers otherwise leaves the count. What an object holds
 //! is told by the forms over memory, and by the adapters as far as std's reader or writer tells it.
 #![tactic(auto)]
 
+mod clock;
 mod dial;
 mod door;
 mod gate;
@@ -17,6 +18,7 @@ mod tcp_door;
 mod timed;
 mod whole;
 
+pub use clock::{Clock, SetClock, StdClock};
 pub use dial::MemoryDial;
 pub use door::MemoryDoor;
 pub use gate::{Gate, NoGate, Point};

@@ -34,6 +34,7 @@ pub mod CloneLoop
 pub mod CloneTexts
 pub mod CloneMaking
 pub mod CloneWhole
+pub mod Undamaged
 pub mod LocalTaken
 pub mod LocalSync
 pub mod LocalMore

@@ -184,6 +184,11 @@ abbrev pub UnlessDisk : {A : Type 0} → Type 0 → Result A PullFault → Type 
 UnlessDisk P (Err fault.Disk) = ⊤
 UnlessDisk P result = P
 
+-- a fault other than `Damaged`
+abbrev pub IsUndamaged : PullFault → Type 0
+IsUndamaged (fault.Damaged name found) = ⊥
+IsUndamaged why = ⊤
+
 -- the commits that rounds come to: those of their end, or of rounds that all went on
 abbrev pub AreCloneCommits : CloneOf → Rounds → List (List Record) → Type 0
 AreCloneCommits k rounds commits = AreCommitsOf (IsClone k.server k.fields k.login 0 k.faults k.honest) (CloneSoFar k.server k.fields k.login k.faults k.honest) rounds commits

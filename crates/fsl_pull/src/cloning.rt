@@ -10,7 +10,7 @@ ghost use Rattle.fsl_pull.specs.declared.PullFault.TheVariants as fault;
 ghost use Rattle.fsl_pull.specs.Replies.{codes_of, sequel_of, sequel_in};
 ghost use Rattle.fsl_pull.specs.Clones.{project_of, project_in, first_record};
 ghost use Rattle.fsl_pull.specs.Asking.{IsAsked, IsDialCounted};
-ghost use Rattle.fsl_pull.specs.CloneCalls.{IsEmptied, NoneOr, UnlessDisk, IsClonedOver};
+ghost use Rattle.fsl_pull.specs.CloneCalls.{IsEmptied, NoneOr, UnlessDisk, IsUndamaged, IsClonedOver};
 ghost use Rattle.fsl_pull.specs.CloneTurns.{clone_bytes, IsUnreplied, place_by, IsCloneTaken, IsCloneTurned, IsOnly, opening_fault, making_fault, IsMadeBy, IsUnopened, IsUnmadeBy, made_disk, IsBegunBy, IsUnbegun, IsClonedOn, IsClosedOn};
 
 use crate::asking::{Unasked, ask};
@@ -278,6 +278,7 @@ fn take_reply<D: Disk, L: Ledger>(
         repo.old.seen repo.new.seen (repo.new.disk ≡ repo.old.disk) result }
     ensures runs { UnlessDisk (repo.new.seen.state.stopped ≡ None) result }
     ensures steady { UnlessDisk (repo.new.seen.state.faults ≡ repo.old.seen.state.faults) result }
+    ensures undamaged { IfErr result IsUndamaged }
     ensures keeps { Keeps (D.state repo.old.disk) (D.state repo.new.disk) }
 {
     repo.is_whole();
@@ -340,6 +341,7 @@ fn clone_round<D: Disk, N: Dial, L: Ledger>(
         repo.old.seen repo.new.seen (repo.new.disk ≡ repo.old.disk) result }
     ensures runs { UnlessDisk (repo.new.seen.state.stopped ≡ None) result }
     ensures steady { UnlessDisk (repo.new.seen.state.faults ≡ repo.old.seen.state.faults) result }
+    ensures undamaged { IfErr result IsUndamaged }
     ensures keeps { Keeps (D.state repo.old.disk) (D.state repo.new.disk) }
     ensures dialled { (N.state dial.old).faults ≤ (N.state dial.new).faults }
     ensures counts { IsDialCounted (N.state dial.old) (N.state dial.new) result }
@@ -365,6 +367,7 @@ fn rounds<D: Disk, N: Dial, L: Ledger>(
     ensures counts { IsDialCounted (N.state dial.old) (N.state dial.new) result }
     ensures runs { UnlessDisk (repo.new.seen.state.stopped ≡ None) result }
     ensures steady { UnlessDisk (repo.new.seen.state.faults ≡ repo.old.seen.state.faults) result }
+    ensures undamaged { IfErr result IsUndamaged }
     ensures keeps { Keeps (D.state repo.old.disk) (D.state repo.new.disk) }
 {
     repo.is_whole();
@@ -408,6 +411,7 @@ fn closed_rounds<D: Disk, N: Dial, L: Ledger>(
     ensures counts { IsDialCounted (N.state dial.old) (N.state dial.new) result.1 }
     ensures stands { (c : List ℕ) → IsModelled (D.state repo.disk) → (D.state repo.disk).images c → IsFileOf c (front repo.seen.state) }
     ensures steady { UnlessDisk ((D.state result.0).faults ≡ repo.seen.state.faults) result.1 }
+    ensures undamaged { IfErr result.1 IsUndamaged }
     ensures keeps { Keeps (D.state repo.disk) (D.state result.0) }
 {
     let mut repo = repo;
@@ -432,6 +436,7 @@ fn clone_onto<D: Disk, N: Dial, L: Ledger>(
     ensures clones { IsClonedOver D.state server fields.now login.now (N.state dial.old) (N.state dial.new) disk result.0 result.1 }
     ensures counts { IsDialCounted (N.state dial.old) (N.state dial.new) result.1 }
     ensures steady { UnlessDisk ((D.state result.0).faults ≡ (D.state disk).faults) result.1 }
+    ensures undamaged { IfErr result.1 IsUndamaged }
     ensures keeps { Keeps (D.state disk) (D.state result.0) }
 {
     let first = match reply_from(alloc, dial, login, FIRST_PLACE) {
@@ -471,6 +476,8 @@ pub fn clone_from<D: Disk, N: Dial, L: Ledger>(
     // The dial's count of faults rises where the answer is `Link`, and the disk's where it is `Disk`.
     ensures counts { IsDialCounted (N.state dial.old) (N.state dial.new) result.1 }
     ensures steady { UnlessDisk ((D.state result.0).faults ≡ (D.state disk).faults) result.1 }
+    // No content is read back, so none is found damaged.
+    ensures undamaged { IfErr result.1 IsUndamaged }
     // What was there stays, at each moment.
     ensures untouched { Told (D.state disk) (λ held. (held ≡ []) ⊎ Quiet (D.state disk) (D.state result.0)) }
     ensures keeps { Keeps (D.state disk) (D.state result.0) }

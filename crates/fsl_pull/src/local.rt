@@ -170,6 +170,10 @@ pub fn pull_local<D: Disk, P: Disk, L: Ledger>(
     // The peer is only read, and none of its calls fails but with `Disk`.
     ensures peer { IsOnlyRead P.state peer.old peer.new }
     ensures peer_count { UnlessDisk (peer.new.seen.state ≡ peer.old.seen.state) result }
+    // Before any round it is as it was.
+    ensures peer_idle { IsSome repo.old.seen.state.stopped → peer.new ≡ peer.old }
+    ensures peer_idle_for_another { bytes_eq (project_code (now repo.old.seen.state)) (project_code (now peer.old.seen.state))
+        ≡ false → peer.new ≡ peer.old }
 {
     match other_project(repo, peer) {
         Some(found) => return Err(PullFault::Project { found }),

@@ -30,7 +30,7 @@ use Rattle.fsl_query.specs.declared.Refused.TheVariants as refused_as
 use Rattle.fsl_query.specs.declared.QueryFault.{QueryFault}
 use Rattle.fsl_query.specs.declared.QueryFault.TheVariants as query_fault
 use Rattle.fsl_query.specs.Answers.{IsAnswer, IsReported, IsReportedIn, IsReportedOn, IsSpoiltIn, IsUnread, content_asked, one_of, prefix_of}
-use Rattle.fsl_query.specs.Reports.{IsReadContent, IsReport, IsTold, by_found, content, name_found, report}
+use Rattle.fsl_query.specs.Reports.{IsReadContent, IsReport, IsTold, by_found, content, name_found, receipt_report, report}
 use Rattle.fsl_query.proofs.Prefixes.{of_one}
 
 -- ---- questions that ask for no content
@@ -42,6 +42,7 @@ refusal_of due told refused h is = subst (λ f. IsAnswer due f) is h
 -- the report by the items that are held is a report
 report_by : (honest : Bool) (c : Contents) (items : List Item) (question : Question) (due : Result (List ℕ) Refused) → prefix_of question ≡ None → AreItems c.held items → due ≡ report c items question → IsReport honest c question due
 report_by honest c items (question_of.Cat prefix) due unread are is = absurd cc
+report_by honest c items (question_of.Receipt prefix) due unread are is = is
 report_by honest c items (question_of.Timeline count) due unread are is = (items, are, is)
 report_by honest c items question_of.Leaves due unread are is = (items, are, is)
 report_by honest c items (question_of.Tags prefix) due unread are is = (items, are, is)
@@ -60,9 +61,18 @@ reported_by honest c items question faults (Err query_fault.Disk) unread are h =
 reported_by honest c items question faults (Err (query_fault.Damaged name found)) unread are h = absurd h
 reported_by honest c items question faults (Err query_fault.Memory) unread are h = refl
 
+-- the line of a receipt is reported
+pub reported_receipt : (honest : Bool) (c : Contents) (prefix : List ℕ) (faults : ℕ) (told : Result (List ℕ) QueryFault) → IsAnswer (receipt_report c prefix) told → IsReported honest c (question_of.Receipt prefix) faults faults told
+reported_receipt honest c prefix faults (Ok text) h = (sym h, refl)
+reported_receipt honest c prefix faults (Err (query_fault.Refused refused)) h = (sym h, refl)
+reported_receipt honest c prefix faults (Err query_fault.Disk) h = absurd h
+reported_receipt honest c prefix faults (Err (query_fault.Damaged name found)) h = absurd h
+reported_receipt honest c prefix faults (Err query_fault.Memory) h = refl
+
 -- and its value is told as it is
 as_due : (honest : Bool) (question : Question) (due : Result (List ℕ) Refused) (text : List ℕ) → prefix_of question ≡ None → due ≡ Ok text → IsTold honest question due (Ok text)
 as_due honest (question_of.Cat prefix) due text unread is = absurd cc
+as_due honest (question_of.Receipt prefix) due text unread is = is
 as_due honest (question_of.Timeline count) due text unread is = is
 as_due honest question_of.Leaves due text unread is = is
 as_due honest (question_of.Tags prefix) due text unread is = is
@@ -81,6 +91,7 @@ value_of honest question due (Err fault) unread h = tt
 
 pub is_cat : (question : Question) (prefix : List ℕ) → prefix_of question ≡ Some prefix → question ≡ question_of.Cat prefix
 is_cat (question_of.Cat other) prefix is = let same : other ≡ prefix = cc in ap question_of.Cat same
+is_cat (question_of.Receipt other) prefix is = absurd cc
 is_cat (question_of.Timeline count) prefix is = absurd cc
 is_cat question_of.Leaves prefix is = absurd cc
 is_cat (question_of.Tags other) prefix is = absurd cc

@@ -1,11 +1,12 @@
 -- The lines of reports.
-use Rattle.std.specs.Prelude.{ℕ, List, [], ◌∷◌, ◌++◌, if◌then◌else◌, codes}
+use Rattle.std.specs.Prelude.{ℕ, List, [], ◌∷◌, ◌++◌, Option, Some, None, if◌then◌else◌, codes}
 use Rattle.std.specs.Option.{option_map_or}
 use Rattle.fsl_date.specs.Moment.{moment_text}
 use Rattle.fsl_text.specs.Bytes.{is_empty}
 use Rattle.fsl_text.specs.Escapes.{escape}
 use Rattle.fsl_name.specs.Name.{name_text}
 use Rattle.fsl_name.specs.Ref.{ref_text}
+use Rattle.fsl_record.specs.Receipts.{Brought}
 use Rattle.fsl_tags.specs.declared.Assertion.{Assertion}
 use Rattle.fsl_files.specs.declared.Perm.{Perm}
 use Rattle.fsl_files.specs.declared.Perm.TheVariants as perm
@@ -35,6 +36,13 @@ shown text = if is_empty text then 45 ∷ [] else escape text
 -- a line of a key and a value, or of the key alone where the value is empty
 abbrev pub valued_line : List ℕ → List ℕ → List ℕ
 valued_line key value = if is_empty value then spaced (escape key ∷ []) else spaced (escape key ∷ escape value ∷ [])
+
+-- ---- receipts
+
+-- MOMENT LOGIN of who brought an artifact and when, or `none` where that wasn't told
+abbrev pub receipt_line : Option Brought → List ℕ
+receipt_line None = codes "none" ++ 10 ∷ []
+receipt_line (Some r) = spaced (moment_text r.moment ∷ shown r.login ∷ [])
 
 -- ---- timeline
 

@@ -29,10 +29,10 @@ use Rattle.fsl_blobs.specs.Held.{matching, found}
 use Rattle.fsl_repo.specs.Machine.{AreItems, configured, now, wants}
 use Rattle.fsl_repo.specs.Whole.{Seen}
 use Rattle.fsl_words.specs.declared.Question.{Question}
-use Rattle.fsl_words.specs.declared.Question.TheVariants.{Cat, Timeline, Leaves, Tags, Tip, Files, Wiki, Ticket, Thread, Phantoms}
+use Rattle.fsl_words.specs.declared.Question.TheVariants.{Cat, Receipt, Timeline, Leaves, Tags, Tip, Files, Wiki, Ticket, Thread, Phantoms}
 use Rattle.fsl_query.specs.declared.Refused.{Refused}
 use Rattle.fsl_query.specs.declared.Refused.TheVariants as refused
-use Rattle.fsl_query.specs.Lines.{timeline_line, leaf_line, tag_line, tip_line, file_line, change_line, page_line, attachment_line, field_line, post_line, wanted_line}
+use Rattle.fsl_query.specs.Lines.{receipt_line, timeline_line, leaf_line, tag_line, tip_line, file_line, change_line, page_line, attachment_line, field_line, post_line, wanted_line}
 
 -- all tables of the items
 abbrev pub tables_now : Contents → List Item → TableFacts
@@ -61,6 +61,10 @@ unless_none (x ∷ xs) refusal text = Ok text
 -- the content alone
 abbrev pub content : Contents → List ℕ → Result (List ℕ) Refused
 content c prefix = of_prefix c prefix (λ name. option_map_or (λ held. Ok held.bytes) (map_of.get c.held name) (Err (refused.NoArtifact prefix)))
+
+-- the receipt of an artifact
+abbrev pub receipt_report : Contents → List ℕ → Result (List ℕ) Refused
+receipt_report c prefix = of_prefix c prefix (λ name. Ok (receipt_line (map_of.get c.receipts name)))
 
 -- a text that may stand in place of a content: over a disk that tells its contents and meets the disk model it is it; over every other disk it has its name and its size
 pub record IsReadText (honest : Bool) (content text : List ℕ) : Type 0 where
@@ -127,6 +131,7 @@ phantoms_report names = flat_map wanted_line names
 -- the report on a question, or its refusal; phantoms are the names that held artifacts refer to and that are neither held nor shunned
 abbrev pub report : Contents → List Item → Question → Result (List ℕ) Refused
 report c items (Cat prefix) = content c prefix
+report c items (Receipt prefix) = receipt_report c prefix
 report c items (Timeline count) = Ok (timeline_report (tables_now c items).timeline count)
 report c items Leaves = Ok (leaves_report (branch items) (tables_now c items).leaves)
 report c items (Tags prefix) = of_prefix c prefix (λ name. Ok (tags_report (tables_now c items).tags name))
@@ -146,7 +151,8 @@ IsTold honest question due result = due ≡ result
 abbrev pub report_in : Seen → Question → Result (List ℕ) Refused
 report_in seen question = report (now seen.state) seen.items question
 
--- the report by the items that the held artifacts are; of a content they don't matter, and it is as it is read
+-- the report by the items that the held artifacts are; of a content and of a receipt they don't matter, and a content is as it is read
 abbrev pub IsReport : Bool → Contents → Question → Result (List ℕ) Refused → Type 0
 IsReport honest c (Cat prefix) result = IsReadContent honest (content c prefix) result
+IsReport honest c (Receipt prefix) result = result ≡ receipt_report c prefix
 IsReport honest c question result = (items : List Item) × AreItems c.held items × (result ≡ report c items question)

@@ -7,17 +7,27 @@ ghost use Rattle.fsl_repo.specs.Whole.{log_of};
 ghost use Rattle.fsl_words.specs.declared.Question.TheVariants as question_of;
 ghost use Rattle.fsl_query.specs.declared.Refused.{Refused};
 ghost use Rattle.fsl_query.specs.declared.QueryFault.TheVariants as query_fault;
-ghost use Rattle.fsl_query.specs.Reports.{IsTold, of_prefix, files_report, leaves_report, tables_now, report_in};
+ghost use Rattle.fsl_query.specs.Reports.{IsTold, of_prefix, files_report, leaves_report, receipt_report, tables_now, report_in};
 ghost use Rattle.fsl_query.specs.Answers.{IsAnswer, IsReportedIn, content_asked, prefix_of};
 
 use crate::finding::{copied, found, prefix_of};
-use crate::{QueryFault, files, leaves, phantoms, tags, thread, ticket, timeline, tip, wiki};
+use crate::{
+    QueryFault, files, leaves, phantoms, receipt, tags, thread, ticket, timeline, tip, wiki,
+};
 use fsl_disk::Disk;
 use fsl_name::Name;
 use fsl_repo::Repo;
 use fsl_text::{Memory, Text};
 use fsl_words::Question;
 use std::alloc::Global;
+
+/// The receipt of the one held artifact whose digits begin with a prefix.
+fn receipt_of<D: Disk>(alloc: Global, repo: &Repo<D>, prefix: &[u8]) -> Result<Text, QueryFault>
+    ensures { IsAnswer (receipt_report (now repo.now.seen.state) prefix.now) result }
+{
+    let name = found(alloc, repo, prefix)?;
+    Ok(receipt::report(alloc, repo.receipt(name))?)
+}
 
 /// The leaves of a repository.
 fn leaves_of<D: Disk>(alloc: Global, repo: &Repo<D>) -> Result<Text, Memory>
@@ -56,6 +66,7 @@ fn answer<D: Disk>(alloc: Global, repo: &Repo<D>, question: &Question) -> Result
 {
     match question {
         Question::Cat { .. } => unreachable!(),
+        Question::Receipt { prefix } => receipt_of(alloc, repo, prefix.bytes()),
         Question::Timeline { count } => Ok(timeline::report(
             alloc,
             repo.tables().timeline(),

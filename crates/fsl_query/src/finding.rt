@@ -121,6 +121,8 @@ pub fn content<D: Disk>(
     // Where the prefix doesn't find one name, no device is called.
     ensures unread { content_asked (contents blobs.old.records) (question_of.Cat prefix.now) ≡ None → disk.new ≡ disk.old }
     ensures later { (D.state disk.old).faults ≤ (D.state disk.new).faults }
+    ensures value { blobs.new ≡ record blobs.old { cached = blobs.new.cached } }
+    ensures kept { IsModelled (D.state disk.old) → AreTrue blobs.old → AreTrue blobs.new }
     // It only reads.
     ensures quiet { Quiet (D.state disk.old) (D.state disk.new) }
 {

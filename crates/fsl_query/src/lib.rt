@@ -14,6 +14,7 @@ mod lines;
 mod loaded;
 mod noting;
 mod phantoms;
+mod receipt;
 mod refusals;
 mod summing;
 mod tags;

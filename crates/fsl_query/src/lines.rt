@@ -1,15 +1,17 @@
 //! The lines of reports.
 ghost use Rattle.std.specs.Prelude.{◌≡◌, ◌∷◌, ◌++◌, [], OnOk};
+ghost use Rattle.std.specs.Option.{option_copied};
 ghost use Rattle.fsl_date.specs.Moment.{moment_text};
 ghost use Rattle.fsl_name.specs.Name.{name_text};
 ghost use Rattle.fsl_name.specs.Ref.{ref_text};
 ghost use Rattle.fsl_query.specs.Lines as line;
-ghost use Rattle.fsl_query.specs.Lines.{shown, valued_line, leaf_line, tag_line, tip_line, timeline_line, file_line, change_line, page_line, attachment_line, post_line, wanted_line};
+ghost use Rattle.fsl_query.specs.Lines.{shown, valued_line, leaf_line, tag_line, tip_line, receipt_line, timeline_line, file_line, change_line, page_line, attachment_line, post_line, wanted_line};
 
 use fsl_date::Moment;
 use fsl_files::{Change, FileRow, How, Perm};
 use fsl_forum::{Post, PostKind};
 use fsl_name::{Name, Ref};
+use fsl_record::Receipt;
 use fsl_tags::Assertion;
 use fsl_text::{Memory, Text, escape_into};
 use fsl_timeline::{Row, RowKind};
@@ -75,6 +77,19 @@ pub(crate) fn append_valued(into: &mut Text, key: &[u8], value: &[u8]) -> Result
         escape_into(into, value)?;
     }
     into.append(b"\n")
+}
+
+/// Puts the line of a receipt at the end of a text: its moment and its login, or that there is none.
+pub(crate) fn append_receipt(into: &mut Text, receipt: Option<&Receipt>) -> Result<(), Memory>
+    ensures { OnOk result (into.new ≡ into.old ++ receipt_line (option_copied receipt.entry)) }
+{
+    match receipt {
+        Some(receipt) => {
+            append_moment(into, receipt.moment())?;
+            append_last(into, receipt.login())
+        }
+        None => into.append(b"none\n"),
+    }
 }
 
 /// Puts the line of a leaf at the end of a text: its name and its branch.

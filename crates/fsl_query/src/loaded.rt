@@ -9,10 +9,12 @@ ghost use Rattle.fsl_record.specs.Records.{AreRecords};
 ghost use Rattle.fsl_repo.specs.Machine.{AreItems};
 ghost use Rattle.fsl_words.specs.declared.Question.TheVariants as question_of;
 ghost use Rattle.fsl_query.specs.Answers.{IsAnswer, IsRead, IsReported, IsReportedOn, content_asked, prefix_of};
-ghost use Rattle.fsl_query.specs.Reports.{files_report, leaves_report, tags_report, thread_report, ticket_report, timeline_report, wiki_report, report};
+ghost use Rattle.fsl_query.specs.Reports.{files_report, leaves_report, receipt_report, tags_report, thread_report, ticket_report, timeline_report, wiki_report, report};
 
 use crate::finding::{content, named, prefix_of};
-use crate::{QueryFault, files, leaves, phantoms, tags, thread, ticket, timeline, tip, wiki};
+use crate::{
+    QueryFault, files, leaves, phantoms, receipt, tags, thread, ticket, timeline, tip, wiki,
+};
 use fsl_blobs::Blobs;
 use fsl_cross::Items;
 use fsl_disk::Disk;
@@ -24,6 +26,14 @@ use fsl_text::{List, Memory, Text};
 use fsl_wiki::Pages;
 use fsl_words::Question;
 use std::alloc::Global;
+
+/// The receipt of the one of the artifacts that were loaded whose digits begin with a prefix.
+fn receipt_of(alloc: Global, blobs: &Blobs, prefix: &[u8]) -> Result<Text, QueryFault>
+    ensures { IsAnswer (receipt_report (contents blobs.now.records) prefix.now) result }
+{
+    let name = named(alloc, blobs, prefix)?;
+    Ok(receipt::report(alloc, blobs.receipt(name))?)
+}
 
 /// The first rows of the timeline of some artifacts.
 fn timeline_of(alloc: Global, items: &Items, count: u64) -> Result<Text, Memory>
@@ -133,6 +143,7 @@ fn report_of(
 {
     match question {
         Question::Cat { .. } => unreachable!(),
+        Question::Receipt { prefix } => receipt_of(alloc, blobs, prefix.bytes()),
         Question::Timeline { count } => Ok(timeline_of(alloc, items, *count)?),
         Question::Leaves => Ok(leaves_of(alloc, items)?),
         Question::Tags { prefix } => {
@@ -180,8 +191,25 @@ fn content_from<D: Disk>(
     found
 }
 
-/// The text of a report on the artifacts that the records leave, where no content is asked for.
-fn report_over(
+/// The receipt of the one artifact that the records leave whose digits begin with a prefix. No artifact is read for it.
+fn receipt_from(
+    alloc: Global,
+    places: &List<u64>,
+    records: List<Record>,
+    prefix: &[u8],
+) -> Result<Text, QueryFault>
+    requires records { AreRecords records }
+    requires places { length places.now ≡ length records }
+    ensures { IsAnswer (receipt_report (contents records) prefix.now) result }
+{
+    let blobs = Blobs::fold(alloc, places, records)?;
+    let told = receipt_of(alloc, &blobs, prefix);
+    drop(blobs);
+    told
+}
+
+/// The text of a report on the artifacts that the records leave, by what these are.
+fn report_by_items(
     alloc: Global,
     places: &List<u64>,
     records: List<Record>,
@@ -199,8 +227,26 @@ fn report_over(
     told
 }
 
+/// The text of a report on the artifacts that the records leave, where no content is asked for.
+fn report_over(
+    alloc: Global,
+    places: &List<u64>,
+    records: List<Record>,
+    question: &Question,
+) -> Result<Text, QueryFault>
+    requires records { AreRecords records }
+    requires places { length places.now ≡ length records }
+    requires unread { prefix_of question.now ≡ None }
+    ensures { (honest : Bool) (faults : ℕ) → IsReported honest (contents records) question.now faults faults result }
+{
+    match question {
+        Question::Receipt { prefix } => receipt_from(alloc, places, records, prefix.bytes()),
+        _ => report_by_items(alloc, places, records, question),
+    }
+}
+
 /// The text of a report on what was loaded without tables: those by which it is told are made, and those that these rest on. All
-/// that is held is read first as it was loaded, but for `cat`, whose content alone is read from the disk.
+/// that is held is read first as it was loaded, but for `receipt`, and for `cat`, whose content alone is read from the disk.
 ///
 /// Errors: `Refused` where there is nothing to report; for `cat`, `Disk` where a call of the disk failed, and `Damaged` where
 /// the bytes that were read have another name; `Memory`.

@@ -1,4 +1,6 @@
 pub mod Telling
+pub mod Clocking
+pub mod Logins
 pub mod Phases
 pub mod Runs
 pub mod Passing

@@ -42,13 +42,13 @@ module _ {E A : Type 0} where
   told_at log (t ∷ ts) all zero d l = all.0
   told_at log (t ∷ ts) all (suc i) d l = told_at log ts all.1 i d (omega (arith, l))
 
-module _ {D C J : Type 0} (tells : D → DiskState) (crew : J → C) (work : J → Work) (door : C → LinkState) (passed : C → Option Points) (users : List User) (project : List ℕ) (requests : ℕ) where
+module _ {D C J : Type 0} (tells : D → DiskState) (crew : J → C) (work : J → Work) (door : C → LinkState) (passed : C → Option Points) (clock : C → Option (List ℕ)) (users : List User) (project : List ℕ) (requests : ℕ) where
   abbrev pub JobTold : Option (List Call) → Option (List Call) → J → J → Type 0
-  JobTold o o' j k = IsGated tells users project requests (door (crew j)).present (door (crew j)).standing (door (crew k)).present (door (crew k)).standing o o' (work k) (passed (crew j)) (passed (crew k))
+  JobTold o o' j k = IsGated tells users project requests (door (crew j)).present (door (crew j)).standing (door (crew k)).present (door (crew k)).standing o o' (work k) (passed (crew j)) (passed (crew k)) (clock (crew j)) (clock (crew k))
 
   ordered_at : (told : ℕ → Option (List Call)) (js ks : List J) → length ks ≡ length js → ((i : ℕ) (d : J) → i < length js → JobTold (Some []) (told i) (get_or js i d) (get_or ks i d))
       → (i : ℕ) (d : C) (w : Work) → i < length js
-      → IsGated tells users project requests (door (get_or (map crew js) i d)).present (door (get_or (map crew js) i d)).standing (door (get_or (map crew ks) i d)).present (door (get_or (map crew ks) i d)).standing (Some []) (told i) (get_or (map work ks) i w) (passed (get_or (map crew js) i d)) (passed (get_or (map crew ks) i d))
+      → IsGated tells users project requests (door (get_or (map crew js) i d)).present (door (get_or (map crew js) i d)).standing (door (get_or (map crew ks) i d)).present (door (get_or (map crew ks) i d)).standing (Some []) (told i) (get_or (map work ks) i w) (passed (get_or (map crew js) i d)) (passed (get_or (map crew ks) i d)) (clock (get_or (map crew js) i d)) (clock (get_or (map crew ks) i d))
   ordered_at told [] ks len h i d w l = absurd (omega (arith, l))
   ordered_at told (j ∷ js) [] len h i d w l = absurd (omega (arith, len))
   ordered_at told (j ∷ js) (k ∷ ks) len h zero d w l = h 0 j l
@@ -59,7 +59,7 @@ module _ {D C J : Type 0} (tells : D → DiskState) (crew : J → C) (work : J �
       → ((i : ℕ) (d : J) → i < length js → (pass (get_or js i d)).mine ≡ []) → ((i : ℕ) (d : J) → i < length js → (pass (get_or ks i d)).number ≡ i)
       → ((i : ℕ) (d : J) → i < length js → JobTold (Some (pass (get_or js i d)).mine) (Some (pass (get_or ks i d)).mine) (get_or js i d) (get_or ks i d))
       → IsFinished (steps_by tells) count repo ts mid → steps_by tells mid event.Commit answer last
-      → IsOneHistory tells door passed users project requests ws cs ds repo last
+      → IsOneHistory tells door passed clock users project requests ws cs ds repo last
   one_history count pass repo mid last answer js ks cs ds ws ts p q r t len clen fresh numbered each done closed =
       let log = done.log in
       let told : (i : ℕ) (d : J) → i < length js → calls_by i log ≡ (pass (get_or ks i d)).mine = λ i d l.
@@ -69,7 +69,7 @@ module _ {D C J : Type 0} (tells : D → DiskState) (crew : J → C) (work : J �
       let same : get_or (map pass ks) i (pass d) ≡ pass (get_or ks i d) = map_at pass ks i d (omega (arith, l, len)) (pass d) in
       let tale : IsTaleOf log (pass (get_or ks i d)) = subst (λ (x : Tale Event Answer). IsTaleOf log x) same it in
       ap (λ (n : ℕ). calls_by n log) (sym (numbered i d l)) ∙ tale.mine in
-      let crews : (i : ℕ) (d : C) (w : Work) → i < length js → IsGated tells users project requests (door (get_or (map crew js) i d)).present (door (get_or (map crew js) i d)).standing (door (get_or (map crew ks) i d)).present (door (get_or (map crew ks) i d)).standing (Some []) (Some (calls_by i log)) (get_or (map work ks) i w) (passed (get_or (map crew js) i d)) (passed (get_or (map crew ks) i d))
+      let crews : (i : ℕ) (d : C) (w : Work) → i < length js → IsGated tells users project requests (door (get_or (map crew js) i d)).present (door (get_or (map crew js) i d)).standing (door (get_or (map crew ks) i d)).present (door (get_or (map crew ks) i d)).standing (Some []) (Some (calls_by i log)) (get_or (map work ks) i w) (passed (get_or (map crew js) i d)) (passed (get_or (map crew ks) i d)) (clock (get_or (map crew js) i d)) (clock (get_or (map crew ks) i d))
       = ordered_at (λ i. Some (calls_by i log)) js ks len (λ i d l. subst (λ (x : List Call). JobTold (Some []) (Some x) (get_or js i d) (get_or ks i d)) (sym (told i d l))
       (subst (λ (x : List Call). JobTold (Some x) (Some (pass (get_or ks i d)).mine) (get_or js i d) (get_or ks i d)) (fresh i d l) (each i d l))) in
       let many : length ts ≡ length js = sym (ap (λ (l : List (Tale Event Answer)). length l) t) ∙ length-map ks pass ∙ len in
@@ -77,7 +77,7 @@ module _ {D C J : Type 0} (tells : D → DiskState) (crew : J → C) (work : J �
         turns = log;
         answer = answer;
         history = history_snoc (steps_by tells) repo mid last log (length cs) event.Commit answer done.history closed;
-        crew = λ i d w l. subst (λ (x : List C × List C × List Work). IsGated tells users project requests (door (get_or x.0 i d)).present (door (get_or x.0 i d)).standing (door (get_or x.1 i d)).present (door (get_or x.1 i d)).standing (Some []) (Some (calls_by i log)) (get_or x.2 i w) (passed (get_or x.0 i d)) (passed (get_or x.1 i d)))
+        crew = λ i d w l. subst (λ (x : List C × List C × List Work). IsGated tells users project requests (door (get_or x.0 i d)).present (door (get_or x.0 i d)).standing (door (get_or x.1 i d)).present (door (get_or x.1 i d)).standing (Some []) (Some (calls_by i log)) (get_or x.2 i w) (passed (get_or x.0 i d)) (passed (get_or x.1 i d)) (clock (get_or x.0 i d)) (clock (get_or x.1 i d)))
             (λ k. (p k, q k, r k)) (crews i d w (omega (arith, l, clen)));
         others = λ n le. done.numbers n (omega (arith, le, many, clen));
       }

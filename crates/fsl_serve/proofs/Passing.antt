@@ -6,6 +6,7 @@ use Rattle.std.proofs.lemmas.List.{append-nil, map-append}
 use Rattle.std.proofs.lemmas.Bool.{or_from, or_parts, or_right}
 use Rattle.fsl_outside.specs.declared.gate.Point.{Point}
 use Rattle.fsl_outside.specs.declared.gate.Point.TheVariants as point
+use Rattle.fsl_record.specs.Receipts.{Brought}
 use Rattle.fsl_wire.specs.declared.Caps.{Caps}
 use Rattle.fsl_wire.specs.declared.WireCard.{WireCard}
 use Rattle.fsl_wire.specs.declared.WireCard.TheVariants as cards
@@ -78,23 +79,23 @@ late_behind : (xs ys : List Event) → any_late ys ≡ true → any_late (xs ++ 
 late_behind [] ys p = p
 late_behind (x ∷ xs) ys p = or_right (is_late x) (any_late (xs ++ ys)) (late_behind xs ys p)
 
-one_arrival : (b : Bool) (card : WireCard) → any_late (option_to_list (arrival_of b card)) ≡ false
-one_arrival b (cards.Login user nonce signature tail line) = refl
-one_arrival b (cards.Push server project) = refl
-one_arrival b (cards.Pull server project) = refl
-one_arrival b (cards.Clone from) = refl
-one_arrival b (cards.CloneSeqno next) = refl
-one_arrival b (cards.File name bytes) = refl
-one_arrival b cards.Private = refl
-one_arrival b (cards.Igot name private) = refl
-one_arrival b (cards.Gimme name) = refl
-one_arrival b (cards.Error text) = refl
-one_arrival b (cards.Message text) = refl
-one_arrival b cards.SendPrivate = refl
+one_arrival : (r : Brought) (b : Bool) (card : WireCard) → any_late (option_to_list (arrival_of r b card)) ≡ false
+one_arrival r b (cards.Login user nonce signature tail line) = refl
+one_arrival r b (cards.Push server project) = refl
+one_arrival r b (cards.Pull server project) = refl
+one_arrival r b (cards.Clone from) = refl
+one_arrival r b (cards.CloneSeqno next) = refl
+one_arrival r b (cards.File name bytes) = refl
+one_arrival r b cards.Private = refl
+one_arrival r b (cards.Igot name private) = refl
+one_arrival r b (cards.Gimme name) = refl
+one_arrival r b (cards.Error text) = refl
+one_arrival r b (cards.Message text) = refl
+one_arrival r b cards.SendPrivate = refl
 
-pub arrivals_not_late : (b : Bool) (m : List WireCard) → any_late (arrivals b m) ≡ false
-arrivals_not_late b [] = refl
-arrivals_not_late b (card ∷ rest) = none_late (option_to_list (arrival_of b card)) (arrivals (mark_after b card) rest) (one_arrival b card) (arrivals_not_late (mark_after b card) rest)
+pub arrivals_not_late : (r : Brought) (b : Bool) (m : List WireCard) → any_late (arrivals r b m) ≡ false
+arrivals_not_late r b [] = refl
+arrivals_not_late r b (card ∷ rest) = none_late (option_to_list (arrival_of r b card)) (arrivals r (mark_after b card) rest) (one_arrival r b card) (arrivals_not_late r (mark_after b card) rest)
 
 maybe_announced : (b : Bool) (name : List ℕ) → any_late (option_to_list (if b then Some (event.Announce name) else None)) ≡ false
 maybe_announced true name = refl

@@ -12,6 +12,7 @@ use Rattle.fsl_repo.specs.declared.Event.TheVariants as event
 use Rattle.fsl_repo.specs.declared.Answer.{Answer}
 use Rattle.fsl_serve.specs.declared.said.Halt.{Halt}
 use Rattle.fsl_serve.specs.declared.said.Halt.TheVariants as halt
+use Rattle.fsl_record.specs.Receipts.{Brought}
 use Rattle.fsl_wire.specs.declared.Caps.{Caps}
 use Rattle.fsl_wire.specs.declared.WireCard.{WireCard}
 use Rattle.fsl_serve.specs.Session.{notice, notices, announcement, where_so, arrivals, events, first_events}
@@ -207,39 +208,39 @@ loop_halts_plain o p q due d rest r h g k e =
 
 -- ---- the whole run
 
-events_made : (m : List WireCard) (caps : Caps) (texts : List (List ℕ)) (xs : List Call) (b k : Answer) (rest : List Event) → first_events m caps ≡ asked xs → arrivals false m ++ rest ≡ asked xs → texts ≡ notices (arrivals false m) (told xs)
-    → events m caps (told (xs ++ (event.Build (record { caps = caps; message = m; notices = texts }), b) ∷ (event.Commit, k) ∷ [])) ≡ asked (xs ++ (event.Build (record { caps = caps; message = m; notices = texts }), b) ∷ (event.Commit, k) ∷ [])
-events_made m caps texts xs b k rest due front t =
+events_made : (m : List WireCard) (caps : Caps) (brought : Brought) (texts : List (List ℕ)) (xs : List Call) (b k : Answer) (rest : List Event) → first_events m caps brought ≡ asked xs → arrivals brought false m ++ rest ≡ asked xs → texts ≡ notices (arrivals brought false m) (told xs)
+    → events m caps brought (told (xs ++ (event.Build (record { caps = caps; message = m; notices = texts }), b) ∷ (event.Commit, k) ∷ [])) ≡ asked (xs ++ (event.Build (record { caps = caps; message = m; notices = texts }), b) ∷ (event.Commit, k) ∷ [])
+events_made m caps brought texts xs b k rest due front t =
     let ys : List Call = (event.Build (record { caps = caps; message = m; notices = texts }), b) ∷ (event.Commit, k) ∷ [] in
-    let n : notices (arrivals false m) (told (xs ++ ys)) ≡ texts = ap (λ w. notices (arrivals false m) w) (told_append xs ys) ∙ sym (notices_front (arrivals false m) xs (told ys) rest front) ∙ sym t in
+    let n : notices (arrivals brought false m) (told (xs ++ ys)) ≡ texts = ap (λ w. notices (arrivals brought false m) w) (told_append xs ys) ∙ sym (notices_front (arrivals brought false m) xs (told ys) rest front) ∙ sym t in
     let T : List (List ℕ) → List Event = λ n. event.Build (record { caps = caps; message = m; notices = n }) ∷ event.Commit ∷ [] in
-    ap (λ w. first_events m caps ++ T w) n ∙ ap (λ w. w ++ T texts) due ∙ sym (asked_append xs ys)
+    ap (λ w. first_events m caps brought ++ T w) n ∙ ap (λ w. w ++ T texts) due ∙ sym (asked_append xs ys)
 
 -- the calls before the build, with what is said of a gate
-abbrev pub Before : List WireCard → Caps → Result (List (List ℕ)) Halt → (Result (List (List ℕ)) Halt → List Call → Type 0) → List Call → Type 0
-Before m caps r Q made = (Phase (first_events m caps) made (result_err r) × IfOk r (λ t. t ≡ notices (arrivals false m) (told made))) × Q r made
+abbrev pub Before : List WireCard → Caps → Brought → Result (List (List ℕ)) Halt → (Result (List (List ℕ)) Halt → List Call → Type 0) → List Call → Type 0
+Before m caps brought r Q made = (Phase (first_events m caps brought) made (result_err r) × IfOk r (λ t. t ≡ notices (arrivals brought false m) (told made))) × Q r made
 
-pub run_whole : {D : Type 0} {tells : D → DiskState} (o p q : Option (List Call)) (m : List WireCard) (caps : Caps) (texts : List (List ℕ)) (r : Result (List (List ℕ)) Halt) (sent : Reply) (Q : Result (List (List ℕ)) Halt → List Call → Type 0) (R : List Call → Type 0) → r ≡ Ok texts
-    → ((xs ys : List Call) → Q (Ok texts) xs → list_any is_late (asked ys) ≡ true → R (xs ++ ys)) → Gains tells o p (Before m caps r Q)
-    → Gains tells p q (λ made. IsConcluded (record { caps = caps; message = m; notices = texts }) made sent) → Gains tells o q (λ made. IsRun m caps made sent × R made)
-run_whole o p q m caps texts r sent Q R e gate g k =
+pub run_whole : {D : Type 0} {tells : D → DiskState} (o p q : Option (List Call)) (m : List WireCard) (caps : Caps) (brought : Brought) (texts : List (List ℕ)) (r : Result (List (List ℕ)) Halt) (sent : Reply) (Q : Result (List (List ℕ)) Halt → List Call → Type 0) (R : List Call → Type 0) → r ≡ Ok texts
+    → ((xs ys : List Call) → Q (Ok texts) xs → list_any is_late (asked ys) ≡ true → R (xs ++ ys)) → Gains tells o p (Before m caps brought r Q)
+    → Gains tells p q (λ made. IsConcluded (record { caps = caps; message = m; notices = texts }) made sent) → Gains tells o q (λ made. IsRun m caps brought made sent × R made)
+run_whole o p q m caps brought texts r sent Q R e gate g k =
     let announced : List Event = where_so (list_any is_push m) (filter_map (announcement caps) m) in
     let clustered : List Event = where_so (list_any is_pull m) (event.Cluster ∷ []) in
-    let due = first_events m caps in
-    gains_more o p q (Before m caps r Q) (λ made. IsConcluded (record { caps = caps; message = m; notices = texts }) made sent) (λ made. IsRun m caps made sent × R made) g k
+    let due = first_events m caps brought in
+    gains_more o p q (Before m caps brought r Q) (λ made. IsConcluded (record { caps = caps; message = m; notices = texts }) made sent) (λ made. IsRun m caps brought made sent × R made) g k
     (λ xs ys u v.
-    let w = told_ok due r (λ t made. t ≡ notices (arrivals false m) (told made)) xs texts e u.0 in
+    let w = told_ok due r (λ t made. t ≡ notices (arrivals brought false m) (told made)) xs texts e u.0 in
     let d = done_of due xs w.0 in
     let last : List Call = (event.Build (record { caps = caps; message = m; notices = texts }), v.0) ∷ (event.Commit, v.1) ∷ [] in
-    let made : IsRun m caps (xs ++ last) sent = whole xs (event.Build (record { caps = caps; message = m; notices = texts }), v.0) (event.Commit, v.1) refl d.0 (events_made m caps texts xs v.0 v.1 (announced ++ clustered) d.1 (sym (append_assoc (arrivals false m) announced clustered) ∙ d.1) w.1) v.3 in
+    let made : IsRun m caps brought (xs ++ last) sent = whole xs (event.Build (record { caps = caps; message = m; notices = texts }), v.0) (event.Commit, v.1) refl d.0 (events_made m caps brought texts xs v.0 v.1 (announced ++ clustered) d.1 (sym (append_assoc (arrivals brought false m) announced clustered) ∙ d.1) w.1) v.3 in
     let F : Result (List (List ℕ)) Halt → Type 0 = λ r. Q r xs in
-    subst (λ z. IsRun m caps (xs ++ z) sent × R (xs ++ z)) (sym v.2) (made, gate xs last (subst F e u.1) refl))
+    subst (λ z. IsRun m caps brought (xs ++ z) sent × R (xs ++ z)) (sym v.2) (made, gate xs last (subst F e u.1) refl))
 
-pub run_early : {D : Type 0} {tells : D → DiskState} (o p : Option (List Call)) (m : List WireCard) (caps : Caps) (r : Result (List (List ℕ)) Halt) (h : Halt) (Q : Result (List (List ℕ)) Halt → List Call → Type 0) → r ≡ Err h
-    → Gains tells o p (Before m caps r Q) → Gains tells o p (λ made. IsRun m caps made (halted h) × Q (Err h) made)
-run_early o p m caps r h Q e g =
-    gains_weaker o p (Before m caps r Q) (λ made. IsRun m caps made (halted h) × Q (Err h) made) g
-    (λ xs u. let F : Result (List (List ℕ)) Halt → Type 0 = λ r. Q r xs in (early h (halts_with (first_events m caps) r xs h e u.0.0) refl, subst F e u.1))
+pub run_early : {D : Type 0} {tells : D → DiskState} (o p : Option (List Call)) (m : List WireCard) (caps : Caps) (brought : Brought) (r : Result (List (List ℕ)) Halt) (h : Halt) (Q : Result (List (List ℕ)) Halt → List Call → Type 0) → r ≡ Err h
+    → Gains tells o p (Before m caps brought r Q) → Gains tells o p (λ made. IsRun m caps brought made (halted h) × Q (Err h) made)
+run_early o p m caps brought r h Q e g =
+    gains_weaker o p (Before m caps brought r Q) (λ made. IsRun m caps brought made (halted h) × Q (Err h) made) g
+    (λ xs u. let F : Result (List (List ℕ)) Halt → Type 0 = λ r. Q r xs in (early h (halts_with (first_events m caps brought) r xs h e u.0.0) refl, subst F e u.1))
 
 pub due_is : {D : Type 0} {tells : D → DiskState} (o p : Option (List Call)) (d e : List Event) (h : Option Halt) → d ≡ e → Gains tells o p (λ made. Phase d made h) → Gains tells o p (λ made. Phase e made h)
 due_is {tells = tells} o p d e h q g = let F : List Event → Type 0 = λ d. Gains tells o p (λ made. Phase d made h) in subst F q g

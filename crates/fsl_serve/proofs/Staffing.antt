@@ -35,22 +35,22 @@ module _ {D C J : Type 0} (tells : D → DiskState) (crew : J → C) (work : J �
         λ i d w l. worked_at js ks len h i d w (omega (arith, l, length-map js crew)),
       )))
 
-module _ {D C J : Type 0} (tells : D → DiskState) (crew : J → C) (work : J → Work) (present : C → Option Connection) (standing : C → Standing) (passed : C → Option Points) (users : List User) (project : List ℕ) (requests : ℕ) (told : J → Option (List Call)) where
+module _ {D C J : Type 0} (tells : D → DiskState) (crew : J → C) (work : J → Work) (present : C → Option Connection) (standing : C → Standing) (passed : C → Option Points) (clock : C → Option (List ℕ)) (users : List User) (project : List ℕ) (requests : ℕ) (told : J → Option (List Call)) where
   abbrev pub JobGated : J → J → Type 0
-  JobGated j k = IsGated tells users project requests (present (crew j)) (standing (crew j)) (present (crew k)) (standing (crew k)) (told j) (told k) (work k) (passed (crew j)) (passed (crew k))
+  JobGated j k = IsGated tells users project requests (present (crew j)) (standing (crew j)) (present (crew k)) (standing (crew k)) (told j) (told k) (work k) (passed (crew j)) (passed (crew k)) (clock (crew j)) (clock (crew k))
 
   gated_at : (js ks : List J) → length ks ≡ length js → ((i : ℕ) (d : J) → i < length js → JobGated (get_or js i d) (get_or ks i d))
       → (i : ℕ) (d : C) (w : Work) → i < length js
-      → (o : Option (List Call)) × (o' : Option (List Call)) × IsGated tells users project requests (present (get_or (map crew js) i d)) (standing (get_or (map crew js) i d)) (present (get_or (map crew ks) i d)) (standing (get_or (map crew ks) i d)) o o' (get_or (map work ks) i w) (passed (get_or (map crew js) i d)) (passed (get_or (map crew ks) i d))
+      → (o : Option (List Call)) × (o' : Option (List Call)) × IsGated tells users project requests (present (get_or (map crew js) i d)) (standing (get_or (map crew js) i d)) (present (get_or (map crew ks) i d)) (standing (get_or (map crew ks) i d)) o o' (get_or (map work ks) i w) (passed (get_or (map crew js) i d)) (passed (get_or (map crew ks) i d)) (clock (get_or (map crew js) i d)) (clock (get_or (map crew ks) i d))
   gated_at [] ks len h i d w l = absurd (omega arith)
   gated_at (j ∷ js) [] len h i d w l = absurd (omega arith)
   gated_at (j ∷ js) (k ∷ ks) len h zero d w l = (told j, told k, h 0 j l)
   gated_at (j ∷ js) (k ∷ ks) len h (suc i) d w l = gated_at js ks (omega arith) (λ n e m. h (suc n) e (omega arith)) i d w (omega arith)
 
   pub all_gated : (js ks : List J) (cs ds : List C) (ws : List Work) → map crew js ≡ cs → map crew ks ≡ ds → map work ks ≡ ws → length ks ≡ length js → ((i : ℕ) (d : J) → i < length js → JobGated (get_or js i d) (get_or ks i d))
-      → AllGated tells present standing passed users project requests ws cs ds
+      → AllGated tells present standing passed clock users project requests ws cs ds
   all_gated js ks cs ds ws p q r len h =
-      let F : List C → Type 0 = λ xs. AllGated tells present standing passed users project requests ws xs ds in
-      let G : List C → Type 0 = λ ys. AllGated tells present standing passed users project requests ws (map crew js) ys in
-      let H : List Work → Type 0 = λ zs. AllGated tells present standing passed users project requests zs (map crew js) (map crew ks) in
+      let F : List C → Type 0 = λ xs. AllGated tells present standing passed clock users project requests ws xs ds in
+      let G : List C → Type 0 = λ ys. AllGated tells present standing passed clock users project requests ws (map crew js) ys in
+      let H : List Work → Type 0 = λ zs. AllGated tells present standing passed clock users project requests zs (map crew js) (map crew ks) in
       subst F p (subst G q (subst H r (λ i d w l. gated_at js ks len h i d w (omega (arith, l, length-map js crew)))))

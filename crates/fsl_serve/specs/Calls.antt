@@ -40,8 +40,8 @@ Adds before after P = (made : List Call) × (after ≡ before ++ made) × P made
 
 -- why no further event is made after an arrival, an announcement or a cluster with this answer
 abbrev pub halt_of : Answer → Option Halt
-halt_of (answer.Arrive (Err (arrive_fault.Stopped faults))) = Some halt.Stopped
-halt_of (answer.Arrive (Err arrive_fault.Memory)) = Some halt.Memory
+halt_of (answer.Receive (Err (arrive_fault.Stopped faults))) = Some halt.Stopped
+halt_of (answer.Receive (Err arrive_fault.Memory)) = Some halt.Memory
 halt_of (answer.Announce (Err e)) = Some halt.Memory
 halt_of (answer.Cluster (Err (arrive_fault.Stopped faults))) = Some halt.Stopped
 halt_of (answer.Cluster (Err arrive_fault.Memory)) = Some halt.Memory

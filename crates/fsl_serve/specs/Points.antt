@@ -11,6 +11,7 @@ use Rattle.fsl_repo.specs.declared.Event.TheVariants as event
 use Rattle.fsl_serve.specs.declared.said.Halt.{Halt}
 use Rattle.fsl_serve.specs.declared.said.SessionEnd.{SessionEnd}
 use Rattle.fsl_serve.specs.declared.said.SessionEnd.TheVariants as end_as
+use Rattle.fsl_serve.specs.Clocking.{AtMoment}
 use Rattle.fsl_serve.specs.Session.{where_so}
 use Rattle.fsl_serve.specs.Calls.{Call, Gains, asked}
 use Rattle.fsl_serve.specs.Sessions.{IsSession}
@@ -48,13 +49,15 @@ abbrev pub reached : {X : Type 0} → Result X Halt → List Call → List Point
 reached (Ok x) made = point.Arrived ∷ []
 reached (Err h) made = arrived made
 
--- a session with these calls and this end, by what a link tells, before and after
-abbrev pub IsSessionOf : {K : Type 0} → List User → List ℕ → (K → LinkState) × K × K → SessionEnd → List Call → Type 0
-IsSessionOf users project link end made = IsSession users project (link.0 link.1).present (link.0 link.2).present made end
+-- a session with these calls and this end, by what a link and a clock tell, before and after: the clock was asked for the session's
+-- moment alone, and is as it was where the session has none
+abbrev pub Serves : {K C : Type 0} → List User → List ℕ → (K → LinkState) × K × K → (C → Option (List ℕ)) × C × C → SessionEnd → List Call → Type 0
+Serves users project link clock end made =
+    AtMoment (clock.0 clock.1) (clock.0 clock.2) (λ moment. IsSession users project (link.0 link.1).present (link.0 link.2).present moment made end)
 
--- a session with its calls and its points, by what a disk, a pass, a link and a gate tell, the last three before and after
-abbrev pub HasSession : {D P K G : Type 0} → (D → DiskState) → List User → List ℕ → ℕ → (P → Option (List Call)) × P × P →
-    (K → LinkState) × K × K → (G → Option Points) × G × G → SessionEnd → Type 0
-HasSession tells users project number pass link gate end =
+-- a session with its calls and its points, by what a disk, a pass, a link, a gate and a clock tell, the last four before and after
+abbrev pub HasSession : {D P K G C : Type 0} → (D → DiskState) → List User → List ℕ → ℕ → (P → Option (List Call)) × P × P →
+    (K → LinkState) × K × K → (G → Option Points) × G × G → (C → Option (List ℕ)) × C × C → SessionEnd → Type 0
+HasSession tells users project number pass link gate clock end =
     Gains tells (pass.0 pass.1) (pass.0 pass.2)
-    (λ made. IsSessionOf users project link end made × Passes (gate.0 gate.1) (gate.0 gate.2) number (points_of made end))
+    (λ made. Serves users project link clock end made × Passes (gate.0 gate.1) (gate.0 gate.2) number (points_of made end))

@@ -8,6 +8,7 @@ use Rattle.fsl_http.specs.Asking.{IsAnswered}
 use Rattle.fsl_http.specs.Reading.{IsBroken}
 use Rattle.fsl_http.specs.Replies.{reply_text}
 use Rattle.fsl_http.specs.Sending.{IsCut}
+use Rattle.fsl_record.specs.Receipts.{Brought}
 use Rattle.fsl_wire.specs.declared.Caps.{Caps}
 use Rattle.fsl_wire.specs.declared.WireCard.{WireCard}
 use Rattle.fsl_wire.specs.declared.WireFault.{WireFault}
@@ -29,7 +30,7 @@ use Rattle.fsl_serve.specs.declared.said.Said.{Said}
 use Rattle.fsl_serve.specs.declared.said.Said.TheVariants as said
 use Rattle.fsl_serve.specs.declared.said.SessionEnd.{SessionEnd}
 use Rattle.fsl_serve.specs.declared.said.SessionEnd.TheVariants as end_as
-use Rattle.fsl_serve.specs.Session.{events, first_events, malformed_body, login_body, refusal_body}
+use Rattle.fsl_serve.specs.Session.{events, first_events, receipt_of, malformed_body, login_body, refusal_body}
 use Rattle.fsl_serve.specs.Calls.{Call, asked, told, GoOn, Phase}
 
 -- a reply: its status and its body
@@ -55,9 +56,9 @@ IsConcluded ask made reply =
     (built : Answer) × (committed : Answer) × (made ≡ (event.Build ask, built) ∷ (event.Commit, committed) ∷ []) × (reply ≡ concluded built committed)
 
 -- the calls for a message that nothing refuses: all events, with one build and one commit; or an early end
-pub data IsRun (message : List WireCard) (caps : Caps) (made : List Call) (reply : Reply) : Type 0 where
-  whole : (first : List Call) (build commit : Call) → made ≡ first ++ build ∷ commit ∷ [] → GoOn first → events message caps (told made) ≡ asked made → reply ≡ concluded build.1 commit.1 → IsRun message caps made reply
-  early : (h : Halt) → Phase (first_events message caps) made (Some h) → reply ≡ halted h → IsRun message caps made reply
+pub data IsRun (message : List WireCard) (caps : Caps) (receipt : Brought) (made : List Call) (reply : Reply) : Type 0 where
+  whole : (first : List Call) (build commit : Call) → made ≡ first ++ build ∷ commit ∷ [] → GoOn first → events message caps receipt (told made) ≡ asked made → reply ≡ concluded build.1 commit.1 → IsRun message caps receipt made reply
+  early : (h : Halt) → Phase (first_events message caps receipt) made (Some h) → reply ≡ halted h → IsRun message caps receipt made reply
 
 -- the line of a fault
 abbrev pub line_of : WireFault → ℕ
@@ -68,19 +69,20 @@ line_of (wire_fault.Size line) = line
 line_of (wire_fault.Short line) = line
 line_of wire_fault.Memory = 0
 
--- what is said to a message, and the calls: the first of these that holds, or want of memory
-pub data IsJudged (users : List User) (project : List ℕ) (message : List WireCard) (made : List Call) (reply : Reply) : Type 0 where
-  no_login : (fault : LoginFault) → granted users message ≡ Err fault → made ≡ [] → reply ≡ (200, login_body) → IsJudged users project message made reply
-  not_allowed : (caps : Caps) (r : Refusal) → granted users message ≡ Ok caps → refusal message caps project ≡ Some r → made ≡ [] → reply ≡ (200, refusal_body r) → IsJudged users project message made reply
-  run : (caps : Caps) → granted users message ≡ Ok caps → refusal message caps project ≡ None → IsRun message caps made reply → IsJudged users project message made reply
-  no_memory : made ≡ [] → reply ≡ (503, []) → IsJudged users project message made reply
+-- what is said to a message, the moment that the clock was asked for, and the calls: the first of these that holds, or want of memory;
+-- the clock is asked once where nothing refuses, and there its moment is that of every receipt
+pub data IsJudged (users : List User) (project : List ℕ) (message : List WireCard) (moment : Option ℕ) (made : List Call) (reply : Reply) : Type 0 where
+  no_login : (fault : LoginFault) → granted users message ≡ Err fault → moment ≡ None → made ≡ [] → reply ≡ (200, login_body) → IsJudged users project message moment made reply
+  not_allowed : (caps : Caps) (r : Refusal) → granted users message ≡ Ok caps → refusal message caps project ≡ Some r → moment ≡ None → made ≡ [] → reply ≡ (200, refusal_body r) → IsJudged users project message moment made reply
+  run : (caps : Caps) (now : ℕ) → granted users message ≡ Ok caps → refusal message caps project ≡ None → moment ≡ Some now → IsRun message caps (receipt_of message now) made reply → IsJudged users project message moment made reply
+  no_memory : moment ≡ None → made ≡ [] → reply ≡ (503, []) → IsJudged users project message moment made reply
 
--- the one reply to what was asked, and the calls: the first of these that holds, or want of memory
-pub data IsReplied (users : List User) (project : List ℕ) (request : Asked) (made : List Call) (reply : Reply) : Type 0 where
-  refused : (status : ℕ) → request ≡ asked_as.Refused status → made ≡ [] → reply ≡ (status, []) → IsReplied users project request made reply
-  malformed : (body : List ℕ) (fault : WireFault) → request ≡ asked_as.Body body → IsFirstFault body fault → made ≡ [] → reply ≡ (200, malformed_body (line_of fault)) → IsReplied users project request made reply
-  judged : (body : List ℕ) (message : List WireCard) → request ≡ asked_as.Body body → IsMessage body message → IsJudged users project message made reply → IsReplied users project request made reply
-  no_memory : (body : List ℕ) → request ≡ asked_as.Body body → made ≡ [] → reply ≡ (503, []) → IsReplied users project request made reply
+-- the one reply to what was asked, the moment and the calls: the first of these that holds, or want of memory
+pub data IsReplied (users : List User) (project : List ℕ) (request : Asked) (moment : Option ℕ) (made : List Call) (reply : Reply) : Type 0 where
+  refused : (status : ℕ) → request ≡ asked_as.Refused status → moment ≡ None → made ≡ [] → reply ≡ (status, []) → IsReplied users project request moment made reply
+  malformed : (body : List ℕ) (fault : WireFault) → request ≡ asked_as.Body body → IsFirstFault body fault → moment ≡ None → made ≡ [] → reply ≡ (200, malformed_body (line_of fault)) → IsReplied users project request moment made reply
+  judged : (body : List ℕ) (message : List WireCard) → request ≡ asked_as.Body body → IsMessage body message → IsJudged users project message moment made reply → IsReplied users project request moment made reply
+  no_memory : (body : List ℕ) → request ≡ asked_as.Body body → moment ≡ None → made ≡ [] → reply ≡ (503, []) → IsReplied users project request moment made reply
 
 -- the connection took all of the reply, or after a failed write a front of it
 abbrev pub Took : Connection → Connection → Reply → SessionEnd → Type 0
@@ -94,12 +96,12 @@ Ends reply end_as.Closed = ⊥
 Ends reply (end_as.Answered status) = status ≡ reply.0
 Ends reply end_as.Link = Unit {0}
 
--- one session: no byte came; or a read failed; or what was read got its reply; or there was no memory to read it
-pub data IsSession (users : List User) (project : List ℕ) (old new : Option Connection) (made : List Call) (end : SessionEnd) : Type 0 where
-  closed : Between old new (λ c d. IsAnswered c d asked_as.Closed) → made ≡ [] → end ≡ end_as.Closed → IsSession users project old new made end
-  broken : Between old new (λ c d. IsBroken c d (next c.failed)) → made ≡ [] → end ≡ end_as.Link → IsSession users project old new made end
-  replied : (request : Asked) (reply : Reply) → IsReplied users project request made reply → Between old new (λ c d. (mid : Connection) × IsAnswered c mid request × Took mid d reply end) → Ends reply end → IsSession users project old new made end
-  unread : made ≡ [] → Between old new (λ c d. (mid : Connection) × IsBroken c mid c.failed × Took mid d (503, []) end) → Ends (503, []) end → IsSession users project old new made end
+-- one session, and the moment that its clock was asked for: no byte came; or a read failed; or what was read got its reply; or there was no memory to read it
+pub data IsSession (users : List User) (project : List ℕ) (old new : Option Connection) (moment : Option ℕ) (made : List Call) (end : SessionEnd) : Type 0 where
+  closed : Between old new (λ c d. IsAnswered c d asked_as.Closed) → moment ≡ None → made ≡ [] → end ≡ end_as.Closed → IsSession users project old new moment made end
+  broken : Between old new (λ c d. IsBroken c d (next c.failed)) → moment ≡ None → made ≡ [] → end ≡ end_as.Link → IsSession users project old new moment made end
+  replied : (request : Asked) (reply : Reply) → IsReplied users project request moment made reply → Between old new (λ c d. (mid : Connection) × IsAnswered c mid request × Took mid d reply end) → Ends reply end → IsSession users project old new moment made end
+  unread : moment ≡ None → made ≡ [] → Between old new (λ c d. (mid : Connection) × IsBroken c mid c.failed × Took mid d (503, []) end) → Ends (503, []) end → IsSession users project old new moment made end
 
 -- what a thing to be said sends
 abbrev pub sent_of : Said → Reply

@@ -1,5 +1,5 @@
 -- What a worker did with the connections of its door.
-use Rattle.std.specs.Prelude.{◌≡◌, ⊤, ℕ, ◌<◌, ◌≤◌, true, false, List, [], ◌∷◌, ◌++◌, ◌+◌, length, map, Option, option_map, Some, IfSome}
+use Rattle.std.specs.Prelude.{◌≡◌, ⊤, ℕ, ◌<◌, ◌≤◌, true, false, List, [], ◌∷◌, ◌++◌, ◌+◌, length, map, Option, option_map, option_to_list, Some, IfSome}
 use Rattle.fsl_outside.specs.Connections.{Connection, Standing, LinkState, listed, HasBegun}
 use Rattle.fsl_outside.specs.Memory.{next}
 use Rattle.fsl_disk.specs.Disk.{DiskState}
@@ -8,18 +8,20 @@ use Rattle.fsl_serve.specs.declared.said.SessionEnd.{SessionEnd}
 use Rattle.fsl_serve.specs.declared.work.Crew.{Crew}
 use Rattle.fsl_serve.specs.declared.work.Work.{Work}
 use Rattle.fsl_serve.specs.Calls.{Call, Gains}
+use Rattle.fsl_serve.specs.Clocking.{AsksFor}
 use Rattle.fsl_serve.specs.Sessions.{IsSession}
 use Rattle.fsl_serve.specs.Points.{Points, points_of}
 
--- one connection as its session left it, the session's calls and its end
+-- one connection as its session left it, the moment of the session's clock, its calls and its end
 pub record Served : Type 0 where
   pub connection : Option Connection
+  pub moment : Option ℕ
   pub made : List Call
   pub end : SessionEnd
 
 -- from the moment when it had just begun, the connection had its one session
 abbrev pub IsServed : List User → List ℕ → Served → Type 0
-IsServed users project s = (begun : Option Connection) × HasBegun begun × IsSession users project begun s.connection s.made s.end
+IsServed users project s = (begun : Option Connection) × HasBegun begun × IsSession users project begun s.connection s.moment s.made s.end
 
 abbrev pub AllServed : List User → List ℕ → List Served → Type 0
 AllServed users project [] = ⊤
@@ -29,6 +31,11 @@ AllServed users project (s ∷ more) = IsServed users project s × AllServed use
 abbrev pub calls_of : List Served → List Call
 calls_of [] = []
 calls_of (s ∷ more) = s.made ++ calls_of more
+
+-- all their moments, in order; a session that asked for none has none
+abbrev pub moments_of : List Served → List ℕ
+moments_of [] = []
+moments_of (s ∷ more) = option_to_list s.moment ++ moments_of more
 
 -- a door that lists its connections lists these behind the others
 abbrev pub Lists : Option (List Connection) → Option (List Connection) → List Served → Type 0
@@ -54,21 +61,23 @@ abbrev pub points_from : ℕ → List Served → Points
 points_from n [] = []
 points_from n (s ∷ more) = map (λ p. (n, p)) (points_of s.made s.end) ++ points_from (n + 1) more
 
--- the worker did this, and its gate has the points of these sessions behind those before, numbered from 0
-pub record IsGated {D : Type 0} (tells : D → DiskState) (users : List User) (project : List ℕ) (requests : ℕ) (p : Option Connection) (s : Standing) (q : Option Connection) (t : Standing) (told told' : Option (List Call)) (work : Work) (before after : Option Points) : Type 0 where
+-- the worker did this, its gate has the points of these sessions behind those before, numbered from 0, and its clock was asked for
+-- their moments alone
+pub record IsGated {D : Type 0} (tells : D → DiskState) (users : List User) (project : List ℕ) (requests : ℕ) (p : Option Connection) (s : Standing) (q : Option Connection) (t : Standing) (told told' : Option (List Call)) (work : Work) (before after : Option Points) (clock clock' : Option (List ℕ)) : Type 0 where
   pub worked : IsWorked tells users project requests p s q t told told' work
   pub passed : after ≡ option_map (λ ps. ps ++ points_from 0 worked.served) before
+  pub clocked : AsksFor clock clock' (moments_of worked.served)
 
--- both by what a disk, doors, gates and a pass tell, and the crew and the pass before and after
-abbrev pub HasWorked : {D A G P : Type 0} → (D → DiskState) → List User → List ℕ → ℕ → (A → LinkState) × Crew A G × Crew A G → (P → Option (List Call)) × P × P → Work → Type 0
+-- both by what a disk, doors, gates, clocks and a pass tell, and the crew and the pass before and after
+abbrev pub HasWorked : {D A G C P : Type 0} → (D → DiskState) → List User → List ℕ → ℕ → (A → LinkState) × Crew A G C × Crew A G C → (P → Option (List Call)) × P × P → Work → Type 0
 HasWorked tells users project requests crew pass work =
     let old = crew.0 crew.1.door in
     let new = crew.0 crew.2.door in
     IsWorked tells users project requests old.present old.standing new.present new.standing (pass.0 pass.1) (pass.0 pass.2) work
 
-abbrev pub HasPassed : {D A G P : Type 0} → (D → DiskState) → List User → List ℕ → ℕ → (A → LinkState) × (G → Option Points) × Crew A G × Crew A G →
+abbrev pub HasPassed : {D A G C P : Type 0} → (D → DiskState) → List User → List ℕ → ℕ → (A → LinkState) × (G → Option Points) × (C → Option (List ℕ)) × Crew A G C × Crew A G C →
     (P → Option (List Call)) × P × P → Work → Type 0
 HasPassed tells users project requests crew pass work =
-    let old = crew.0 crew.2.door in
-    let new = crew.0 crew.3.door in
-    IsGated tells users project requests old.present old.standing new.present new.standing (pass.0 pass.1) (pass.0 pass.2) work (crew.1 crew.2.gate) (crew.1 crew.3.gate)
+    let old = crew.0 crew.3.door in
+    let new = crew.0 crew.4.door in
+    IsGated tells users project requests old.present old.standing new.present new.standing (pass.0 pass.1) (pass.0 pass.2) work (crew.1 crew.3.gate) (crew.1 crew.4.gate) (crew.2 crew.3.clock) (crew.2 crew.4.clock)

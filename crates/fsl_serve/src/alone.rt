@@ -5,22 +5,22 @@ ghost use Rattle.fsl_repo.specs.Onward.{MayStep};
 ghost use Rattle.fsl_turn.specs.Told.{Went};
 ghost use Rattle.fsl_serve.specs.declared.said.SessionEnd.TheVariants as end_as;
 ghost use Rattle.fsl_serve.specs.Calls.{Adds};
-ghost use Rattle.fsl_serve.specs.Points.{IsSessionOf, Passes, points_of};
+ghost use Rattle.fsl_serve.specs.Points.{Serves, Passes, points_of};
 
 use crate::said::SessionEnd;
 use crate::serving::session;
 use fsl_disk::Disk;
 use fsl_login::Users;
 use fsl_name::Name;
-use fsl_outside::{Gate, Link};
+use fsl_outside::{Clock, Gate, Link};
 use fsl_repo::Repo;
 use fsl_turn::{Solo, SoloPass};
 use std::alloc::Global;
 use std::sync::Wait;
 
-/// A session of the form for one user, whose pass tells its calls. The gate and the connection are as [`session`] says, by these calls, and
+/// A session of the form for one user, whose pass tells its calls. The gate, the connection and the clock are as [`session`] says, by these calls, and
 /// one after another they lead from the machine before to the machine after.
-pub fn session_alone<D: Disk, K: Link, G: Gate, R: Wait>(
+pub fn session_alone<D: Disk, K: Link, G: Gate, C: Clock, R: Wait>(
     rt: &R,
     alloc: Global,
     turns: &Solo<Repo<D>>,
@@ -29,14 +29,17 @@ pub fn session_alone<D: Disk, K: Link, G: Gate, R: Wait>(
     project: Name,
     link: &mut K,
     gate: &mut G,
+    clock: &mut C,
     number: u64,
 ) -> SessionEnd
-    ensures session { Adds pass.old.told.items pass.new.told.items (IsSessionOf users.now project (K.state, link.old, link.new) result) }
+    ensures session { Adds pass.old.told.items pass.new.told.items (Serves users.now project (K.state, link.old, link.new) (C.told, clock.old, clock.new) result) }
     ensures points { Adds pass.old.told.items pass.new.told.items (λ made. Passes (G.passed gate.old) (G.passed gate.new) number (points_of made result)) }
     ensures steps { Went (λ a e r b. MayStep (D.state a.disk) (D.state b.disk) a e r b) pass.old.machine pass.old.told.items pass.new.machine pass.new.told.items }
     ensures cause { result ≡ end_as.Link → Rose ((K.state link.old).faults) ((K.state link.new).faults) }
     ensures same { result ≢ end_as.Link → (K.state link.new).faults ≡ (K.state link.old).faults }
     ensures stands { (K.state link.new).standing ≡ (K.state link.old).standing }
 {
-    session(turns, rt, alloc, pass, users, project, link, gate, number)
+    session(
+        turns, rt, alloc, pass, users, project, link, gate, clock, number,
+    )
 }

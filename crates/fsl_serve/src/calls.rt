@@ -4,6 +4,7 @@ ghost use Rattle.std.specs.Result.{result_err};
 ghost use Rattle.fsl_serve.specs.Calls.{Gains, May, halt_of};
 
 use crate::said::Halt;
+use crate::shared::Serving;
 use fsl_disk::Disk;
 use fsl_repo::{Answer, ArriveFault, Event, Repo};
 use fsl_turn::Turns;
@@ -11,8 +12,7 @@ use std::sync::Wait;
 
 /// One event, under the lock for that time alone.
 pub(crate) fn call<T: Turns<Repo<D>>, D: Disk, R: Wait>(
-    turns: &T,
-    rt: &R,
+    serving: &Serving<T, R>,
     pass: &mut T::Pass,
     event: &Event,
 ) -> Answer
@@ -20,7 +20,7 @@ pub(crate) fn call<T: Turns<Repo<D>>, D: Disk, R: Wait>(
     ensures may { May D.state event.now result }
     ensures made { Gains D.state (T.calls pass.old) (T.calls pass.new) (λ made. made ≡ (event.now, result) ∷ []) }
 {
-    turns.turn(rt, pass, event)
+    serving.turns.turn(serving.rt, pass, event)
 }
 
 /// Whether a session goes on after this answer, and if not, why.
@@ -28,9 +28,9 @@ pub(crate) fn heed(answer: &Answer) -> Result<(), Halt>
     ensures { result_err result ≡ halt_of answer.now }
 {
     match answer {
-        Answer::Arrive(Err(ArriveFault::Stopped { .. }))
+        Answer::Receive(Err(ArriveFault::Stopped { .. }))
         | Answer::Cluster(Err(ArriveFault::Stopped { .. })) => Err(Halt::Stopped),
-        Answer::Arrive(Err(ArriveFault::Memory))
+        Answer::Receive(Err(ArriveFault::Memory))
         | Answer::Cluster(Err(ArriveFault::Memory))
         | Answer::Announce(Err(_)) => Err(Halt::Memory),
         _ => Ok(()),

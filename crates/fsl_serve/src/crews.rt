@@ -5,7 +5,7 @@ ghost use Rattle.fsl_repo.specs.Whole.{stored};
 ghost use Rattle.fsl_serve.specs.Workers.{HasPassed};
 ghost use Rattle.fsl_repo.specs.declared.Event.TheVariants as event;
 ghost use Rattle.fsl_serve.specs.Crews.{AreWorked, AreGated, AreAllCommitted};
-ghost use Rattle.fsl_serve.specs.Ordered.{IsOneHistory, steps_by};
+ghost use Rattle.fsl_serve.specs.Ordered.{HasOneHistory, steps_by};
 
 use crate::staff::{dismissed, staffed};
 use crate::work::{Crew, Work, worker};
@@ -13,7 +13,7 @@ use fsl_disk::Disk;
 use fsl_history::{Chronicle, Housed, Ticketed};
 use fsl_login::Users;
 use fsl_name::Name;
-use fsl_outside::{Door, Gate};
+use fsl_outside::{Clock, Door, Gate};
 use fsl_repo::{Event, Repo};
 use fsl_turn::{Turns, step_uncounted};
 use std::alloc::Global;
@@ -22,24 +22,24 @@ use std::sync::Wait;
 use std::thread::{Threads, for_each_mut};
 
 /// A worker's crew and pass, and what it did.
-pub(crate) struct Job<A, G, P> {
-    pub(crate) crew: Crew<A, G>,
+pub(crate) struct Job<A, G, C, P> {
+    pub(crate) crew: Crew<A, G, C>,
     pub(crate) pass: P,
     pub(crate) work: Work,
 }
 
 /// One worker.
-fn run_one<T: Turns<Repo<D>>, D: Disk, A: Door, G: Gate, R: Wait>(
+fn run_one<T: Turns<Repo<D>>, D: Disk, A: Door, G: Gate, C: Clock, R: Wait>(
     turns: &T,
     rt: &R,
     alloc: Global,
     users: &Users,
     project: Name,
-    job: &mut Job<A, G, T::Pass>,
+    job: &mut Job<A, G, C, T::Pass>,
     requests: u64,
 )
     ensures grown { T.grows job.old.pass job.new.pass }
-    ensures worked { HasPassed D.state users.now project requests (A.state, G.passed, job.old.crew, job.new.crew) (T.calls, job.old.pass, job.new.pass) job.new.work }
+    ensures worked { HasPassed D.state users.now project requests (A.state, G.passed, C.told, job.old.crew, job.new.crew) (T.calls, job.old.pass, job.new.pass) job.new.work }
 {
     job.work = worker(
         turns,
@@ -59,6 +59,7 @@ pub(crate) fn run_all<
     D: Disk + Send,
     A: Door + Send,
     G: Gate + Send,
+    C: Clock + Send,
     R: Threads + Wait + Sync,
 >(
     turns: &T,
@@ -66,23 +67,23 @@ pub(crate) fn run_all<
     alloc: Global,
     users: &Users,
     project: Name,
-    jobs: &mut Vec<Job<A, G, T::Pass>>,
+    jobs: &mut Vec<Job<A, G, C, T::Pass>>,
     requests: u64,
 )
 where
     T::Pass: Send,
     requires { 0 < vec_len jobs.old }
     ensures len { vec_len jobs.new ≡ vec_len jobs.old }
-    ensures each { (i : ℕ) (d : _) → i < vec_len jobs.old → let before = slice_index_or jobs.old.items i d in let after = slice_index_or jobs.new.items i d in HasPassed D.state users.now project requests (A.state, G.passed, before.crew, after.crew) (T.calls, before.pass, after.pass) after.work × T.grows before.pass after.pass }
+    ensures each { (i : ℕ) (d : _) → i < vec_len jobs.old → let before = slice_index_or jobs.old.items i d in let after = slice_index_or jobs.new.items i d in HasPassed D.state users.now project requests (A.state, G.passed, C.told, before.crew, after.crew) (T.calls, before.pass, after.pass) after.work × T.grows before.pass after.pass }
 {
     let threads = jobs.len();
     for_each_mut(
         rt,
         jobs.as_mut_slice(),
         threads,
-        &|_, job: &mut Job<A, G, T::Pass>|
+        &|_, job: &mut Job<A, G, C, T::Pass>|
             ensures grown { T.grows job.old.pass job.new.pass }
-            ensures worked { HasPassed D.state users.entry.now project requests (A.state, G.passed, job.old.crew, job.new.crew) (T.calls, job.old.pass, job.new.pass) job.new.work }
+            ensures worked { HasPassed D.state users.entry.now project requests (A.state, G.passed, C.told, job.old.crew, job.new.crew) (T.calls, job.old.pass, job.new.pass) job.new.work }
         { run_one(turns, rt, alloc, users, project, job, requests) },
     );
 }
@@ -99,11 +100,11 @@ fn settle<D: Disk>(repo: &mut Repo<D>)
 }
 
 /// What the crews left: the repository, the crews in their order, what each did, and how many artifacts were stored.
-pub struct Served<D: Disk, A, G> {
+pub struct Served<D: Disk, A, G, C> {
     /// The repository, later than the one that came. All its records are committed, unless it is stopped.
     pub repo: Repo<D>,
     /// The crews, in their order.
-    pub crews: Vec<Crew<A, G>>,
+    pub crews: Vec<Crew<A, G, C>>,
     /// What each did.
     pub works: Vec<Work>,
     /// How many artifacts were stored.
@@ -111,27 +112,33 @@ pub struct Served<D: Disk, A, G> {
 }
 
 /// Runs a worker for each crew over the repository, by turns that make one history. All comes back as it was where memory ran out.
-pub fn serve_crews<D: Disk + Send, A: Door + Send, G: Gate + Send, R: Threads + Wait + Sync>(
+pub fn serve_crews<
+    D: Disk + Send,
+    A: Door + Send,
+    G: Gate + Send,
+    C: Clock + Send,
+    R: Threads + Wait + Sync,
+>(
     rt: &R,
     alloc: Global,
     users: &Users,
     project: Name,
     repo: Repo<D>,
-    crews: Vec<Crew<A, G>>,
+    crews: Vec<Crew<A, G, C>>,
     requests: u64,
-) -> Result<Served<D, A, G>, (Repo<D>, Vec<Crew<A, G>>)>
+) -> Result<Served<D, A, G, C>, (Repo<D>, Vec<Crew<A, G, C>>)>
     requires crews { (0 < vec_len crews) × (vec_len crews ≤ 16) }
     ensures later { IfOk result (λ s. IsLaterOn (D.state repo.disk) (D.state s.repo.disk) repo s.repo) }
     ensures stored { IfOk result (λ s. stored s.repo.seen ≡ stored repo.seen + s.stored) }
     // What is counted as stored is committed, unless the disk failed.
     ensures settled { IfOk result (λ s. AreAllCommitted s.repo.seen.state) }
     ensures worked { IfOk result (λ s. AreWorked D.state (λ c. A.state c.door) users.now project requests s.works.items crews.items s.crews.items) }
-    ensures gates { IfOk result (λ s. AreGated D.state (λ c. A.state c.door) (λ c. G.passed c.gate) users.now project requests s.works.items crews.items s.crews.items) }
-    ensures history { IfOk result (λ s. IsOneHistory D.state (λ c. A.state c.door) (λ c. G.passed c.gate) users.now project requests s.works.items crews.items s.crews.items repo s.repo) }
+    ensures gates { IfOk result (λ s. AreGated D.state (A.state, G.passed, C.told) users.now project requests s.works.items crews.items s.crews.items) }
+    ensures history { IfOk result (λ s. HasOneHistory D.state (A.state, G.passed, C.told) users.now project requests s.works.items crews.items s.crews.items repo s.repo) }
     ensures refused { IfErr result (λ r. (r.0 ≡ repo) × (r.1.items ≡ crews.items)) }
 {
     match Housed::new(alloc, repo) {
-        Ok(housed) => serve_housed::<Brand, D, A, G, R>(
+        Ok(housed) => serve_housed::<Brand, D, A, G, C, R>(
             rt, alloc, users, project, housed, crews, requests,
         ),
         Err(repo) => Err((repo, crews)),
@@ -144,6 +151,7 @@ fn serve_housed<
     D: Disk + Send,
     A: Door + Send,
     G: Gate + Send,
+    C: Clock + Send,
     R: Threads + Wait + Sync,
 >(
     rt: &R,
@@ -151,9 +159,9 @@ fn serve_housed<
     users: &Users,
     project: Name,
     housed: Housed<Repo<D>>,
-    mut crews: Vec<Crew<A, G>>,
+    mut crews: Vec<Crew<A, G, C>>,
     requests: u64,
-) -> Result<Served<D, A, G>, (Repo<D>, Vec<Crew<A, G>>)>
+) -> Result<Served<D, A, G, C>, (Repo<D>, Vec<Crew<A, G, C>>)>
     requires table { housed.table.shared.table_id ≡ B.table }
     requires passes { vec_len crews ≡ B.passes }
     requires first { (f : _) × (B.first ≡ Some f) × (map (λ b. b.0) housed.table.shared.key.items ≡ f ∷ []) }
@@ -162,8 +170,8 @@ fn serve_housed<
     ensures stored { IfOk result (λ s. IfSome B.first (λ f. stored s.repo.seen ≡ stored f.seen + s.stored)) }
     ensures settled { IfOk result (λ s. AreAllCommitted s.repo.seen.state) }
     ensures worked { IfOk result (λ s. AreWorked D.state (λ c. A.state c.door) users.now project requests s.works.items crews.items s.crews.items) }
-    ensures gates { IfOk result (λ s. AreGated D.state (λ c. A.state c.door) (λ c. G.passed c.gate) users.now project requests s.works.items crews.items s.crews.items) }
-    ensures history { IfOk result (λ s. IfSome B.first (λ f. IsOneHistory D.state (λ c. A.state c.door) (λ c. G.passed c.gate) users.now project requests s.works.items crews.items s.crews.items f s.repo)) }
+    ensures gates { IfOk result (λ s. AreGated D.state (A.state, G.passed, C.told) users.now project requests s.works.items crews.items s.crews.items) }
+    ensures history { IfOk result (λ s. IfSome B.first (λ f. HasOneHistory D.state (A.state, G.passed, C.told) users.now project requests s.works.items crews.items s.crews.items f s.repo)) }
     ensures refused { IfErr result (λ r. (B.first ≡ Some r.0) × (r.1.items ≡ crews.items)) }
 {
     let count = crews.len() as u64;

@@ -13,33 +13,32 @@ ghost use Rattle.fsl_serve.specs.Sessions.{IsRun, IsConcluded, sent_of, conclude
 use crate::arrivals::arrive_all;
 use crate::calls::{call, heed};
 use crate::said::{Halt, Said};
+use crate::shared::Serving;
 use fsl_disk::Disk;
 use fsl_name::Name;
 use fsl_outside::{Gate, Point};
+use fsl_record::Receipt;
 use fsl_repo::{Answer, Ask, BuildFault, Event, Repo};
 use fsl_text::{List, Text};
 use fsl_turn::Turns;
 use fsl_wire::{Caps, Message, WireCard};
-use std::alloc::Global;
 use std::sync::Wait;
 
 /// One announcement.
 fn announce<T: Turns<Repo<D>>, D: Disk, R: Wait>(
-    turns: &T,
-    rt: &R,
+    serving: &Serving<T, R>,
     pass: &mut T::Pass,
     name: Name,
 ) -> Result<(), Halt>
     ensures grown { T.grows pass.old pass.new }
     ensures made { Gains D.state (T.calls pass.old) (T.calls pass.new) (λ made. Phase (event.Announce name ∷ []) made (result_err result)) }
 {
-    heed(&call(turns, rt, pass, &Event::Announce { name }))
+    heed(&call(serving, pass, &Event::Announce { name }))
 }
 
 /// The announcement of a card, where it has one.
 fn announce_card<T: Turns<Repo<D>>, D: Disk, R: Wait>(
-    turns: &T,
-    rt: &R,
+    serving: &Serving<T, R>,
     pass: &mut T::Pass,
     card: &WireCard,
     caps: Caps,
@@ -48,7 +47,7 @@ fn announce_card<T: Turns<Repo<D>>, D: Disk, R: Wait>(
     ensures made { Gains D.state (T.calls pass.old) (T.calls pass.new) (λ made. Phase (option_to_list (announcement caps card.now)) made (result_err result)) }
 {
     match announced(card, caps) {
-        Some(name) => announce(turns, rt, pass, name),
+        Some(name) => announce(serving, pass, name),
         None => Ok(()),
     }
 }
@@ -65,8 +64,7 @@ fn announced(card: &WireCard, caps: Caps) -> Option<Name>
 
 /// An announcement for each card that may have one.
 fn announce_all<T: Turns<Repo<D>>, D: Disk, R: Wait>(
-    turns: &T,
-    rt: &R,
+    serving: &Serving<T, R>,
     pass: &mut T::Pass,
     cards: &[WireCard],
     caps: Caps,
@@ -75,7 +73,7 @@ fn announce_all<T: Turns<Repo<D>>, D: Disk, R: Wait>(
     ensures made { Gains D.state (T.calls pass.old) (T.calls pass.new) (λ made. Phase (filter_map (announcement caps) cards.now) made (result_err result)) }
 {
     for card in cards {
-        match announce_card(turns, rt, pass, card, caps) {
+        match announce_card(serving, pass, card, caps) {
             Ok(()) => {}
             Err(halt) => return Err(halt),
         }
@@ -85,14 +83,13 @@ fn announce_all<T: Turns<Repo<D>>, D: Disk, R: Wait>(
 
 /// A cluster.
 fn cluster<T: Turns<Repo<D>>, D: Disk, R: Wait>(
-    turns: &T,
-    rt: &R,
+    serving: &Serving<T, R>,
     pass: &mut T::Pass,
 ) -> Result<(), Halt>
     ensures grown { T.grows pass.old pass.new }
     ensures made { Gains D.state (T.calls pass.old) (T.calls pass.new) (λ made. Phase (event.Cluster ∷ []) made (result_err result) × IsTrue (list_any is_late (asked made))) }
 {
-    heed(&call(turns, rt, pass, &Event::Cluster))
+    heed(&call(serving, pass, &Event::Cluster))
 }
 
 /// Whether a push card stands.
@@ -115,8 +112,7 @@ fn has_pull(cards: &[WireCard]) -> bool
 
 /// The announcements, where a push card stands.
 fn announce_where_pushed<T: Turns<Repo<D>>, D: Disk, R: Wait>(
-    turns: &T,
-    rt: &R,
+    serving: &Serving<T, R>,
     pass: &mut T::Pass,
     cards: &[WireCard],
     caps: Caps,
@@ -125,7 +121,7 @@ fn announce_where_pushed<T: Turns<Repo<D>>, D: Disk, R: Wait>(
     ensures made { Gains D.state (T.calls pass.old) (T.calls pass.new) (λ made. Phase (where_so (list_any is_push cards.now) (filter_map (announcement caps) cards.now)) made (result_err result)) }
 {
     if has_push(cards) {
-        announce_all(turns, rt, pass, cards, caps)
+        announce_all(serving, pass, cards, caps)
     } else {
         Ok(())
     }
@@ -133,8 +129,7 @@ fn announce_where_pushed<T: Turns<Repo<D>>, D: Disk, R: Wait>(
 
 /// The cluster, where a pull card stands.
 fn cluster_where_pulled<T: Turns<Repo<D>>, D: Disk, R: Wait>(
-    turns: &T,
-    rt: &R,
+    serving: &Serving<T, R>,
     pass: &mut T::Pass,
     cards: &[WireCard],
 ) -> Result<(), Halt>
@@ -142,7 +137,7 @@ fn cluster_where_pulled<T: Turns<Repo<D>>, D: Disk, R: Wait>(
     ensures made { Gains D.state (T.calls pass.old) (T.calls pass.new) (λ made. Phase (where_so (list_any is_pull cards.now) (event.Cluster ∷ [])) made (result_err result) × OnErr result (IsTrue (list_any is_late (asked made)))) }
 {
     if has_pull(cards) {
-        cluster(turns, rt, pass)
+        cluster(serving, pass)
     } else {
         Ok(())
     }
@@ -150,29 +145,28 @@ fn cluster_where_pulled<T: Turns<Repo<D>>, D: Disk, R: Wait>(
 
 /// All events before the build, and the notices for the reply. Passes the gate behind the arrivals and announcements.
 fn before_build<T: Turns<Repo<D>>, D: Disk, G: Gate, R: Wait>(
-    turns: &T,
-    rt: &R,
-    alloc: Global,
+    serving: &Serving<T, R>,
     pass: &mut T::Pass,
     gate: &mut G,
     number: u64,
+    receipt: &mut Receipt,
     cards: &mut [WireCard],
     caps: Caps,
 ) -> Result<List<Text>, Halt>
     ensures grown { T.grows pass.old pass.new }
-    ensures made { Gains D.state (T.calls pass.old) (T.calls pass.new) (λ made. (Phase (first_events cards.old caps) made (result_err result) × IfOk result (λ texts. texts ≡ notices (arrivals false cards.old) (told made))) × Passes (G.passed gate.old) (G.passed gate.new) number (reached result made)) }
+    ensures made { Gains D.state (T.calls pass.old) (T.calls pass.new) (λ made. (Phase (first_events cards.old caps receipt.old) made (result_err result) × IfOk result (λ texts. texts ≡ notices (arrivals receipt.old false cards.old) (told made))) × Passes (G.passed gate.old) (G.passed gate.new) number (reached result made)) }
     ensures kept { OnOk result (cards.new ≡ cards.old) }
 {
-    let notices = match arrive_all(turns, rt, alloc, pass, cards) {
+    let notices = match arrive_all(serving, pass, receipt, cards) {
         Ok(notices) => notices,
         Err(halt) => return Err(halt),
     };
-    match announce_where_pushed(turns, rt, pass, cards, caps) {
+    match announce_where_pushed(serving, pass, cards, caps) {
         Ok(()) => {}
         Err(halt) => return Err(halt),
     }
     gate.pass(number, Point::Arrived);
-    match cluster_where_pulled(turns, rt, pass, cards) {
+    match cluster_where_pulled(serving, pass, cards) {
         Ok(()) => {}
         Err(halt) => return Err(halt),
     }
@@ -195,48 +189,44 @@ fn conclusion(built: Answer, committed: Answer) -> Said
 
 /// The build and the commit.
 fn conclude<T: Turns<Repo<D>>, D: Disk, R: Wait>(
-    turns: &T,
-    rt: &R,
+    serving: &Serving<T, R>,
     pass: &mut T::Pass,
     ask: Ask,
 ) -> Said
     ensures grown { T.grows pass.old pass.new }
     ensures made { Gains D.state (T.calls pass.old) (T.calls pass.new) (λ made. IsConcluded ask made (sent_of result)) }
 {
-    let built = call(turns, rt, pass, &Event::Build { ask });
-    let committed = call(turns, rt, pass, &Event::Commit);
+    let built = call(serving, pass, &Event::Build { ask });
+    let committed = call(serving, pass, &Event::Commit);
     conclusion(built, committed)
 }
 
-/// The events of a message that nothing refuses, and what they say.
+/// The events of a message that nothing refuses, whose arrivals have this receipt, and what they say.
 pub(crate) fn run<T: Turns<Repo<D>>, D: Disk, G: Gate, R: Wait>(
-    turns: &T,
-    rt: &R,
-    alloc: Global,
+    serving: &Serving<T, R>,
     pass: &mut T::Pass,
     gate: &mut G,
     number: u64,
     message: Message,
     caps: Caps,
+    receipt: &mut Receipt,
 ) -> Said
     ensures grown { T.grows pass.old pass.new }
-    ensures made { Gains D.state (T.calls pass.old) (T.calls pass.new) (λ made. IsRun message caps made (sent_of result) × Passes (G.passed gate.old) (G.passed gate.new) number (arrived made)) }
+    ensures made { Gains D.state (T.calls pass.old) (T.calls pass.new) (λ made. IsRun message caps receipt.old made (sent_of result) × Passes (G.passed gate.old) (G.passed gate.new) number (arrived made)) }
 {
     let mut cards = message.into_cards().into_vec();
     let before = before_build(
-        turns,
-        rt,
-        alloc,
+        serving,
         pass,
         gate,
         number,
+        receipt,
         cards.as_mut_slice(),
         caps,
     );
     match before {
         Ok(notices) => conclude(
-            turns,
-            rt,
+            serving,
             pass,
             Ask {
                 caps,

@@ -1,4 +1,5 @@
-//! Sessions over one repository: one request, its events one by one, each under the lock for that time alone, and its reply.
+//! Sessions over one repository: one request, its events one by one, each under the lock for that time alone, and its reply. What
+//! a session brings has a receipt: who sent it, and the moment, for which the session asks its clock once.
 //!
 //! [`session`] serves one connection, [`worker`] those of one door, and [`serve_crews`] runs a worker for each crew in a thread of its
 //! own. All are generic over the way in which the repository is shared.
@@ -11,9 +12,11 @@ mod calls;
 mod crews;
 mod events;
 mod laws;
+mod receipts;
 mod said;
 mod sending;
 mod serving;
+mod shared;
 mod staff;
 mod work;
 

@@ -1,5 +1,5 @@
 //! A session.
-ghost use Rattle.std.specs.Prelude.{◌≡◌, ◌≢◌, ℕ, List as Items, [], Ok, IfOk, IfErr};
+ghost use Rattle.std.specs.Prelude.{◌≡◌, ◌≢◌, ◌≤◌, ◌^◌, ℕ, List as Items, [], None, Ok, IfOk, IfErr, length};
 ghost use Rattle.fsl_order.specs.Causes.{Rose};
 ghost use Rattle.fsl_http.specs.declared.request.Asked.TheVariants as asked_as;
 ghost use Rattle.fsl_http.specs.Replies.{IsStatus};
@@ -8,19 +8,23 @@ ghost use Rattle.fsl_login.specs.declared.User.{User};
 ghost use Rattle.fsl_login.specs.Logins.{granted};
 ghost use Rattle.fsl_serve.specs.declared.said.SessionEnd.TheVariants as end_as;
 ghost use Rattle.fsl_serve.specs.Calls.{Gains};
+ghost use Rattle.fsl_serve.specs.Clocking.{AtMoment};
+ghost use Rattle.fsl_serve.specs.Session.{login_in};
 ghost use Rattle.fsl_serve.specs.Sessions.{IsReplied, sent_of, IsJudged};
 ghost use Rattle.fsl_serve.specs.Points.{Passes, HasSession, arrived};
 
 use crate::bodies::{login_failed, not_allowed, unread};
 use crate::events::run;
+use crate::receipts::receipt_now;
 use crate::said::{Halt, Said, SessionEnd};
 use crate::sending::send;
+use crate::shared::Serving;
 use fsl_answer::refusal;
 use fsl_disk::Disk;
 use fsl_http::{Asked, HttpFault, ask};
 use fsl_login::{Users, granted_by};
 use fsl_name::Name;
-use fsl_outside::{Gate, Link};
+use fsl_outside::{Clock, Gate, Link};
 use fsl_repo::Repo;
 use fsl_text::Text;
 use fsl_turn::Turns;
@@ -32,9 +36,12 @@ use std::sync::Wait;
 /// accepted ends the hashing: the tails behind it are never made.
 fn hear(alloc: Global, users: &Users, body: Text) -> Result<(Message, Caps), Said>
     ensures heard { IfOk result (λ h. IsMessage body h.0 × (granted users.now h.0 ≡ Ok h.1)) }
-    ensures unheard { IfErr result (λ said. (project : Items ℕ) → IsReplied users.now project (asked_as.Body body) [] (sent_of said)) }
+    ensures short { IfOk result (λ h. length (login_in h.0) ≤ 2 ^ 20) }
+    ensures unheard { IfErr result (λ said. (project : Items ℕ) → IsReplied users.now project (asked_as.Body body) None [] (sent_of said)) }
     ensures status { IfErr result (λ said. IsStatus (sent_of said).0) }
 {
+    // The names of users are short, which their type keeps.
+    let _ = users.items();
     match Draft::read(alloc, body.bytes()) {
         Ok(mut draft) => match granted_by(users, &mut draft) {
             Ok(caps) => Ok((draft.into_message(), caps)),
@@ -44,55 +51,55 @@ fn hear(alloc: Global, users: &Users, body: Text) -> Result<(Message, Caps), Sai
     }
 }
 
-/// What is said to a message with these privileges: its refusal, or its events.
-fn said_to_message<T: Turns<Repo<D>>, D: Disk, G: Gate, R: Wait>(
-    turns: &T,
-    rt: &R,
-    alloc: Global,
+/// What is said to a message with these privileges: its refusal, or its events, for which the clock is asked once.
+fn said_to_message<T: Turns<Repo<D>>, D: Disk, G: Gate, C: Clock, R: Wait>(
+    serving: &Serving<T, R>,
     pass: &mut T::Pass,
-    project: Name,
     gate: &mut G,
+    clock: &mut C,
     number: u64,
     message: Message,
     caps: Caps,
 ) -> Said
+    requires short { length (login_in message) ≤ 2 ^ 20 }
     ensures grown { T.grows pass.old pass.new }
     ensures status { IsStatus (sent_of result).0 }
-    ensures made { Gains D.state (T.calls pass.old) (T.calls pass.new) (λ made. ((users : Items User) → granted users message ≡ Ok caps → IsJudged users project message made (sent_of result)) × Passes (G.passed gate.old) (G.passed gate.new) number (arrived made)) }
+    ensures made { Gains D.state (T.calls pass.old) (T.calls pass.new) (λ made. AtMoment (C.told clock.old) (C.told clock.new) (λ moment. (users : Items User) → granted users message ≡ Ok caps → IsJudged users serving.now.project message moment made (sent_of result)) × Passes (G.passed gate.old) (G.passed gate.new) number (arrived made)) }
 {
-    match refusal(&message, caps, project) {
-        Some(reason) => not_allowed(alloc, reason),
-        None => run(turns, rt, alloc, pass, gate, number, message, caps),
+    match refusal(&message, caps, serving.project) {
+        Some(reason) => not_allowed(serving.alloc, reason),
+        None => match receipt_now(serving.alloc, &message, clock) {
+            Ok(mut receipt) => run(serving, pass, gate, number, message, caps, &mut receipt),
+            Err(_) => Said::Halted(Halt::Memory),
+        },
     }
 }
 
 /// What is said to the body of a request, which is let go before the first event.
-fn said_to<T: Turns<Repo<D>>, D: Disk, G: Gate, R: Wait>(
-    turns: &T,
-    rt: &R,
-    alloc: Global,
+fn said_to<T: Turns<Repo<D>>, D: Disk, G: Gate, C: Clock, R: Wait>(
+    serving: &Serving<T, R>,
     pass: &mut T::Pass,
-    users: &Users,
-    project: Name,
     gate: &mut G,
+    clock: &mut C,
     number: u64,
     body: Text,
 ) -> Said
     ensures grown { T.grows pass.old pass.new }
     ensures status { IsStatus (sent_of result).0 }
-    ensures made { Gains D.state (T.calls pass.old) (T.calls pass.new) (λ made. IsReplied users.now project (asked_as.Body body) made (sent_of result) × Passes (G.passed gate.old) (G.passed gate.new) number (arrived made)) }
+    ensures made { Gains D.state (T.calls pass.old) (T.calls pass.new) (λ made. AtMoment (C.told clock.old) (C.told clock.new) (λ moment. IsReplied serving.now.users.now serving.now.project (asked_as.Body body) moment made (sent_of result)) × Passes (G.passed gate.old) (G.passed gate.new) number (arrived made)) }
 {
-    match hear(alloc, users, body) {
-        Ok((message, caps)) => said_to_message(
-            turns, rt, alloc, pass, project, gate, number, message, caps,
-        ),
+    match hear(serving.alloc, serving.users, body) {
+        Ok((message, caps)) => {
+            said_to_message(serving, pass, gate, clock, number, message, caps)
+        }
         Err(said) => said,
     }
 }
 
-/// Serves the present connection: reads one request, makes its events one by one, and writes one reply. The gate is passed behind
-/// the arrivals and announcements, and once the reply is written.
-pub fn session<T: Turns<Repo<D>>, D: Disk, K: Link, G: Gate, R: Wait>(
+/// Serves the present connection: reads one request, makes its events one by one, and writes one reply. Behind its refusal test and
+/// before its first arrival it asks the clock once, for the receipt of all that it brings, which has the user of the first login
+/// or `nobody`. The gate is passed behind the arrivals and announcements, and once the reply is written.
+pub fn session<T: Turns<Repo<D>>, D: Disk, K: Link, G: Gate, C: Clock, R: Wait>(
     turns: &T,
     rt: &R,
     alloc: Global,
@@ -101,19 +108,45 @@ pub fn session<T: Turns<Repo<D>>, D: Disk, K: Link, G: Gate, R: Wait>(
     project: Name,
     link: &mut K,
     gate: &mut G,
+    clock: &mut C,
     number: u64,
 ) -> SessionEnd
     ensures grown { T.grows pass.old pass.new }
-    ensures session { HasSession D.state users.now project number (T.calls, pass.old, pass.new) (K.state, link.old, link.new) (G.passed, gate.old, gate.new) result }
+    ensures session { HasSession D.state users.now project number (T.calls, pass.old, pass.new) (K.state, link.old, link.new) (G.passed, gate.old, gate.new) (C.told, clock.old, clock.new) result }
     ensures cause { result ≡ end_as.Link → Rose ((K.state link.old).faults) ((K.state link.new).faults) }
     ensures same { result ≢ end_as.Link → (K.state link.new).faults ≡ (K.state link.old).faults }
     ensures stands { (K.state link.new).standing ≡ (K.state link.old).standing }
 {
-    match ask(alloc, link) {
+    let serving = Serving {
+        turns,
+        rt,
+        alloc,
+        users,
+        project,
+    };
+    serve_link(&serving, pass, link, gate, clock, number)
+}
+
+/// The same, with what all sessions share in one place.
+pub(crate) fn serve_link<T: Turns<Repo<D>>, D: Disk, K: Link, G: Gate, C: Clock, R: Wait>(
+    serving: &Serving<T, R>,
+    pass: &mut T::Pass,
+    link: &mut K,
+    gate: &mut G,
+    clock: &mut C,
+    number: u64,
+) -> SessionEnd
+    ensures grown { T.grows pass.old pass.new }
+    ensures session { HasSession D.state serving.now.users.now serving.now.project number (T.calls, pass.old, pass.new) (K.state, link.old, link.new) (G.passed, gate.old, gate.new) (C.told, clock.old, clock.new) result }
+    ensures cause { result ≡ end_as.Link → Rose ((K.state link.old).faults) ((K.state link.new).faults) }
+    ensures same { result ≢ end_as.Link → (K.state link.new).faults ≡ (K.state link.old).faults }
+    ensures stands { (K.state link.new).standing ≡ (K.state link.old).standing }
+{
+    match ask(serving.alloc, link) {
         Ok(Asked::Closed) => SessionEnd::Closed,
         Ok(Asked::Refused { status }) => send(link, gate, number, &Said::Refused(status)),
         Ok(Asked::Body(body)) => {
-            let said = said_to(turns, rt, alloc, pass, users, project, gate, number, body);
+            let said = said_to(serving, pass, gate, clock, number, body);
             send(link, gate, number, &said)
         }
         Err(HttpFault::Link) => SessionEnd::Link,

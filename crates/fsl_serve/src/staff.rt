@@ -5,11 +5,11 @@ use crate::crews::Job;
 use crate::work::{Crew, Work};
 
 /// Gives each crew its pass. The list has room for all jobs.
-pub(crate) fn staffed<A, G, P>(
-    mut jobs: Vec<Job<A, G, P>>,
-    crews: &mut Vec<Crew<A, G>>,
+pub(crate) fn staffed<A, G, C, P>(
+    mut jobs: Vec<Job<A, G, C, P>>,
+    crews: &mut Vec<Crew<A, G, C>>,
     passes: &mut Vec<P>,
-) -> Vec<Job<A, G, P>>
+) -> Vec<Job<A, G, C, P>>
     requires empty { vec_len jobs ≡ 0 }
     requires room { vec_len crews.old ≤ vec_capacity jobs }
     requires each { vec_len crews.old ≡ vec_len passes.old }
@@ -35,9 +35,9 @@ pub(crate) fn staffed<A, G, P>(
 }
 
 /// Takes the jobs apart.
-pub(crate) fn dismissed<A, G, P>(
-    mut jobs: Vec<Job<A, G, P>>,
-    crews: &mut Vec<Crew<A, G>>,
+pub(crate) fn dismissed<A, G, C, P>(
+    mut jobs: Vec<Job<A, G, C, P>>,
+    crews: &mut Vec<Crew<A, G, C>>,
     passes: &mut Vec<P>,
     mut works: Vec<Work>,
 ) -> Vec<Work>

@@ -1,11 +1,12 @@
 //! Workers.
 ghost use Rattle.fsl_serve.specs.Workers.{HasWorked, HasPassed};
 
-use crate::serving::session;
+use crate::serving::serve_link;
+use crate::shared::Serving;
 use fsl_disk::Disk;
 use fsl_login::Users;
 use fsl_name::Name;
-use fsl_outside::{Accepted, Door, Gate};
+use fsl_outside::{Accepted, Clock, Door, Gate};
 use fsl_repo::Repo;
 use fsl_turn::Turns;
 use std::alloc::Global;
@@ -13,11 +14,13 @@ use std::sync::Wait;
 
 /// What a worker works with.
 #[derive(Drop)]
-pub struct Crew<A, G> {
+pub struct Crew<A, G, C> {
     /// Where its connections come in.
     pub door: A,
     /// What its sessions pass.
     pub gate: G,
+    /// What tells its sessions the moment.
+    pub clock: C,
 }
 
 /// What a worker did.
@@ -30,33 +33,37 @@ pub struct Work {
 }
 
 /// Serves as many connections as are asked for, or up to where the door fails or is closed. Each connection is let go once its session
-/// ended. The sessions are numbered from 0 where they pass the gate.
-pub fn worker<T: Turns<Repo<D>>, D: Disk, A: Door, G: Gate, R: Wait>(
+/// ended. The sessions are numbered from 0 where they pass the gate. Each asks the clock at most once.
+pub fn worker<T: Turns<Repo<D>>, D: Disk, A: Door, G: Gate, C: Clock, R: Wait>(
     turns: &T,
     rt: &R,
     alloc: Global,
     pass: &mut T::Pass,
     users: &Users,
     project: Name,
-    crew: &mut Crew<A, G>,
+    crew: &mut Crew<A, G, C>,
     requests: u64,
 ) -> Work
     ensures grown { T.grows pass.old pass.new }
     ensures worked { HasWorked D.state users.now project requests (A.state, crew.old, crew.new) (T.calls, pass.old, pass.new) result }
-    ensures gate { HasPassed D.state users.now project requests (A.state, G.passed, crew.old, crew.new) (T.calls, pass.old, pass.new) result }
+    ensures gate { HasPassed D.state users.now project requests (A.state, G.passed, C.told, crew.old, crew.new) (T.calls, pass.old, pass.new) result }
 {
+    let serving = Serving {
+        turns,
+        rt,
+        alloc,
+        users,
+        project,
+    };
     for number in 0..requests {
         match crew.door.accept() {
             Ok(Accepted::Connection) => {
-                session(
-                    turns,
-                    rt,
-                    alloc,
+                serve_link(
+                    &serving,
                     pass,
-                    users,
-                    project,
                     &mut crew.door,
                     &mut crew.gate,
+                    &mut crew.clock,
                     number,
                 );
                 crew.door.leave();

@@ -5,9 +5,9 @@ use Rattle.std.specs.Map.{keys_of}
 use Rattle.std.specs.Cmp.{IsTotalOrder}
 use Rattle.std.specs.declared.cmp.Ordering.TheVariants.{Equal}
 use Rattle.std.proofs.lemmas.Map.Lookups.{exact_bytes}
-use Rattle.fsl_order.specs.Names.{bytes_cmp, dated_cmp}
+use Rattle.fsl_order.specs.Names.{bytes_cmp}
 use Rattle.fsl_order.specs.TableState.{AreAtMost}
-use Rattle.fsl_order.proofs.Orders.{bytes_cmp-IsTotalOrder, dated_cmp-IsTotalOrder, dated_cmp-IsAntisymmetric}
+use Rattle.fsl_order.proofs.Orders.{bytes_cmp-IsTotalOrder}
 use Rattle.fsl_table.specs.Contents.{value_at}
 use Rattle.fsl_table.specs.ExactWithin.{exact_within}
 use Rattle.fsl_table.specs.declared.step.Step.{Step}
@@ -19,13 +19,15 @@ use Rattle.fsl_table.proofs.Leading.{leads_back}
 use Rattle.fsl_ticket.specs.declared.entry.Entry.{Entry}
 use Rattle.fsl_ticket.specs.declared.Fact.{Fact}
 use Rattle.fsl_ticket.specs.Seen.{Seen, IsAsBefore}
+use Rattle.fsl_ticket.specs.Newest.{newest_cmp}
+use Rattle.fsl_ticket.specs.NewestOrder.{newest_cmp-IsTotalOrder, newest_cmp-IsAntisymmetric}
 use Rattle.fsl_ticket.specs.Kept.{Lines, Spot, spot_cmp, Rows, IsKept, TakesBack, seen_of, fact_of, facts_of, is_spot}
 
 pub spot_cmp-IsTotalOrder : IsTotalOrder spot_cmp
-spot_cmp-IsTotalOrder = within-IsTotalOrder bytes_cmp dated_cmp bytes_cmp-IsTotalOrder dated_cmp-IsTotalOrder
+spot_cmp-IsTotalOrder = within-IsTotalOrder bytes_cmp newest_cmp bytes_cmp-IsTotalOrder newest_cmp-IsTotalOrder
 
 pub spot_cmp-exact : (x y : Spot) → spot_cmp x y ≡ Equal → x ≡ y
-spot_cmp-exact = exact_within bytes_cmp dated_cmp exact_bytes dated_cmp-IsAntisymmetric
+spot_cmp-exact = exact_within bytes_cmp newest_cmp exact_bytes newest_cmp-IsAntisymmetric
 
 entry_of : Fact → Entry
 entry_of f = record { date = f.date; id = f.id; changes = f.changes }

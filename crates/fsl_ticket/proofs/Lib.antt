@@ -1,5 +1,9 @@
+pub mod Backward
 pub mod Canonical
 pub mod Changing
+pub mod Folding
+pub mod Going
 pub mod Looking
+pub mod Others
 pub mod Placing
 pub mod Walking

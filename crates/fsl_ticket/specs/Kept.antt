@@ -7,7 +7,7 @@ use Rattle.std.specs.Ordering.{is_eq, nat_cmp}
 use Rattle.std.specs.List.Sorted.{IsStrictlySortedBy}
 use Rattle.std.specs.Map.{keys_of}
 use Rattle.std.specs.declared.cmp.Ordering.{Ordering}
-use Rattle.fsl_order.specs.Names.{bytes_cmp, dated_cmp, has}
+use Rattle.fsl_order.specs.Names.{bytes_cmp, has}
 use Rattle.fsl_table.specs.Contents.{Contents, value_at}
 use Rattle.fsl_table.specs.Within.{within_cmp}
 use Rattle.fsl_table.specs.declared.within.Within.{Within}
@@ -18,6 +18,7 @@ use Rattle.fsl_ticket.specs.declared.entry.Entry.{Entry}
 use Rattle.fsl_ticket.specs.declared.rows.Row.{Row}
 use Rattle.fsl_ticket.specs.Seen.{Seen, IsAsBefore}
 use Rattle.fsl_ticket.specs.Tickets.{fields}
+use Rattle.fsl_ticket.specs.Newest.{newest_cmp}
 
 abbrev pub Lines : Type 0
 Lines = List (List ℕ × Entry)
@@ -27,7 +28,7 @@ abbrev pub Spot : Type 0
 Spot = Within (List ℕ) (ℕ × List ℕ)
 
 abbrev pub spot_cmp : Spot → Spot → Ordering
-spot_cmp = within_cmp bytes_cmp dated_cmp
+spot_cmp = within_cmp bytes_cmp newest_cmp
 
 abbrev pub Spots : Type 0
 Spots = List (Spot × Unit {0})

@@ -1,3 +1,6 @@
 pub mod Tickets
 pub mod Seen
+pub mod Newest
+pub mod NewestOrder
 pub mod Kept
+pub mod Walked

@@ -6,11 +6,13 @@
 ghost use Rattle.std.specs.Prelude.{◌≡◌, IfOk};
 
 mod cards;
+mod differs;
 mod entry;
 mod place;
 mod rows;
 mod tickets;
 mod values;
+mod walk;
 
 use fsl_date::Moment;
 use fsl_name::Name;

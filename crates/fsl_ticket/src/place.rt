@@ -1,9 +1,9 @@
-//! Where a change stands among those of its ticket.
+//! Where a change stands among those of its ticket: the newest first.
 ghost use Rattle.std.specs.Prelude.{◌≡◌, refl};
 ghost use Rattle.std.specs.Cmp.{partial_order_from_total, partial_equiv_from_equiv, eq_by_cmp_equiv};
 ghost use Rattle.std.specs.Ordering.{eq_by_cmp, as_partial_cmp};
-ghost use Rattle.fsl_order.specs.Names.{dated_cmp};
-ghost use Rattle.fsl_order.proofs.Orders.{dated_cmp-IsTotalOrder, dated_cmp-IsAntisymmetric};
+ghost use Rattle.fsl_ticket.specs.Newest.{newest_cmp};
+ghost use Rattle.fsl_ticket.specs.NewestOrder.{newest_cmp-IsTotalOrder, newest_cmp-IsAntisymmetric};
 
 use fsl_date::Moment;
 use fsl_name::Name;
@@ -11,7 +11,7 @@ use fsl_table::Key;
 use std::cmp::Ordering;
 use std::marker::Model;
 
-/// A date and a name, ordered by date, and at one date by name. Contracts see it as their pair.
+/// A date and a name, ordered by date, and at one date by name, the newest first. Contracts see it as their pair.
 #[derive(Clone, Copy)]
 pub struct Place {
     date: Moment,
@@ -45,9 +45,9 @@ impl Place {
 }
 
 impl PartialEq for Place {
-    ghost eq = { eq_by_cmp dated_cmp };
+    ghost eq = { eq_by_cmp newest_cmp };
 
-    ghost laws = { partial_equiv_from_equiv (eq_by_cmp_equiv dated_cmp-IsTotalOrder) };
+    ghost laws = { partial_equiv_from_equiv (eq_by_cmp_equiv newest_cmp-IsTotalOrder) };
 
     fn eq(&self, other: &Place) -> bool {
         self.cmp(other).is_eq()
@@ -55,13 +55,13 @@ impl PartialEq for Place {
 }
 
 impl Eq for Place {
-    ghost laws = { eq_by_cmp_equiv dated_cmp-IsTotalOrder };
+    ghost laws = { eq_by_cmp_equiv newest_cmp-IsTotalOrder };
 }
 
 impl PartialOrd for Place {
-    ghost partial_cmp = { as_partial_cmp dated_cmp };
+    ghost partial_cmp = { as_partial_cmp newest_cmp };
 
-    ghost laws = { partial_order_from_total dated_cmp-IsTotalOrder };
+    ghost laws = { partial_order_from_total newest_cmp-IsTotalOrder };
 
     fn partial_cmp(&self, other: &Place) -> Option<Ordering> {
         Some(self.cmp(other))
@@ -69,19 +69,19 @@ impl PartialOrd for Place {
 }
 
 impl Ord for Place {
-    ghost cmp = { dated_cmp };
+    ghost cmp = { newest_cmp };
 
-    ghost total = { dated_cmp-IsTotalOrder };
+    ghost total = { newest_cmp-IsTotalOrder };
 
     ghost matches_partial_cmp = { λ x y. refl };
 
     ghost matches_eq = { λ x y. refl };
 
     fn cmp(&self, other: &Place) -> Ordering {
-        self.date.cmp(&other.date).then(self.name.cmp(&other.name))
+        other.date.cmp(&self.date).then(other.name.cmp(&self.name))
     }
 }
 
 impl Key for Place {
-    ghost exact = { dated_cmp-IsAntisymmetric };
+    ghost exact = { newest_cmp-IsAntisymmetric };
 }

@@ -1,33 +1,29 @@
-//! The rows of tickets: a change put into the two tables and taken out, and the values of a ticket's fields.
-ghost use Rattle.std.specs.Prelude.{◌≡◌, [], ◌&&◌, ◌||◌, not, ℕ, List, Option, Some, None, ◌∷◌, ◌++◌, IfOk, OnOk, is_some, map};
+//! The rows of tickets: a change put into the two tables and taken out, and the ids whose rows differ then.
+ghost use Rattle.std.specs.Prelude.{◌≡◌, [], ◌&&◌, ◌||◌, not, ℕ, List, Option, Some, None, ◌∷◌, ◌++◌, if◌then◌else◌, IfOk, OnOk, is_some, map};
 ghost use Rattle.std.specs.List.{filter_map};
 ghost use Rattle.std.specs.Option.{option_to_list};
 ghost use Rattle.std.specs.List.Sorted.{IsStrictlySortedBy};
 ghost use Rattle.std.specs.Map.{keys_of};
 ghost use Rattle.std.specs.Str.{bytes_eq};
-ghost use Rattle.fsl_order.specs.Names.{bytes_cmp, dated_cmp, has};
+ghost use Rattle.fsl_order.specs.Names.{bytes_cmp, has};
 ghost use Rattle.fsl_order.specs.Rows.{by_name, AreDistinct, ListsChanged};
 ghost use Rattle.fsl_table.specs.Contents.{Contents, value_at, with_entry, without_key};
 ghost use Rattle.fsl_table.specs.Undo.{Undoes};
-ghost use Rattle.fsl_table.specs.Within.{within};
-ghost use Rattle.fsl_table.proofs.Walk.{from};
-ghost use Rattle.fsl_ticket.specs.Kept.{AreTouched, IsKept, Spot, spot_cmp, change_at, changes_at, facts_of, if_other, is_id, is_of, is_same, put_before, row_of, is_spot};
-ghost use Rattle.fsl_ticket.specs.Seen.{value_in, value_after, value_from};
+ghost use Rattle.fsl_ticket.specs.Kept.{AreTouched, IsKept, Spot, spot_cmp, facts_of, if_other, is_id, is_same, row_of, is_spot};
 ghost use Rattle.fsl_ticket.specs.Tickets.{tickets_row};
-ghost use Rattle.fsl_ticket.specs.Tickets as table;
-ghost use Rattle.fsl_ticket.specs.declared.Fact as fact_type;
 ghost use Rattle.fsl_ticket.specs.declared.entry.Entry as entry_type;
 
+use crate::Fact;
+use crate::differs::is_row_other;
 use crate::entry::Entry;
 use crate::place::Place;
-use crate::{Fact, values};
+use crate::walk::{fields_of, key};
 use fsl_name::Name;
 use fsl_rows::Named;
-use fsl_table::within::next_within;
 use fsl_table::{Log, Table, Within, log, names};
 use fsl_text::{List, Memory, Steps, Text};
 use std::alloc::Global;
-use std::collections::{BTreeMap, BTreeSet};
+use std::collections::BTreeSet;
 use std::sync::ledger::Ledger;
 
 /// The row of an id as it was before a change.
@@ -35,16 +31,6 @@ use std::sync::ledger::Ledger;
 pub(crate) struct Row {
     pub(crate) id: Name,
     pub(crate) values: Option<List<Text>>,
-}
-
-/// The key of a change of a ticket.
-fn key(id: Name, place: Option<Place>) -> Within<Name, Place>
-    ensures { result ≡ record { first = id; second = place } }
-{
-    Within {
-        first: id,
-        second: place,
-    }
 }
 
 /// Puts a new change, and logs what takes it out again. Nothing is copied. After `Memory` a part may be done; the logs have it.
@@ -165,63 +151,6 @@ fn take_out<L: Ledger>(
 {
     unplace(facts, spots, spots_log, name, steps)?;
     log::remove(facts, facts_log, name, steps)
-}
-
-/// Takes the cards of a change into the values, where the change is there.
-fn take_change<L: Ledger>(
-    alloc: Global,
-    values: &mut BTreeMap<Text, Text>,
-    facts: &Table<Name, Entry>,
-    name: Name,
-    steps: &mut Steps<L>,
-) -> Result<(), Memory>
-    ensures taken { OnOk result ((q : List ℕ) (rest : List fact_type.Fact) → value_after (value_in values.new.entries q) rest q ≡ value_after (value_in values.old.entries q) (put_before (change_at facts.now.entries name) rest) q) }
-{
-    match facts.get(&name, steps) {
-        None => Ok(()),
-        Some(entry) => values::take_all(alloc, values, entry.changes.items()),
-    }
-}
-
-/// The values that the changes of a ticket give its fields, from one of them on.
-fn values_from<L: Ledger>(
-    alloc: Global,
-    facts: &Table<Name, Entry>,
-    spots: &Table<Within<Name, Place>, ()>,
-    id: Name,
-    first: Place,
-    steps: &mut Steps<L>,
-) -> Result<BTreeMap<Text, Text>, Memory>
-    requires { IsStrictlySortedBy spot_cmp (keys_of spots.now.entries) }
-    ensures { IfOk result (λ values. (q : List ℕ) → value_in values.entries q ≡ value_from (changes_at facts.now.entries (from dated_cmp (Some (first, tt)) (within bytes_cmp id spots.now.entries))) q) }
-{
-    let mut values = BTreeMap::new(alloc);
-    let mut next = Some(first);
-    while let Some(place) = next {
-        take_change(alloc, &mut values, facts, place.name(), steps)?;
-        next = next_within(spots, &key(id, Some(place)), steps);
-    }
-    Ok(values)
-}
-
-/// The values of the configured fields of a ticket, in their order. None where it has no change.
-pub(crate) fn fields_of<L: Ledger>(
-    alloc: Global,
-    configured: &[Text],
-    facts: &Table<Name, Entry>,
-    spots: &Table<Within<Name, Place>, ()>,
-    id: Name,
-    steps: &mut Steps<L>,
-) -> Result<Option<List<Text>>, Memory>
-    requires { IsKept (record { facts = facts.now; spots = spots.now }) }
-    ensures { IfOk result (λ values. values ≡ table.fields configured.now (facts_of facts.now.entries) id) }
-{
-    let Some(first) = next_within(spots, &key(id, None), steps) else {
-        return Ok(None);
-    };
-    let values = values_from(alloc, facts, spots, id, first, steps)?;
-    let found = values::of_fields(alloc, &values, configured)?;
-    Ok(Some(found))
 }
 
 /// Puts the id of the change of a name in, where it is there.
@@ -377,9 +306,52 @@ fn replace_fact<L: Ledger>(
     put_fact(facts, spots, facts_log, spots_log, fact, steps)
 }
 
-/// Puts a change, in the place of that of its name where there is one, and tells the ids whose rows differ. After `Memory` a part
-/// may be done; the logs have it.
-pub(crate) fn put_either<L: Ledger>(
+/// The id, where its row differs.
+fn listed(alloc: Global, id: Name, differs: bool) -> Result<List<Name>, Memory>
+    ensures { IfOk result (λ list. list ≡ (if differs then id ∷ [] else [])) }
+{
+    let mut list = List::new(alloc);
+    match differs {
+        false => Ok(list),
+        true => match list.append(id) {
+            Ok(()) => Ok(list),
+            Err(_) => Err(Memory),
+        },
+    }
+}
+
+/// Puts a new change, and tells the id of its ticket where the row of that differs. After `Memory` a part may be done; the logs have it.
+fn put_new<L: Ledger>(
+    alloc: Global,
+    configured: &[Text],
+    facts: &mut Table<Name, Entry>,
+    spots: &mut Table<Within<Name, Place>, ()>,
+    facts_log: &mut Log<Name, Entry>,
+    spots_log: &mut Log<Within<Name, Place>, ()>,
+    fact: Fact,
+    steps: &mut Steps<L>,
+) -> Result<List<Name>, Memory>
+    requires kept { IsKept (record { facts = facts.old; spots = spots.old }) }
+    requires absent { value_at bytes_cmp fact.name facts.old.entries ≡ None }
+    ensures entries { OnOk result (facts.new.entries ≡ with_entry bytes_cmp fact.name (record { date = fact.date; id = fact.id; changes = fact.changes }) facts.old.entries) }
+    ensures kept { OnOk result (IsKept (record { facts = facts.new; spots = spots.new })) }
+    ensures changed { IfOk result (ListsChanged (tickets_row configured.now (facts_of facts.old.entries)) (tickets_row configured.now (facts_of (with_entry bytes_cmp fact.name (record { date = fact.date; id = fact.id; changes = fact.changes }) facts.old.entries)))) }
+    ensures undoes_facts { (before : Contents (List ℕ) entry_type.Entry) → Undoes bytes_cmp facts_log.old facts.old before → Undoes bytes_cmp facts_log.new facts.new before }
+    ensures undoes_spots { (before : Contents Spot Unit) → Undoes spot_cmp spots_log.old spots.old before → Undoes spot_cmp spots_log.new spots.new before }
+{
+    let id = fact.id;
+    match is_row_other(alloc, configured, facts, spots, &fact, steps) {
+        Ok(differs) => match put_fact(facts, spots, facts_log, spots_log, fact, steps) {
+            Ok(()) => listed(alloc, id, differs),
+            Err(Memory) => Err(Memory),
+        },
+        Err(Memory) => Err(Memory),
+    }
+}
+
+/// Puts a change in the place of that of its name, where there is one, and tells the ids whose rows differ. It folds their tickets
+/// before and after. After `Memory` a part may be done; the logs have it.
+fn put_again<L: Ledger>(
     alloc: Global,
     configured: &[Text],
     facts: &mut Table<Name, Entry>,
@@ -406,5 +378,35 @@ pub(crate) fn put_either<L: Ledger>(
             changed
         }
         Err(Memory) => Err(Memory),
+    }
+}
+
+/// Puts a change, in the place of that of its name where there is one, and tells the ids whose rows differ. After `Memory` a part
+/// may be done; the logs have it.
+pub(crate) fn put_either<L: Ledger>(
+    alloc: Global,
+    configured: &[Text],
+    facts: &mut Table<Name, Entry>,
+    spots: &mut Table<Within<Name, Place>, ()>,
+    facts_log: &mut Log<Name, Entry>,
+    spots_log: &mut Log<Within<Name, Place>, ()>,
+    fact: Fact,
+    steps: &mut Steps<L>,
+) -> Result<List<Name>, Memory>
+    requires kept { IsKept (record { facts = facts.old; spots = spots.old }) }
+    ensures entries { OnOk result (facts.new.entries ≡ with_entry bytes_cmp fact.name (record { date = fact.date; id = fact.id; changes = fact.changes }) facts.old.entries) }
+    ensures kept { OnOk result (IsKept (record { facts = facts.new; spots = spots.new })) }
+    ensures changed { IfOk result (ListsChanged (tickets_row configured.now (facts_of facts.old.entries)) (tickets_row configured.now (facts_of (with_entry bytes_cmp fact.name (record { date = fact.date; id = fact.id; changes = fact.changes }) facts.old.entries)))) }
+    ensures undoes_facts { (before : Contents (List ℕ) entry_type.Entry) → Undoes bytes_cmp facts_log.old facts.old before → Undoes bytes_cmp facts_log.new facts.new before }
+    ensures undoes_spots { (before : Contents Spot Unit) → Undoes spot_cmp spots_log.old spots.old before → Undoes spot_cmp spots_log.new spots.new before }
+{
+    if facts.get(&fact.name, steps).is_none() {
+        put_new(
+            alloc, configured, facts, spots, facts_log, spots_log, fact, steps,
+        )
+    } else {
+        put_again(
+            alloc, configured, facts, spots, facts_log, spots_log, fact, steps,
+        )
     }
 }

@@ -8,7 +8,8 @@ ghost use Rattle.fsl_ticket.specs.Tickets as table;
 
 use super::entry::Entry;
 use super::place::Place;
-use super::rows::{fields_of, put_all, put_either};
+use super::rows::{put_all, put_either};
+use super::walk::fields_of;
 use super::{Fact, cards};
 use fsl_name::Name;
 use fsl_table::{Log, Table, Within, log};
@@ -136,7 +137,9 @@ impl Tickets {
         }
     }
 
-    /// Adds a change whose name isn't there, which is moved. `Memory` is the only error, and the table then holds what it held.
+    /// Adds a change whose name isn't there, which is moved. It takes time by the changes of its ticket that are newer, as far as none of
+    /// them replaces a field that it touches, and where it replaces one itself, by those that came since the last that did. `Memory` is
+    /// the only error, and the table then holds what it held.
     pub fn add<L: Ledger>(
         &mut self,
         alloc: Global,
@@ -154,8 +157,8 @@ impl Tickets {
         self.put(alloc, fact, steps)
     }
 
-    /// Puts a change in the place of that of its name, which is there. It is moved. `Memory` is the only error, and the table then
-    /// holds what it held.
+    /// Puts a change in the place of that of its name, which is there. It is moved. It takes time by all changes of both tickets. `Memory`
+    /// is the only error, and the table then holds what it held.
     pub fn change<L: Ledger>(
         &mut self,
         alloc: Global,

@@ -1,11 +1,12 @@
 //! What the J cards of a ticket make of its fields.
-ghost use Rattle.std.specs.Prelude.{◌≡◌, ℕ, List, None, IfOk, OnOk, cond, fold, filter, map};
+ghost use Rattle.std.specs.Prelude.{◌≡◌, ◌&&◌, not, [], ℕ, List, None, IfOk, OnOk, cond, fold, filter, map};
 ghost use Rattle.std.specs.Str.{bytes_eq};
 ghost use Rattle.std.specs.Map.{lookup};
 ghost use Rattle.std.specs.BTreeMap.{is_at};
 ghost use Rattle.fsl_order.specs.Names.{bytes_cmp};
 ghost use Rattle.fsl_ticket.specs.Tickets.{after};
 ghost use Rattle.fsl_ticket.specs.Seen.{value_in};
+ghost use Rattle.fsl_ticket.specs.Walked.{made, is_set};
 
 use super::FieldChange;
 use fsl_text::{List, Memory, Text};
@@ -77,8 +78,43 @@ pub fn take_all(
     Ok(())
 }
 
+/// What the cards of one change make of the fields by themselves.
+pub fn made(alloc: Global, cards: &[FieldChange]) -> Result<BTreeMap<Text, Text>, Memory>
+    ensures { IfOk result (λ values. (q : List ℕ) → value_in values.entries q ≡ made cards.now q []) }
+{
+    let mut values = BTreeMap::new(alloc);
+    match take_all(alloc, &mut values, cards) {
+        Ok(()) => Ok(values),
+        Err(Memory) => Err(Memory),
+    }
+}
+
+/// Whether a card replaces the field.
+fn is_replaced(card: &FieldChange, field: &Text) -> bool
+    ensures { result ≡ (bytes_eq card.now.field field.now && not card.now.append) }
+{
+    card.field.bytes() == field.bytes() && !card.append
+}
+
+/// Whether one of the cards replaces the field.
+pub fn is_set(cards: &[FieldChange], field: &Text) -> bool
+    ensures { result ≡ is_set cards.now field.now }
+{
+    cards.iter().any(|card| is_replaced(card, field))
+}
+
 /// The value of a field, empty where there is none.
-fn copied(alloc: Global, values: &BTreeMap<Text, Text>, field: &Text) -> Result<Text, Memory>
+pub fn value_of<'a>(values: &'a BTreeMap<Text, Text>, field: &Text) -> &'a [u8]
+    ensures { result.now ≡ value_in values.now.entries field.now }
+{
+    match values.get(field) {
+        Some(value) => value.bytes(),
+        None => &[],
+    }
+}
+
+/// A copy of the value of a field, empty where there is none.
+pub fn copied(alloc: Global, values: &BTreeMap<Text, Text>, field: &Text) -> Result<Text, Memory>
     ensures { IfOk result (λ value. value ≡ value_in values.now.entries field.now) }
 {
     match values.get(field) {

@@ -3,7 +3,7 @@ use Rattle.std.proofs.Common.{◌≡◌, ℕ, ◌<◌, ◌≤◌, Bool, true, fa
 use Rattle.std.specs.List.{list_all}
 use Rattle.std.proofs.lemmas.List.{length-map}
 use Rattle.std.proofs.lemmas.List.Folds.{list_all-map, list_all_at, list_all_more}
-use Rattle.fsl_words.specs.Grammar.{init_command, clone_command, served_in, plain_command, parts_in}
+use Rattle.fsl_words.specs.Grammar.{init_command, uv_init_command, clone_command, served_in, plain_command, parts_in}
 
 short_init : (words : List (List ℕ)) → length words < 2 → init_command words ≡ None
 short_init [] short = refl
@@ -13,6 +13,16 @@ short_init (project ∷ server ∷ fields) short = absurd (omega arith)
 -- `init` without two codes
 pub no_codes : {A : Type 0} (f : A → List ℕ) (words : List A) → length words < 2 → init_command (map f words) ≡ None
 no_codes f words short = short_init (map f words) (simp length-map short)
+
+other_codes : (words : List (List ℕ)) → (length words ≡ 2 → ⊥) → uv_init_command words ≡ None
+other_codes [] other = refl
+other_codes (project ∷ []) other = refl
+other_codes (project ∷ server ∷ []) other = absurd (other refl)
+other_codes (project ∷ server ∷ more ∷ words) other = refl
+
+-- `uv-init` with other words than two codes
+pub no_two_codes : {A : Type 0} (f : A → List ℕ) (words : List A) → (length words ≡ 2 → ⊥) → uv_init_command (map f words) ≡ None
+no_two_codes f words other = other_codes (map f words) (simp length-map other)
 
 short_clone : (words : List (List ℕ)) → length words < 2 → clone_command words ≡ None
 short_clone [] short = refl

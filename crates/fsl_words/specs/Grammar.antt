@@ -5,12 +5,14 @@ use Rattle.std.specs.Str.{bytes_eq}
 use Rattle.fsl_order.specs.Names.{has}
 use Rattle.fsl_text.specs.Bytes.{is_empty}
 use Rattle.fsl_text.specs.Decimals.{is_decimal_text, decimal_value}
+use Rattle.fsl_text.specs.Paths.{path_ok}
 use Rattle.fsl_name.specs.Name.{name_in, is_name_digit}
 use Rattle.fsl_record.specs.Records.{is_field}
 use Rattle.fsl_words.specs.declared.Question.{Question}
-use Rattle.fsl_words.specs.declared.Question.TheVariants.{Cat, Timeline, Leaves, Tags, Tip, Files, Wiki, Ticket, Thread, Phantoms}
+use Rattle.fsl_words.specs.declared.Question.TheVariants.{Cat, Receipt, Timeline, Leaves, Tags, Tip, Files, Wiki, Ticket, Thread, Phantoms}
 use Rattle.fsl_words.specs.declared.Command.{Command}
-use Rattle.fsl_words.specs.declared.Command.TheVariants.{Init, Ingest, Put, Shun, Ask, Serve, Gen, Pull, Push, Clone, PullLocal}
+use Rattle.fsl_words.specs.declared.Command.TheVariants.{Init, Ingest, Put, Shun, Unshun, Ask, Serve, Gen, Pull, Push, Clone, PullLocal, Checkin, Export, Verify, Scrub, Unversioned as OfUnversioned}
+use Rattle.fsl_words.specs.declared.Unversioned.TheVariants as uv
 use Rattle.fsl_words.specs.declared.Words.{Words}
 
 -- a word has a byte, and doesn't begin with `-` unless it is `-` alone
@@ -90,6 +92,32 @@ abbrev pub clone_command : List (List ℕ) → Option Command
 clone_command (address ∷ server ∷ fields) = option_and_then (λ s. option_map (Clone address s) (fields_in fields)) (name_in server)
 clone_command words = None
 
+-- `-` for no parent, or a prefix
+abbrev pub parent_in : List ℕ → Option (Option (List ℕ))
+parent_in word = if bytes_eq word (codes "-") then Some None else option_map Some (prefix_in word)
+
+-- checkin PARENT USER COMMENT
+abbrev pub checkin_command : List (List ℕ) → Option Command
+checkin_command (parent ∷ user ∷ comment ∷ []) = option_map (λ p. Checkin p user comment) (parent_in parent)
+checkin_command words = None
+
+-- the most bytes of the path of an unversioned file
+abbrev pub most_of_path : ℕ
+most_of_path = 512
+
+-- whether an unversioned file may have this path
+abbrev pub is_path : List ℕ → Bool
+is_path word = path_ok word && nat_le (length word) most_of_path
+
+-- the word, where it is such a path
+abbrev pub path_in : List ℕ → Option (List ℕ)
+path_in word = if is_path word then Some word else None
+
+-- uv-init PROJECT SERVER
+abbrev pub uv_init_command : List (List ℕ) → Option Command
+uv_init_command (project ∷ server ∷ []) = option_and_then (λ p. option_map (λ s. OfUnversioned (uv.Init p s)) (name_in server)) (name_in project)
+uv_init_command words = None
+
 -- a command without words
 abbrev pub bare_command : List ℕ → Option Command
 bare_command command =
@@ -97,12 +125,14 @@ bare_command command =
     else if bytes_eq command (codes "put") then Some Put
     else if bytes_eq command (codes "leaves") then Some (Ask Leaves)
     else if bytes_eq command (codes "phantoms") then Some (Ask Phantoms)
+    else if bytes_eq command (codes "uv-list") then Some (OfUnversioned uv.List)
     else None
 
 -- a report command with one word
 abbrev pub question_in : List ℕ → List ℕ → Option Question
 question_in command word =
     if bytes_eq command (codes "cat") then option_map Cat (prefix_in word)
+    else if bytes_eq command (codes "receipt") then option_map Receipt (prefix_in word)
     else if bytes_eq command (codes "timeline") then option_map Timeline (number_in 1000000 word)
     else if bytes_eq command (codes "tags") then option_map Tags (prefix_in word)
     else if bytes_eq command (codes "tip") then Some (Tip word)
@@ -112,12 +142,25 @@ question_in command word =
     else if bytes_eq command (codes "thread") then option_map Thread (name_in word)
     else None
 
--- `shun`, `pull-local`, or a report command with one word
+-- a command of unversioned files or a report command, with one word
+abbrev pub other_command : List ℕ → List ℕ → Option Command
+other_command command word =
+    if bytes_eq command (codes "uv-add") then option_map (λ p. OfUnversioned (uv.Add p)) (path_in word)
+    else if bytes_eq command (codes "uv-remove") then option_map (λ p. OfUnversioned (uv.Remove p)) (path_in word)
+    else if bytes_eq command (codes "uv-cat") then option_map (λ p. OfUnversioned (uv.Cat p)) (path_in word)
+    else if bytes_eq command (codes "uv-sync") then Some (OfUnversioned (uv.Sync word))
+    else option_map Ask (question_in command word)
+
+-- `shun`, `unshun`, `pull-local`, `export`, `verify`, `scrub`, or another command with one word
 abbrev pub worded_command : List ℕ → List ℕ → Option Command
 worded_command command word =
     if bytes_eq command (codes "shun") then option_map Shun (name_in word)
+    else if bytes_eq command (codes "unshun") then option_map Unshun (name_in word)
     else if bytes_eq command (codes "pull-local") then Some (PullLocal word)
-    else option_map Ask (question_in command word)
+    else if bytes_eq command (codes "export") then option_map Export (prefix_in word)
+    else if bytes_eq command (codes "verify") then option_map Verify (prefix_in word)
+    else if bytes_eq command (codes "scrub") then Some (Scrub word)
+    else other_command command word
 
 -- a command by its first word and the words behind it
 abbrev pub plain_command : List ℕ → List (List ℕ) → Option Command
@@ -125,7 +168,7 @@ plain_command command [] = bare_command command
 plain_command command (word ∷ []) = worded_command command word
 plain_command command words = None
 
--- `init`, `serve`, `gen`, `pull`, `push`, `clone`, or another command
+-- `init`, `serve`, `gen`, `pull`, `push`, `clone`, `checkin`, `uv-init`, or another command
 abbrev pub command_in : List ℕ → List (List ℕ) → Option Command
 command_in command words =
     if bytes_eq command (codes "init") then init_command words
@@ -134,6 +177,8 @@ command_in command words =
     else if bytes_eq command (codes "pull") then pull_command words
     else if bytes_eq command (codes "push") then push_command words
     else if bytes_eq command (codes "clone") then clone_command words
+    else if bytes_eq command (codes "checkin") then checkin_command words
+    else if bytes_eq command (codes "uv-init") then uv_init_command words
     else plain_command command words
 
 -- a repository and a command

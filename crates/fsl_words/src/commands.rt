@@ -1,11 +1,11 @@
 //! Commands with their words.
 ghost use Rattle.std.specs.Prelude.{◌≡◌, map, string_bytes};
-ghost use Rattle.fsl_words.specs.Grammar.{init_command, serve_command, gen_of, gen_command, login_in, served_in, pull_command, push_command, clone_command, bare_command, question_in, worded_command, plain_command, command_in};
+ghost use Rattle.fsl_words.specs.Grammar.{init_command, serve_command, gen_of, gen_command, login_in, served_in, pull_command, push_command, clone_command, parent_in, checkin_command, uv_init_command, bare_command, question_in, other_command, worded_command, plain_command, command_in};
 ghost use Rattle.fsl_words.specs.Answers.{IsAnswer};
 
 use crate::fields::fields;
-use crate::forms::{name, number, prefix};
-use crate::{Command, Question, WordsFault};
+use crate::forms::{name, number, path, prefix};
+use crate::{Command, Question, Unversioned, WordsFault};
 use fsl_text::Text;
 use std::alloc::Global;
 
@@ -128,6 +128,44 @@ fn clone_command(alloc: Global, words: &[String]) -> Result<Command, WordsFault>
     })
 }
 
+/// `-` for no parent, or a prefix.
+fn parent(alloc: Global, word: &[u8]) -> Result<Option<Text>, WordsFault>
+    ensures { IsAnswer (parent_in word.now) result }
+{
+    if word == b"-".as_slice() {
+        Ok(None)
+    } else {
+        Ok(Some(prefix(alloc, word)?))
+    }
+}
+
+/// `checkin` with its words.
+fn checkin_command(alloc: Global, words: &[String]) -> Result<Command, WordsFault>
+    ensures { IsAnswer (checkin_command (map string_bytes words.now)) result }
+{
+    let [over, user, comment] = words else {
+        return Err(WordsFault::Usage);
+    };
+    Ok(Command::Checkin {
+        parent: parent(alloc, over.as_bytes())?,
+        user: Text::of(alloc, user.as_bytes())?,
+        comment: Text::of(alloc, comment.as_bytes())?,
+    })
+}
+
+/// `uv-init` with its words.
+fn uv_init_command(words: &[String]) -> Result<Command, WordsFault>
+    ensures { IsAnswer (uv_init_command (map string_bytes words.now)) result }
+{
+    let [project, server] = words else {
+        return Err(WordsFault::Usage);
+    };
+    Ok(Command::Unversioned(Unversioned::Init {
+        project: name(project.as_bytes())?,
+        server: name(server.as_bytes())?,
+    }))
+}
+
 /// A command without words.
 fn bare_command(command: &str) -> Result<Command, WordsFault>
     ensures { IsAnswer (bare_command command.now) result }
@@ -137,6 +175,7 @@ fn bare_command(command: &str) -> Result<Command, WordsFault>
         "put" => Ok(Command::Put),
         "leaves" => Ok(Command::Ask(Question::Leaves)),
         "phantoms" => Ok(Command::Ask(Question::Phantoms)),
+        "uv-list" => Ok(Command::Unversioned(Unversioned::List)),
         _ => Err(WordsFault::Usage),
     }
 }
@@ -147,6 +186,9 @@ fn question(alloc: Global, command: &str, word: &[u8]) -> Result<Question, Words
 {
     Ok(match command {
         "cat" => Question::Cat {
+            prefix: prefix(alloc, word)?,
+        },
+        "receipt" => Question::Receipt {
             prefix: prefix(alloc, word)?,
         },
         "timeline" => Question::Timeline {
@@ -170,16 +212,47 @@ fn question(alloc: Global, command: &str, word: &[u8]) -> Result<Question, Words
     })
 }
 
+/// A command of unversioned files or a report command, with one word.
+fn other_command(alloc: Global, command: &str, word: &[u8]) -> Result<Command, WordsFault>
+    ensures { IsAnswer (other_command command.now word.now) result }
+{
+    match command {
+        "uv-add" => Ok(Command::Unversioned(Unversioned::Add {
+            path: path(alloc, word)?,
+        })),
+        "uv-remove" => Ok(Command::Unversioned(Unversioned::Remove {
+            path: path(alloc, word)?,
+        })),
+        "uv-cat" => Ok(Command::Unversioned(Unversioned::Cat {
+            path: path(alloc, word)?,
+        })),
+        "uv-sync" => Ok(Command::Unversioned(Unversioned::Sync {
+            peer: Text::of(alloc, word)?,
+        })),
+        _ => Ok(Command::Ask(question(alloc, command, word)?)),
+    }
+}
+
 /// A command with one word.
 fn worded_command(alloc: Global, command: &str, word: &[u8]) -> Result<Command, WordsFault>
     ensures { IsAnswer (worded_command command.now word.now) result }
 {
     match command {
         "shun" => Ok(Command::Shun { name: name(word)? }),
+        "unshun" => Ok(Command::Unshun { name: name(word)? }),
         "pull-local" => Ok(Command::PullLocal {
             peer: Text::of(alloc, word)?,
         }),
-        _ => Ok(Command::Ask(question(alloc, command, word)?)),
+        "export" => Ok(Command::Export {
+            prefix: prefix(alloc, word)?,
+        }),
+        "verify" => Ok(Command::Verify {
+            prefix: prefix(alloc, word)?,
+        }),
+        "scrub" => Ok(Command::Scrub {
+            peer: Text::of(alloc, word)?,
+        }),
+        _ => other_command(alloc, command, word),
     }
 }
 
@@ -205,6 +278,8 @@ pub fn command(alloc: Global, command: &str, words: &[String]) -> Result<Command
         "pull" => pull_command(alloc, words),
         "push" => push_command(alloc, words),
         "clone" => clone_command(alloc, words),
+        "checkin" => checkin_command(alloc, words),
+        "uv-init" => uv_init_command(words),
         _ => plain_command(alloc, command, words),
     }
 }

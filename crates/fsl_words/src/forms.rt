@@ -2,12 +2,12 @@
 ghost use Rattle.std.specs.Prelude.{◌≡◌};
 ghost use Rattle.std.specs.List.{list_all};
 ghost use Rattle.fsl_name.specs.Name.{is_name_digit, name_in};
-ghost use Rattle.fsl_words.specs.Grammar.{is_word, is_prefix, prefix_in, number_in};
+ghost use Rattle.fsl_words.specs.Grammar.{is_word, is_prefix, prefix_in, is_path, path_in, number_in};
 ghost use Rattle.fsl_words.specs.Answers.{IsAnswer};
 
-use crate::WordsFault;
+use crate::{MOST_OF_PATH, WordsFault};
 use fsl_name::Name;
-use fsl_text::{Text, decimal};
+use fsl_text::{Text, decimal, path_ok};
 use std::alloc::Global;
 
 /// Whether a word has a byte, and doesn't begin with `-` unless it is `-` alone.
@@ -44,6 +44,23 @@ pub fn prefix(alloc: Global, word: &[u8]) -> Result<Text, WordsFault>
     ensures { IsAnswer (prefix_in word.now) result }
 {
     if !is_prefix(word) {
+        return Err(WordsFault::Usage);
+    }
+    Ok(Text::of(alloc, word)?)
+}
+
+/// Whether a word is a path that an unversioned file may have.
+fn is_path(word: &[u8]) -> bool
+    ensures { result ≡ is_path word.now }
+{
+    path_ok(word) && word.len() <= MOST_OF_PATH
+}
+
+/// The path of an unversioned file that a word is.
+pub fn path(alloc: Global, word: &[u8]) -> Result<Text, WordsFault>
+    ensures { IsAnswer (path_in word.now) result }
+{
+    if !is_path(word) {
         return Err(WordsFault::Usage);
     }
     Ok(Text::of(alloc, word)?)

@@ -19,6 +19,8 @@ use thiserror::Error;
 pub enum Question {
     /// `cat PREFIX`: the content of the artifact.
     Cat { prefix: Text },
+    /// `receipt PREFIX`: when the artifact was brought here, and under which login.
+    Receipt { prefix: Text },
     /// `timeline N`: the first rows of the timeline, 1 to 1,000,000.
     Timeline { count: u64 },
     /// `leaves`: the check-ins without a child in their own branch.
@@ -39,6 +41,27 @@ pub enum Question {
     Phantoms,
 }
 
+/// The greatest number of bytes of the path of an unversioned file.
+pub const MOST_OF_PATH: usize = 512;
+
+/// A command of unversioned files, which stand in a file of their own. A path is one whose parts between slashes aren't empty,
+/// `.` or `..`, of at most 512 bytes.
+#[derive(Drop)]
+pub enum Unversioned {
+    /// `uv-init PROJECT SERVER`: a new file for unversioned files, with these two codes.
+    Init { project: Name, server: Name },
+    /// `uv-add PATH`: the input becomes the content of a path.
+    Add { path: Text },
+    /// `uv-remove PATH`: a path is deleted.
+    Remove { path: Text },
+    /// `uv-list`: the paths that aren't deleted.
+    List,
+    /// `uv-cat PATH`: the content of a path.
+    Cat { path: Text },
+    /// `uv-sync PEER`: the newest entries go both ways between this file and another.
+    Sync { peer: Text },
+}
+
 /// A command with its words.
 #[derive(Drop)]
 pub enum Command {
@@ -53,8 +76,12 @@ pub enum Command {
     Ingest,
     /// `put`: the files of a message, into the repository.
     Put,
-    /// `shun NAME`: takes a name out of the repository for good.
+    /// `shun NAME`: takes a name out of the repository, and keeps it out until it is unshunned.
     Shun {
+        name: Name,
+    },
+    /// `unshun NAME`: lets a shunned name into the repository again; what was held under it doesn't come back by that.
+    Unshun {
         name: Name,
     },
     /// A report.
@@ -95,6 +122,27 @@ pub enum Command {
     PullLocal {
         peer: Text,
     },
+    /// `checkin PARENT USER COMMENT`: a tree is checked in under a user and a comment, over the check-in whose name has a prefix
+    /// or, where PARENT is `-`, over none.
+    Checkin {
+        parent: Option<Text>,
+        user: Text,
+        comment: Text,
+    },
+    /// `export PREFIX`: the tree of a check-in.
+    Export {
+        prefix: Text,
+    },
+    /// `verify PREFIX`: whether the checksum of a check-in is that of its tree.
+    Verify {
+        prefix: Text,
+    },
+    /// `scrub PEER`: the repository is written into another file, without what is shunned.
+    Scrub {
+        peer: Text,
+    },
+    /// A command of unversioned files.
+    Unversioned(Unversioned),
 }
 
 /// A repository's path and a command.

@@ -1,6 +1,8 @@
-//! Tests of what is handed in: sources, sinks, disks, doors and dials, by their public calls alone. They stand apart, so that no crate is proved once more for its tests.
+//! Tests of what is handed in: sources, sinks, disks, doors, dials and clocks, by their public calls alone. They stand apart, so that no crate is proved once more for its tests.
 #![tactic(auto)]
 
+#[cfg(test)]
+mod clocks;
 #[cfg(test)]
 mod disk;
 #[cfg(test)]

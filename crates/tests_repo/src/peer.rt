@@ -1,9 +1,10 @@
 // A dial into the server of a repository at hand.
 ghost use Rattle.std.specs.Prelude.{None};
 
+use fsl_date::Moment;
 use fsl_disk::MemoryDisk;
 use fsl_login::Users;
-use fsl_outside::{Dial, Failed, Link, MemoryLink, MemorySource, NoGate, Source};
+use fsl_outside::{Dial, Failed, Link, MemoryLink, MemorySource, NoGate, SetClock, Source};
 use fsl_repo::Repo;
 use fsl_serve::session_alone;
 use fsl_turn::{Solo, SoloPass};
@@ -80,6 +81,7 @@ fn answer<R: Wait>(
             project,
             link,
             &mut NoGate,
+            &mut SetClock::new(Moment::new(0).unwrap()),
             0,
         );
         drop(users);

@@ -1,4 +1,5 @@
 //! Sessions over a disk that gives a byte of a content wrong once it was loaded.
+use super::clocks::set_clock;
 use fsl_disk::{FlipDisk, MemoryDisk};
 use fsl_login::Users;
 use fsl_outside::{MemoryLink, NoGate};
@@ -58,6 +59,7 @@ fn session<R: Wait>(
         project,
         &mut link,
         &mut NoGate,
+        &mut set_clock(),
         0,
     );
     answered(end, link.sent())

@@ -3,6 +3,8 @@
 #![tactic(auto)]
 
 #[cfg(test)]
+mod clocks;
+#[cfg(test)]
 mod damaged;
 #[cfg(test)]
 mod doors;
@@ -10,6 +12,8 @@ mod doors;
 mod endless;
 #[cfg(test)]
 mod gates;
+#[cfg(test)]
+mod receipts;
 #[cfg(test)]
 mod replies;
 #[cfg(test)]

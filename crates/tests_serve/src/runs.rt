@@ -1,4 +1,5 @@
 //! Runs whose disk fails, and what a crash leaves then.
+use crate::clocks::set_clock;
 use crate::damaged::FILE;
 use fossil::{Ran, one_outcome, run, some_outcome};
 use fsl_disk::{Disk, FileDisk, FlipDisk, FuseDisk, MemoryDisk};
@@ -65,6 +66,7 @@ fn ran<D: Disk + Drop, N: Dial>(
         repo,
         FileDisk::none(),
         dial,
+        &mut set_clock(),
     ))
 }
 

@@ -1,4 +1,5 @@
 // A served repository. One session pushes an artifact and asks for it, the other one pulls; each stays at its gate until the other one is inside.
+use super::clocks::set_clock;
 use super::doors::CountingDoor;
 use super::gates::{Signals, TurnGate};
 use super::runs::owned;
@@ -7,14 +8,14 @@ use fossil::{Served, State, serve};
 use fsl_blobs::BlobState;
 use fsl_disk::MemoryDisk;
 use fsl_name::Name;
-use fsl_outside::{MemoryDoor, MemorySink, MemorySource};
+use fsl_outside::{MemoryDoor, MemorySink, MemorySource, SetClock};
 use fsl_serve::Crew;
 use std::alloc::{AllocError, Global};
 use std::sync::atomic::{AtomicU64, Ordering};
 use std::sync::{Arc, Wait};
 use std::thread::Threads;
 
-type TurnCrew = Crew<CountingDoor<MemoryDoor>, TurnGate>;
+type TurnCrew = Crew<CountingDoor<MemoryDoor>, TurnGate, SetClock>;
 
 /// A new repository's file, with the project of forty digits `1` and the server of forty digits `2`.
 const NEW_FILE: &[u8] =
@@ -49,6 +50,7 @@ fn crew(
     Ok(Crew {
         door: CountingDoor { door, left: 0 },
         gate: TurnGate { signals, is_first },
+        clock: set_clock(),
     })
 }
 
@@ -101,7 +103,7 @@ fn serve_new<R: Threads + Wait + Sync>(
 }
 
 /// What is seen of what a serve leaves.
-fn watched(served: Served<MemoryDisk, CountingDoor<MemoryDoor>, TurnGate>) -> Seen {
+fn watched(served: Served<MemoryDisk, CountingDoor<MemoryDoor>, TurnGate, SetClock>) -> Seen {
     let Served {
         status,
         state,

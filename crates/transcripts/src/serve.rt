@@ -10,7 +10,8 @@ use crate::staffing::is_for_one;
 use crate::stop::Trouble;
 use crate::takings::Takings;
 use fossil::{Served, serve};
-use fsl_outside::{MemoryDoor, MemorySink, MemorySource, NoGate};
+use fsl_date::Moment;
+use fsl_outside::{MemoryDoor, MemorySink, MemorySource, NoGate, SetClock};
 use fsl_serve::Crew;
 use fsl_text::Text;
 use std::alloc::{AllocError, Global};
@@ -22,6 +23,7 @@ use std::thread::Threads;
 pub struct Serve {
     alloc: Global,
     words: Vec<String>,
+    moment: Moment,
     connections: Vec<Text>,
     answers: Takings,
     printed: Text,
@@ -30,11 +32,12 @@ pub struct Serve {
 }
 
 impl Serve {
-    /// A server without connection that has to print nothing.
-    pub fn new(alloc: Global, words: Vec<String>) -> Serve {
+    /// A server at a moment, without connection, that has to print nothing.
+    pub fn new(alloc: Global, words: Vec<String>, moment: Moment) -> Serve {
         Serve {
             alloc,
             words,
+            moment,
             connections: Vec::new(alloc),
             answers: Takings::new(alloc),
             printed: Text::empty(alloc),
@@ -172,7 +175,7 @@ impl Serve {
     }
 
     /// Compares what the connections took.
-    fn compare_answers(&self, crews: &[Crew<MemoryDoor, NoGate>]) -> Result<(), Trouble> {
+    fn compare_answers(&self, crews: &[Crew<MemoryDoor, NoGate, SetClock>]) -> Result<(), Trouble> {
         match crews.first() {
             Some(crew) => self.answers.compare(&crew.door),
             None => Ok(()),
@@ -204,13 +207,18 @@ impl Serve {
         Ok(MemorySource::new(Vec::new(self.alloc), fails))
     }
 
-    /// One crew, whose door has the connections.
-    fn crews(&self) -> Result<Vec<Crew<MemoryDoor, NoGate>>, AllocError>
+    /// One crew, whose door has the connections, and whose clock stands at the moment.
+    fn crews(&self) -> Result<Vec<Crew<MemoryDoor, NoGate, SetClock>>, AllocError>
         ensures { IfOk result (λ crews. vec_len crews ≡ 1) }
     {
         let door = self.door()?;
         let mut crews = Vec::new(self.alloc);
-        crews.push(Crew { door, gate: NoGate })?;
+        let clock = SetClock::new(self.moment);
+        crews.push(Crew {
+            door,
+            gate: NoGate,
+            clock,
+        })?;
         Ok(crews)
     }
 

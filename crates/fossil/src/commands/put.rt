@@ -2,7 +2,7 @@
 ghost use Rattle.std.specs.Prelude.{◌≡◌, None};
 ghost use Rattle.fsl_words.specs.declared.Command.TheVariants as command_of;
 ghost use Rattle.fossil.specs.RunCall.{ActsReading};
-ghost use Rattle.fossil.specs.Taking.{PutsMessage, PutsFiles, PutsInput};
+ghost use Rattle.fossil.specs.Taking.{IsPutReceipt, PutsWith, PutsMessage, PutsFiles, PutsInput};
 
 use crate::answers::answer::{Answer, too_long};
 use crate::answers::fault::Fault;
@@ -13,22 +13,31 @@ use crate::reading::input::read_input;
 use crate::reading::load::not_loaded;
 use crate::reading::message::Sent;
 use fsl_disk::Disk;
-use fsl_outside::Source;
+use fsl_outside::{Clock, Source};
+use fsl_record::Receipt;
 use fsl_repo::Repo;
 use fsl_text::{List, Text};
 use std::alloc::Global;
 
-/// Takes files into a repository that was opened, and commits them. Where one is refused, or there is no memory, nothing
-/// is committed.
-fn take_files<D: Disk>(
+/// Takes the one moment of a `put`, as the receipt of its files. It has no login.
+fn put_receipt<C: Clock>(alloc: Global, clock: &mut C) -> Receipt
+    ensures { IsPutReceipt (C.told clock.old) (C.told clock.new) result }
+{
+    Receipt::new(Text::empty(alloc), clock.now()).unwrap()
+}
+
+/// Takes files into a repository that was opened, each with this receipt, and commits them. Where one is refused, or there is
+/// no memory, nothing is committed.
+fn take_with<D: Disk>(
     alloc: Global,
     files: List<Sent>,
+    receipt: &Receipt,
     repo: &mut Repo<D>,
 ) -> Result<Answer, Fault>
     requires runs { repo.old.seen.state.stopped ≡ None }
-    ensures { PutsFiles files (D.state, repo.old, repo.new) result }
+    ensures { PutsWith receipt.now files (D.state, repo.old, repo.new) result }
 {
-    let text = match arrive(alloc, files, repo)? {
+    let text = match arrive(alloc, files, receipt, repo)? {
         Arrivals::Taken(text) => text,
         Arrivals::Refused(answer) => return Ok(answer),
     };
@@ -42,40 +51,69 @@ fn take_files<D: Disk>(
     }
 }
 
-/// Takes a message into a repository that was opened: it is refused, or else its files are taken.
-fn take_message<D: Disk>(alloc: Global, message: Text, repo: &mut Repo<D>) -> Result<Answer, Fault>
+/// Takes the files of a message into a repository that was opened, behind one moment of the clock.
+fn take_files<C: Clock, D: Disk>(
+    alloc: Global,
+    files: List<Sent>,
+    clock: &mut C,
+    repo: &mut Repo<D>,
+) -> Result<Answer, Fault>
     requires runs { repo.old.seen.state.stopped ≡ None }
-    ensures { PutsMessage message (D.state, repo.old, repo.new) result }
+    ensures { PutsFiles files (C.told, clock.old, clock.new) (D.state, repo.old, repo.new) result }
+{
+    let receipt = put_receipt(alloc, clock);
+    let answer = take_with(alloc, files, &receipt, repo);
+    drop(receipt);
+    answer
+}
+
+/// Takes a message into a repository that was opened: it is refused, or else its files are taken.
+fn take_message<C: Clock, D: Disk>(
+    alloc: Global,
+    message: Text,
+    clock: &mut C,
+    repo: &mut Repo<D>,
+) -> Result<Answer, Fault>
+    requires runs { repo.old.seen.state.stopped ≡ None }
+    ensures { PutsMessage message (C.told, clock.old, clock.new) (D.state, repo.old, repo.new) result }
 {
     match check_message(alloc, message)? {
-        Checked::Files(files) => take_files(alloc, files, repo),
+        Checked::Files(files) => take_files(alloc, files, clock, repo),
         Checked::Refused(answer) => Ok(answer),
     }
 }
 
 /// Reads the input, and takes it into a repository that was opened.
-fn take_input<S: Source, D: Disk>(
+fn take_input<S: Source, C: Clock, D: Disk>(
     alloc: Global,
     input: &mut S,
+    clock: &mut C,
     repo: &mut Repo<D>,
 ) -> Result<Answer, Fault>
     requires runs { repo.old.seen.state.stopped ≡ None }
-    ensures { PutsInput (S.state, input.old, input.new) (D.state, repo.old, repo.new) result }
+    ensures { PutsInput (S.state, input.old, input.new) (C.told, clock.old, clock.new) (D.state, repo.old, repo.new) result }
 {
     match read_input(alloc, input)? {
-        Some(message) => take_message(alloc, message, repo),
+        Some(message) => take_message(alloc, message, clock, repo),
         None => Ok(too_long(alloc)?),
     }
 }
 
-/// Takes a message of files into the repository: all of them in one commit, or none. The disk comes back.
-pub fn put<S: Source, D: Disk>(alloc: Global, input: &mut S, disk: D) -> (Result<Answer, Fault>, D)
-    ensures { ActsReading command_of.Put (S.state, input.old, input.new) (D.state, disk, result.1) result.0 }
+/// Takes a message of files into the repository: all of them in one commit, or none. The disk comes back. The clock is asked
+/// once, behind the reading of the message's form, and not at all where the message is too long or a line or a card is refused;
+/// each artifact that is stored has a receipt of this moment, without login.
+pub fn put<S: Source, C: Clock, D: Disk>(
+    alloc: Global,
+    input: &mut S,
+    clock: &mut C,
+    disk: D,
+) -> (Result<Answer, Fault>, D)
+    ensures { ActsReading command_of.Put (S.state, input.old, input.new) (C.told, clock.old, clock.new) (D.state, disk, result.1) result.0 }
 {
     match Repo::load(alloc, disk) {
         Ok(mut repo) => {
             repo.is_whole();
-            let answer = take_input(alloc, input, &mut repo);
+            let answer = take_input(alloc, input, clock, &mut repo);
             (answer, repo.close())
         }
         Err((disk, fault)) => (not_loaded(alloc, fault), disk),

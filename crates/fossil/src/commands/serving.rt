@@ -14,7 +14,7 @@ use crate::worked::finished;
 use fsl_disk::Disk;
 use fsl_journal::LoadFault;
 use fsl_login::Users;
-use fsl_outside::{Door, Gate, Sink, Source};
+use fsl_outside::{Clock, Door, Gate, Sink, Source};
 use fsl_repo::Repo;
 use fsl_serve::{Crew, serve_crews};
 use fsl_words::{Command, WordsFault, read};
@@ -31,13 +31,13 @@ pub enum State<D: Disk> {
 
 /// What a serve ends with: the status, the repository or its disk, and the crews in their order.
 #[derive(Drop)]
-pub struct Served<D: Disk, A, G> {
+pub struct Served<D: Disk, A, G, C> {
     pub status: u8,
     pub state: State<D>,
-    pub crews: Vec<Crew<A, G>>,
+    pub crews: Vec<Crew<A, G, C>>,
 }
 
-impl<D: Disk, A: Drop, G: Drop> Served<D, A, G> {
+impl<D: Disk, A: Drop, G: Drop, C: Drop> Served<D, A, G, C> {
     /// Closes the repository and lets the crews go, and gives the status and the disk. A repository has so many parts that a crate
     /// which lets one go by itself proves some fifty functions for it.
     pub fn close(self) -> (u8, D)
@@ -109,12 +109,12 @@ fn not_loaded(alloc: Global, fault: LoadFault) -> Due
 }
 
 /// Says what is due, and gives the status with what is left.
-fn ended<D: Disk, A, G, K: Sink>(
+fn ended<D: Disk, A, G, C, K: Sink>(
     out: &mut K,
     due: &Due,
     state: State<D>,
-    crews: Vec<Crew<A, G>>,
-) -> Served<D, A, G>
+    crews: Vec<Crew<A, G, C>>,
+) -> Served<D, A, G, C>
     ensures said { IsWrittenAs (printed due.now) (output_of (K.state out.old, K.state out.new)) result.status }
     ensures state { result.state ≡ state }
     ensures crews { result.crews ≡ crews }
@@ -127,18 +127,25 @@ fn ended<D: Disk, A, G, K: Sink>(
 }
 
 /// Serves a loaded repository.
-fn serve_loaded<D: Disk + Send, A: Door + Send, G: Gate + Send, K: Sink, R: Threads + Wait + Sync>(
+fn serve_loaded<
+    D: Disk + Send,
+    A: Door + Send,
+    G: Gate + Send,
+    C: Clock + Send,
+    K: Sink,
+    R: Threads + Wait + Sync,
+>(
     rt: &R,
     alloc: Global,
     users: &Users,
     repo: Repo<D>,
-    crews: Vec<Crew<A, G>>,
+    crews: Vec<Crew<A, G, C>>,
     requests: u64,
     out: &mut K,
-) -> Served<D, A, G>
+) -> Served<D, A, G, C>
     requires crews { (0 < vec_len crews) × (vec_len crews ≤ 16) }
     requires requests { requests ≤ 65536 }
-    ensures { IsLoadedServed requests users.now (K.state, out.old, out.new) (D.state, repo) (A.state, G.passed, crews.items) result }
+    ensures { IsLoadedServed requests users.now (K.state, out.old, out.new) (D.state, repo) ((A.state, G.passed, C.told), crews.items) result }
 {
     let project = repo.config().project;
     match serve_crews(rt, alloc, users, project, repo, crews, requests) {
@@ -148,18 +155,25 @@ fn serve_loaded<D: Disk + Send, A: Door + Send, G: Gate + Send, K: Sink, R: Thre
 }
 
 /// Loads the repository of a disk and serves it.
-fn serve_disk<D: Disk + Send, A: Door + Send, G: Gate + Send, K: Sink, R: Threads + Wait + Sync>(
+fn serve_disk<
+    D: Disk + Send,
+    A: Door + Send,
+    G: Gate + Send,
+    C: Clock + Send,
+    K: Sink,
+    R: Threads + Wait + Sync,
+>(
     rt: &R,
     alloc: Global,
     users: &Users,
     disk: D,
-    crews: Vec<Crew<A, G>>,
+    crews: Vec<Crew<A, G, C>>,
     requests: u64,
     out: &mut K,
-) -> Served<D, A, G>
+) -> Served<D, A, G, C>
     requires crews { (0 < vec_len crews) × (vec_len crews ≤ 16) }
     requires requests { requests ≤ 65536 }
-    ensures { IsDiskServed requests users.now (K.state, out.old, out.new) (D.state, disk) (A.state, G.passed, crews.items) result }
+    ensures { IsDiskServed requests users.now (K.state, out.old, out.new) (D.state, disk) ((A.state, G.passed, C.told), crews.items) result }
 {
     match Repo::load(alloc, disk) {
         Ok(repo) => serve_loaded(rt, alloc, users, repo, crews, requests, out),
@@ -173,6 +187,7 @@ fn serve_file<
     D: Disk + Send,
     A: Door + Send,
     G: Gate + Send,
+    C: Clock + Send,
     K: Sink,
     R: Threads + Wait + Sync,
 >(
@@ -180,13 +195,13 @@ fn serve_file<
     alloc: Global,
     users: &mut S,
     disk: D,
-    crews: Vec<Crew<A, G>>,
+    crews: Vec<Crew<A, G, C>>,
     requests: u64,
     out: &mut K,
-) -> Served<D, A, G>
+) -> Served<D, A, G, C>
     requires crews { (0 < vec_len crews) × (vec_len crews ≤ 16) }
     requires requests { requests ≤ 65536 }
-    ensures { IsFileServed requests (S.state, users.old, users.new) (K.state, out.old, out.new) (D.state, disk) (A.state, G.passed, crews.items) result }
+    ensures { IsFileServed requests (S.state, users.old, users.new) (K.state, out.old, out.new) (D.state, disk) ((A.state, G.passed, C.told), crews.items) result }
 {
     match read_users(alloc, users) {
         Ok(users) => serve_disk(rt, alloc, &users, disk, crews, requests, out),
@@ -207,6 +222,7 @@ pub fn serve<
     D: Disk + Send,
     A: Door + Send,
     G: Gate + Send,
+    C: Clock + Send,
     K: Sink,
     R: Threads + Wait + Sync,
 >(
@@ -215,11 +231,11 @@ pub fn serve<
     words: &[String],
     users: &mut S,
     repo: D,
-    crews: Vec<Crew<A, G>>,
+    crews: Vec<Crew<A, G, C>>,
     out: &mut K,
-) -> Served<D, A, G>
+) -> Served<D, A, G, C>
     requires staffed { AreStaffed (texts words.now) (vec_len crews) }
-    ensures said { IsServe (texts words.now) (S.state, users.old, users.new) (K.state, out.old, out.new) (D.state, repo) (A.state, G.passed, crews.items) result }
+    ensures said { IsServe words.now (S.state, users.old, users.new) (K.state, out.old, out.new) (D.state, repo) ((A.state, G.passed, C.told), crews.items) result }
     ensures unread { serving_in (texts words.now) ≡ None → users.new ≡ users.old }
 {
     match asked(alloc, words) {

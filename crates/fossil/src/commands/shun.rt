@@ -1,9 +1,9 @@
-//! `shun`: takes a name out of the repository for good.
+//! `shun`: takes a name out of the repository, and keeps it out.
 ghost use Rattle.std.specs.Prelude.{◌≡◌, None, IfOk};
 ghost use Rattle.fsl_words.specs.declared.Command.TheVariants as command_of;
 ghost use Rattle.fossil.specs.Printed.{name_line};
 ghost use Rattle.fossil.specs.Shun.{word_of};
-ghost use Rattle.fossil.specs.RunCall.{ActsUnread, ShunsName};
+ghost use Rattle.fossil.specs.RunCall.{ActsUnread, ActsOpened};
 
 use crate::answers::answer::Answer;
 use crate::answers::fault::Fault;
@@ -40,7 +40,7 @@ fn told(alloc: Global, name: Name, done: Shunning) -> Result<Answer, Memory>
 /// committed.
 fn take_out<D: Disk>(alloc: Global, name: Name, repo: &mut Repo<D>) -> Result<Answer, Fault>
     requires runs { repo.old.seen.state.stopped ≡ None }
-    ensures { ShunsName name (D.state, repo.old, repo.new) result }
+    ensures { ActsOpened (command_of.Shun name) (D.state, repo.old, repo.new) result }
 {
     let done = match repo.shun(name) {
         Ok(done) => done,
@@ -57,8 +57,8 @@ fn take_out<D: Disk>(alloc: Global, name: Name, repo: &mut Repo<D>) -> Result<An
     }
 }
 
-/// Takes a name out of the repository for good, in one commit: its artifact isn't held any more, and no artifact of this
-/// name is taken again. Nothing is committed where it is shunned already. The disk comes back.
+/// Takes a name out of the repository, in one commit: its artifact isn't held any more, and no artifact of this name is
+/// taken until it is unshunned. Nothing is committed where it is shunned already. The disk comes back.
 pub fn shun<D: Disk>(alloc: Global, name: Name, disk: D) -> (Result<Answer, Fault>, D)
     ensures { ActsUnread (command_of.Shun name) (D.state, disk, result.1) result.0 }
 {

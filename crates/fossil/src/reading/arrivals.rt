@@ -7,6 +7,7 @@ use crate::answers::answer::{Answer, file_refusal};
 use crate::answers::ingest_report::add_line;
 use crate::reading::message::Sent;
 use fsl_disk::Disk;
+use fsl_record::Receipt;
 use fsl_repo::{Arrival, Repo};
 use fsl_text::{List, Memory, Steps, Text};
 use std::alloc::Global;
@@ -34,16 +35,17 @@ fn word(arrival: Arrival) -> &'static [u8]
     }
 }
 
-/// One file arrives, and its line is put at the end, or else it is refused.
+/// One file arrives with a receipt, and its line is put at the end, or else it is refused.
 fn arrive_one<D: Disk, L: Ledger>(
     alloc: Global,
     file: Sent,
+    receipt: &Receipt,
     repo: &mut Repo<D>,
     text: &mut Text,
     steps: &mut Steps<L>,
 ) -> Result<Option<Answer>, Memory>
     requires runs { repo.old.seen.state.stopped ≡ None }
-    ensures come { IfOk result (HasCome file (repo.old.seen.state, repo.new.seen.state) (text.old, text.new)) }
+    ensures come { IfOk result (HasCome receipt.now file (repo.old.seen.state, repo.new.seen.state) (text.old, text.new)) }
     ensures disk { repo.new.disk ≡ repo.old.disk }
 {
     let Sent {
@@ -51,7 +53,7 @@ fn arrive_one<D: Disk, L: Ledger>(
         bytes,
         private,
     } = file;
-    let came = repo.arrive(name, bytes.bytes(), private, steps);
+    let came = repo.receive(name, bytes.bytes(), private, receipt, steps);
     // The bytes are let go before there are several ends.
     drop(bytes);
     match came {
@@ -67,6 +69,7 @@ fn arrive_one<D: Disk, L: Ledger>(
 fn arrive_counted<D: Disk, L: Ledger>(
     alloc: Global,
     files: List<Sent>,
+    receipt: &Receipt,
     repo: &mut Repo<D>,
     blank: Blank,
 ) -> Result<Arrivals, Memory>
@@ -74,29 +77,30 @@ fn arrive_counted<D: Disk, L: Ledger>(
     requires parts { blank.parts ≡ L.parts }
     requires counts { 0 < L.parts }
     requires runs { repo.old.seen.state.stopped ≡ None }
-    ensures arrived { IfOk result (HaveArrived files repo.old.seen.state repo.new.seen.state) }
+    ensures arrived { IfOk result (HaveArrived receipt.now files repo.old.seen.state repo.new.seen.state) }
     ensures disk { repo.new.disk ≡ repo.old.disk }
 {
     let mut steps: Steps<L> = Steps::new(blank);
     let mut text = Text::empty(alloc);
     for file in files.into_vec() {
-        if let Some(refused) = arrive_one(alloc, file, repo, &mut text, &mut steps)? {
+        if let Some(refused) = arrive_one(alloc, file, receipt, repo, &mut text, &mut steps)? {
             return Ok(Arrivals::Refused(refused));
         }
     }
     Ok(Arrivals::Taken(text))
 }
 
-/// The files arrive in a repository one after another, in memory alone: the first that is too large, has another name or
-/// finds no room refuses all, and else each has its line. Want of memory is the only error.
+/// The files arrive in a repository one after another, in memory alone, each with this receipt: the first that is too large,
+/// has another name or finds no room refuses all, and else each has its line. Want of memory is the only error.
 pub fn arrive<D: Disk>(
     alloc: Global,
     files: List<Sent>,
+    receipt: &Receipt,
     repo: &mut Repo<D>,
 ) -> Result<Arrivals, Memory>
     requires runs { repo.old.seen.state.stopped ≡ None }
-    ensures arrived { IfOk result (HaveArrived files repo.old.seen.state repo.new.seen.state) }
+    ensures arrived { IfOk result (HaveArrived receipt.now files repo.old.seen.state repo.new.seen.state) }
     ensures disk { repo.new.disk ≡ repo.old.disk }
 {
-    arrive_counted::<D, Brand>(alloc, files, repo, Blank::new(1))
+    arrive_counted::<D, Brand>(alloc, files, receipt, repo, Blank::new(1))
 }

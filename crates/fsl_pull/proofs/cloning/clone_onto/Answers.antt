@@ -5,10 +5,11 @@ use Rattle.fsl_repo.specs.Machine.{State}
 use Rattle.fsl_repo.specs.Whole.{is_modelled}
 use Rattle.fsl_pull.specs.declared.Pulled.{Pulled}
 use Rattle.fsl_pull.specs.Clones.{project_in}
-use Rattle.fsl_pull.specs.CloneTurns.{IsBegunBy, IsUnbegun, IsClosedOn}
+use Rattle.fsl_pull.specs.CloneTurns.{clone_bytes, IsBegunBy, IsUnbegun, IsClosedOn}
 use Rattle.fsl_pull.proofs.DialCounts.{counts_on}
 use Rattle.fsl_pull.proofs.CloneAnswers.{unless_on, unless_all}
 use Rattle.fsl_pull.proofs.CloneWhole.{unreplied, unbegun, begun_answer, unbegun_same, unbegun_counts, counts_since}
+use Rattle.fsl_pull.proofs.Undamaged.{unreplied_undamaged, unbegun_undamaged}
 use Rattle.fsl_pull.proofs.cloning.clone_onto.Goals as goal
 
 pub returns-in-Err-clause-clones : goal.returns-in-Err-clause-clones
@@ -59,3 +60,11 @@ returns-clause-counts g c =
 pub returns-in-Ok-begun-clause-counts : goal.returns-in-Ok-begun-clause-counts
 returns-in-Ok-begun-clause-counts g c =
     counts_since (g.N.Link.state c.args.dial.now) (g.N.Link.state c.reply_from.new.dial) (g.N.Link.state c.closed_rounds.new.dial) c.closed_rounds.result.1 c.in-Ok.ensures.counts c.closed_rounds.ensures.counts
+
+pub returns-in-Err-clause-undamaged : goal.returns-in-Err-clause-undamaged
+returns-in-Err-clause-undamaged g c =
+    unreplied_undamaged (g.N.Link.state c.args.dial.now) (g.N.Link.state c.reply_from.new.dial) (clone_bytes c.args.login.now 1) c.in-Err.fault c.in-Err.ensures.unasked
+
+pub returns-clause-undamaged : goal.returns-clause-undamaged
+returns-clause-undamaged g c =
+    unbegun_undamaged g.D.Disk.state c.args.server c.args.fields.now c.cards.result.now c.args.disk c.in-Err-begun.disk c.in-Err-begun.fault c.in-Err-begun.ensures.fault

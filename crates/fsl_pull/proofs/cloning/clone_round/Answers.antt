@@ -1,10 +1,11 @@
 use Rattle.std.proofs.Common.{◌≡◌, ℕ, List, Option, None, Err, refl, subst}
 use Rattle.fsl_wire.specs.declared.WireCard.{WireCard}
-use Rattle.fsl_pull.specs.CloneTurns.{IsCloneTaken}
+use Rattle.fsl_pull.specs.CloneTurns.{clone_bytes, IsCloneTaken}
 use Rattle.fsl_pull.proofs.CloneTaken.{clone_counts}
 use Rattle.fsl_pull.proofs.DialCounts.{counts_on}
 use Rattle.fsl_pull.proofs.CloneAnswers.{unless_all}
 use Rattle.fsl_pull.proofs.CloneTurnLemmas.{taken_turn, unreplied_turn}
+use Rattle.fsl_pull.proofs.Undamaged.{unreplied_undamaged}
 use Rattle.fsl_pull.proofs.cloning.clone_round.Goals as goal
 
 pub returns-in-Ok-clause-round : goal.returns-in-Ok-clause-round
@@ -37,3 +38,7 @@ returns-in-Ok-clause-counts g c =
 pub returns-in-Err-clause-counts : goal.returns-in-Err-clause-counts
 returns-in-Err-clause-counts g c =
     counts_on (List WireCard) (Option ℕ) (g.N.Link.state c.args.dial.now) (g.N.Link.state c.args.dial.now) (g.N.Link.state c.reply_from.new.dial) c.in-Err.fault refl c.in-Err.ensures.counts
+
+pub returns-in-Err-clause-undamaged : goal.returns-in-Err-clause-undamaged
+returns-in-Err-clause-undamaged g c =
+    unreplied_undamaged (g.N.Link.state c.args.dial.now) (g.N.Link.state c.reply_from.new.dial) (clone_bytes c.args.login.now c.args.from) c.in-Err.fault c.in-Err.ensures.unasked

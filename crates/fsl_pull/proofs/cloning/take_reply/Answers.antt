@@ -3,6 +3,7 @@ use Rattle.fsl_pull.specs.Steps.{IsCommitted}
 use Rattle.fsl_pull.specs.CloneTurns.{IsCloneTaken}
 use Rattle.fsl_pull.proofs.CloneAnswers.{unless_all}
 use Rattle.fsl_pull.proofs.CloneTaken.{wrong_turn, endless_turn, committed_turn, failed_turn, wrong_same, commit_same}
+use Rattle.fsl_pull.proofs.Undamaged.{refused_undamaged}
 use Rattle.fsl_pull.proofs.cloning.take_reply.Goals as goal
 
 pub returns-in-Err-clause-step : goal.returns-in-Err-clause-step
@@ -61,3 +62,6 @@ returns-in-Err-commit-clause-step g c =
     let committed = subst (λ d. IsCommitted (g.D.Disk.state d) after mid new (Err c.in-Err-commit.field-0)) c.take_cards.ensures.disk c.in-Err-commit.ensures.committed in
     failed_turn c.args.from c.args.cards.now before after c.args.repo.now.seen new (c.commit.new.repo.disk ≡ c.args.repo.now.disk)
     mid c.in-Ok.field-0 c.in-Ok.ensures.taken.0 c.in-Some.next c.in-Err-commit.field-0 c.in-Ok.ensures.taken.1 c.is_whole.ensures.seen (sym c.sequel_in.ensures ∙ c.in-Some.is) committed
+
+pub returns-in-Err-clause-undamaged : goal.returns-in-Err-clause-undamaged
+returns-in-Err-clause-undamaged g c = refused_undamaged c.args.repo.now.seen c.take_cards.new.repo.seen (Some c.args.from) c.args.cards.now c.in-Err.fault c.in-Err.ensures.taken

@@ -22,7 +22,7 @@ returns-in_ok-tags_of-in-Tags c =
     let k = contents c.args.blobs.now.records in
     let all = tables (configured k) c.args.items.now in
     ap (report k c.args.items.now) c.in-Tags.is
-    ∙ of_one k c.bytes.result.now _ c.in_ok-name-in-Tags.name (λ name. Ok (tags_report all.tags name)) c.bytes.ensures c.in_ok-name-in-Tags.ensures
+    ∙ of_one k c.bytes-in-Tags.result.now _ c.in_ok-name-in-Tags.name (λ name. Ok (tags_report all.tags name)) c.bytes-in-Tags.ensures c.in_ok-name-in-Tags.ensures
     ∙ ap Ok (sym (c.in_ok-tags_of-in-Tags.ensures (configured k)))
 
 pub returns-in_ok-name-in-Files : goal.returns-in_ok-name-in-Files

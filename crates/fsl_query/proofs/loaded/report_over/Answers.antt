@@ -1,19 +1,13 @@
-use Rattle.std.proofs.Common.{sym, ap, subst}
+use Rattle.std.proofs.Common.{sym, subst}
 use Rattle.fsl_blobs.specs.Fold.{contents}
-use Rattle.fsl_blobs.specs.Seen.{Seen}
-use Rattle.fsl_repo.specs.Machine.{AreItems}
+use Rattle.fsl_words.specs.declared.Question.TheVariants as question_of
 use Rattle.fsl_query.specs.Answers.{IsReported}
-use Rattle.fsl_query.proofs.Answered.{reported_by}
+use Rattle.fsl_query.proofs.Answered.{reported_receipt}
 use Rattle.fsl_query.proofs.loaded.report_over.Goals as goal
 
-pub report_of-told-requires-clause-held : goal.report_of-told-requires-clause-held
-report_of-told-requires-clause-held c =
-    subst (λ rs. AreItems (contents rs).held c.in_ok-blobs.items) (sym (ap (λ (b : Seen). b.records) c.in_ok-blobs.ensures.blobs)) c.in_ok-blobs.ensures.items
-
-pub returns : goal.returns
-returns c = λ honest faults.
-    let b = c.in_ok-blobs.blobs in
-    let same = ap (λ (b : Seen). b.records) c.in_ok-blobs.ensures.blobs in
-    let held = subst (λ rs. AreItems (contents rs).held c.in_ok-blobs.items) (sym same) c.in_ok-blobs.ensures.items in
-    subst (λ rs. IsReported honest (contents rs) c.args.question.now faults faults c.report_of-told.result) same
-    (reported_by honest (contents b.records) c.in_ok-blobs.items c.args.question.now faults c.report_of-told.result c.requires.unread held c.report_of-told.ensures)
+pub returns-in-Receipt : goal.returns-in-Receipt
+returns-in-Receipt c = λ honest faults.
+    let k = contents c.args.records in
+    let told = c.receipt_from.result in
+    subst (λ q. IsReported honest k q faults faults told) (sym c.in-Receipt.is)
+    (subst (λ p. IsReported honest k (question_of.Receipt p) faults faults told) c.bytes.ensures (reported_receipt honest k c.bytes.result.now faults told c.receipt_from.ensures))

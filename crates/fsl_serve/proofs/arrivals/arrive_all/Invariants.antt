@@ -7,8 +7,9 @@ use Rattle.fsl_serve.proofs.arrivals.arrive_all.Given as goal
 abbrev pub invariant-loop-at : goal.invariant-loop-at
 invariant-loop-at g l =
     g.T.Turns.grows l.initial.pass l.pass
-    × Gains g.D.Disk.state (g.T.Turns.calls l.initial.pass) (g.T.Turns.calls l.pass) (λ made. IsAt (arrivals false l.initial.cards) made (arrivals l.marked (drop l.at l.initial.cards)) × (l.texts ≡ notices (asked made) (told made)))
+    × Gains g.D.Disk.state (g.T.Turns.calls l.initial.pass) (g.T.Turns.calls l.pass) (λ made. IsAt (arrivals l.initial.receipt false l.initial.cards) made (arrivals l.initial.receipt l.marked (drop l.at l.initial.cards)) × (l.texts ≡ notices (asked made) (told made)))
     × (l.cards ≡ l.initial.cards)
+    × (l.receipt ≡ l.initial.receipt)
 
 abbrev pub decreases-loop-at : goal.decreases-loop-at
 decreases-loop-at g l = length l.initial.cards - l.at

@@ -6,11 +6,11 @@ use Rattle.fsl_serve.proofs.crews.run_all.Goals as goal
 
 pub returns-clause-each : goal.returns-clause-each
 returns-clause-each g c = λ i d lt.
-    let J = Job g.row.A.Denot g.row.G.Denot g.row.T-Pass.Denot in
+    let J = Job g.row.A.Denot g.row.G.Denot g.row.C.Denot g.row.T-Pass.Denot in
     let old = c.args.jobs.now.items in
     let new = c.for_each_mut.new.s in
     let Done : J → J → Type 0 = λ j k. IsGated g.D.Disk.state c.args.users.now c.args.project c.args.requests (g.A.Link.state j.crew.door).present (g.A.Link.state j.crew.door).standing (g.A.Link.state k.crew.door).present (g.A.Link.state k.crew.door).standing
-    (g.T.Turns.calls j.pass) (g.T.Turns.calls k.pass) k.work (g.G.Gate.passed j.crew.gate) (g.G.Gate.passed k.crew.gate) × g.T.Turns.grows j.pass k.pass in
+    (g.T.Turns.calls j.pass) (g.T.Turns.calls k.pass) k.work (g.G.Gate.passed j.crew.gate) (g.G.Gate.passed k.crew.gate) (g.C.Clock.told j.crew.clock) (g.C.Clock.told k.crew.clock) × g.T.Turns.grows j.pass k.pass in
     let same = c.as_mut_slice.ensures.value in
     let long = c.as_mut_slice.ensures.len in
     let kept = c.for_each_mut.auto.s in

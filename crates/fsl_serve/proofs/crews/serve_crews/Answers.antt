@@ -23,7 +23,7 @@ returns-in-Ok-clause-stored g c =
 pub returns-in-Ok-clause-history : goal.returns-in-Ok-clause-history
 returns-in-Ok-clause-history g c =
     let is = first_state-is _ c.args.repo c.in-Ok.ensures.born in
-    subst (λ o. IfOk c.serve_housed.result (λ s. IfSome o (λ f. IsOneHistory g.D.Disk.state (λ x. g.A.Link.state x.door) (λ x. g.G.Gate.passed x.gate) c.args.users.now c.args.project c.args.requests s.works.items c.args.crews.items s.crews.items f s.repo))) is c.serve_housed.ensures.history
+    subst (λ o. IfOk c.serve_housed.result (λ s. IfSome o (λ f. IsOneHistory g.D.Disk.state (λ x. g.A.Link.state x.door) (λ x. g.G.Gate.passed x.gate) (λ x. g.C.Clock.told x.clock) c.args.users.now c.args.project c.args.requests s.works.items c.args.crews.items s.crews.items f s.repo))) is c.serve_housed.ensures.history
 
 pub returns-in-Ok-clause-refused : goal.returns-in-Ok-clause-refused
 returns-in-Ok-clause-refused g c =

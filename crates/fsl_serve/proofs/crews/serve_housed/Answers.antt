@@ -41,7 +41,7 @@ pub returns-clause-gates : goal.returns-clause-gates
 returns-clause-gates g c =
     let js = c.staffed-jobs.result.items in
     let ks = c.run_all.new.jobs.items in
-    all_gated g.D.Disk.state (λ j. j.crew) (λ j. j.work) (λ k. (g.A.Link.state k.door).present) (λ k. (g.A.Link.state k.door).standing) (λ k. g.G.Gate.passed k.gate) c.args.users.now c.args.project c.args.requests (λ j. Some j.pass.mine) js ks c.args.crews.items c.dismissed-works.new.crews.items c.dismissed-works.result.items
+    all_gated g.D.Disk.state (λ j. j.crew) (λ j. j.work) (λ k. (g.A.Link.state k.door).present) (λ k. (g.A.Link.state k.door).standing) (λ k. g.G.Gate.passed k.gate) (λ k. g.C.Clock.told k.clock) c.args.users.now c.args.project c.args.requests (λ j. Some j.pass.mine) js ks c.args.crews.items c.dismissed-works.new.crews.items c.dismissed-works.result.items
     c.staffed-jobs.ensures.crews (sym c.dismissed-works.ensures.crews) (sym c.dismissed-works.ensures.works) (omega arith) (λ i d l. (c.run_all.ensures.each i d (omega arith)).0)
 
 pub make-requires-clause-table : goal.make-requires-clause-table
@@ -88,7 +88,7 @@ returns-clause-history g c =
     let long : length ks ≡ length js = omega (arith, c.run_all.ensures.len, c.run_all.new.jobs.ok.0, c.staffed-jobs.result.ok.0) in
     let was = job_pass (λ j. j.pass) js c.len-count.result new many in
     if_on g.B.Chronicle.first _ _
-    (λ f done. one_history g.D.Disk.state (λ j. j.crew) (λ j. j.work) (λ k. g.A.Link.state k.door) (λ k. g.G.Gate.passed k.gate) c.args.users.now c.args.project c.args.requests
+    (λ f done. one_history g.D.Disk.state (λ j. j.crew) (λ j. j.work) (λ k. g.A.Link.state k.door) (λ k. g.G.Gate.passed k.gate) (λ k. g.C.Clock.told k.clock) c.args.users.now c.args.project c.args.requests
     _ (λ j. j.pass) f c.finish-repo.result.0 c.settle.new.repo c.settle.ensures.step.0 js ks c.args.crews.items c.dismissed-works.new.crews.items c.dismissed-works.result.items c.dismissed-works.new.passes.items
     c.staffed-jobs.ensures.crews (sym c.dismissed-works.ensures.crews) (sym c.dismissed-works.ensures.works) (sym c.dismissed-works.ensures.passes) long (sym n)
     (λ i d l. ap (λ t. t.mine) (was i d l))
@@ -115,4 +115,4 @@ pub run_all-requires-send-T-Pass : goal.run_all-requires-send-T-Pass
 run_all-requires-send-T-Pass g c κs within =
     let disk = param 1 g.row.D in
     let sent = passes.the_send (repo_row disk g.D.Disk) (param 0 g.row.B) event_row answer_row (machine.ghosts disk g.D.Disk g.D.Disk-dict) g.B.Chronicle (repo_sent disk g.D.Disk c.type_bounds.send-D) in
-    record { owned = sent.owned; leaving = λ k. Quiet-if (k (of_param 5)) _ _ (λ x w. tt) (λ x w. tt) }
+    record { owned = sent.owned; leaving = λ k. Quiet-if (k (of_param 6)) _ _ (λ x w. tt) (λ x w. tt) }

@@ -18,33 +18,36 @@ use Rattle.fsl_serve.proofs.events.before_build.Goals as goal
 pub returns-in-Err-clause-made : goal.returns-in-Err-clause-made
 returns-in-Err-clause-made g c =
     let m = c.args.cards.now in
+    let r = c.args.receipt.now in
     let z : Result (Unit {0}) Halt = Err c.in-Err.halt in
-    first_halts (arrivals false m) (where_so (list_any is_push m) (filter_map (announcement c.args.caps) m)) (where_so (list_any is_pull m) (event.Cluster ∷ [])) c.arrive_all.result z z _ _ c.in-Err.halt
+    first_halts (arrivals r false m) (where_so (list_any is_push m) (filter_map (announcement c.args.caps) m)) (where_so (list_any is_pull m) (event.Cluster ∷ [])) c.arrive_all.result z z _ _ c.in-Err.halt
     (λ made. Passes (g.G.Gate.passed c.args.gate.now) (g.G.Gate.passed c.args.gate.now) c.args.number (arrived made))
-    (λ xs p. not_arrived (g.G.Gate.passed c.args.gate.now) c.args.number (arrivals false m) xs (Some c.in-Err.halt) (arrivals_not_late false m) p) c.arrive_all.ensures.made c.in-Err.is
+    (λ xs p. not_arrived (g.G.Gate.passed c.args.gate.now) c.args.number (arrivals r false m) xs (Some c.in-Err.halt) (arrivals_not_late r false m) p) c.arrive_all.ensures.made c.in-Err.is
 
 pub returns-in-Err-announce_where_pushed-clause-made : goal.returns-in-Err-announce_where_pushed-clause-made
 returns-in-Err-announce_where_pushed-clause-made g c =
     let m = c.args.cards.now in
+    let r = c.args.receipt.now in
     let A : List WireCard → Type 0 = λ l. Gains g.D.Disk.state (g.T.Turns.calls c.arrive_all.new.pass) (g.T.Turns.calls c.announce_where_pushed.new.pass) (λ made. Phase (where_so (list_any is_push l) (filter_map (announcement c.args.caps) l)) made (result_err c.announce_where_pushed.result)) in
     let announced = subst A c.in-Ok.ensures.kept c.announce_where_pushed.ensures.made in
     let announcements = where_so (list_any is_push m) (filter_map (announcement c.args.caps) m) in
-    second_halts (arrivals false m) announcements (where_so (list_any is_pull m) (event.Cluster ∷ [])) c.arrive_all.result c.announce_where_pushed.result c.announce_where_pushed.result _ _ _
+    second_halts (arrivals r false m) announcements (where_so (list_any is_pull m) (event.Cluster ∷ [])) c.arrive_all.result c.announce_where_pushed.result c.announce_where_pushed.result _ _ _
     c.in-Ok.notices c.in-Err-announce_where_pushed.halt
     (λ made. Passes (g.G.Gate.passed c.args.gate.now) (g.G.Gate.passed c.args.gate.now) c.args.number (arrived made))
     (λ xs ys p q.
-    not_arrived_twice (g.G.Gate.passed c.args.gate.now) c.args.number (arrivals false m) announcements xs ys None (Some c.in-Err-announce_where_pushed.halt) (arrivals_not_late false m)
+    not_arrived_twice (g.G.Gate.passed c.args.gate.now) c.args.number (arrivals r false m) announcements xs ys None (Some c.in-Err-announce_where_pushed.halt) (arrivals_not_late r false m)
     (where_announced_not_late (list_any is_push m) c.args.caps m) p q)
     c.arrive_all.ensures.made c.in-Ok.is announced c.in-Err-announce_where_pushed.is
 
 pub returns-in-Err-cluster_where_pulled-clause-made : goal.returns-in-Err-cluster_where_pulled-clause-made
 returns-in-Err-cluster_where_pulled-clause-made g c =
     let m = c.args.cards.now in
+    let r = c.args.receipt.now in
     let A : List WireCard → Type 0 = λ l. Gains g.D.Disk.state (g.T.Turns.calls c.arrive_all.new.pass) (g.T.Turns.calls c.announce_where_pushed.new.pass) (λ made. Phase (where_so (list_any is_push l) (filter_map (announcement c.args.caps) l)) made (result_err c.announce_where_pushed.result)) in
     let announced = subst A c.in-Ok.ensures.kept c.announce_where_pushed.ensures.made in
     let B : List WireCard → Type 0 = λ l. Gains g.D.Disk.state (g.T.Turns.calls c.announce_where_pushed.new.pass) (g.T.Turns.calls c.cluster_where_pulled.new.pass) (λ made. Phase (where_so (list_any is_pull l) (event.Cluster ∷ [])) made (result_err c.cluster_where_pulled.result) × OnErr c.cluster_where_pulled.result (IsTrue (list_any is_late (asked made)))) in
     let clustered = subst B c.in-Ok.ensures.kept c.cluster_where_pulled.ensures.made in
-    let a = arrivals false m in
+    let a = arrivals r false m in
     let b = where_so (list_any is_push m) (filter_map (announcement c.args.caps) m) in
     let d = where_so (list_any is_pull m) (event.Cluster ∷ []) in
     let s = c.announce_where_pushed.result in
@@ -58,11 +61,12 @@ returns-in-Err-cluster_where_pulled-clause-made g c =
 pub returns-clause-made : goal.returns-clause-made
 returns-clause-made g c =
     let m = c.args.cards.now in
+    let r = c.args.receipt.now in
     let A : List WireCard → Type 0 = λ l. Gains g.D.Disk.state (g.T.Turns.calls c.arrive_all.new.pass) (g.T.Turns.calls c.announce_where_pushed.new.pass) (λ made. Phase (where_so (list_any is_push l) (filter_map (announcement c.args.caps) l)) made (result_err c.announce_where_pushed.result)) in
     let announced = subst A c.in-Ok.ensures.kept c.announce_where_pushed.ensures.made in
     let B : List WireCard → Type 0 = λ l. Gains g.D.Disk.state (g.T.Turns.calls c.announce_where_pushed.new.pass) (g.T.Turns.calls c.cluster_where_pulled.new.pass) (λ made. Phase (where_so (list_any is_pull l) (event.Cluster ∷ [])) made (result_err c.cluster_where_pulled.result) × OnErr c.cluster_where_pulled.result (IsTrue (list_any is_late (asked made)))) in
     let clustered = subst B c.in-Ok.ensures.kept c.cluster_where_pulled.ensures.made in
-    let a = arrivals false m in
+    let a = arrivals r false m in
     let b = where_so (list_any is_push m) (filter_map (announcement c.args.caps) m) in
     let d = where_so (list_any is_pull m) (event.Cluster ∷ []) in
     let s = c.announce_where_pushed.result in

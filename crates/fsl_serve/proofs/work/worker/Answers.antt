@@ -8,11 +8,11 @@ use Rattle.fsl_serve.proofs.Working.{IsServing, serving_none, serving_more, gate
 use Rattle.fsl_serve.proofs.work.worker.Goals as goal
 
 pub loop-number-init : goal.loop-number-init
-loop-number-init g c = (g.met.T.Turns.grows_self c.args.pass.now, serving_none c.args.users.now c.args.project _ _ _ _)
+loop-number-init g c = (g.met.T.Turns.grows_self c.args.pass.now, serving_none c.args.users.now c.args.project _ _ _ _ _)
 
 pub loop-number-preserved : goal.loop-number-preserved
 loop-number-preserved g c = (
-  g.met.T.Turns.grows_through c.args.pass.now c.loop-number.pass c.session.new.pass c.loop-number.invariant.0 c.session.ensures.grown,
+  g.met.T.Turns.grows_through c.args.pass.now c.loop-number.pass c.serve_link.new.pass c.loop-number.invariant.0 c.serve_link.ensures.grown,
   let q = (g.A.Link.state c.loop-number.crew.door).present in
       let t = (g.A.Link.state c.loop-number.crew.door).standing in
       let b = (g.A.Link.state c.accept.new.self).present in
@@ -21,9 +21,9 @@ loop-number-preserved g c = (
       let G : Result Accepted Failed → Type 0 = λ r. AcceptCounts r t u in
       let lists = subst F c.in-Ok-Connection.field-0-is c.in-Ok-Connection.ensures.lists in
       let counts = subst G (c.in-Ok-Connection.is ∙ ap Ok c.in-Ok-Connection.field-0-is) c.accept.ensures.counts in
-      let served = serving_more c.args.users.now c.args.project c.loop-number.number _ _ q t b u (g.A.Link.state c.session.new.link).present (g.A.Link.state c.session.new.link).standing _ _ _ (g.G.Gate.passed c.args.crew.now.gate) (g.G.Gate.passed c.loop-number.crew.gate) (g.G.Gate.passed c.session.new.gate) c.session.result
-      c.loop-number.invariant.1 lists.begun lists.told lists.earlier counts.0 counts.1 c.session.ensures.stands c.session.ensures.session in
-      let H : LinkState → Type 0 = λ l. IsServing g.D.Disk.state c.args.users.now c.args.project (c.loop-number.number + 1) (g.A.Link.state c.args.crew.now.door).present (g.A.Link.state c.args.crew.now.door).standing l.present l.standing (g.T.Turns.calls c.args.pass.now) (g.T.Turns.calls c.session.new.pass) (g.G.Gate.passed c.args.crew.now.gate) (g.G.Gate.passed c.session.new.gate) in
+      let served = serving_more c.args.users.now c.args.project c.loop-number.number _ _ q t b u (g.A.Link.state c.serve_link.new.link).present (g.A.Link.state c.serve_link.new.link).standing _ _ _ (g.G.Gate.passed c.args.crew.now.gate) (g.G.Gate.passed c.loop-number.crew.gate) (g.G.Gate.passed c.serve_link.new.gate) (g.C.Clock.told c.args.crew.now.clock) (g.C.Clock.told c.loop-number.crew.clock) (g.C.Clock.told c.serve_link.new.clock) c.serve_link.result
+      c.loop-number.invariant.1 lists.begun lists.told lists.earlier counts.0 counts.1 c.serve_link.ensures.stands c.serve_link.ensures.session in
+      let H : LinkState → Type 0 = λ l. IsServing g.D.Disk.state c.args.users.now c.args.project (c.loop-number.number + 1) (g.A.Link.state c.args.crew.now.door).present (g.A.Link.state c.args.crew.now.door).standing l.present l.standing (g.T.Turns.calls c.args.pass.now) (g.T.Turns.calls c.serve_link.new.pass) (g.G.Gate.passed c.args.crew.now.gate) (g.G.Gate.passed c.serve_link.new.gate) (g.C.Clock.told c.args.crew.now.clock) (g.C.Clock.told c.serve_link.new.clock) in
       subst H (sym c.leave.ensures.same) served,
 )
 
@@ -36,7 +36,7 @@ returns-in-Ok-Closed-clause-gate g c =
     let lists = subst F c.in-Ok-Closed.field-0-is c.in-Ok-Closed.ensures.lists in
     let counts = subst G (c.in-Ok-Closed.is ∙ ap Ok c.in-Ok-Closed.field-0-is) c.accept.ensures.counts in
     let less = c.loop-number-test.true in
-    gated c.args.users.now c.args.project c.loop-number.number _ _ before.present before.standing _ _ _ _ c.loop-number.invariant.1 c.args.requests c.loop-number.number false after.present after.standing
+    gated c.args.users.now c.args.project c.loop-number.number _ _ before.present before.standing _ _ _ _ _ _ c.loop-number.invariant.1 c.args.requests c.loop-number.number false after.present after.standing
     refl (omega (arith, less)) lists.0 lists.1 (λ e. never e) (λ e. counts.0) (λ e l. counts.1) (λ e. absurd (omega (arith, e, less)))
 
 pub returns-in-Err-clause-gate : goal.returns-in-Err-clause-gate
@@ -48,7 +48,7 @@ returns-in-Err-clause-gate g c =
     let E : Result Accepted Failed → Type 0 = λ r. OnErr r (after.standing.earlier ≡ before.standing.earlier) in
     let counts = subst G c.in-Err.is c.accept.ensures.counts in
     let less = c.loop-number-test.true in
-    gated c.args.users.now c.args.project c.loop-number.number _ _ before.present before.standing _ _ _ _ c.loop-number.invariant.1 c.args.requests c.loop-number.number true after.present after.standing
+    gated c.args.users.now c.args.project c.loop-number.number _ _ before.present before.standing _ _ _ _ _ _ c.loop-number.invariant.1 c.args.requests c.loop-number.number true after.present after.standing
     refl (omega (arith, less)) (subst K c.in-Err.is c.accept.ensures.kept) (subst E c.in-Err.is c.accept.ensures.earlier) (λ e. (counts.0, counts.2, less)) (λ e. never (sym e)) (λ e l. never (sym e))
     (λ e. absurd (omega (arith, e, less)))
 
@@ -58,5 +58,5 @@ returns-clause-gate g c =
     let most = c.loop-number.auto.number-end in
     let past = c.loop-number-test.false in
     let all : c.args.requests ≡ c.loop-number.number = omega (arith, most, past) in
-    gated c.args.users.now c.args.project c.loop-number.number _ _ before.present before.standing _ _ _ _ c.loop-number.invariant.1 c.args.requests c.args.requests false before.present before.standing
+    gated c.args.users.now c.args.project c.loop-number.number _ _ before.present before.standing _ _ _ _ _ _ c.loop-number.invariant.1 c.args.requests c.args.requests false before.present before.standing
     all (omega (arith, all)) refl refl (λ e. never e) (λ e. refl) (λ e l. absurd (omega (arith, all, l))) (λ e. refl)

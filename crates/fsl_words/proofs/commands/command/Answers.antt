@@ -3,7 +3,7 @@ use Rattle.std.specs.Prelude.{string_bytes, codes}
 use Rattle.std.specs.Str.{bytes_eq}
 use Rattle.std.specs.Cmp.Lexicographic.{bytes_decides}
 use Rattle.fsl_words.specs.declared.Command.{Command}
-use Rattle.fsl_words.specs.Grammar.{init_command, serve_command, gen_command, pull_command, push_command, clone_command, plain_command}
+use Rattle.fsl_words.specs.Grammar.{init_command, serve_command, gen_command, pull_command, push_command, clone_command, checkin_command, uv_init_command, plain_command}
 use Rattle.fsl_words.specs.Answers.{IsAnswer}
 use Rattle.fsl_words.proofs.commands.command.Goals as goal
 
@@ -14,7 +14,9 @@ pub returns-in_default : goal.returns-in_default
 returns-in_default c =
     let command = c.args.command.now in
     let words = map string_bytes c.args.words.now in
-    let at_clone : Bool → Option Command = λ b. cond b (clone_command words) (plain_command command words) in
+    let at_uv_init : Bool → Option Command = λ b. cond b (uv_init_command words) (plain_command command words) in
+    let at_checkin : Bool → Option Command = λ b. cond b (checkin_command words) (at_uv_init (bytes_eq command (codes "uv-init"))) in
+    let at_clone : Bool → Option Command = λ b. cond b (clone_command words) (at_checkin (bytes_eq command (codes "checkin"))) in
     let at_push : Bool → Option Command = λ b. cond b (push_command words) (at_clone (bytes_eq command (codes "clone"))) in
     let at_pull : Bool → Option Command = λ b. cond b (pull_command words) (at_push (bytes_eq command (codes "push"))) in
     let at_gen : Bool → Option Command = λ b. cond b (gen_command words) (at_pull (bytes_eq command (codes "pull"))) in
@@ -26,5 +28,7 @@ returns-in_default c =
     ∙ ap at_gen (unlike command (codes "gen") c.in_default.not-gen)
     ∙ ap at_pull (unlike command (codes "pull") c.in_default.not-pull)
     ∙ ap at_push (unlike command (codes "push") c.in_default.not-push)
-    ∙ ap at_clone (unlike command (codes "clone") c.in_default.not-clone)))
+    ∙ ap at_clone (unlike command (codes "clone") c.in_default.not-clone)
+    ∙ ap at_checkin (unlike command (codes "checkin") c.in_default.not-checkin)
+    ∙ ap at_uv_init (unlike command (codes "uv-init") c.in_default.not-text)))
     c.plain_command.ensures

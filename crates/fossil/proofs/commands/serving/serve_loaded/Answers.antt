@@ -21,7 +21,7 @@ returns-in-Ok g c =
     (ap left_of c.finished.ensures.state)
     (has_served g.D.Disk.state _ c.args.users.now c.args.requests repo last works _ c.in-Ok.worked.stored c.in-Ok.ensures.later c.in-Ok.ensures.stored c.finished.ensures.whole c.in-Ok.ensures.settled
     (project_is repo.seen.state.records c.config.result.now c.config.ensures)
-    (subst (λ v. CrewsWorked g.D.Disk.state g.A.Link.state g.G.Gate.passed c.args.crews.items v.items c.args.users.now c.config.result.now.project c.args.requests works repo last) (sym c.finished.ensures.crews)
+    (subst (λ v. CrewsWorked g.D.Disk.state (g.A.Link.state, g.G.Gate.passed, g.C.Clock.told) c.args.crews.items v.items c.args.users.now c.config.result.now.project c.args.requests works repo last) (sym c.finished.ensures.crews)
     (record { worked = c.in-Ok.ensures.worked; gates = c.in-Ok.ensures.gates; history = c.in-Ok.ensures.history })))
     c.finished.ensures.said
 

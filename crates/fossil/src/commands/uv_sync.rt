@@ -1,0 +1,123 @@
+//! `uv-sync`: the newest unversioned files go both ways between two files.
+ghost use Rattle.std.specs.Prelude.{◌≡◌, IfOk};
+ghost use Rattle.fsl_uv.specs.Stores.{IsStore, IsSettled};
+ghost use Rattle.fossil.specs.UvSyncs.{said_printed};
+ghost use Rattle.fsl_uv.specs.Reports as report;
+ghost use Rattle.fossil.specs.UvMerging.{counted, IsUvSyncDue, IsNoStoreDue, IsNoPeerDue, Talks, MergesInto, MergesFiles};
+
+use crate::answers::answer::{Answer, not_repository, refusal, refusal_of};
+use crate::answers::due::{Due, answered};
+use crate::answers::status::DONE;
+use crate::answers::sync_text::{no_peer, other_project};
+use fsl_disk::Disk;
+use fsl_name::Name;
+use fsl_text::{Memory, Text};
+use fsl_uv::{Store, SyncFault, UvLoadFault};
+use std::alloc::Global;
+
+/// How many entries were stored here and at the peer.
+fn counts(alloc: Global, received: u64, sent: u64) -> Result<Answer, Memory>
+    ensures { IfOk result (λ a. a ≡ counted received sent) }
+{
+    let here = received.to_string(alloc)?;
+    let there = sent.to_string(alloc)?;
+    let mut text = Text::of(alloc, b"received ")?;
+    text.append(here.as_bytes())?;
+    text.append(b"\nsent ")?;
+    text.append(there.as_bytes())?;
+    text.append(b"\n")?;
+    Ok(Answer { status: DONE, text })
+}
+
+/// The refusal of a file with a Blob that is no entry, by its name.
+fn not_unversioned(alloc: Global, name: Name) -> Result<Answer, Memory>
+    ensures { IfOk result (λ a. a ≡ said_printed (report.not_unversioned name)) }
+{
+    refusal_of(alloc, b"not unversioned ", name.text().as_slice())
+}
+
+/// What is due of a sync that was made.
+fn sync_due(alloc: Global, made: Result<(u64, u64), SyncFault>) -> Due
+    ensures { IsUvSyncDue made result }
+{
+    match made {
+        Ok((received, sent)) => answered(counts(alloc, received, sent)),
+        Err(SyncFault::Full) => answered(refusal(alloc, b"full")),
+        Err(SyncFault::Disk) => Due::Disk,
+        Err(SyncFault::Memory) => Due::Memory,
+    }
+}
+
+/// What is due of a file that isn't opened as a store.
+fn unopened(alloc: Global, fault: UvLoadFault) -> Due
+    ensures { IsNoStoreDue fault result }
+{
+    match fault {
+        UvLoadFault::Disk => Due::Disk,
+        UvLoadFault::NotRepository { at } => answered(not_repository(alloc, at)),
+        UvLoadFault::NotEntry { name } => answered(not_unversioned(alloc, name)),
+        UvLoadFault::Memory => Due::Memory,
+    }
+}
+
+/// What is due of a peer's file that isn't opened as a store.
+fn unopened_peer(alloc: Global, fault: UvLoadFault) -> Due
+    ensures { IsNoPeerDue fault result }
+{
+    match fault {
+        UvLoadFault::Disk => Due::Disk,
+        UvLoadFault::NotRepository { at } => answered(no_peer(alloc, at)),
+        UvLoadFault::NotEntry { name } => answered(not_unversioned(alloc, name)),
+        UvLoadFault::Memory => Due::Memory,
+    }
+}
+
+/// Syncs two stores of one project, and answers what is due of that.
+fn talk<D: Disk, P: Disk>(alloc: Global, here: &mut Store<D>, there: &mut Store<P>) -> Due
+    requires here { IsSettled here.old.seen.log }
+    requires there { IsSettled there.old.seen.log }
+    ensures talks { Talks D.state P.state here.old there.old here.new there.new result }
+    ensures here { IsStore (D.state here.new.disk) here.new.seen }
+    ensures there { IsStore (P.state there.new.disk) there.new.seen }
+{
+    let found = there.config().project;
+    let same = found == here.config().project;
+    let due = if same {
+        sync_due(alloc, fsl_uv::sync(here, there))
+    } else {
+        answered(other_project(alloc, found))
+    };
+    here.is_store();
+    there.is_store();
+    due
+}
+
+/// Opens the peer's file as a store, and syncs one that was opened with it. The peer's disk comes back.
+fn sync_with<D: Disk, P: Disk>(alloc: Global, here: &mut Store<D>, peer: P) -> (Due, P)
+    requires { IsSettled here.old.seen.log }
+    ensures { MergesInto (D.state, here.old, here.new) (P.state, peer, result.1) result.0 }
+{
+    match Store::load(alloc, peer) {
+        Ok(mut there) => {
+            there.is_store();
+            let due = talk(alloc, here, &mut there);
+            (due, there.close())
+        }
+        Err((peer, fault)) => (unopened_peer(alloc, fault), peer),
+    }
+}
+
+/// Opens a file of unversioned files and then its peer's, and syncs both. What is due of that is answered, and the disks come
+/// back.
+pub(crate) fn uv_sync<D: Disk, P: Disk>(alloc: Global, disk: D, peer: P) -> (Due, D, P)
+    ensures { MergesFiles (D.state, disk, result.1) (P.state, peer, result.2) result.0 }
+{
+    match Store::load(alloc, disk) {
+        Ok(mut here) => {
+            here.is_store();
+            let (due, peer) = sync_with(alloc, &mut here, peer);
+            (due, here.close(), peer)
+        }
+        Err((disk, fault)) => (unopened(alloc, fault), disk, peer),
+    }
+}

@@ -1,0 +1,49 @@
+use Rattle.std.proofs.Common.{◌∷◌, [], ap, subst, sym}
+use Rattle.fsl_repo.specs.Machine.{State, now}
+use Rattle.fsl_repo.proofs.ItemLemmas.{items_rise}
+use Rattle.fsl_checkin.specs.declared.answers.ExportFault.{ExportFault}
+use Rattle.fsl_checkin.specs.declared.answers.Verdict.{Verdict}
+use Rattle.fsl_checkin.specs.Having.{IsJudged, as_kept}
+use Rattle.fsl_checkin.specs.Reads.{ExportFails, IsVerdictRead, content_names, tested as asked_of, tested_in}
+use Rattle.fsl_checkin.proofs.FilesLemmas.{known_checkin, known_fit, verdict_known, verdict_no_sum}
+use Rattle.fsl_checkin.proofs.HavingLemmas.{fails_by, if_err_map, if_ok_map, in_first, tested_fails}
+use Rattle.fsl_checkin.proofs.verifying.tested.Goals as goal
+
+pub cards_at-requires : goal.cards_at-requires
+cards_at-requires g c =
+    let items = c.args.repo.now.seen.items in
+    known_checkin items (items_rise (now c.args.repo.now.seen.state).held items c.is_whole.ensures.seen.items) c.args.name c.args.rows.now c.requires
+
+pub judged-requires : goal.judged-requires
+judged-requires g c = (known_fit (now c.args.repo.now.seen.state).held c.args.repo.now.seen.items c.is_whole.ensures.seen.items c.args.name c.args.rows.now c.requires).hashed
+
+pub returns-in-Some-clause-read : goal.returns-in-Some-clause-read
+returns-in-Some-clause-read g c =
+    let s = c.args.repo.now.seen.state in
+    let items = c.args.repo.now.seen.items in
+    let fit = known_fit (now s).held items c.is_whole.ensures.seen.items c.args.name c.args.rows.now c.requires in
+    if_ok_map c.judged.result (λ (v : Verdict). IsJudged c.cards_at.new.repo.seen.state c.args.rows.now c.in-Some.kept v) (λ (v : Verdict). IsVerdictRead s.honest (now s).held items c.args.name v)
+    (λ v j. verdict_known s items c.args.name c.args.rows.now c.requires (as_kept c.in-Ok.cards) c.in-Ok.ensures.cards c.in-Some.kept c.in-Some.is fit.rising v
+    (subst (λ (x : State). IsJudged x c.args.rows.now c.in-Some.kept v) c.in-Ok.ensures.count j))
+    c.judged.ensures.verdict
+
+pub returns-in-Some-clause-fault : goal.returns-in-Some-clause-fault
+returns-in-Some-clause-fault g c =
+    let s = c.args.repo.now.seen.state in
+    let mid = c.cards_at.new.repo.seen.state in
+    let left = c.judged.new.repo.seen.state in
+    let names = asked_of c.args.repo.now.seen.items c.args.name in
+    if_err_map c.judged.result (λ (why : ExportFault). ExportFails why mid (content_names c.args.rows.now) left) (λ (why : ExportFault). ExportFails why s names left)
+    (λ why h. tested_fails why s mid left c.args.name c.args.rows.now names c.in-Ok.ensures.count (ap (tested_in c.args.name) c.requires) h)
+    c.judged.ensures.fault
+
+pub returns-in-None-clause-read : goal.returns-in-None-clause-read
+returns-in-None-clause-read g c =
+    let items = c.args.repo.now.seen.items in
+    let is = known_checkin items (items_rise (now c.args.repo.now.seen.state).held items c.is_whole.ensures.seen.items) c.args.name c.args.rows.now c.requires in
+    verdict_no_sum c.args.repo.now.seen.state items c.args.name is (as_kept c.in-Ok.cards) c.in-Ok.ensures.cards c.in-None.is
+
+pub returns-in-Err-clause-fault : goal.returns-in-Err-clause-fault
+returns-in-Err-clause-fault g c =
+    subst (λ names. ExportFails c.in-Err.fault c.args.repo.now.seen.state names c.cards_at.new.repo.seen.state) (sym (ap (tested_in c.args.name) c.requires))
+    (fails_by c.in-Err.fault c.args.repo.now.seen.state c.cards_at.new.repo.seen.state (c.args.name ∷ []) (c.args.name ∷ content_names c.args.rows.now) (in_first c.args.name (content_names c.args.rows.now)) c.in-Err.ensures.fault)

@@ -1,0 +1,30 @@
+//! Trees of files: a tree is read from its text and written as it, becomes a manifest, and is had back from a check-in
+//! of a repository. The checksum of a manifest's R card is that of the tree.
+#![tactic(auto)]
+
+mod answers;
+mod cards;
+mod contents;
+mod exporting;
+mod front;
+mod laws;
+mod manifests;
+mod reading;
+mod sums;
+mod types;
+mod verifying;
+mod writing;
+
+pub use answers::{Export, ExportFault, Verdict};
+pub use exporting::export;
+pub use laws::{
+    bad_item_is_one, bad_text_is_no_tree, export_has_one_answer, export_reads_what_is_held,
+    text_is_one_tree, trees_come_back, verify_has_one_answer, verify_reads_what_is_held,
+    written_tree_reads_back,
+};
+pub use manifests::manifest;
+pub use reading::read_tree;
+pub use sums::sum;
+pub use types::{Perm, TreeFault, TreeItem};
+pub use verifying::verify;
+pub use writing::tree_text;

@@ -1,0 +1,10 @@
+pub mod Ends
+pub mod Opening
+pub mod GrowingLemmas
+pub mod HeldFit
+pub mod ClosingLemmas
+pub mod ScrubbedLemmas
+pub mod FoldLemmas
+pub mod WrittenLemmas
+pub mod ReadLemmas
+pub mod AlikeLemmas

@@ -1,0 +1,14 @@
+use Rattle.std.proofs.Common.{◌∙◌, ap}
+use Rattle.fsl_order.specs.Names.{bytes_cmp}
+use Rattle.fsl_table.specs.Contents.{first_of}
+use Rattle.fsl_table.specs.Within.{within, above}
+use Rattle.fsl_table.proofs.Walk.{from}
+use Rattle.fsl_ticket.specs.Newest.{newest_cmp}
+use Rattle.fsl_ticket.proofs.Going.{goes_on}
+use Rattle.fsl_ticket.proofs.walk.next_place.Goals as goal
+
+pub returns : goal.returns
+returns g c =
+    let spots = c.args.spots.now.entries in
+    ap (λ o. from newest_cmp o (within bytes_cmp c.args.id spots)) (c.next_within.ensures.next ∙ ap (λ k. first_of (above newest_cmp k.second (within bytes_cmp k.first spots))) c.key.ensures)
+    ∙ goes_on c.args.id c.args.place spots c.requires

@@ -1,0 +1,70 @@
+-- The changes of a ticket from the newest down: what they make of a field, and whether one more makes another value of it.
+use Rattle.std.specs.Prelude.{ℕ, List, [], ◌∷◌, Bool, true, false, ◌&&◌, ◌||◌, not, if◌then◌else◌, Option, Some, None, map, filter, fold}
+use Rattle.std.specs.List.{list_any}
+use Rattle.std.specs.Str.{bytes_eq}
+use Rattle.std.specs.Ordering.{is_lt}
+use Rattle.fsl_order.specs.Names.{bytes_cmp}
+use Rattle.fsl_table.specs.Contents.{value_at, entries_after}
+use Rattle.fsl_ticket.specs.declared.FieldChange.{FieldChange}
+use Rattle.fsl_ticket.specs.declared.entry.Entry.{Entry}
+use Rattle.fsl_ticket.specs.Tickets.{after}
+use Rattle.fsl_ticket.specs.Newest.{newest_cmp}
+use Rattle.fsl_ticket.specs.Kept.{Lines}
+
+-- dates and names, the newest first
+abbrev pub Down : Type 0
+Down = List ((ℕ × List ℕ) × Unit {0})
+
+-- what J cards make of the value of a field
+abbrev pub made : List FieldChange → List ℕ → List ℕ → List ℕ
+made cards field value = fold after value (filter (λ card. bytes_eq card.field field) cards)
+
+-- whether J cards replace a field
+abbrev pub is_set : List FieldChange → List ℕ → Bool
+is_set cards field = list_any (λ card. bytes_eq card.field field && not card.append) cards
+
+-- what a change makes of the value of a field, where it is there
+abbrev pub made_at : Option Entry → List ℕ → List ℕ → List ℕ
+made_at None field value = value
+made_at (Some e) field value = made e.changes field value
+
+-- whether a change replaces a field, where it is there
+abbrev pub is_set_at : Option Entry → List ℕ → Bool
+is_set_at None field = false
+is_set_at (Some e) field = is_set e.changes field
+
+-- whether a walk ends with a change: where that replaces the field, if one is given
+abbrev pub ends_at : Option Entry → Option (List ℕ) → Bool
+ends_at e None = false
+ends_at e (Some field) = is_set_at e field
+
+abbrev pub names_of : Down → List (List ℕ)
+names_of ws = map (λ w. w.0.1) ws
+
+-- the names down to the end of a walk
+abbrev pub names_until : Lines → Option (List ℕ) → Down → List (List ℕ)
+names_until es field [] = []
+names_until es field (w ∷ ws) = w.0.1 ∷ (if ends_at (value_at bytes_cmp w.0.1 es) field then [] else names_until es field ws)
+
+-- the value that changes give a field, where the newest stands first
+abbrev pub value_down : Lines → List (List ℕ) → List ℕ → List ℕ
+value_down es [] field = []
+value_down es (name ∷ names) field = made_at (value_at bytes_cmp name es) field (value_down es names field)
+
+-- whether a change that is newer than this replaces the field
+abbrev pub is_masked : Lines → ℕ × List ℕ → List ℕ → Down → Bool
+is_masked es p field [] = false
+is_masked es p field (w ∷ ws) = if is_lt (newest_cmp w.0 p) then (is_set_at (value_at bytes_cmp w.0.1 es) field || is_masked es p field ws) else false
+
+-- the value of a field below a date and a name
+abbrev pub value_below : Lines → ℕ × List ℕ → List ℕ → Down → List ℕ
+value_below es p field ws = value_down es (names_of (entries_after newest_cmp p ws)) field
+
+-- whether J cards at a date and a name make another value of a field: they change it there, and no newer change replaces it
+abbrev pub is_other : Lines → List FieldChange → ℕ × List ℕ → Down → List ℕ → Bool
+is_other es cards p ws field = not (is_masked es p field ws) && not (bytes_eq (value_below es p field ws) (made cards field (value_below es p field ws)))
+
+-- whether a change more makes another row of its ticket
+abbrev pub is_row_other : List (List ℕ) → Lines → List FieldChange → ℕ × List ℕ → Down → Bool
+is_row_other configured es cards p [] = true
+is_row_other configured es cards p (w ∷ ws) = list_any (is_other es cards p (w ∷ ws)) configured

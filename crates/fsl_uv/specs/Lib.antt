@@ -1,0 +1,14 @@
+pub mod Entries
+pub mod Maps
+pub mod Cards
+pub mod Words
+pub mod Syncing
+pub mod Laws
+pub mod Holding
+pub mod Stores
+pub mod Opening
+pub mod Reading
+pub mod Reports
+pub mod Applying
+pub mod Refusals
+pub mod Exchanging

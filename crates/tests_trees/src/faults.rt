@@ -1,0 +1,87 @@
+//! Trees over a disk that fails, or that gives a byte of a content wrong once it was loaded.
+use crate::repo::{EMPTY, arrives, disk_of, loaded, opened};
+use fsl_checkin::{Export, ExportFault, Verdict, export, verify};
+use fsl_disk::{Disk, FlipDisk, FuseDisk, MemoryDisk};
+use fsl_name::Name;
+use fsl_repo::Repo;
+use std::alloc::Global;
+use std::test::Fail;
+
+const CHECKIN: &[u8] =
+    b"C first\nD 1970-01-01T00:00:00.000\nF a.txt a9993e364706816aba3e25717850c26c9cd0d89d\nR 6bee3e4d66f0e718f92afb7a3c77d92f\nU ann\nZ 0097365ae02228957f4ffa9e1a281475\n";
+
+/// The file of a repository with the check-in and its content `abc`, whose first byte stands at 106.
+fn file(alloc: Global) -> Option<MemoryDisk> {
+    let mut repo = opened(alloc, EMPTY)?;
+    let all = arrives(&mut repo, b"abc") & arrives(&mut repo, CHECKIN) & repo.commit().is_ok();
+    let disk = repo.close();
+    match all {
+        true => Some(disk),
+        false => {
+            drop(disk);
+            None
+        }
+    }
+}
+
+/// Whether an export and a test of the checksum answer the tree and that it's right, or this fault.
+fn answer<D: Disk>(alloc: Global, repo: &mut Repo<D>, fault: ExportFault) -> (bool, bool) {
+    let name = Name::of(CHECKIN);
+    let (exported, first) = match export(alloc, repo, name) {
+        Ok(Export::Tree(items)) => (items.items().len() == 1, true),
+        Ok(_) => (false, false),
+        Err(why) => (why == fault, false),
+    };
+    let (verified, second) = match verify(alloc, repo, name) {
+        Ok(verdict) => (verdict == Verdict::Right, true),
+        Err(why) => (why == fault, false),
+    };
+    (exported & verified, first & second)
+}
+
+/// The answers over a disk that fails after so many calls; none where the file isn't loaded by then.
+fn over_fuse(alloc: Global, calls: u64) -> Option<(bool, bool)> {
+    let mut repo = loaded(alloc, FuseDisk::new(file(alloc)?, calls))?;
+    let answers = answer(alloc, &mut repo, ExportFault::Disk);
+    let disk = repo.close();
+    drop(disk);
+    Some(answers)
+}
+
+/// The answers over a disk that gives the first byte of `abc` wrong after so many reads of it.
+fn over_flip(alloc: Global, reads: u64) -> Option<(bool, bool)> {
+    let mut repo = loaded(alloc, FlipDisk::new(file(alloc)?, 106, reads))?;
+    let name = Name::of(b"abc");
+    let found = Name::of(b"\x60bc");
+    let answers = answer(alloc, &mut repo, ExportFault::Damaged { name, found });
+    let disk = repo.close();
+    drop(disk);
+    Some(answers)
+}
+
+#[test]
+fn a_failing_disk_is_told(rt: HostRuntime) -> Result<(), Fail> {
+    let mut failed = 0;
+    let mut done = 0;
+    for calls in 0..24 {
+        if let Some((right, whole)) = over_fuse(rt.alloc(), calls) {
+            assert!(rt; right);
+            if whole {
+                done += 1;
+            } else {
+                failed += 1;
+            }
+        }
+    }
+    assert!(rt; failed > 0);
+    assert!(rt; done > 0);
+    Ok(())
+}
+
+#[test]
+fn a_damaged_content_is_told(rt: HostRuntime) -> Result<(), Fail> {
+    let alloc = rt.alloc();
+    assert!(rt; over_flip(alloc, 1) == Some((true, false)));
+    assert!(rt; over_flip(alloc, 3) == Some((true, true)));
+    Ok(())
+}

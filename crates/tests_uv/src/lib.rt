@@ -1,0 +1,11 @@
+//! Tests of unversioned files, by the public calls alone. They stand apart, so that no crate is proved once more for its tests.
+#![tactic(auto)]
+
+#[cfg(test)]
+mod faults;
+#[cfg(test)]
+mod limits;
+#[cfg(test)]
+mod stores;
+#[cfg(test)]
+mod syncs;
