@@ -2,6 +2,10 @@ pub mod DamagedLine
 pub mod OneReport
 pub mod GenLemmas
 pub mod UvOutcomes
+pub mod SomeTree
+pub mod OneTree
+pub mod SomeTreeText
+pub mod OneCheckin
 pub mod OneOutcome
 pub mod SomeOutcome
 pub mod MessageLemmas
@@ -19,6 +23,9 @@ pub mod ActLemmas
 pub mod CommitLemmas
 pub mod AppendLemmas
 pub mod PutLemmas
+pub mod ReadLemmas
+pub mod TreeLemmas
+pub mod CheckinLemmas
 pub mod ShunLemmas
 pub mod UnshunLemmas
 pub mod InitLemmas

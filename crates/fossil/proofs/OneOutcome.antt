@@ -22,14 +22,16 @@ use Rattle.fossil.specs.Ingest as ingest
 use Rattle.fossil.specs.Put.{IsPut, IsPutRead, IsPutFiles, put_receipt, printed_by, appended_by}
 use Rattle.fossil.specs.Unshun.{wanted_without, IsUnshun}
 use Rattle.fsl_query.specs.Answers.{prefix_of}
-use Rattle.fossil.specs.Outcome.{Outcome, without_commit, with_commit, not_repository, report_outcome, IsAnswered, IsIngestOfFiles, IsPutOfFiles, IsShunOf, IsUnshunOf, IsUvOf, IsUvOutcome, IsLoaded, IsCommandOutcome, said, IsSaidOutcome, command_reads_content, reads_content, AreAlike, HasOneOutcome}
+use Rattle.fossil.specs.Outcome.{Outcome, without_commit, with_commit, not_repository, report_outcome, IsAnswered, IsCheckinOf, IsExportedBy, IsVerifiedBy, IsIngestOfFiles, IsPutOfFiles, IsShunOf, IsUnshunOf, IsUvOf, IsUvOutcome, IsLoaded, IsCommandOutcome, said, IsSaidOutcome, command_reads_tree, command_reads_content, reads_content, reads_tree, AreAlike, HasOneOutcome}
 use Rattle.fsl_uv.specs.Entries.{Version}
 use Rattle.fsl_uv.specs.Reports.{Done, list_done, cat_done, add_done, remove_done}
 use Rattle.fsl_words.specs.declared.Unversioned.{Unversioned}
 use Rattle.fsl_words.specs.declared.Unversioned.TheVariants as uv
 use Rattle.fossil.proofs.UvOutcomes.{one_uv}
 use Rattle.fossil.proofs.GenLemmas.{one_gen}
-use Rattle.fossil.proofs.OneReport.{one_result, alike_result, same_alike}
+use Rattle.fossil.proofs.OneReport.{honest_of, one_result, alike_result, same_alike}
+use Rattle.fossil.proofs.OneCheckin.{one_checkin}
+use Rattle.fossil.proofs.OneTree.{exported_ends, one_exported, one_verified, verified_ends}
 use Rattle.fossil.proofs.MessageLemmas.{one_files, one_refused, not_both}
 use Rattle.fossil.proofs.ArrivalLemmas.{one_arrive}
 
@@ -161,6 +163,17 @@ one_uv_outcome uv.List input moment bytes a b h k = one_loaded (IsUvOf list_done
 one_uv_outcome (uv.Cat path) input moment bytes a b h k = let does : Map → Done = λ m. cat_done m path in one_loaded (IsUvOf does) bytes (one_uv does) a b h k
 one_uv_outcome (uv.Sync peer) input moment bytes a b h k = absurd h
 
+one_checkin_of : (parent : Option (List ℕ)) (user comment input : List ℕ) (moment : ℕ) (old : List Record) (a b : Outcome) → IsCheckinOf parent user comment input moment old a → IsCheckinOf parent user comment input moment old b → a ≡ b
+one_checkin_of parent user comment input moment old a b h k =
+    let same = one_checkin parent user comment moment old h.0 k.0 h.1 k.1 input h.2 k.2 in
+    h.3 ∙ (λ i. with_commit (same.0 i) (same.1 i)) ∙ sym k.3
+
+one_exported_by : (honest : Bool) (prefix : List ℕ) → IsTrue (honest || false) → (old : List Record) (a b : Outcome) → IsExportedBy honest prefix old a → IsExportedBy honest prefix old b → a ≡ b
+one_exported_by honest prefix kind old a b h k = h.2 ∙ ap without_commit (one_exported honest prefix (contents old) (honest_of honest kind) h.0 k.0 h.1 k.1) ∙ sym k.2
+
+one_verified_by : (honest : Bool) (prefix : List ℕ) → IsTrue (honest || false) → (old : List Record) (a b : Outcome) → IsVerifiedBy honest prefix old a → IsVerifiedBy honest prefix old b → a ≡ b
+one_verified_by honest prefix kind old a b h k = h.2 ∙ ap without_commit (one_verified honest prefix (contents old) (honest_of honest kind) h.0 k.0 h.1 k.1) ∙ sym k.2
+
 pub one_command_outcome : (honest : Bool) (command : Command) → IsTrue (honest || not (command_reads_content command)) → (input : List ℕ) (moment : ℕ) (bytes : List ℕ) (a b : Outcome)
     → IsCommandOutcome honest command input moment bytes a → IsCommandOutcome honest command input moment bytes b → a ≡ b
 one_command_outcome honest (command_of.Init project server fields) kind input moment bytes a b h k = h ∙ sym k
@@ -170,9 +183,9 @@ one_command_outcome honest (command_of.Shun name) kind input moment bytes a b h 
 one_command_outcome honest (command_of.Unshun name) kind input moment bytes a b h k = one_loaded (IsUnshunOf name) bytes (one_unshun_outcome name) a b h k
 one_command_outcome honest (command_of.Ask question) kind input moment bytes a b h k = one_loaded (IsAnswered honest question) bytes (one_answered honest question kind) a b h k
 one_command_outcome honest (command_of.Serve address users workers requests) kind input moment bytes a b h k = h ∙ sym k
-one_command_outcome honest (command_of.Checkin parent user comment) kind input moment bytes a b h k = h ∙ sym k
-one_command_outcome honest (command_of.Export prefix) kind input moment bytes a b h k = h ∙ sym k
-one_command_outcome honest (command_of.Verify prefix) kind input moment bytes a b h k = h ∙ sym k
+one_command_outcome honest (command_of.Checkin parent user comment) kind input moment bytes a b h k = one_loaded (IsCheckinOf parent user comment input moment) bytes (one_checkin_of parent user comment input moment) a b h k
+one_command_outcome honest (command_of.Export prefix) kind input moment bytes a b h k = one_loaded (IsExportedBy honest prefix) bytes (one_exported_by honest prefix kind) a b h k
+one_command_outcome honest (command_of.Verify prefix) kind input moment bytes a b h k = one_loaded (IsVerifiedBy honest prefix) bytes (one_verified_by honest prefix kind) a b h k
 one_command_outcome honest (command_of.Scrub path) kind input moment bytes a b h k = h ∙ sym k
 one_command_outcome honest (command_of.Unversioned asked) kind input moment bytes a b h k = one_uv_outcome asked input moment bytes a b h k
 one_command_outcome honest (command_of.Gen count reversed) kind input moment bytes a b h k = one_gen count reversed a b h k
@@ -186,37 +199,75 @@ pub one_said_outcome : (honest : Bool) (command : Option Command) → IsTrue (ho
 one_said_outcome honest None kind input moment bytes a b h k = h ∙ sym k
 one_said_outcome honest (Some command) kind input moment bytes a b h k = one_command_outcome honest command kind input moment bytes a b h k
 
-alike_command : (command : Command) (input : List ℕ) (moment : ℕ) (bytes : List ℕ) (a b : Outcome) → IsCommandOutcome false command input moment bytes a → IsCommandOutcome false command input moment bytes b → AreAlike a b
-alike_command (command_of.Init project server fields) input moment bytes a b h k = same_alike a b (one_command_outcome false (command_of.Init project server fields) refl input moment bytes a b h k)
-alike_command command_of.Ingest input moment bytes a b h k = same_alike a b (one_command_outcome false command_of.Ingest refl input moment bytes a b h k)
-alike_command command_of.Put input moment bytes a b h k = same_alike a b (one_command_outcome false command_of.Put refl input moment bytes a b h k)
-alike_command (command_of.Shun name) input moment bytes a b h k = same_alike a b (one_command_outcome false (command_of.Shun name) refl input moment bytes a b h k)
-alike_command (command_of.Unshun name) input moment bytes a b h k = same_alike a b (one_command_outcome false (command_of.Unshun name) refl input moment bytes a b h k)
-alike_command (command_of.Ask question) input moment bytes a b h k = loaded_by AreAlike same_alike (IsAnswered false question) bytes (alike_answered false question) a b h k
-alike_command (command_of.Serve address users workers requests) input moment bytes a b h k =
+alike_command : (command : Command) → command_reads_tree command ≡ false → (input : List ℕ) (moment : ℕ) (bytes : List ℕ) (a b : Outcome) → IsCommandOutcome false command input moment bytes a → IsCommandOutcome false command input moment bytes b → AreAlike a b
+alike_command (command_of.Init project server fields) no_tree input moment bytes a b h k = same_alike a b (one_command_outcome false (command_of.Init project server fields) refl input moment bytes a b h k)
+alike_command command_of.Ingest no_tree input moment bytes a b h k = same_alike a b (one_command_outcome false command_of.Ingest refl input moment bytes a b h k)
+alike_command command_of.Put no_tree input moment bytes a b h k = same_alike a b (one_command_outcome false command_of.Put refl input moment bytes a b h k)
+alike_command (command_of.Shun name) no_tree input moment bytes a b h k = same_alike a b (one_command_outcome false (command_of.Shun name) refl input moment bytes a b h k)
+alike_command (command_of.Unshun name) no_tree input moment bytes a b h k = same_alike a b (one_command_outcome false (command_of.Unshun name) refl input moment bytes a b h k)
+alike_command (command_of.Ask question) no_tree input moment bytes a b h k = loaded_by AreAlike same_alike (IsAnswered false question) bytes (alike_answered false question) a b h k
+alike_command (command_of.Serve address users workers requests) no_tree input moment bytes a b h k =
     same_alike a b (one_command_outcome false (command_of.Serve address users workers requests) refl input moment bytes a b h k)
-alike_command (command_of.Checkin parent user comment) input moment bytes a b h k =
+alike_command (command_of.Checkin parent user comment) no_tree input moment bytes a b h k =
     same_alike a b (one_command_outcome false (command_of.Checkin parent user comment) refl input moment bytes a b h k)
-alike_command (command_of.Export prefix) input moment bytes a b h k =
-    same_alike a b (one_command_outcome false (command_of.Export prefix) refl input moment bytes a b h k)
-alike_command (command_of.Verify prefix) input moment bytes a b h k =
-    same_alike a b (one_command_outcome false (command_of.Verify prefix) refl input moment bytes a b h k)
-alike_command (command_of.Scrub path) input moment bytes a b h k =
+alike_command (command_of.Export prefix) no_tree input moment bytes a b h k = absurd cc
+alike_command (command_of.Verify prefix) no_tree input moment bytes a b h k = absurd cc
+alike_command (command_of.Scrub path) no_tree input moment bytes a b h k =
     same_alike a b (one_command_outcome false (command_of.Scrub path) refl input moment bytes a b h k)
-alike_command (command_of.Unversioned asked) input moment bytes a b h k =
+alike_command (command_of.Unversioned asked) no_tree input moment bytes a b h k =
     same_alike a b (one_command_outcome false (command_of.Unversioned asked) refl input moment bytes a b h k)
-alike_command (command_of.Gen count reversed) input moment bytes a b h k = same_alike a b (one_command_outcome false (command_of.Gen count reversed) refl input moment bytes a b h k)
-alike_command (command_of.Pull address login) input moment bytes a b h k = absurd h
-alike_command (command_of.Push address login) input moment bytes a b h k = absurd h
-alike_command (command_of.Clone address server fields) input moment bytes a b h k = absurd h
-alike_command (command_of.PullLocal path) input moment bytes a b h k = absurd h
+alike_command (command_of.Gen count reversed) no_tree input moment bytes a b h k = same_alike a b (one_command_outcome false (command_of.Gen count reversed) refl input moment bytes a b h k)
+alike_command (command_of.Pull address login) no_tree input moment bytes a b h k = absurd h
+alike_command (command_of.Push address login) no_tree input moment bytes a b h k = absurd h
+alike_command (command_of.Clone address server fields) no_tree input moment bytes a b h k = absurd h
+alike_command (command_of.PullLocal path) no_tree input moment bytes a b h k = absurd h
 
-alike_said : (command : Option Command) (input : List ℕ) (moment : ℕ) (bytes : List ℕ) (a b : Outcome) → IsSaidOutcome false command input moment bytes a → IsSaidOutcome false command input moment bytes b → AreAlike a b
-alike_said None input moment bytes a b h k = same_alike a b (h ∙ sym k)
-alike_said (Some command) input moment bytes a b h k = alike_command command input moment bytes a b h k
+alike_said : (command : Option Command) → reads_tree command ≡ false → (input : List ℕ) (moment : ℕ) (bytes : List ℕ) (a b : Outcome) → IsSaidOutcome false command input moment bytes a → IsSaidOutcome false command input moment bytes b → AreAlike a b
+alike_said None no_tree input moment bytes a b h k = same_alike a b (h ∙ sym k)
+alike_said (Some command) no_tree input moment bytes a b h k = alike_command command no_tree input moment bytes a b h k
+
+-- ---- status and commits, whatever was read
+
+abbrev EndsAlike : Outcome → Outcome → Type 0
+EndsAlike a b = (a.status ≡ b.status) × (a.commits ≡ b.commits)
+
+same_ends : (a b : Outcome) → a ≡ b → EndsAlike a b
+same_ends a b same = (ap (λ (o : Outcome). o.status) same, ap (λ (o : Outcome). o.commits) same)
+
+printed_ends : (x y : Printed) → x.status ≡ y.status → (a b : Outcome) → a ≡ without_commit x → b ≡ without_commit y → EndsAlike a b
+printed_ends x y same a b h k = (ap (λ (o : Outcome). o.status) h ∙ same ∙ sym (ap (λ (o : Outcome). o.status) k), ap (λ (o : Outcome). o.commits) h ∙ sym (ap (λ (o : Outcome). o.commits) k))
+
+-- a command of a tree, or another
+ends_command : (command : Command) (tree : Bool) → command_reads_tree command ≡ tree → (input : List ℕ) (moment : ℕ) (bytes : List ℕ) (a b : Outcome)
+    → IsCommandOutcome false command input moment bytes a → IsCommandOutcome false command input moment bytes b → EndsAlike a b
+ends_command command false e input moment bytes a b h k = let alike = alike_command command e input moment bytes a b h k in (alike.status, alike.commits)
+ends_command (command_of.Export prefix) true e input moment bytes a b h k =
+    loaded_by EndsAlike same_ends (IsExportedBy false prefix) bytes (λ old x y p q. printed_ends p.0 q.0 (exported_ends false prefix (contents old) p.0 q.0 p.1 q.1) x y p.2 q.2) a b h k
+ends_command (command_of.Verify prefix) true e input moment bytes a b h k =
+    loaded_by EndsAlike same_ends (IsVerifiedBy false prefix) bytes (λ old x y p q. printed_ends p.0 q.0 (verified_ends false prefix (contents old) p.0 q.0 p.1 q.1) x y p.2 q.2) a b h k
+ends_command (command_of.Init project server fields) true e input moment bytes a b h k = absurd cc
+ends_command command_of.Ingest true e input moment bytes a b h k = absurd cc
+ends_command command_of.Put true e input moment bytes a b h k = absurd cc
+ends_command (command_of.Shun name) true e input moment bytes a b h k = absurd cc
+ends_command (command_of.Unshun name) true e input moment bytes a b h k = absurd cc
+ends_command (command_of.Ask question) true e input moment bytes a b h k = absurd cc
+ends_command (command_of.Serve address users workers requests) true e input moment bytes a b h k = absurd cc
+ends_command (command_of.Checkin parent user comment) true e input moment bytes a b h k = absurd cc
+ends_command (command_of.Scrub path) true e input moment bytes a b h k = absurd cc
+ends_command (command_of.Unversioned asked) true e input moment bytes a b h k = absurd cc
+ends_command (command_of.Gen count reversed) true e input moment bytes a b h k = absurd cc
+ends_command (command_of.Pull address login) true e input moment bytes a b h k = absurd h
+ends_command (command_of.Push address login) true e input moment bytes a b h k = absurd h
+ends_command (command_of.Clone address server fields) true e input moment bytes a b h k = absurd h
+ends_command (command_of.PullLocal path) true e input moment bytes a b h k = absurd h
+
+ends_said : (command : Option Command) (input : List ℕ) (moment : ℕ) (bytes : List ℕ) (a b : Outcome) → IsSaidOutcome false command input moment bytes a → IsSaidOutcome false command input moment bytes b → EndsAlike a b
+ends_said None input moment bytes a b h k = same_ends a b (h ∙ sym k)
+ends_said (Some command) input moment bytes a b h k = ends_command command (command_reads_tree command) refl input moment bytes a b h k
 
 pub one_outcome : HasOneOutcome
 one_outcome = record {
   one = λ honest words input moment bytes a b kind h k. one_said_outcome honest (said words) kind input moment bytes a b h k;
-  alike = λ words input moment bytes a b h k. alike_said (said words) input moment bytes a b h k;
+  alike = λ words input moment bytes a b no_tree h k. alike_said (said words) no_tree input moment bytes a b h k;
+  ends = λ words input moment bytes a b h k. ends_said (said words) input moment bytes a b h k;
 }

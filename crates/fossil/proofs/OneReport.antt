@@ -14,7 +14,7 @@ use Rattle.fossil.specs.Outcome.{Outcome, report_outcome, AreAlike}
 
 -- ---- a content as it is read
 
-honest_of : (honest : Bool) → IsTrue (honest || false) → honest ≡ true
+pub honest_of : (honest : Bool) → IsTrue (honest || false) → honest ≡ true
 honest_of true kind = refl
 honest_of false kind = absurd cc
 

@@ -69,8 +69,8 @@ not_spoilt (Some (command_of.Shun other)) bytes name found m h = h
 not_spoilt (Some (command_of.Unshun other)) bytes name found m h = h
 not_spoilt (Some (command_of.Serve address users workers requests)) bytes name found m h = h
 not_spoilt (Some (command_of.Checkin parent user comment)) bytes name found m h = h
-not_spoilt (Some (command_of.Export prefix)) bytes name found m h = h
-not_spoilt (Some (command_of.Verify prefix)) bytes name found m h = h
+not_spoilt (Some (command_of.Export prefix)) {disk} bytes name found m h = let no = sym (modelled_kind disk m) ∙ h.2.1.never in cc
+not_spoilt (Some (command_of.Verify prefix)) {disk} bytes name found m h = let no = sym (modelled_kind disk m) ∙ h.2.1.never in cc
 not_spoilt (Some (command_of.Scrub path)) bytes name found m h = h
 not_spoilt (Some (command_of.Unversioned asked)) bytes name found m h = h
 not_spoilt (Some (command_of.Gen count reversed)) bytes name found m h = h

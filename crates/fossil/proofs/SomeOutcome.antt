@@ -3,6 +3,7 @@ use Rattle.std.proofs.Common.{◌≡◌, ◌⊎◌, inl, inr, ℕ, Bool, true, f
 use Rattle.std.specs.Prelude.{◌^◌, nat_lt, MatchBool}
 use Rattle.fsl_record.specs.declared.Record.{Record}
 use Rattle.fsl_record.specs.declared.Record.TheVariants as record_of
+use Rattle.fsl_record.specs.Records.{AreRecords}
 use Rattle.fsl_journal.specs.File.{IsFileOf, FailsAt}
 use Rattle.fsl_journal.proofs.SomeFile.{some_file}
 use Rattle.std.specs.FinSet as set
@@ -32,10 +33,12 @@ use Rattle.fsl_uv.specs.Reports.{Done, list_done, cat_done, add_done, remove_don
 use Rattle.fsl_words.specs.declared.Unversioned.{Unversioned}
 use Rattle.fsl_words.specs.declared.Unversioned.TheVariants as uv
 use Rattle.fossil.proofs.UvOutcomes.{some_uv}
-use Rattle.fossil.specs.Outcome.{Outcome, without_commit, with_commit, init_outcome, report_outcome, not_repository, usage, IsAnswered, IsPutOfFiles, shun_outcome, IsShunOf, IsUnshunOf, IsUvOf, IsUvOutcome, IsLoaded, IsCommandOutcome, said, meets, IsSaidOutcome, HasSomeOutcome}
+use Rattle.fossil.specs.Outcome.{Outcome, without_commit, with_commit, init_outcome, report_outcome, not_repository, usage, IsAnswered, IsCheckinOf, IsExportedBy, IsVerifiedBy, IsPutOfFiles, shun_outcome, IsShunOf, IsUnshunOf, IsUvOf, IsUvOutcome, IsLoaded, IsCommandOutcome, said, meets, IsSaidOutcome, HasSomeOutcome}
 use Rattle.fossil.proofs.MessageLemmas.{IsSomeMessage, some_message}
 use Rattle.fsl_repo.proofs.SomeArrival.{some_items}
 use Rattle.fossil.proofs.ArrivalLemmas.{some_arrive}
+use Rattle.fossil.proofs.OneCheckin.{some_checkin}
+use Rattle.fossil.proofs.OneTree.{some_exported, some_verified}
 
 -- ---- ingest and put
 
@@ -125,6 +128,12 @@ some_uv_outcome uv.List input moment bytes plain = some_loaded bytes (IsUvOf lis
 some_uv_outcome (uv.Cat path) input moment bytes plain = let does : Map → Done = λ m. cat_done m path in some_loaded bytes (IsUvOf does) (some_uv does) (some_file bytes)
 some_uv_outcome (uv.Sync peer) input moment bytes plain = absurd (cc)
 
+-- by records of a file
+some_fit : (bytes : List ℕ) (ByRecords : List Record → Outcome → Type 0) → ((records : List Record) → AreRecords records → (o : Outcome) × ByRecords records o) → ((at : ℕ) × FailsAt bytes at) ⊎ ((records : List Record) × IsFileOf bytes records)
+    → (o : Outcome) × IsLoaded ByRecords bytes o
+some_fit bytes ByRecords some (inl fails) = (not_repository fails.0, inl (fails.0, fails.1, refl))
+some_fit bytes ByRecords some (inr is) = let o = some is.0 is.1.fit in (o.0, inr (is.0, is.1, o.1))
+
 some_command : (honest : Bool) (command : Command) (input : List ℕ) (moment : ℕ) (bytes : List ℕ) → command_meets command ≡ false → (o : Outcome) × IsCommandOutcome honest command input moment bytes o
 some_command honest (command_of.Init project server fields) input moment bytes plain = (init_outcome project server fields (length bytes), refl)
 some_command honest command_of.Ingest input moment bytes plain = let o = some_ingested input (nat_lt (2 ^ 27) (length input)) in (without_commit o.0, (o.0, o.1, refl))
@@ -133,9 +142,12 @@ some_command honest command_of.Put input moment bytes plain =
 some_command honest (command_of.Shun name) input moment bytes plain = some_loaded bytes (IsShunOf name) (λ old. (shun_outcome name old, refl)) (some_file bytes)
 some_command honest (command_of.Unshun name) input moment bytes plain = some_loaded bytes (IsUnshunOf name) (some_unshun_outcome name) (some_file bytes)
 some_command honest (command_of.Serve address users workers requests) input moment bytes plain = (usage, refl)
-some_command honest (command_of.Checkin parent user comment) input moment bytes plain = (usage, refl)
-some_command honest (command_of.Export prefix) input moment bytes plain = (usage, refl)
-some_command honest (command_of.Verify prefix) input moment bytes plain = (usage, refl)
+some_command honest (command_of.Checkin parent user comment) input moment bytes plain =
+    some_loaded bytes (IsCheckinOf parent user comment input moment) (λ old. let o = some_checkin parent user comment moment old input in (with_commit o.0 o.1, (o.0, o.1, o.2, refl))) (some_file bytes)
+some_command honest (command_of.Export prefix) input moment bytes plain =
+    some_fit bytes (IsExportedBy honest prefix) (λ records are. let p = some_exported honest prefix records are in (without_commit p.0, (p.0, p.1, refl))) (some_file bytes)
+some_command honest (command_of.Verify prefix) input moment bytes plain =
+    some_fit bytes (IsVerifiedBy honest prefix) (λ records are. let p = some_verified honest prefix records are in (without_commit p.0, (p.0, p.1, refl))) (some_file bytes)
 some_command honest (command_of.Scrub path) input moment bytes plain = (usage, refl)
 some_command honest (command_of.Unversioned asked) input moment bytes plain = some_uv_outcome asked input moment bytes plain
 some_command honest (command_of.Gen count reversed) input moment bytes plain =

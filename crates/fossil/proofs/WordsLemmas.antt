@@ -9,6 +9,7 @@ use Rattle.fsl_order.specs.Names.{has}
 use Rattle.fsl_name.specs.Name.{name_in}
 use Rattle.fsl_text.specs.Decimals.{is_decimal_text, decimal_value}
 use Rattle.fsl_record.specs.Records.{is_field, AreFields}
+use Rattle.fsl_order.proofs.Booleans.{first_holds, second_holds}
 use Rattle.fsl_words.specs.declared.Question.{Question}
 use Rattle.fsl_words.specs.declared.Command.{Command}
 use Rattle.fsl_words.specs.declared.Command.TheVariants as command_of
@@ -88,16 +89,24 @@ verified : (o : Option (List ℕ)) → Obeyed (option_map command_of.Verify o)
 verified None = tt
 verified (Some prefix) = tt
 
-checked_in : (user comment : List ℕ) (o : Option (Option (List ℕ))) → Obeyed (option_map (λ p. command_of.Checkin p user comment) o)
-checked_in user comment None = tt
-checked_in user comment (Some parent) = tt
+-- a word has a byte
+some_byte : (word : List ℕ) → is_word word ≡ true → word ≡ [] → ⊥
+some_byte [] is none = cc
+some_byte (b ∷ word) is none = cc
 
-checkin_obeyed : (words : List (List ℕ)) → Obeyed (checkin_command words)
-checkin_obeyed [] = tt
-checkin_obeyed (parent ∷ []) = tt
-checkin_obeyed (parent ∷ user ∷ []) = tt
-checkin_obeyed (parent ∷ user ∷ comment ∷ []) = checked_in user comment (parent_in parent)
-checkin_obeyed (parent ∷ user ∷ comment ∷ other ∷ words) = tt
+checked_in : (user comment : List ℕ) → is_word user ≡ true → is_word comment ≡ true → (o : Option (Option (List ℕ))) → Obeyed (option_map (λ p. command_of.Checkin p user comment) o)
+checked_in user comment u c None = tt
+checked_in user comment u c (Some parent) = (some_byte user u, some_byte comment c)
+
+checkin_obeyed : (words : List (List ℕ)) → list_all is_word words ≡ true → Obeyed (checkin_command words)
+checkin_obeyed [] all = tt
+checkin_obeyed (parent ∷ []) all = tt
+checkin_obeyed (parent ∷ user ∷ []) all = tt
+checkin_obeyed (parent ∷ user ∷ comment ∷ []) all =
+    let behind = second_holds (is_word parent) (list_all is_word (user ∷ comment ∷ [])) all in
+    checked_in user comment (first_holds (is_word user) (list_all is_word (comment ∷ [])) behind)
+    (first_holds (is_word comment) true (second_holds (is_word user) (list_all is_word (comment ∷ [])) behind)) (parent_in parent)
+checkin_obeyed (parent ∷ user ∷ comment ∷ other ∷ words) all = tt
 
 -- a command of unversioned files
 unversioned : {A : Type 0} (asks : A → Unversioned) (o : Option A) → IfSome o (λ x. IsUvObeyable (asks x)) → Obeyed (option_map (λ x. command_of.Unversioned (asks x)) o)
@@ -220,20 +229,21 @@ named_by : (repository : List ℕ) (o : Option Command) → Obeyed o → IfSome 
 named_by repository None h = tt
 named_by repository (Some command) h = h
 
-parts_obeyed : (words : List (List ℕ)) → IfSome (parts_in words) (λ w. IsObeyable w.command)
-parts_obeyed [] = tt
-parts_obeyed (repository ∷ []) = tt
-parts_obeyed (repository ∷ command ∷ words) =
+parts_obeyed : (words : List (List ℕ)) → list_all is_word words ≡ true → IfSome (parts_in words) (λ w. IsObeyable w.command)
+parts_obeyed [] all = tt
+parts_obeyed (repository ∷ []) all = tt
+parts_obeyed (repository ∷ command ∷ words) all =
+    let behind = second_holds (is_word command) (list_all is_word words) (second_holds (is_word repository) (list_all is_word (command ∷ words)) all) in
     named_by repository (command_in command words)
-    (command_by (bytes_eq command (codes "init")) _ _ (init_obeyed words) (command_by (bytes_eq command (codes "serve")) _ _ (serve_obeyed words) (command_by (bytes_eq command (codes "gen")) _ _ (gen_obeyed words) (command_by (bytes_eq command (codes "pull")) _ _ (pull_by (served_in words)) (command_by (bytes_eq command (codes "push")) _ _ (push_by (served_in words)) (command_by (bytes_eq command (codes "clone")) _ _ (clone_obeyed words) (command_by (bytes_eq command (codes "checkin")) _ _ (checkin_obeyed words) (command_by (bytes_eq command (codes "uv-init")) _ _ (uv_init_obeyed words) (plain_obeyed command words)))))))))
+    (command_by (bytes_eq command (codes "init")) _ _ (init_obeyed words) (command_by (bytes_eq command (codes "serve")) _ _ (serve_obeyed words) (command_by (bytes_eq command (codes "gen")) _ _ (gen_obeyed words) (command_by (bytes_eq command (codes "pull")) _ _ (pull_by (served_in words)) (command_by (bytes_eq command (codes "push")) _ _ (push_by (served_in words)) (command_by (bytes_eq command (codes "clone")) _ _ (clone_obeyed words) (command_by (bytes_eq command (codes "checkin")) _ _ (checkin_obeyed words behind) (command_by (bytes_eq command (codes "uv-init")) _ _ (uv_init_obeyed words) (plain_obeyed command words)))))))))
 
-words_by : (fit : Bool) (o : Option Words) → IfSome o (λ w. IsObeyable w.command) → IfSome (cond fit o None) (λ w. IsObeyable w.command)
-words_by true o h = h
-words_by false o h = tt
+words_by : (words : List (List ℕ)) (fit : Bool) → list_all is_word words ≡ fit → IfSome (cond fit (parts_in words) None) (λ w. IsObeyable w.command)
+words_by words true all = parts_obeyed words all
+words_by words false all = tt
 
 -- each command that words say can be obeyed
 pub obeyable : (words : List (List ℕ)) (w : Words) → words_in words ≡ Some w → IsObeyable w.command
-obeyable words w e = subst (λ (o : Option Words). IfSome o (λ w. IsObeyable w.command)) e (words_by (list_all is_word words) (parts_in words) (parts_obeyed words))
+obeyable words w e = subst (λ (o : Option Words). IfSome o (λ w. IsObeyable w.command)) e (words_by words (list_all is_word words) refl)
 
 -- ---- runs
 

@@ -1,5 +1,5 @@
 -- What the parts of a run say of what they did.
-use Rattle.std.specs.Prelude.{◌≡◌, ◌≢◌, ◌⊎◌, ◌<◌, ◌≤◌, ℕ, false, List, length, nat_lt, true, Bool, Option, Some, None, Result, Ok, Err, is_ok, IfOk, IfErr, IsTrue, ⊤}
+use Rattle.std.specs.Prelude.{◌≡◌, ◌≢◌, ◌⊎◌, ◌<◌, ◌≤◌, ℕ, false, List, [], length, nat_lt, true, Bool, Option, Some, None, Result, Ok, Err, is_ok, IfOk, IfErr, IsTrue, ⊤}
 use Rattle.std.specs.Io.KnownBytes.{IsAtEnd}
 use Rattle.fsl_order.specs.Causes.{Rose}
 use Rattle.fsl_text.specs.Limits.{most_of_message}
@@ -180,7 +180,8 @@ abbrev pub IsWritten : Result Printed Fault → ℕ → Output → Type 0
 IsWritten (Ok answer) status out = IsTold (without_commit answer) status out
 IsWritten (Err fault) status out = (status ≡ fault_status fault) × IsSaid out (fault_line fault)
 
--- the fields of a new repository are in their form, a path of unversioned files is one that may be put in, workers and their connections within their bounds, and so is the number of artifacts
+-- the fields of a new repository are in their form, user and comment of a check-in have a byte, a path of unversioned files is one that may be put in, workers and
+-- their connections are within their bounds, and so is the number of artifacts
 abbrev pub IsObeyable : Command → Type 0
 IsObeyable (Init project server fields) = AreFields fields
 IsObeyable Ingest = ⊤
@@ -194,7 +195,7 @@ IsObeyable (Pull address login) = ⊤
 IsObeyable (Push address login) = ⊤
 IsObeyable (Clone address server fields) = AreFields fields
 IsObeyable (PullLocal path) = ⊤
-IsObeyable (Checkin parent user comment) = ⊤
+IsObeyable (Checkin parent user comment) = (user ≢ []) × (comment ≢ [])
 IsObeyable (Export prefix) = ⊤
 IsObeyable (Verify prefix) = ⊤
 IsObeyable (Scrub path) = ⊤

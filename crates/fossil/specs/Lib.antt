@@ -10,6 +10,8 @@ pub mod Shun
 pub mod Unshun
 pub mod Unversioned
 pub mod Gen
+pub mod Trees
+pub mod Checkins
 pub mod Outcome
 pub mod Run
 pub mod Acts
@@ -24,6 +26,8 @@ pub mod RunCall
 pub mod UvCalls
 pub mod UvSyncs
 pub mod UvMerging
+pub mod TreeCall
+pub mod CheckinCall
 pub mod Syncing
 pub mod SyncLaws
 pub mod CloneLaws

@@ -20,6 +20,8 @@ use Rattle.fossil.specs.Printed.{Printed}
 use Rattle.fossil.specs.Printed as printing
 use Rattle.fossil.specs.Ingest as ingest
 use Rattle.fossil.specs.Gen.{IsGenPrinted}
+use Rattle.fossil.specs.Trees.{IsExported, IsVerified}
+use Rattle.fossil.specs.Checkins.{IsCheckin}
 use Rattle.fossil.specs.Put.{IsPut}
 use Rattle.fossil.specs.Shun.{shunning}
 use Rattle.fossil.specs.Unshun.{IsUnshun}
@@ -100,6 +102,18 @@ abbrev pub IsAnswered : Bool → Question → List Record → Outcome → Type 0
 IsAnswered honest question records o =
     (result : Result (List ℕ) Refused) × IsReport honest (contents records) question result × (o ≡ report_outcome result)
 
+-- what `checkin` prints and appends, at the moment that the clock answered
+abbrev pub IsCheckinOf : Option (List ℕ) → List ℕ → List ℕ → List ℕ → ℕ → List Record → Outcome → Type 0
+IsCheckinOf parent user comment input moment old o =
+    (printed : Printed) × (appended : List Record) × IsCheckin parent user comment input moment old printed appended × (o ≡ with_commit printed appended)
+
+-- the tree of a check-in is printed, or whether its checksum is that of the tree
+abbrev pub IsExportedBy : Bool → List ℕ → List Record → Outcome → Type 0
+IsExportedBy honest prefix records o = (printed : Printed) × IsExported honest prefix (contents records) printed × (o ≡ without_commit printed)
+
+abbrev pub IsVerifiedBy : Bool → List ℕ → List Record → Outcome → Type 0
+IsVerifiedBy honest prefix records o = (printed : Printed) × IsVerified honest prefix (contents records) printed × (o ≡ without_commit printed)
+
 -- `gen` prints what the generated artifacts make
 abbrev pub IsGen : ℕ → Bool → Outcome → Type 0
 IsGen count reversed o = (printed : Printed) × IsGenPrinted count reversed printed × (o ≡ without_commit printed)
@@ -131,7 +145,7 @@ IsUvOutcome (uv.Sync peer) input moment bytes o = ⊥
 -- ---- a run
 
 -- the outcome of a command that meets no peer, over its input, a moment and the bytes of the file, and whether the file's disk is honest: `init` looks at their
--- number alone, `ingest` at none, and `gen` at neither; `put`, `uv-add` and `uv-remove` look at the moment; `serve` is no command of a run
+-- number alone, `ingest` at none, and `gen` at neither; `put`, `checkin`, `uv-add` and `uv-remove` look at the moment; `serve` is no command of a run
 abbrev pub IsCommandOutcome : Bool → Command → List ℕ → ℕ → List ℕ → Outcome → Type 0
 IsCommandOutcome honest (Init project server fields) input moment bytes o = o ≡ init_outcome project server fields (length bytes)
 IsCommandOutcome honest Ingest input moment bytes o = IsIngestOfFiles input o
@@ -140,9 +154,9 @@ IsCommandOutcome honest (Shun name) input moment bytes o = IsLoaded (IsShunOf na
 IsCommandOutcome honest (Unshun name) input moment bytes o = IsLoaded (IsUnshunOf name) bytes o
 IsCommandOutcome honest (Ask question) input moment bytes o = IsLoaded (IsAnswered honest question) bytes o
 IsCommandOutcome honest (Serve address users workers requests) input moment bytes o = o ≡ usage
-IsCommandOutcome honest (Checkin parent user comment) input moment bytes o = o ≡ usage
-IsCommandOutcome honest (Export prefix) input moment bytes o = o ≡ usage
-IsCommandOutcome honest (Verify prefix) input moment bytes o = o ≡ usage
+IsCommandOutcome honest (Checkin parent user comment) input moment bytes o = IsLoaded (IsCheckinOf parent user comment input moment) bytes o
+IsCommandOutcome honest (Export prefix) input moment bytes o = IsLoaded (IsExportedBy honest prefix) bytes o
+IsCommandOutcome honest (Verify prefix) input moment bytes o = IsLoaded (IsVerifiedBy honest prefix) bytes o
 IsCommandOutcome honest (Scrub path) input moment bytes o = o ≡ usage
 IsCommandOutcome honest (Unversioned asked) input moment bytes o = IsUvOutcome asked input moment bytes o
 IsCommandOutcome honest (Gen count reversed) input moment bytes o = IsGen count reversed o
@@ -168,10 +182,20 @@ IsSaidOutcome honest (Some command) input moment bytes o = IsCommandOutcome hone
 abbrev pub IsOutcome : Bool → List (List ℕ) → List ℕ → ℕ → List ℕ → Outcome → Type 0
 IsOutcome honest words input moment bytes o = IsSaidOutcome honest (said words) input moment bytes o
 
--- whether a command reads a content: `cat` does, and no other that meets no peer
+-- whether a command reads the contents of a check-in: `export` and `verify` do
+abbrev pub command_reads_tree : Command → Bool
+command_reads_tree (Export prefix) = true
+command_reads_tree (Verify prefix) = true
+command_reads_tree command = false
+
+-- whether words say such a command
+abbrev pub reads_tree : Option Command → Bool
+reads_tree command = option_map_or command_reads_tree command false
+
+-- whether a command reads a content: `cat` reads one, and these some; no other that meets no peer does
 abbrev pub command_reads_content : Command → Bool
 command_reads_content (Ask question) = is_some (prefix_of question)
-command_reads_content command = false
+command_reads_content command = command_reads_tree command
 
 -- whether words say such a command
 abbrev pub reads_content : Option Command → Bool
@@ -184,13 +208,15 @@ pub record AreAlike (a b : Outcome) : Type 0 where
   pub sized : length a.text ≡ length b.text
   pub commits : a.commits ≡ b.commits
 
--- Law. Words, an input, a moment and a file have one outcome at most. Where a content is read from a disk that isn't honest, the texts of two have one name and
--- one size
+-- Law. Words, an input, a moment and a file have one outcome at most. Where one content is read from a disk that isn't honest, the texts of two have one name
+-- and one size; where those of a check-in are, status and commits are the same
 pub record HasOneOutcome : Type 0 where
   pub one : (honest : Bool) (words : List (List ℕ)) (input : List ℕ) (moment : ℕ) (bytes : List ℕ) (a b : Outcome) →
       IsTrue (honest || not (reads_content (said words))) → IsOutcome honest words input moment bytes a → IsOutcome honest words input moment bytes b → a ≡ b
   pub alike : (words : List (List ℕ)) (input : List ℕ) (moment : ℕ) (bytes : List ℕ) (a b : Outcome) →
-      IsOutcome false words input moment bytes a → IsOutcome false words input moment bytes b → AreAlike a b
+      reads_tree (said words) ≡ false → IsOutcome false words input moment bytes a → IsOutcome false words input moment bytes b → AreAlike a b
+  pub ends : (words : List (List ℕ)) (input : List ℕ) (moment : ℕ) (bytes : List ℕ) (a b : Outcome) →
+      IsOutcome false words input moment bytes a → IsOutcome false words input moment bytes b → (a.status ≡ b.status) × (a.commits ≡ b.commits)
 
 -- Law. And they have one, where the words say no command that meets a peer, whatever the disk
 abbrev pub HasSomeOutcome : Type 0

@@ -18,6 +18,8 @@ use Rattle.fossil.specs.declared.reading.message.Sent.{Sent}
 use Rattle.fossil.specs.Printed as printing
 use Rattle.fossil.specs.Messages.{IsFileList}
 use Rattle.fossil.specs.Unversioned.{TakesUvMoment, IsUvRefused}
+use Rattle.fossil.specs.Checkins.{IsToCheckIn}
+use Rattle.fossil.specs.Trees.{IsExportSpoilt, IsVerifySpoilt}
 use Rattle.fossil.specs.Uses.{command_reads, command_opens, command_begins, command_ticks}
 use Rattle.fossil.specs.Outcome.{Outcome, said, IsSaidOutcome}
 
@@ -119,11 +121,16 @@ pub record IsInputFault (command : Option Command) (input : Input) (bytes : List
   pub rose : Rose input.before.faults input.after.faults
   pub file : IsTrue (opens command) → (records : List Record) × IsFileOf bytes records
 
--- bytes that were read for an artifact have another name than its own: for the one whose content `cat` asks for, by the file's records. No other command
--- that meets no peer reads a content, and over an honest disk, which tells its contents and meets the disk model, none is damaged
+-- bytes that were read for an artifact have another name than its own: for the one whose content `cat` asks for, or one of those that `export` and `verify` ask
+-- for, by the file's records. No other command that meets no peer reads a content, and over an honest disk, which tells its contents and meets the disk model,
+-- none is damaged
 abbrev pub IsDamaged : Bool → Option Command → List ℕ → List ℕ → List ℕ → Type 0
 IsDamaged honest (Some (Ask question)) bytes name found =
     (records : List Record) × IsFileOf bytes records × (content_asked (contents records) question ≡ Some name) × IsSpoiltIn honest (contents records) name found
+IsDamaged honest (Some (Export prefix)) bytes name found =
+    (records : List Record) × IsFileOf bytes records × IsExportSpoilt honest prefix (contents records) name found
+IsDamaged honest (Some (Verify prefix)) bytes name found =
+    (records : List Record) × IsFileOf bytes records × IsVerifySpoilt honest prefix (contents records) name found
 IsDamaged honest command bytes name found = ⊥
 
 -- such bytes were read, no call of the disk failed, and both names are said
@@ -148,9 +155,12 @@ IsFaulted command input out file status bytes o =
 abbrev pub HasForm : List ℕ → Type 0
 HasForm message = (nat_lt most_of_message (length message) ≡ false) × ((files : List Sent) × IsFileList message files)
 
--- `put` takes a moment where its file stands for records and its message has its form, and two commands of unversioned files take one; no other command does
+-- `put` takes a moment where its file stands for records and its message has its form, and `checkin` where its file does and its tree and parent aren't
+-- refused; two commands of unversioned files take one; no other command does
 abbrev pub TakesMoment : Option Command → List ℕ → List ℕ → Type 0
 TakesMoment (Some Put) read bytes = ((records : List Record) × IsFileOf bytes records) × HasForm read
+TakesMoment (Some (Checkin parent user comment)) read bytes =
+    (records : List Record) × IsFileOf bytes records × IsToCheckIn parent (contents records) read
 TakesMoment (Some (Unversioned asked)) read bytes = TakesUvMoment asked read bytes
 TakesMoment command read bytes = ⊥
 
@@ -235,9 +245,9 @@ IsRefused (Some (Shun name)) bytes = IsNoRepository bytes
 IsRefused (Some (Unshun name)) bytes = IsNoRepository bytes
 IsRefused (Some (Ask question)) bytes = IsNoRepository bytes
 IsRefused (Some (Serve address users workers requests)) bytes = ⊥
-IsRefused (Some (Checkin parent user comment)) bytes = ⊥
-IsRefused (Some (Export prefix)) bytes = ⊥
-IsRefused (Some (Verify prefix)) bytes = ⊥
+IsRefused (Some (Checkin parent user comment)) bytes = IsNoRepository bytes
+IsRefused (Some (Export prefix)) bytes = IsNoRepository bytes
+IsRefused (Some (Verify prefix)) bytes = IsNoRepository bytes
 IsRefused (Some (Scrub path)) bytes = ⊥
 IsRefused (Some (Unversioned asked)) bytes = IsUvRefused asked bytes
 IsRefused (Some (Gen count reversed)) bytes = ⊥

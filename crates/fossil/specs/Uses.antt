@@ -13,9 +13,9 @@ use_of (Shun name) = record nothing { opens = true }
 use_of (Unshun name) = record nothing { opens = true }
 use_of (Ask question) = record nothing { opens = true }
 use_of (Serve address users workers requests) = nothing
-use_of (Checkin parent user comment) = nothing
-use_of (Export prefix) = nothing
-use_of (Verify prefix) = nothing
+use_of (Checkin parent user comment) = record nothing { reads = true; opens = true; ticks = true }
+use_of (Export prefix) = record nothing { opens = true }
+use_of (Verify prefix) = record nothing { opens = true }
 use_of (Scrub path) = nothing
 use_of (Unversioned asked) = uv_use asked
 use_of (Gen count reversed) = nothing

@@ -1,6 +1,7 @@
 //! What each command does.
 
 pub(crate) mod ask;
+pub(crate) mod checkin;
 pub(crate) mod clone;
 pub(crate) mod generating;
 pub(crate) mod ingest;
@@ -10,6 +11,7 @@ pub(crate) mod put;
 pub(crate) mod serving;
 pub(crate) mod shun;
 pub(crate) mod sync;
+pub(crate) mod trees;
 pub(crate) mod unshun;
 pub(crate) mod unversioned;
 pub(crate) mod uv_sync;

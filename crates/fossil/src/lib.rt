@@ -9,9 +9,11 @@
 //! ADDRESS USERS WORKERS N` serves the repository to the users of a file. `pull ADDRESS [USER SECRET]` pulls artifacts from
 //! the repository that is served at an address, `push ADDRESS [USER SECRET]` sends it those that it asks for, and `pull-local PEER`
 //! pulls from the repository of another file. `clone ADDRESS SERVER [FIELD ...]` makes a file of its own of the repository
-//! that is served at an address. `uv-init PROJECT SERVER` makes a file for files without history, of which the newest counts:
+//! that is served at an address. `checkin PARENT USER COMMENT` makes a check-in of a tree of files, over the check-in whose name
+//! begins with PARENT or over none, `export PREFIX` writes the tree of a check-in, and `verify PREFIX` tests its checksum
+//! against the tree. `uv-init PROJECT SERVER` makes a file for files without history, of which the newest counts:
 //! `uv-add PATH` makes the input the content of a path, `uv-remove PATH` deletes it, `uv-list` prints the paths that are there,
-//! and `uv-cat PATH` a content. `gen N` and `gen N reversed` take so many generated
+//! `uv-cat PATH` a content, and `uv-sync PEER` syncs two such files. `gen N` and `gen N reversed` take so many generated
 //! artifacts one after another into a set of their own, and print how many of each sort there are.
 #![tactic(auto)]
 

@@ -17,6 +17,7 @@ use crate::answers::due::print_due;
 use crate::answers::fault::Fault;
 use crate::answers::say::{made, print, say_usage};
 use crate::commands::ask::ask;
+use crate::commands::checkin::{Asked, checkin};
 use crate::commands::clone::clone_onto;
 use crate::commands::generating::generate;
 use crate::commands::ingest::ingest;
@@ -25,6 +26,7 @@ use crate::commands::pull_local::pull_local;
 use crate::commands::put::put;
 use crate::commands::shun::shun;
 use crate::commands::sync::{Way, sync};
+use crate::commands::trees::{export_tree, verify_tree};
 use crate::commands::unshun::unshun;
 use crate::commands::unversioned::unversioned;
 use crate::commands::uv_sync::uv_sync;
@@ -86,6 +88,31 @@ fn obey<S: Source, C: Clock, K: Sink, D: Disk>(
             Done { status, repo }
         }
         Command::Ask(question) => ask(alloc, &question, out, repo),
+        Command::Checkin {
+            parent,
+            user,
+            comment,
+        } => {
+            let asked = Asked {
+                parent,
+                user,
+                comment,
+            };
+            let (answer, repo) = checkin(alloc, &asked, input, clock, repo);
+            drop(asked);
+            let status = print(out, answer);
+            Done { status, repo }
+        }
+        Command::Export { prefix } => {
+            let (answer, repo) = export_tree(alloc, &prefix, repo);
+            let status = print(out, answer);
+            Done { status, repo }
+        }
+        Command::Verify { prefix } => {
+            let (answer, repo) = verify_tree(alloc, &prefix, repo);
+            let status = print(out, answer);
+            Done { status, repo }
+        }
         Command::Serve { .. } => {
             let status = say_usage(out);
             Done { status, repo }
@@ -103,18 +130,6 @@ fn obey<S: Source, C: Clock, K: Sink, D: Disk>(
         Command::Push { .. } => unreachable!(),
         Command::Clone { .. } => unreachable!(),
         Command::PullLocal { .. } => unreachable!(),
-        Command::Checkin { .. } => {
-            let status = say_usage(out);
-            Done { status, repo }
-        }
-        Command::Export { .. } => {
-            let status = say_usage(out);
-            Done { status, repo }
-        }
-        Command::Verify { .. } => {
-            let status = say_usage(out);
-            Done { status, repo }
-        }
         Command::Scrub { .. } => {
             let status = say_usage(out);
             Done { status, repo }
@@ -212,19 +227,20 @@ fn start<S: Source, K: Sink, D: Disk, P: Disk, N: Dial, C: Clock>(
 }
 
 /// Runs the command that the words say over the input and the repository's disk, prints to the output, and gives the
-/// status and the disks: 0 after a report, 1 for words outside the grammar, for `serve`, and for `checkin`, `export`, `verify` and `scrub`, which nothing answers yet, 2 where a file isn't a
+/// status and the disks: 0 after a report, 1 for words outside the grammar, for `serve` and for `scrub`, which nothing answers yet, 2 where a file isn't a
 /// repository, 3 where the command or its input is refused, 4, 5, 6 and 7 where a disk, the input, the output or the
 /// dial failed, 8 where a reply of the peer is wrong, 9 for want of memory, 10 where a name that the peer announced
 /// isn't sent, 11 after 100,000 rounds of a sync, 12 where the bytes that were read for an artifact have another name. Only
-/// `cat`, `push` and `pull-local` read a content, and over a disk that tells its contents and meets the disk model none is
+/// `cat`, `export`, `verify`, `push` and `pull-local` read contents, and over a disk that tells its contents and meets the disk model none is
 /// damaged. A command that reads no input leaves it, and so `ingest` leaves the disk; `gen` and words outside the grammar
 /// leave both. Only `pull-local` and `uv-sync` use the peer's disk, only `pull`, `push` and `clone` use the dial, and only `put`,
-/// `uv-add` and `uv-remove` ask the clock. Where the line of a refusal or of a fault can't be written, the status stays.
+/// `checkin`, `uv-add` and `uv-remove` ask the clock. Where the line of a refusal or of a fault can't be written, the status stays.
 ///
-/// The file is loaded first, then the input is read, then its form, then `put` takes its one moment, then what it appends is
+/// The file is loaded first, then the input is read, then its form, then `put` or `checkin` takes its one moment, then what it appends is
 /// committed, then the text is printed. A `put` takes no moment over a file that is no repository, nor where its message is too
 /// long or is refused for a line or a card; one that a fault ends may take none; each other one takes one, also where its message
-/// has no file or a file is refused.
+/// has no file or a file is refused. A `checkin` takes one where its file is a repository and its tree and its parent aren't
+/// refused, and else none.
 ///
 /// Of the commands of unversioned files all but `uv-init` load the file as a store, and refuse it where one of its Blobs is no
 /// entry, before `uv-add` reads its input; `uv-add` takes one moment behind an input that isn't too long, and `uv-remove` one

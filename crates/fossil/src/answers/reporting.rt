@@ -18,7 +18,7 @@ use fsl_words::Question;
 use std::alloc::Global;
 
 /// The refusal of a question.
-fn question_refusal(alloc: Global, refused: Refused) -> Result<Answer, Memory>
+pub fn question_refusal(alloc: Global, refused: Refused) -> Result<Answer, Memory>
     ensures { IfOk result (λ a. a ≡ printing.refused (refusal_text refused)) }
 {
     let reason = refusal_text(alloc, &refused)?;

@@ -19,8 +19,8 @@ use fsl_repo::Repo;
 use fsl_text::{List, Text};
 use std::alloc::Global;
 
-/// Takes the one moment of a `put`, as the receipt of its files. It has no login.
-fn put_receipt<C: Clock>(alloc: Global, clock: &mut C) -> Receipt
+/// Takes the one moment of a `put` or a `checkin`, as the receipt of its files. It has no login.
+pub(crate) fn put_receipt<C: Clock>(alloc: Global, clock: &mut C) -> Receipt
     ensures { IsPutReceipt (C.told clock.old) (C.told clock.new) result }
 {
     Receipt::new(Text::empty(alloc), clock.now()).unwrap()

@@ -118,35 +118,38 @@ returns-in-Gen-clause-runs g c =
     (gen_acted c.in-Gen.count c.in-Gen.reversed (input_of input) clock.0 (g.D.Disk.state c.args.repo) (λ model f left. g.met.D.Disk.only_now c.args.repo f model left) c.generate.result c.made.result c.generate.ensures c.made.ensures.ok c.made.ensures.err)
     c.print-status-in-Gen.ensures)
 
-pub returns-in-Checkin-clause-runs : goal.returns-in-Checkin-clause-runs
-returns-in-Checkin-clause-runs g c =
-    let input : SourceState × SourceState = (g.S.Source.state c.args.input.now, g.S.Source.state c.args.input.now) in
-    let clock : Moments × Moments = (g.C.Clock.told c.args.clock.now, g.C.Clock.told c.args.clock.now) in
-    let out : SinkState × SinkState = (g.K.Sink.state c.args.out.now, g.K.Sink.state c.say_usage-status-in-Checkin.new.out) in
-    let file : DiskState × DiskState = (g.D.Disk.state c.args.repo, g.D.Disk.state c.args.repo) in
-    subst (λ (x : Command). HasRun (Some x) (input_of input) (clock_of clock) (output_of out) (file_of file) c.say_usage-status-in-Checkin.result) (sym c.in-Checkin.is)
-    (usage_of (Some (command_of.Checkin _ _ _)) (λ opened. cc) (λ read bytes due. due) (λ honest read moment bytes. refl) (input_of input) clock.0 (g.D.Disk.state c.args.repo) (λ model f left. g.met.D.Disk.only_now c.args.repo f model left) (output_of out) c.say_usage-status-in-Checkin.result
-    c.say_usage-status-in-Checkin.ensures.status c.say_usage-status-in-Checkin.ensures.said)
-
 pub returns-in-Export-clause-runs : goal.returns-in-Export-clause-runs
 returns-in-Export-clause-runs g c =
     let input : SourceState × SourceState = (g.S.Source.state c.args.input.now, g.S.Source.state c.args.input.now) in
     let clock : Moments × Moments = (g.C.Clock.told c.args.clock.now, g.C.Clock.told c.args.clock.now) in
-    let out : SinkState × SinkState = (g.K.Sink.state c.args.out.now, g.K.Sink.state c.say_usage-status-in-Export.new.out) in
-    let file : DiskState × DiskState = (g.D.Disk.state c.args.repo, g.D.Disk.state c.args.repo) in
-    subst (λ (x : Command). HasRun (Some x) (input_of input) (clock_of clock) (output_of out) (file_of file) c.say_usage-status-in-Export.result) (sym c.in-Export.is)
-    (usage_of (Some (command_of.Export _)) (λ opened. cc) (λ read bytes due. due) (λ honest read moment bytes. refl) (input_of input) clock.0 (g.D.Disk.state c.args.repo) (λ model f left. g.met.D.Disk.only_now c.args.repo f model left) (output_of out) c.say_usage-status-in-Export.result
-    c.say_usage-status-in-Export.ensures.status c.say_usage-status-in-Export.ensures.said)
+    let out : SinkState × SinkState = (g.K.Sink.state c.args.out.now, g.K.Sink.state c.print-status-in-Export.new.out) in
+    let file : DiskState × DiskState = (g.D.Disk.state c.args.repo, g.D.Disk.state c.export_tree-answer.result.1) in
+    subst (λ (x : Command). HasRun (Some x) (input_of input) (clock_of clock) (output_of out) (file_of file) c.print-status-in-Export.result) (sym c.in-Export.is)
+    (written (Some (command_of.Export c.in-Export.prefix)) (input_of input) (clock_of clock) (file_of file) c.export_tree-answer.result.0 (output_of out) c.print-status-in-Export.result (c.export_tree-answer.ensures (g.S.Source.state c.args.input.now) clock.0) c.print-status-in-Export.ensures)
 
 pub returns-in-Verify-clause-runs : goal.returns-in-Verify-clause-runs
 returns-in-Verify-clause-runs g c =
     let input : SourceState × SourceState = (g.S.Source.state c.args.input.now, g.S.Source.state c.args.input.now) in
     let clock : Moments × Moments = (g.C.Clock.told c.args.clock.now, g.C.Clock.told c.args.clock.now) in
-    let out : SinkState × SinkState = (g.K.Sink.state c.args.out.now, g.K.Sink.state c.say_usage-status-in-Verify.new.out) in
-    let file : DiskState × DiskState = (g.D.Disk.state c.args.repo, g.D.Disk.state c.args.repo) in
-    subst (λ (x : Command). HasRun (Some x) (input_of input) (clock_of clock) (output_of out) (file_of file) c.say_usage-status-in-Verify.result) (sym c.in-Verify.is)
-    (usage_of (Some (command_of.Verify _)) (λ opened. cc) (λ read bytes due. due) (λ honest read moment bytes. refl) (input_of input) clock.0 (g.D.Disk.state c.args.repo) (λ model f left. g.met.D.Disk.only_now c.args.repo f model left) (output_of out) c.say_usage-status-in-Verify.result
-    c.say_usage-status-in-Verify.ensures.status c.say_usage-status-in-Verify.ensures.said)
+    let out : SinkState × SinkState = (g.K.Sink.state c.args.out.now, g.K.Sink.state c.print-status-in-Verify.new.out) in
+    let file : DiskState × DiskState = (g.D.Disk.state c.args.repo, g.D.Disk.state c.verify_tree-answer.result.1) in
+    subst (λ (x : Command). HasRun (Some x) (input_of input) (clock_of clock) (output_of out) (file_of file) c.print-status-in-Verify.result) (sym c.in-Verify.is)
+    (written (Some (command_of.Verify c.in-Verify.prefix)) (input_of input) (clock_of clock) (file_of file) c.verify_tree-answer.result.0 (output_of out) c.print-status-in-Verify.result (c.verify_tree-answer.ensures (g.S.Source.state c.args.input.now) clock.0) c.print-status-in-Verify.ensures)
+
+pub checkin-answer-requires-clause-user : goal.checkin-answer-requires-clause-user
+checkin-answer-requires-clause-user g c = let some = subst IsObeyable c.in-Checkin.is c.requires.obeyable in some.0
+
+pub checkin-answer-requires-clause-comment : goal.checkin-answer-requires-clause-comment
+checkin-answer-requires-clause-comment g c = let some = subst IsObeyable c.in-Checkin.is c.requires.obeyable in some.1
+
+pub returns-in-Checkin-clause-runs : goal.returns-in-Checkin-clause-runs
+returns-in-Checkin-clause-runs g c =
+    let input : SourceState × SourceState = (g.S.Source.state c.args.input.now, g.S.Source.state c.checkin-answer.new.input) in
+    let clock : Moments × Moments = (g.C.Clock.told c.args.clock.now, g.C.Clock.told c.checkin-answer.new.clock) in
+    let out : SinkState × SinkState = (g.K.Sink.state c.args.out.now, g.K.Sink.state c.print-status-in-Checkin.new.out) in
+    let file : DiskState × DiskState = (g.D.Disk.state c.args.repo, g.D.Disk.state c.checkin-answer.result.1) in
+    subst (λ (x : Command). HasRun (Some x) (input_of input) (clock_of clock) (output_of out) (file_of file) c.print-status-in-Checkin.result) (sym c.in-Checkin.is)
+    (written (Some (command_of.Checkin c.in-Checkin.parent c.in-Checkin.user c.in-Checkin.comment)) (input_of input) (clock_of clock) (file_of file) c.checkin-answer.result.0 (output_of out) c.print-status-in-Checkin.result c.checkin-answer.ensures c.print-status-in-Checkin.ensures)
 
 pub returns-clause-runs : goal.returns-clause-runs
 returns-clause-runs g c =

@@ -1,0 +1,45 @@
+use Rattle.std.proofs.Common.{◌≡◌, List, ℕ, Some, None, Ok, Err, refl, sym, subst, ◌∙◌}
+use Rattle.std.proofs.lemmas.Result.{err_from_is_err_and}
+use Rattle.fsl_outside.specs.Streams.{SourceState}
+use Rattle.fsl_disk.specs.Disk.{DiskState}
+use Rattle.fsl_journal.proofs.Belonging.{same_moments}
+use Rattle.fsl_repo.specs.Whole.{log_of}
+use Rattle.fossil.specs.declared.answers.fault.Fault.TheVariants as fault_is
+use Rattle.fossil.specs.Acts.{input_of, clock_of, loaded_of, IsInput, IsOpened, Acts}
+use Rattle.fossil.specs.CheckinCall.{asked_for}
+use Rattle.fossil.specs.Taking.{HaveArrived}
+use Rattle.fossil.proofs.ActLemmas.{still}
+use Rattle.fossil.proofs.AppendLemmas.{memory_acted, memory_timed, unread_acted, failed_acted, appended_acted, idle_acted}
+use Rattle.fossil.proofs.CheckinLemmas.{checkin_loads, checkin_timed, checked_appended, arrival_appended, parent_appended, item_appended, long_checkin, good_tree}
+use Rattle.fossil.proofs.ShunLemmas.{was_due, commit_rose, commit_contents}
+use Rattle.fossil.proofs.commands.checkin.check_input.Goals as goal
+
+pub returns-in_err-text : goal.returns-in_err-text
+returns-in_err-text g c = λ disk opened.
+    let p = err_from_is_err_and c.from_residual.result c.from_residual.ensures.1 in
+    let a = c.args.asked.now in
+    rw (p.1, p.2)
+    (unread_acted (Some (asked_for a)) (checkin_loads a) (input_of (g.S.Source.state c.args.input.now, g.S.Source.state c.read_input.new.input)) (g.D.Disk.state disk) (g.D.Disk.state c.args.repo.now.disk) (loaded_of c.args.repo.now) opened (g.C.Clock.told c.args.clock.now)
+    _ c.in_err-text.ensures.err refl)
+
+pub returns-in-Some : goal.returns-in-Some
+returns-in-Some g c = λ disk opened.
+    let input : SourceState × SourceState = (g.S.Source.state c.args.input.now, g.S.Source.state c.read_input.new.input) in
+    c.check_text.ensures disk input (subst (λ (t : List ℕ). IsInput (input_of input) (Some t)) (sym c.bytes.ensures) (subst (IsInput (input_of input)) c.in-Some.is c.in_ok-text.ensures.ok)) opened
+
+pub returns-in_ok-too_long-in-None : goal.returns-in_ok-too_long-in-None
+returns-in_ok-too_long-in-None g c = λ disk opened.
+    let input : SourceState × SourceState = (g.S.Source.state c.args.input.now, g.S.Source.state c.read_input.new.input) in
+    let before = c.args.repo.now in
+    let a = c.args.asked.now in
+    idle_acted (Some (asked_for a)) (checkin_loads a) (input_of input) (still (g.C.Clock.told c.args.clock.now)) (g.D.Disk.state disk) (g.D.Disk.state before.disk) (loaded_of before) opened c.in_ok-too_long-in-None.field-0
+    (long_checkin a (input_of input) (g.C.Clock.told c.args.clock.now) opened.stands.0 (loaded_of before) c.in_ok-too_long-in-None.field-0 (subst (IsInput (input_of input)) c.in-None.is c.in_ok-text.ensures.ok) c.in_ok-too_long-in-None.ensures)
+    (same_moments (log_of before) (g.D.Disk.state before.disk) opened.belongs (λ model f left. g.met.D.Disk.only_now before.disk f model left))
+    (λ held model told. g.met.D.Disk.reads_as_image disk held model told)
+
+pub returns-in_err-too_long-in-None : goal.returns-in_err-too_long-in-None
+returns-in_err-too_long-in-None g c = λ disk opened.
+    let p = err_from_is_err_and c.from_residual-in_err-too_long-in-None.result c.from_residual-in_err-too_long-in-None.ensures.1 in
+    let a = c.args.asked.now in
+    rw (p.1, p.2)
+    (memory_acted (Some (asked_for a)) (checkin_loads a) (input_of (g.S.Source.state c.args.input.now, g.S.Source.state c.read_input.new.input)) (g.D.Disk.state disk) (g.D.Disk.state c.args.repo.now.disk) (loaded_of c.args.repo.now) opened (g.C.Clock.told c.args.clock.now))
