@@ -48,7 +48,7 @@ fn tell_unguarded(rt: &HostRuntime, is_unguarded: bool) {
 }
 
 /// The file that the first word names, which is made for `init`, `clone` and `uv-init` alone where it is missing. The disk's calls fail
-/// where the file can't be opened or another process holds it, and for `ingest`, `gen` and the words that no command answers yet, which
+/// where the file can't be opened or another process holds it, and for `ingest`, `gen` and `scrub`, which no command answers yet: these
 /// open none.
 fn open_own(rt: &HostRuntime, words: &[String], command: &Command) -> Opened {
     let Some(path) = words.first() else {
@@ -57,12 +57,7 @@ fn open_own(rt: &HostRuntime, words: &[String], command: &Command) -> Opened {
     let mut options = OpenOptions::new();
     options.read(true).write(true);
     match command {
-        Command::Ingest
-        | Command::Gen { .. }
-        | Command::Checkin { .. }
-        | Command::Export { .. }
-        | Command::Verify { .. }
-        | Command::Scrub { .. } => return Opened::none(),
+        Command::Ingest | Command::Gen { .. } | Command::Scrub { .. } => return Opened::none(),
         Command::Init { .. }
         | Command::Clone { .. }
         | Command::Unversioned(Unversioned::Init { .. }) => {
@@ -72,6 +67,9 @@ fn open_own(rt: &HostRuntime, words: &[String], command: &Command) -> Opened {
         | Command::Shun { .. }
         | Command::Unshun { .. }
         | Command::Ask(_)
+        | Command::Checkin { .. }
+        | Command::Export { .. }
+        | Command::Verify { .. }
         | Command::Serve { .. }
         | Command::Pull { .. }
         | Command::Push { .. }
