@@ -7,7 +7,7 @@ _nightjargold() {
       1:*) compgen -f -- "$word"; compgen -W 'help new version' -- "$word" ;;
       2:new:*) if [ -e new ]; then compgen -W "$commands" -- "$word"; else compgen -f -- "$word"; fi ;;
       2:*) compgen -W "$commands" -- "$word" ;;
-      3:*:pull-local | 3:*:uv-sync | 3:*:serve | 4:*:serve) compgen -f -- "$word" ;;
+      3:*:pull-local | 3:*:uv-sync | 3:*:scrub | 3:*:serve | 4:*:serve) compgen -f -- "$word" ;;
       3:*:tags | 3:*:files | 3:*:cat | 3:*:receipt | 3:*:checkin | 3:*:export | 3:*:verify) compgen -W "$(FOSSIL_BUILD=no "$me" "$first" timeline 20 2>/dev/null | cut -d' ' -f2 | cut -c1-12)" -- "$word" ;;
     esac
   )
