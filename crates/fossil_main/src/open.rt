@@ -48,8 +48,7 @@ fn tell_unguarded(rt: &HostRuntime, is_unguarded: bool) {
 }
 
 /// The file that the first word names, which is made for `init`, `clone` and `uv-init` alone where it is missing. The disk's calls fail
-/// where the file can't be opened or another process holds it, and for `ingest`, `gen` and `scrub`, which no command answers yet: these
-/// open none.
+/// where the file can't be opened or another process holds it, and for `ingest` and `gen`, which open none.
 fn open_own(rt: &HostRuntime, words: &[String], command: &Command) -> Opened {
     let Some(path) = words.first() else {
         return Opened::none();
@@ -57,7 +56,7 @@ fn open_own(rt: &HostRuntime, words: &[String], command: &Command) -> Opened {
     let mut options = OpenOptions::new();
     options.read(true).write(true);
     match command {
-        Command::Ingest | Command::Gen { .. } | Command::Scrub { .. } => return Opened::none(),
+        Command::Ingest | Command::Gen { .. } => return Opened::none(),
         Command::Init { .. }
         | Command::Clone { .. }
         | Command::Unversioned(Unversioned::Init { .. }) => {
@@ -74,6 +73,7 @@ fn open_own(rt: &HostRuntime, words: &[String], command: &Command) -> Opened {
         | Command::Pull { .. }
         | Command::Push { .. }
         | Command::PullLocal { .. }
+        | Command::Scrub { .. }
         | Command::Unversioned(_) => {}
     }
     match options.open(rt, path.as_str()) {
@@ -89,6 +89,8 @@ enum Peer {
     Read,
     /// It writes to it.
     Written,
+    /// It makes it where it is missing, and writes to it.
+    Made,
 }
 
 /// What a command does with the peer's file, which its third word names; none for one without a peer's file.
@@ -96,19 +98,23 @@ fn peer_of(command: &Command) -> Option<Peer> {
     match command {
         Command::PullLocal { .. } => Some(Peer::Read),
         Command::Unversioned(Unversioned::Sync { .. }) => Some(Peer::Written),
+        Command::Scrub { .. } => Some(Peer::Made),
         _ => None,
     }
 }
 
-/// The peer's file, which the third word of a `pull-local` and of a `uv-sync` names: for writing where that is allowed; for `pull-local`
-/// else for reading alone. The disk's calls fail where the file can't be opened, where another process holds it or this one
-/// does as its own, and for every other command.
+/// The peer's file, which the third word of a `pull-local`, a `uv-sync` and a `scrub` names: for writing where that is allowed; for
+/// `pull-local` else for reading alone. `scrub` makes it where it is missing. The disk's calls fail where the file can't be opened, where
+/// another process holds it or this one does as its own, and for every other command.
 fn open_peer(rt: &HostRuntime, words: &[String], command: &Command) -> Opened {
     let (Some(peer), Some(path)) = (peer_of(command), words.get(2)) else {
         return Opened::none();
     };
     let mut options = OpenOptions::new();
     options.read(true).write(true);
+    if matches!(peer, Peer::Made) {
+        options.create(true);
+    }
     match options.open(rt, path.as_str()) {
         Ok(file) => alone(file),
         Err(fault) if matches!(peer, Peer::Read) && is_read_only(fault) => {
