@@ -18,7 +18,7 @@ use Rattle.fossil.specs.declared.answers.fault.Fault.TheVariants as fault_is
 use Rattle.fossil.specs.Printed.{Printed}
 use Rattle.fossil.specs.Outcome.{Outcome, printed_of, not_repository, IsSaidOutcome}
 use Rattle.fossil.specs.Run.{Input, Clock, Agrees, reads, TakesMoment, IsTimed, IsInputFault, IsDamaged, IsFileLeft}
-use Rattle.fossil.specs.Acts.{ActsBy, HasActed, Touches, IsUnopened, IsNotLoadedAnswer, IsUnread, KeepsContents, KeepsImages}
+use Rattle.fossil.specs.Acts.{ActsBy, HasActed, IsTimedBy, Touches, IsUnopened, IsNotLoadedAnswer, IsUnread, KeepsContents, KeepsImages}
 use Rattle.fossil.proofs.InputLemmas.{some_bytes}
 use Rattle.fossil.proofs.FileLemmas.{both, Loads, stands, agrees, none_committed, loaded_left, loaded_touches}
 use Rattle.fossil.proofs.SomeOutcome.{some_said_outcome}
@@ -136,15 +136,18 @@ still told = record { before = told; after = told }
 pub fault_still : (command : Option Command) (told : Option (List ℕ)) (read : List ℕ) (moment : ℕ) (bytes : List ℕ) → IsTimed command (still told) false read moment bytes
 fault_still command told read moment bytes = inr ((λ answered. absurd (cc)), refl)
 
+-- whatever fault it is, unless the disk failed
+pub still_by : (command : Option Command) (input : Input) (told : Option (List ℕ)) (fault : Fault) → (fault ≡ fault_is.Disk → ⊥) → (read : List ℕ) (moment : ℕ) (bytes : List ℕ)
+    → IsTimedBy command input (still told) (Err fault) read moment bytes
+still_by command input told fault_is.Disk other read moment bytes = absurd (other refl)
+still_by command input told fault_is.Input other read moment bytes = refl
+still_by command input told (fault_is.Damaged name found) other read moment bytes = fault_still command told read moment bytes
+still_by command input told fault_is.Memory other read moment bytes = fault_still command told read moment bytes
+
 -- no moment is due
 pub none_due : (command : Option Command) (told : Option (List ℕ)) (answered : Bool) (read : List ℕ) (moment : ℕ) (bytes : List ℕ) → (TakesMoment command read bytes → ⊥)
     → IsTimed command (still told) answered read moment bytes
 none_due command told answered read moment bytes none = inr ((λ is due. none due), refl)
-
--- one that was taken where no fault ended the run is one where a fault did
-pub fault_timed : (command : Option Command) (clock : Clock) (read : List ℕ) (moment : ℕ) (bytes : List ℕ) → IsTimed command clock true read moment bytes → IsTimed command clock false read moment bytes
-fault_timed command clock read moment bytes (inl one) = inl one
-fault_timed command clock read moment bytes (inr none) = inr ((λ answered. absurd (cc)), none.1)
 
 -- a file that is no repository stands for no records
 pub unread_none : (command : Option Command) (loads : Loads command) (read bytes : List ℕ) (at : ℕ) → FailsAt bytes at → TakesMoment command read bytes → ⊥
@@ -198,7 +201,7 @@ module _ (command : Option Command) (loads : Loads command) (source : SourceStat
         none_committed old outcome.0.commits bytes (stands old bytes (un.modelled modelled held.0 file_told old (loads.old old held.0 are) bytes left_told))
 
     disk_acted : Rose file.faults left.faults → Acted (Err fault_is.Disk)
-    disk_acted rose = (read.0, 0, held.0, outcome.0, disk_by command loads input file left read.0 0 held.0 outcome.0 read.1 held.1 outcome.1 touches rose (inl refl) contents, unasked)
+    disk_acted rose = (read.0, 0, held.0, outcome.0, disk_by command loads input file left read.0 0 held.0 outcome.0 read.1 held.1 outcome.1 touches rose (inl refl) contents, inl (refl, refl))
 
   pub not_loaded_acted : (fault : LoadFault) (result : Result Printed Fault) → IsUnopened file left fault → IsNotLoadedAnswer fault result → Acted result
   not_loaded_acted load_fault.Disk result un is = subst Acted (sym is) (disk_acted load_fault.Disk un un.cause)

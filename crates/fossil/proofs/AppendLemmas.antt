@@ -23,7 +23,7 @@ use Rattle.fossil.proofs.InputLemmas.{some_bytes}
 use Rattle.fossil.proofs.FileLemmas.{both, Loads, stands, agrees, none_committed, all_committed, one_is_all, readable, loaded_touches}
 use Rattle.fossil.proofs.SomeOutcome.{some_said_outcome}
 use Rattle.fossil.proofs.CommitLemmas.{idle_contents, idle_durable}
-use Rattle.fossil.proofs.ActLemmas.{still, fault_still, fault_timed, unread_by, memory_by, disk_by}
+use Rattle.fossil.proofs.ActLemmas.{still, fault_still, still_by, unread_by, memory_by, disk_by}
 
 -- the status is 0, or 3 with nothing appended
 abbrev pub IsPlain : Printed → List Record → Type 0
@@ -71,7 +71,7 @@ module _ (command : Option Command) (loads : Loads command) (input : Input) (fil
         o.0,
         unread_by command loads input file mid read.0 0 bytes o.0 read.1 file_told o.1
             (loaded_touches command loads file mid bytes o.0 (unreadable mid) opened.any_moment opened.keeps) fault un reads_it l.journal.records opened.stands.2 opened.contents,
-        fault_still command told read.0 0 bytes,
+        still_by command input told fault (λ e. subst (λ (f : Fault). IsUnread f input) e un) read.0 0 bytes,
       )
 
   -- there was no memory for what is appended, behind a moment that was taken
@@ -156,7 +156,7 @@ module _ (command : Option Command) (loads : Loads command) (input : Input) (fil
             let modelled : IsModelled file = record { tells = ap is_some told; model = (known refl).0 } in
             some_stand old held (old_is bytes old told (loads.old old bytes are))
             ((moments (modelled_after file mid opened.keeps modelled)).now held (reads held (commit_keeps.model ∙ opened.keeps.model ∙ (known refl).0) left_told))),
-        fault_timed command clock run.read run.moment bytes (run.timed opened.stands.2),
+        inr (run.timed opened.stands.2),
       )
 
       module _ (contents : Told left (λ held. IsFileOf held after.journal.records)) (durable : IsModelled mid → (c : List ℕ) → left.images c → IsFileOf c after.journal.records) where

@@ -23,7 +23,7 @@ use Rattle.fossil.proofs.InputLemmas.{some_bytes}
 use Rattle.fossil.proofs.MessageLemmas.{refused_status}
 use Rattle.fossil.proofs.FileLemmas.{both, quiet_none, idle_left, idle_touches, fault_undone, fault_fades}
 use Rattle.fossil.proofs.SomeOutcome.{some_said_outcome}
-use Rattle.fossil.proofs.ActLemmas.{still, fault_still, none_due}
+use Rattle.fossil.proofs.ActLemmas.{still, still_by, none_due}
 use Rattle.fossil.proofs.PrintedLemmas.{written}
 
 no_zero : (fault : Fault) → fault_status fault ≡ 0 → ⊥
@@ -90,7 +90,7 @@ module _ (command : Option Command) (input : Input) (clock : Option (List ℕ)) 
           durable = λ last. absurd (fault_fades command fault last);
           spared = λ nine begun. quiet_none file;
         },
-        fault_still command clock read.0 0 bytes.0,
+        still_by command input clock fault other read.0 0 bytes.0,
       )
 
   pub idle_memory : meets command ≡ false → Acted (Err fault_is.Memory)
@@ -103,7 +103,7 @@ module _ (command : Option Command) (input : Input) (clock : Option (List ℕ)) 
   idle_unread plain fault_is.Memory un reads_it closed = idle_memory plain
 
 -- what opens no file and comes to the usage
-pub usage_of : (command : Option Command) → (IsTrue (opens command) → ⊥) → ((read bytes : List ℕ) → TakesMoment command read bytes → ⊥) → ((honest : Bool) (read : List ℕ) (moment : ℕ) (bytes : List ℕ) → IsSaidOutcome honest command read moment bytes usage)
+usage_of : (command : Option Command) → (IsTrue (opens command) → ⊥) → ((read bytes : List ℕ) → TakesMoment command read bytes → ⊥) → ((honest : Bool) (read : List ℕ) (moment : ℕ) (bytes : List ℕ) → IsSaidOutcome honest command read moment bytes usage)
     → (input : Input) (clock : Option (List ℕ)) (file : DiskState)
     → (IsTrue file.is_model → (c : List ℕ) → file.since file.moment c → file.images c) → (out : Output) (status : ℕ) → status ≡ 1 → IsSaid out usage.text → HasRun command input (still clock) out (both file file) status
 usage_of command closed never is input clock file no_other out status one said =

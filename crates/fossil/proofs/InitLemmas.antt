@@ -25,11 +25,11 @@ use Rattle.fossil.proofs.ActLemmas.{still, none_due}
 use Rattle.fossil.proofs.FileLemmas.{both, some_same, agrees, agreed, empty_file, old_stands, none_committed, all_committed, one_is_all, left_same, left_failed, fault_fades}
 
 -- some bytes of a length, or those that are told
-of_length : (told : Option (List ℕ)) (len : ℕ) → ((held : List ℕ) → told ≡ Some held → len ≡ length held) → (bytes : List ℕ) × Agrees told bytes × (length bytes ≡ len)
+pub of_length : (told : Option (List ℕ)) (len : ℕ) → ((held : List ℕ) → told ≡ Some held → len ≡ length held) → (bytes : List ℕ) × Agrees told bytes × (length bytes ≡ len)
 of_length None len h = (replicate len 0, tt, length-replicate len 0)
 of_length (Some held) len h = (held, refl, sym (h held refl))
 
-no_zero : (n : ℕ) → 0 < n → (n == 0) ≡ false
+pub no_zero : (n : ℕ) → 0 < n → (n == 0) ≡ false
 no_zero n h = grind (arith)
 
 is_empty : (bytes : List ℕ) → (bytes ≡ []) ⊎ (bytes ≢ [])
@@ -198,5 +198,5 @@ module _ (config : Config) (source : SourceState) (clock : Option (List ℕ)) (f
         outcome bytes.0,
         fault_acted bytes.0 bytes.1 fault_is.Disk (λ e. cc) (record { opened = refl; rose = rose; moment = inl refl })
             (left_failed command file left bytes.0 (outcome bytes.0) refl keeps reads (touches bytes.0 bytes.1).any_moment) (λ nine begun. absurd (cc)),
-        unasked false (some_bytes source.left).0 bytes.0,
+        inl (refl, refl),
       )

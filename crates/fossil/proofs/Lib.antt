@@ -52,3 +52,5 @@ pub mod SomeSync
 pub mod UvSyncOutcomes
 pub mod UvFileLemmas
 pub mod UvSyncLemmas
+pub mod ScrubOutcomes
+pub mod ScrubLemmas

@@ -186,7 +186,7 @@ one_command_outcome honest (command_of.Serve address users workers requests) kin
 one_command_outcome honest (command_of.Checkin parent user comment) kind input moment bytes a b h k = one_loaded (IsCheckinOf parent user comment input moment) bytes (one_checkin_of parent user comment input moment) a b h k
 one_command_outcome honest (command_of.Export prefix) kind input moment bytes a b h k = one_loaded (IsExportedBy honest prefix) bytes (one_exported_by honest prefix kind) a b h k
 one_command_outcome honest (command_of.Verify prefix) kind input moment bytes a b h k = one_loaded (IsVerifiedBy honest prefix) bytes (one_verified_by honest prefix kind) a b h k
-one_command_outcome honest (command_of.Scrub path) kind input moment bytes a b h k = h ∙ sym k
+one_command_outcome honest (command_of.Scrub path) kind input moment bytes a b h k = absurd h
 one_command_outcome honest (command_of.Unversioned asked) kind input moment bytes a b h k = one_uv_outcome asked input moment bytes a b h k
 one_command_outcome honest (command_of.Gen count reversed) kind input moment bytes a b h k = one_gen count reversed a b h k
 one_command_outcome honest (command_of.Pull address login) kind input moment bytes a b h k = absurd h
@@ -212,8 +212,7 @@ alike_command (command_of.Checkin parent user comment) no_tree input moment byte
     same_alike a b (one_command_outcome false (command_of.Checkin parent user comment) refl input moment bytes a b h k)
 alike_command (command_of.Export prefix) no_tree input moment bytes a b h k = absurd cc
 alike_command (command_of.Verify prefix) no_tree input moment bytes a b h k = absurd cc
-alike_command (command_of.Scrub path) no_tree input moment bytes a b h k =
-    same_alike a b (one_command_outcome false (command_of.Scrub path) refl input moment bytes a b h k)
+alike_command (command_of.Scrub path) no_tree input moment bytes a b h k = absurd h
 alike_command (command_of.Unversioned asked) no_tree input moment bytes a b h k =
     same_alike a b (one_command_outcome false (command_of.Unversioned asked) refl input moment bytes a b h k)
 alike_command (command_of.Gen count reversed) no_tree input moment bytes a b h k = same_alike a b (one_command_outcome false (command_of.Gen count reversed) refl input moment bytes a b h k)

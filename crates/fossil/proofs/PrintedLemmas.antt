@@ -10,8 +10,8 @@ use Rattle.fossil.specs.declared.answers.fault.Fault.{Fault}
 use Rattle.fossil.specs.declared.answers.fault.Fault.TheVariants as fault_is
 use Rattle.fossil.specs.Printed.{Printed}
 use Rattle.fossil.specs.Outcome.{Outcome, without_commit}
-use Rattle.fossil.specs.Run.{Input, Clock, Output, File, is_answered, IsTimed, IsSaid, IsTold, IsDamaged, IsFaulted, IsFileLeft, IsLeft, lasts, IsDurable, IsSpared, cut_off_status, RunsBy, HasRun}
-use Rattle.fossil.specs.Acts.{ActsBy, HasActed, IsWritten, IsCaused, result_status, fault_status, fault_line}
+use Rattle.fossil.specs.Run.{Input, Clock, Output, File, is_answered, TakesNone, IsTimed, IsCutTimed, IsSaid, IsTold, IsDamaged, IsFaulted, IsFileLeft, IsLeft, lasts, IsDurable, IsSpared, cut_off_status, RunsBy, HasRun}
+use Rattle.fossil.specs.Acts.{ActsBy, HasActed, IsTimedBy, IsWritten, IsCaused, result_status, fault_status, fault_line}
 
 abbrev OutputRose : Output → Type 0
 OutputRose out = Rose out.before.faults out.after.faults
@@ -54,6 +54,17 @@ answered_timed : (command : Option Command) (clock : Clock) (result : Result Pri
     → IsTimed command clock (is_ok result) read moment bytes → IsTimed command clock (is_answered status) read moment bytes
 answered_timed command clock result status read moment bytes ok (inl one) = inl one
 answered_timed command clock result status read moment bytes ok (inr none) = inr ((λ answered. none.0 (ok answered)), none.1)
+
+-- where a fault ended the command a moment was taken that it takes, or none was
+plain_timed : (command : Option Command) (input : Input) (clock : Clock) (result : Result Printed Fault) (read : List ℕ) (moment : ℕ) (bytes : List ℕ)
+    → IsTimedBy command input clock result read moment bytes → IsTimed command clock (is_ok result) read moment bytes
+plain_timed command input clock (Ok answer) read moment bytes timed = timed
+plain_timed command input clock (Err fault_is.Disk) read moment bytes (inl none) = inr ((λ answered. absurd (cc)), none.1)
+plain_timed command input clock (Err fault_is.Disk) read moment bytes (inr (inl one)) = inl one
+plain_timed command input clock (Err fault_is.Disk) read moment bytes (inr (inr none)) = inr ((λ answered. absurd (cc)), none.1)
+plain_timed command input clock (Err fault_is.Input) read moment bytes none = inr ((λ answered. absurd (cc)), none)
+plain_timed command input clock (Err (fault_is.Damaged name found)) read moment bytes timed = timed
+plain_timed command input clock (Err fault_is.Memory) read moment bytes timed = timed
 
 -- over a disk that tells its contents and meets the disk model no content has another name
 modelled_kind : (disk : DiskState) → IsModelled disk → is_modelled disk ≡ true
@@ -107,6 +118,22 @@ module _ (command : Option Command) (input : Input) (file : File) (read : List �
   input_of_result (Ok answer) acts five = let plain = acts.plain in absurd (omega (arith, plain, five))
   input_of_result (Err fault) acts five = of_input fault five acts.cause
 
+  -- and how far it came
+  cut_of : (clock : Clock) (result : Result Printed Fault) → ActsBy command input file result read moment bytes o → IsTimedBy command input clock result read moment bytes → result_status result ≡ 4
+      → IsCutTimed command input clock read moment bytes
+  cut_of clock (Ok answer) acts timed four = let plain = acts.plain in absurd (omega (arith, plain, four))
+  cut_of clock (Err fault_is.Disk) acts timed four = timed
+  cut_of clock (Err fault_is.Input) acts timed four = absurd (cc)
+  cut_of clock (Err (fault_is.Damaged name found)) acts timed four = absurd (cc)
+  cut_of clock (Err fault_is.Memory) acts timed four = absurd (cc)
+
+  none_of : (clock : Clock) (result : Result Printed Fault) → ActsBy command input file result read moment bytes o → IsTimedBy command input clock result read moment bytes → result_status result ≡ 5 → TakesNone clock
+  none_of clock (Ok answer) acts timed five = let plain = acts.plain in absurd (omega (arith, plain, five))
+  none_of clock (Err fault_is.Disk) acts timed five = absurd (cc)
+  none_of clock (Err fault_is.Input) acts timed five = timed
+  none_of clock (Err (fault_is.Damaged name found)) acts timed five = absurd (cc)
+  none_of clock (Err fault_is.Memory) acts timed five = absurd (cc)
+
   no_six : (result : Result Printed Fault) → ActsBy command input file result read moment bytes o → result_status result ≡ 6 → ⊥
   no_six (Ok answer) acts six = let plain = acts.plain in omega (arith, plain, six)
   no_six (Err fault) acts six = no_output fault six
@@ -133,7 +160,7 @@ module _ (command : Option Command) (input : Input) (file : File) (read : List �
     answer_by (Ok answer) acts written = inl (subst (λ (a : Printed). IsTold (without_commit a) status out) acts.answer written)
     answer_by (Err fault) acts written = inr (faulted fault acts.cause written)
 
-    module _ (clock : Clock) (result : Result Printed Fault) (acts : ActsBy command input file result read moment bytes o) (timed : IsTimed command clock (is_ok result) read moment bytes) where
+    module _ (clock : Clock) (result : Result Printed Fault) (acts : ActsBy command input file result read moment bytes o) (timed : IsTimedBy command input clock result read moment bytes) where
       left_by : Ends result status out → IsFileLeft command file status bytes o
       left_by (inl e) = subst (λ (n : ℕ). IsFileLeft command file n bytes o) (sym e) acts.contents
       left_by (inr cut) = λ old held file_told left_told are known.
@@ -170,7 +197,15 @@ module _ (command : Option Command) (input : Input) (file : File) (read : List �
 
       -- a status of no fault is one of an answer
       timed_by : Ends result status out → IsTimed command clock (is_answered status) read moment bytes
-      timed_by e = answered_timed command clock result status read moment bytes (no_fault result status out e) timed
+      timed_by e = answered_timed command clock result status read moment bytes (no_fault result status out e) (plain_timed command input clock result read moment bytes timed)
+
+      asked_by : Ends result status out → status ≡ 4 → IsCutTimed command input clock read moment bytes
+      asked_by (inl e) four = cut_of clock result acts timed (sym e ∙ four)
+      asked_by (inr cut) four = absurd (let six = cut.1 in cc)
+
+      unasked_by : Ends result status out → status ≡ 5 → TakesNone clock
+      unasked_by (inl e) five = none_of clock result acts timed (sym e ∙ five)
+      unasked_by (inr cut) five = absurd (let six = cut.1 in cc)
 
       written_by : IsWritten result status out → RunsBy command input clock out file status read moment bytes o
       written_by written =
@@ -180,6 +215,8 @@ module _ (command : Option Command) (input : Input) (file : File) (read : List �
             file_told = acts.file_told;
             outcome = acts.outcome;
             timed = timed_by end;
+            asked = asked_by end;
+            unasked = unasked_by end;
             answer = answer_by result acts written;
             end = λ z. acts.end (zero_by end z);
             contents = left_by end;

@@ -118,7 +118,7 @@ module _ (question : Question) (source : SourceState) (clock : Option (List ℕ)
           o.0,
           disk_by command (ask_loads question) input file left read.0 0 bytes o.0 read.1 file_told o.1 (touches o.0) (subst (λ (n : ℕ). Rose n left.faults) opened.faults rose) (inl refl)
               (λ old held told left_told are known. none_committed old (o.0).commits held (stands old held (kept bytes told old are held left_told))),
-          unasked false read.0 bytes,
+          inl (refl, refl),
         )
 
     damaged_acted : (name found : List ℕ) → content_asked (contents l.journal.records) question ≡ Some name → IsSpoiltIn (is_modelled file) (contents l.journal.records) name found

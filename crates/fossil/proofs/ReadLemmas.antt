@@ -1,5 +1,5 @@
 -- What a command did that loads the file and only reads it.
-use Rattle.std.proofs.Common.{◌≡◌, inl, inr, ℕ, ◌≤◌, Bool, true, false, List, [], Option, Some, Result, Ok, Err, IsTrue, refl, sym, subst, ◌∙◌}
+use Rattle.std.proofs.Common.{◌≡◌, inl, ℕ, ◌≤◌, Bool, true, false, List, Option, Result, Ok, Err, IsTrue, refl, sym, subst, ◌∙◌}
 use Rattle.fsl_order.specs.Causes.{Rose}
 use Rattle.fsl_outside.specs.Streams.{SourceState}
 use Rattle.fsl_disk.specs.Disk.{DiskState, Quiet}
@@ -97,7 +97,7 @@ module _ (command : Option Command) (only : OnlyReads command) (source : SourceS
           o.0,
           disk_by command only.loads input file left read.0 0 bytes o.0 read.1 file_told o.1 (touches o.0) (subst (λ (n : ℕ). Rose n left.faults) opened.faults rose) (inl refl)
               (λ old held told left_told are known. none_committed old (o.0).commits held (stands old held (kept bytes told old (only.loads.old old bytes are) held left_told))),
-          unasked false read.0 bytes,
+          inl (refl, refl),
         )
 
     pub read_damaged : (name found : List ℕ) → IsDamaged (is_modelled file) command bytes name found → left.faults ≡ mid.faults → Acted (Err (fault_is.Damaged name found))

@@ -23,7 +23,7 @@ use Rattle.fossil.specs.declared.answers.due.Due.{Due}
 use Rattle.fossil.specs.declared.commands.sync.Way.{Way}
 use Rattle.fossil.specs.declared.commands.sync.Way.TheVariants as way
 use Rattle.fossil.specs.Printed.{Printed}
-use Rattle.fossil.specs.Uses.{command_syncs, command_clones, command_merges, command_meets, command_asks_peer}
+use Rattle.fossil.specs.Uses.{command_syncs, command_clones, command_merges, command_scrubs, command_meets, command_asks_peer}
 use Rattle.fossil.specs.Outcome.{Outcome, without_commit, printed_of}
 use Rattle.fossil.specs.Run.{File, Output, Agrees, IsTold}
 use Rattle.fossil.specs.Acts.{file_of, KeepsImages}
@@ -385,34 +385,37 @@ IsNoLocal command = (path : List ℕ) → command ≡ command_of.PullLocal path 
 abbrev pub IsNoMerge : Command → Type 0
 IsNoMerge command = (path : List ℕ) → command ≡ command_of.Unversioned (uv.Sync path) → ⊥
 
-pub is_alone : (command : Command) → IsNoPull command → IsNoPush command → IsNoClone command → IsNoLocal command → IsNoMerge command → command_meets command ≡ false
-is_alone (command_of.Init project server fields) no_pull no_push no_clone no_local no_merge = refl
-is_alone command_of.Ingest no_pull no_push no_clone no_local no_merge = refl
-is_alone command_of.Put no_pull no_push no_clone no_local no_merge = refl
-is_alone (command_of.Shun name) no_pull no_push no_clone no_local no_merge = refl
-is_alone (command_of.Unshun name) no_pull no_push no_clone no_local no_merge = refl
-is_alone (command_of.Ask question) no_pull no_push no_clone no_local no_merge = refl
-is_alone (command_of.Serve address users workers requests) no_pull no_push no_clone no_local no_merge = refl
-is_alone (command_of.Checkin parent user comment) no_pull no_push no_clone no_local no_merge = refl
-is_alone (command_of.Export prefix) no_pull no_push no_clone no_local no_merge = refl
-is_alone (command_of.Verify prefix) no_pull no_push no_clone no_local no_merge = refl
-is_alone (command_of.Scrub path) no_pull no_push no_clone no_local no_merge = refl
-is_alone (command_of.Unversioned (uv.Init project server)) no_pull no_push no_clone no_local no_merge = refl
-is_alone (command_of.Unversioned (uv.Add path)) no_pull no_push no_clone no_local no_merge = refl
-is_alone (command_of.Unversioned (uv.Remove path)) no_pull no_push no_clone no_local no_merge = refl
-is_alone (command_of.Unversioned uv.List) no_pull no_push no_clone no_local no_merge = refl
-is_alone (command_of.Unversioned (uv.Cat path)) no_pull no_push no_clone no_local no_merge = refl
-is_alone (command_of.Unversioned (uv.Sync path)) no_pull no_push no_clone no_local no_merge = absurd (no_merge path refl)
-is_alone (command_of.Gen count reversed) no_pull no_push no_clone no_local no_merge = refl
-is_alone (command_of.Pull address login) no_pull no_push no_clone no_local no_merge = absurd (no_pull address login refl)
-is_alone (command_of.Push address login) no_pull no_push no_clone no_local no_merge = absurd (no_push address login refl)
-is_alone (command_of.Clone address server fields) no_pull no_push no_clone no_local no_merge = absurd (no_clone address server fields refl)
-is_alone (command_of.PullLocal path) no_pull no_push no_clone no_local no_merge = absurd (no_local path refl)
+abbrev pub IsNoScrub : Command → Type 0
+IsNoScrub command = (path : List ℕ) → command ≡ command_of.Scrub path → ⊥
+
+pub is_alone : (command : Command) → IsNoPull command → IsNoPush command → IsNoClone command → IsNoLocal command → IsNoMerge command → IsNoScrub command → command_meets command ≡ false
+is_alone (command_of.Init project server fields) no_pull no_push no_clone no_local no_merge no_scrub = refl
+is_alone command_of.Ingest no_pull no_push no_clone no_local no_merge no_scrub = refl
+is_alone command_of.Put no_pull no_push no_clone no_local no_merge no_scrub = refl
+is_alone (command_of.Shun name) no_pull no_push no_clone no_local no_merge no_scrub = refl
+is_alone (command_of.Unshun name) no_pull no_push no_clone no_local no_merge no_scrub = refl
+is_alone (command_of.Ask question) no_pull no_push no_clone no_local no_merge no_scrub = refl
+is_alone (command_of.Serve address users workers requests) no_pull no_push no_clone no_local no_merge no_scrub = refl
+is_alone (command_of.Checkin parent user comment) no_pull no_push no_clone no_local no_merge no_scrub = refl
+is_alone (command_of.Export prefix) no_pull no_push no_clone no_local no_merge no_scrub = refl
+is_alone (command_of.Verify prefix) no_pull no_push no_clone no_local no_merge no_scrub = refl
+is_alone (command_of.Scrub path) no_pull no_push no_clone no_local no_merge no_scrub = absurd (no_scrub path refl)
+is_alone (command_of.Unversioned (uv.Init project server)) no_pull no_push no_clone no_local no_merge no_scrub = refl
+is_alone (command_of.Unversioned (uv.Add path)) no_pull no_push no_clone no_local no_merge no_scrub = refl
+is_alone (command_of.Unversioned (uv.Remove path)) no_pull no_push no_clone no_local no_merge no_scrub = refl
+is_alone (command_of.Unversioned uv.List) no_pull no_push no_clone no_local no_merge no_scrub = refl
+is_alone (command_of.Unversioned (uv.Cat path)) no_pull no_push no_clone no_local no_merge no_scrub = refl
+is_alone (command_of.Unversioned (uv.Sync path)) no_pull no_push no_clone no_local no_merge no_scrub = absurd (no_merge path refl)
+is_alone (command_of.Gen count reversed) no_pull no_push no_clone no_local no_merge no_scrub = refl
+is_alone (command_of.Pull address login) no_pull no_push no_clone no_local no_merge no_scrub = absurd (no_pull address login refl)
+is_alone (command_of.Push address login) no_pull no_push no_clone no_local no_merge no_scrub = absurd (no_push address login refl)
+is_alone (command_of.Clone address server fields) no_pull no_push no_clone no_local no_merge no_scrub = absurd (no_clone address server fields refl)
+is_alone (command_of.PullLocal path) no_pull no_push no_clone no_local no_merge no_scrub = absurd (no_local path refl)
 
 -- one that syncs meets a peer
 syncs_meets : (command : Command) → IsTrue (command_syncs command) → command_meets command ≡ true
-syncs_meets command asks = (λ i. (asks i) || (command_clones command || command_merges command))
+syncs_meets command asks = (λ i. (asks i) || (command_clones command || (command_merges command || command_scrubs command)))
 
-pub not_alone : (command : Command) → IsNoPull command → IsNoPush command → IsNoClone command → IsNoLocal command → IsNoMerge command → IsTrue (command_syncs command) → ⊥
-not_alone command no_pull no_push no_clone no_local no_merge asks =
-    let e : true ≡ false = sym (syncs_meets command asks) ∙ is_alone command no_pull no_push no_clone no_local no_merge in cc
+pub not_alone : (command : Command) → IsNoPull command → IsNoPush command → IsNoClone command → IsNoLocal command → IsNoMerge command → IsNoScrub command → IsTrue (command_syncs command) → ⊥
+not_alone command no_pull no_push no_clone no_local no_merge no_scrub asks =
+    let e : true ≡ false = sym (syncs_meets command asks) ∙ is_alone command no_pull no_push no_clone no_local no_merge no_scrub in cc

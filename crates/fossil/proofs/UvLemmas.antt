@@ -50,7 +50,7 @@ use Rattle.fossil.specs.Uses.{command_opens, command_meets}
 use Rattle.fossil.specs.UvCalls.{loaded_store, IsNoStoreAnswer, IsPutAnswer, IsPutDone, HasPut, putting, IsPutDue, IsToldAs}
 use Rattle.fossil.specs.Outcome.{Outcome, with_commit, uv_outcome, IsUvOf, IsUvOutcome, IsLoaded, IsSaidOutcome}
 use Rattle.fossil.specs.Run.{Input, Clock, File, Agrees, reads, TakesMoment, IsTimed}
-use Rattle.fossil.specs.Acts.{ActsBy, HasActed, IsCaused, IsOpened, IsUnopened, IsNotLoaded, IsNotLoadedAnswer, IsInput, KeepsContents, KeepsUnreadable}
+use Rattle.fossil.specs.Acts.{ActsBy, HasActed, IsTimedBy, IsCaused, IsOpened, IsUnopened, IsNotLoaded, IsNotLoadedAnswer, IsInput, KeepsContents, KeepsUnreadable}
 use Rattle.fossil.proofs.InputLemmas.{some_bytes}
 use Rattle.fossil.proofs.FileLemmas.{both, Loads, stands, agrees, loaded_left, loaded_touches, loaded_durable}
 use Rattle.fossil.proofs.LoadLemmas.{KeepsBetween, opened, images_kept, same_contents, spared_contents}
@@ -379,9 +379,18 @@ timed_as : (project server : List ℕ) (clock : Clock) (answered : Bool) (read :
 timed_as project server clock answered read moment bytes (inl taken) = absurd taken.0
 timed_as project server clock answered read moment bytes (inr none) = inr none
 
+answered_as : (project server : List ℕ) (source : Input) (clock : Clock) (result : Result Printed Fault) (read : List ℕ) (moment : ℕ) (bytes : List ℕ)
+    → IsTimedBy (Some (command_of.Init project server [])) source clock result read moment bytes → IsTimedBy (asks (uv.Init project server)) source clock result read moment bytes
+answered_as project server source clock (Ok answer) read moment bytes timed = timed_as project server clock true read moment bytes timed
+answered_as project server source clock (Err fault_is.Disk) read moment bytes (inl none) = inl none
+answered_as project server source clock (Err fault_is.Disk) read moment bytes (inr timed) = inr (timed_as project server clock true read moment bytes timed)
+answered_as project server source clock (Err fault_is.Input) read moment bytes none = none
+answered_as project server source clock (Err (fault_is.Damaged name found)) read moment bytes timed = timed_as project server clock false read moment bytes timed
+answered_as project server source clock (Err fault_is.Memory) read moment bytes timed = timed_as project server clock false read moment bytes timed
+
 pub begun_acted : (project server : List ℕ) (input : Input) (clock : Clock) (file : File) (result : Result Printed Fault) → HasActed (Some (command_of.Init project server [])) input clock file result → HasActed (asks (uv.Init project server)) input clock file result
 begun_acted project server input clock file result h =
-    (h.0, h.1, h.2, h.3, begun_by project server input file h.2 h.3 result h.0 h.1 h.4, timed_as project server clock _ h.0 h.1 h.2 h.5)
+    (h.0, h.1, h.2, h.3, begun_by project server input file h.2 h.3 result h.0 h.1 h.4, answered_as project server input clock result h.0 h.1 h.2 h.5)
 
 -- ---- an input that is too long
 

@@ -1,5 +1,5 @@
 -- What the parts of a run say of what they did.
-use Rattle.std.specs.Prelude.{◌≡◌, ◌≢◌, ◌⊎◌, ◌<◌, ◌≤◌, ℕ, false, List, [], length, nat_lt, true, Bool, Option, Some, None, Result, Ok, Err, is_ok, IfOk, IfErr, IsTrue, ⊤}
+use Rattle.std.specs.Prelude.{◌≡◌, ◌≢◌, ◌⊎◌, ◌<◌, ◌≤◌, ℕ, false, List, [], length, nat_lt, true, Bool, Option, Some, None, Result, Ok, Err, IfOk, IfErr, IsTrue, ⊤}
 use Rattle.std.specs.Io.KnownBytes.{IsAtEnd}
 use Rattle.fsl_order.specs.Causes.{Rose}
 use Rattle.fsl_text.specs.Limits.{most_of_message}
@@ -25,7 +25,7 @@ use Rattle.fsl_query.specs.declared.QueryFault.{QueryFault}
 use Rattle.fsl_query.specs.Answers.{content_asked, IsRead, IsReported, IsSpoiltIn}
 use Rattle.fossil.specs.Unversioned.{IsUvObeyable}
 use Rattle.fossil.specs.Outcome.{Outcome, without_commit, printed_of, not_repository, IsAnswered, IsSaidOutcome}
-use Rattle.fossil.specs.Run.{Input, Clock, Output, File, Agrees, reads, IsTimed, IsSaid, IsTold, IsDiskFault, IsInputFault, IsDamaged, IsFileLeft, IsRefusedKept, IsWholeAtAnyMoment, lasts, IsDurable, IsSpared, disk_fault, input_fault, out_of_memory}
+use Rattle.fossil.specs.Run.{Input, Clock, Output, File, Agrees, reads, TakesNone, IsTimed, IsCutTimed, IsSaid, IsTold, IsDiskFault, IsInputFault, IsDamaged, IsFileLeft, IsRefusedKept, IsWholeAtAnyMoment, lasts, IsDurable, IsSpared, disk_fault, input_fault, out_of_memory}
 
 -- ---- objects before and after
 
@@ -163,11 +163,20 @@ pub record ActsBy (command : Option Command) (input : Input) (file : File) (resu
   pub durable : IsTrue (lasts command (result_status result)) → IsDurable command file bytes o
   pub spared : IsSpared command file (result_status result)
 
+-- the moment by what is answered: where no fault ended the command, or the disk failed in its commit, one was taken where the command takes one, and else none;
+-- where the file wasn't loaded or made, or the input failed, none; and behind another fault one that the command takes may be taken
+abbrev pub IsTimedBy : Option Command → Input → Clock → Result Printed Fault → List ℕ → ℕ → List ℕ → Type 0
+IsTimedBy command input clock (Ok answer) read moment bytes = IsTimed command clock true read moment bytes
+IsTimedBy command input clock (Err fault_is.Disk) read moment bytes = IsCutTimed command input clock read moment bytes
+IsTimedBy command input clock (Err fault_is.Input) read moment bytes = TakesNone clock
+IsTimedBy command input clock (Err (fault_is.Damaged name found)) read moment bytes = IsTimed command clock false read moment bytes
+IsTimedBy command input clock (Err fault_is.Memory) read moment bytes = IsTimed command clock false read moment bytes
+
 -- and the moment is the one that the clock answered
 abbrev pub HasActed : Option Command → Input → Clock → File → Result Printed Fault → Type 0
 HasActed command input clock file result =
     (read : List ℕ) × (moment : ℕ) × (bytes : List ℕ) × (o : Outcome) × ActsBy command input file result read moment bytes o
-    × IsTimed command clock (is_ok result) read moment bytes
+    × IsTimedBy command input clock result read moment bytes
 
 -- the same of a command, by each object before and after
 abbrev pub Acts : Command → SourceState × SourceState → Option (List ℕ) × Option (List ℕ) → DiskState × DiskState → Result Printed Fault → Type 0

@@ -26,6 +26,8 @@ pub mod RunCall
 pub mod UvCalls
 pub mod UvSyncs
 pub mod UvMerging
+pub mod Scrubs
+pub mod ScrubCall
 pub mod TreeCall
 pub mod CheckinCall
 pub mod Syncing

@@ -157,7 +157,7 @@ IsCommandOutcome honest (Serve address users workers requests) input moment byte
 IsCommandOutcome honest (Checkin parent user comment) input moment bytes o = IsLoaded (IsCheckinOf parent user comment input moment) bytes o
 IsCommandOutcome honest (Export prefix) input moment bytes o = IsLoaded (IsExportedBy honest prefix) bytes o
 IsCommandOutcome honest (Verify prefix) input moment bytes o = IsLoaded (IsVerifiedBy honest prefix) bytes o
-IsCommandOutcome honest (Scrub path) input moment bytes o = o ≡ usage
+IsCommandOutcome honest (Scrub path) input moment bytes o = ⊥
 IsCommandOutcome honest (Unversioned asked) input moment bytes o = IsUvOutcome asked input moment bytes o
 IsCommandOutcome honest (Gen count reversed) input moment bytes o = IsGen count reversed o
 IsCommandOutcome honest (Pull address login) input moment bytes o = ⊥

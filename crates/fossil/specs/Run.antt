@@ -181,6 +181,11 @@ abbrev pub IsTimed : Option Command → Clock → Bool → List ℕ → ℕ → 
 IsTimed command clock answered read moment bytes =
     (TakesMoment command read bytes × TakesOne clock moment) ⊎ ((IsTrue answered → ¬ (TakesMoment command read bytes)) × TakesNone clock)
 
+-- behind a disk that failed: nothing was read and no moment taken, so that the file was to be loaded or made; or a moment was taken where the command takes one,
+-- and else none
+abbrev pub IsCutTimed : Option Command → Input → Clock → List ℕ → ℕ → List ℕ → Type 0
+IsCutTimed command input clock read moment bytes = ((input.after ≡ input.before) × TakesNone clock) ⊎ IsTimed command clock true read moment bytes
+
 -- ---- the file
 
 -- bytes stand for records, and for none where they are no repository
@@ -248,7 +253,7 @@ IsRefused (Some (Serve address users workers requests)) bytes = ⊥
 IsRefused (Some (Checkin parent user comment)) bytes = IsNoRepository bytes
 IsRefused (Some (Export prefix)) bytes = IsNoRepository bytes
 IsRefused (Some (Verify prefix)) bytes = IsNoRepository bytes
-IsRefused (Some (Scrub path)) bytes = ⊥
+IsRefused (Some (Scrub path)) bytes = IsNoRepository bytes
 IsRefused (Some (Unversioned asked)) bytes = IsUvRefused asked bytes
 IsRefused (Some (Gen count reversed)) bytes = ⊥
 IsRefused (Some (Pull address login)) bytes = IsNoRepository bytes
@@ -291,6 +296,9 @@ pub record RunsBy (command : Option Command) (input : Input) (clock : Clock) (ou
   pub outcome : IsSaidOutcome (is_modelled file.before) command read moment bytes o
   -- the moment is the one that the clock answered
   pub timed : IsTimed command clock (is_answered status) read moment bytes
+  -- where the disk failed it is told how far the command came; behind an input that failed no moment is taken
+  pub asked : status ≡ 4 → IsCutTimed command input clock read moment bytes
+  pub unasked : status ≡ 5 → TakesNone clock
   -- the text is that of the outcome, or the line of a fault
   pub answer : IsTold o status out ⊎ IsFaulted command input out file status bytes o
   -- after status 0 an input that the command reads was read to its end

@@ -14,7 +14,9 @@ pub record Use : Type 0 where
   pub clones : Bool
   -- it syncs unversioned files with a peer's file, and may append to both
   pub merges : Bool
-  -- it reads the peer's file
+  -- it writes a new file of the repository over the peer's
+  pub scrubs : Bool
+  -- it uses the peer's file
   pub asks_peer : Bool
   -- it uses the dial
   pub dials : Bool
@@ -23,4 +25,4 @@ pub record Use : Type 0 where
 
 abbrev pub nothing : Use
 nothing =
-    record { reads = false; opens = false; begins = false; syncs = false; clones = false; merges = false; asks_peer = false; dials = false; ticks = false }
+    record { reads = false; opens = false; begins = false; syncs = false; clones = false; merges = false; scrubs = false; asks_peer = false; dials = false; ticks = false }

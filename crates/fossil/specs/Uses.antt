@@ -16,7 +16,7 @@ use_of (Serve address users workers requests) = nothing
 use_of (Checkin parent user comment) = record nothing { reads = true; opens = true; ticks = true }
 use_of (Export prefix) = record nothing { opens = true }
 use_of (Verify prefix) = record nothing { opens = true }
-use_of (Scrub path) = nothing
+use_of (Scrub path) = record nothing { opens = true; scrubs = true; asks_peer = true }
 use_of (Unversioned asked) = uv_use asked
 use_of (Gen count reversed) = nothing
 use_of (Pull address login) = record nothing { opens = true; syncs = true; dials = true }
@@ -42,9 +42,12 @@ command_clones command = (use_of command).clones
 abbrev pub command_merges : Command → Bool
 command_merges command = (use_of command).merges
 
--- whether it meets a peer: it syncs, clones or merges
+abbrev pub command_scrubs : Command → Bool
+command_scrubs command = (use_of command).scrubs
+
+-- whether it meets a peer: it syncs, clones, merges or scrubs
 abbrev pub command_meets : Command → Bool
-command_meets command = command_syncs command || (command_clones command || command_merges command)
+command_meets command = command_syncs command || (command_clones command || (command_merges command || command_scrubs command))
 
 abbrev pub command_asks_peer : Command → Bool
 command_asks_peer command = (use_of command).asks_peer

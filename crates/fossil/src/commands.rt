@@ -8,6 +8,7 @@ pub(crate) mod ingest;
 pub(crate) mod init;
 pub(crate) mod pull_local;
 pub(crate) mod put;
+pub(crate) mod scrub;
 pub(crate) mod serving;
 pub(crate) mod shun;
 pub(crate) mod sync;

@@ -13,7 +13,8 @@
 //! begins with PARENT or over none, `export PREFIX` writes the tree of a check-in, and `verify PREFIX` tests its checksum
 //! against the tree. `uv-init PROJECT SERVER` makes a file for files without history, of which the newest counts:
 //! `uv-add PATH` makes the input the content of a path, `uv-remove PATH` deletes it, `uv-list` prints the paths that are there,
-//! `uv-cat PATH` a content, and `uv-sync PEER` syncs two such files. `gen N` and `gen N reversed` take so many generated
+//! `uv-cat PATH` a content, and `uv-sync PEER` syncs two such files. `scrub PEER` writes a new file of the repository, without any
+//! byte of what is shunned. `gen N` and `gen N reversed` take so many generated
 //! artifacts one after another into a set of their own, and print how many of each sort there are.
 #![tactic(auto)]
 

@@ -11,6 +11,8 @@ ghost use Rattle.fossil.specs.CloneLaws.{HasOneCloneOutcome, HasSomeCloneOutcome
 ghost use Rattle.fossil.specs.Synced.{asks_peer, dials};
 ghost use Rattle.fossil.specs.UvSyncs.{HasOneUvSync, HasSomeUvSync};
 ghost use Rattle.fossil.specs.UvMerging.{MergesFor, MergesAs};
+ghost use Rattle.fossil.specs.Scrubs.{HasOneScrub, HasSomeScrub};
+ghost use Rattle.fossil.specs.ScrubCall.{ScrubsFor, ScrubsAs};
 ghost use Rattle.fossil.specs.RunCall.{texts, RunsCommand, RunsFor, SyncsFor, ClonesFor, RunsAlone, SyncsAs, ClonesAs};
 
 use crate::answers::due::print_due;
@@ -24,6 +26,7 @@ use crate::commands::ingest::ingest;
 use crate::commands::init::init;
 use crate::commands::pull_local::pull_local;
 use crate::commands::put::put;
+use crate::commands::scrub::scrub;
 use crate::commands::shun::shun;
 use crate::commands::sync::{Way, sync};
 use crate::commands::trees::{export_tree, verify_tree};
@@ -130,10 +133,7 @@ fn obey<S: Source, C: Clock, K: Sink, D: Disk>(
         Command::Push { .. } => unreachable!(),
         Command::Clone { .. } => unreachable!(),
         Command::PullLocal { .. } => unreachable!(),
-        Command::Scrub { .. } => {
-            let status = say_usage(out);
-            Done { status, repo }
-        }
+        Command::Scrub { .. } => unreachable!(),
     }
 }
 
@@ -185,6 +185,7 @@ fn start<S: Source, K: Sink, D: Disk, P: Disk, N: Dial, C: Clock>(
     ensures syncs { SyncsFor command (D.state, repo) (P.state, peer) (N.state, dial.old, dial.new) (K.state, out.old, out.new) result }
     ensures cloned { ClonesFor command (D.state, repo) (N.state, dial.old, dial.new) (K.state, out.old, out.new) result }
     ensures merged { MergesFor command (D.state, repo) (P.state, peer) (K.state, out.old, out.new) result }
+    ensures scrubbed { ScrubsFor command (D.state, repo) (P.state, peer) (K.state, out.old, out.new) result }
     ensures unread { command_reads command ≡ false → input.new ≡ input.old }
     ensures untouched { command_opens command ≡ false → result.repo ≡ repo }
     ensures unasked { command_asks_peer command ≡ false → result.peer ≡ peer }
@@ -216,6 +217,11 @@ fn start<S: Source, K: Sink, D: Disk, P: Disk, N: Dial, C: Clock>(
             let status = print_due(out, &due);
             Ran { status, repo, peer }
         }
+        Command::Scrub { .. } => {
+            let (due, repo, peer) = scrub(alloc, repo, peer);
+            let status = print_due(out, &due);
+            Ran { status, repo, peer }
+        }
         Command::Unversioned(asked) => {
             start_unversioned(alloc, asked, input, out, repo, peer, clock)
         }
@@ -226,30 +232,33 @@ fn start<S: Source, K: Sink, D: Disk, P: Disk, N: Dial, C: Clock>(
     }
 }
 
-/// Runs the command that the words say over the input and the repository's disk, prints to the output, and gives the
-/// status and the disks: 0 after a report, 1 for words outside the grammar, for `serve` and for `scrub`, which nothing answers yet, 2 where a file isn't a
-/// repository, 3 where the command or its input is refused, 4, 5, 6 and 7 where a disk, the input, the output or the
-/// dial failed, 8 where a reply of the peer is wrong, 9 for want of memory, 10 where a name that the peer announced
-/// isn't sent, 11 after 100,000 rounds of a sync, 12 where the bytes that were read for an artifact have another name. Only
-/// `cat`, `export`, `verify`, `push` and `pull-local` read contents, and over a disk that tells its contents and meets the disk model none is
+/// Runs the command that the words say over the input and the repository's disk, prints to the output, and gives the status
+/// and the disks: 0 after a report, 1 for words outside the grammar and for `serve`, 2 where a file isn't a repository, 3
+/// where the command or its input is refused, 4, 5, 6 and 7 where a disk, the input, the output or the dial failed, 8 where
+/// a reply of the peer is wrong, 9 for want of memory, 10 where a name that the peer announced isn't sent, 11 after 100,000
+/// rounds of a sync, 12 where the bytes that were read for an artifact have another name. Only `cat`, `export`, `verify`,
+/// `scrub`, `push` and `pull-local` read contents, and over a disk that tells its contents and meets the disk model none is
 /// damaged. A command that reads no input leaves it, and so `ingest` leaves the disk; `gen` and words outside the grammar
-/// leave both. Only `pull-local` and `uv-sync` use the peer's disk, only `pull`, `push` and `clone` use the dial, and only `put`,
-/// `checkin`, `uv-add` and `uv-remove` ask the clock. Where the line of a refusal or of a fault can't be written, the status stays.
+/// leave both. Only `pull-local`, `uv-sync` and `scrub` use the peer's disk, only `pull`, `push` and `clone` use the dial,
+/// and only `put`, `checkin`, `uv-add` and `uv-remove` ask the clock. Where the line of a refusal or of a fault can't be
+/// written, the status stays.
 ///
-/// The file is loaded first, then the input is read, then its form, then `put` or `checkin` takes its one moment, then what it appends is
-/// committed, then the text is printed. A `put` takes no moment over a file that is no repository, nor where its message is too
-/// long or is refused for a line or a card; one that a fault ends may take none; each other one takes one, also where its message
-/// has no file or a file is refused. A `checkin` takes one where its file is a repository and its tree and its parent aren't
-/// refused, and else none.
+/// The file is loaded first, then the input is read, then its form, then `put` or `checkin` takes its one moment, then what
+/// it appends is committed, then the text is printed. A `put` takes no moment over a file that is no repository, nor where
+/// its message is too long or is refused for a line or a card; each other one takes one, also where its message has no file
+/// or a file is refused. A `checkin` takes one where its file is a repository and its tree and its parent aren't refused,
+/// and else none. Behind a disk that failed when the file was loaded nothing was read and no moment taken, and behind one
+/// that failed in the commit one was, as if it hadn't; behind an input that failed none is taken, and for want of memory
+/// one that is due may be.
 ///
-/// Of the commands of unversioned files all but `uv-init` load the file as a store, and refuse it where one of its Blobs is no
-/// entry, before `uv-add` reads its input; `uv-add` takes one moment behind an input that isn't too long, and `uv-remove` one
-/// where its path is there.
+/// Of the commands of unversioned files all but `uv-init` load the file as a store, and refuse it where one of its Blobs is
+/// no entry, before `uv-add` reads its input; `uv-add` takes one moment behind an input that isn't too long, and `uv-remove`
+/// one where its path is there.
 ///
-/// Of a command that meets no peer: after status 0 and 6 the file stands for the records that it stood for and those of
-/// the command, after 4 for the old ones, with all or none of the command's, and after each other status for the old
-/// ones. Whatever moment a crash comes at, what it leaves stands for the old ones with all or none of the command's;
-/// after status 0 and 6, for all, whatever a crash before the run might have left.
+/// Of a command that meets no peer: after status 0 and 6 the file stands for the records that it stood for and those of the
+/// command, after 4 for the old ones, with all or none of the command's, and after each other status for the old ones.
+/// Whatever moment a crash comes at, what it leaves stands for the old ones with all or none of the command's; after status
+/// 0 and 6, for all, whatever a crash before the run might have left.
 ///
 /// A sync has one commit for each round that stored or published something and that no fault ended: after 7, 12 and each
 /// status of its end all of them stand there, after 4 and 9 all, or all but that of the last round, and at each moment a
@@ -259,9 +268,15 @@ fn start<S: Source, K: Sink, D: Disk, P: Disk, N: Dial, C: Clock>(
 ///
 /// A sync of unversioned files opens its own file and then the peer's, and has one commit for each, its own first. At each
 /// moment each of them stands for its old records, or for these with its one commit; the peer's file takes nothing in unless
-/// the own one has, and it isn't looked at unless that was opened. After status 0 both stand for stores whose map is the merge
-/// of the two, as far as versions of a path with one moment and one hash are the same. After 9 none, the own or both commits
-/// were made.
+/// the own one has, and it isn't looked at unless that was opened. After status 0 both stand for stores whose map is the
+/// merge of the two, as far as versions of a path with one moment and one hash are the same. After 9 none, the own or both
+/// commits were made.
+///
+/// A scrub opens its own file, which stands for the same records at each moment, and then writes a new file of them over a
+/// peer's file without bytes; one with bytes is refused, and stays as it is, as it does where the own file isn't a
+/// repository. At each moment the peer's file is no repository or the whole new one; after status 0 it is exactly that file,
+/// and so is each of its images, so no byte is left of what is shunned. It stands for records that leave what those of the
+/// own file leave.
 pub fn run<S: Source, K: Sink, D: Disk, P: Disk, N: Dial, C: Clock>(
     alloc: Global,
     words: &[String],
@@ -276,6 +291,7 @@ pub fn run<S: Source, K: Sink, D: Disk, P: Disk, N: Dial, C: Clock>(
     ensures synced { SyncsAs (texts words.now) (D.state, repo) (P.state, peer) (N.state, dial.old, dial.new) (K.state, out.old, out.new) result }
     ensures cloned { ClonesAs (texts words.now) (D.state, repo) (N.state, dial.old, dial.new) (K.state, out.old, out.new) result }
     ensures merged { MergesAs (texts words.now) (D.state, repo) (P.state, peer) (K.state, out.old, out.new) result }
+    ensures scrubbed { ScrubsAs (texts words.now) (D.state, repo) (P.state, peer) (K.state, out.old, out.new) result }
     ensures unread { reads_input (texts words.now) ≡ false → input.new ≡ input.old }
     ensures untouched { opens_file (texts words.now) ≡ false → result.repo ≡ repo }
     ensures unasked { asks_peer (texts words.now) ≡ false → result.peer ≡ peer }
@@ -296,21 +312,23 @@ pub fn run<S: Source, K: Sink, D: Disk, P: Disk, N: Dial, C: Clock>(
 }
 
 /// A law and no code: words, an input, a moment and a file have one outcome at most, and so have a sync and a clone by what they read,
-/// and a sync of unversioned files by both files.
+/// and a sync of unversioned files and a scrub by both files.
 pub fn one_outcome()
     ensures kinds { IsOneAtMost IsKind }
     ensures outcome { HasOneOutcome }
     ensures synced { HasOneSyncOutcome }
     ensures cloned { HasOneCloneOutcome }
     ensures merged { HasOneUvSync }
+    ensures scrubbed { HasOneScrub }
 {}
 
 /// A law and no code: words, an input, a moment and a file have an outcome, where the words say no command that meets a peer. A sync
-/// has one over any files and of as many replies as it may have, and so has a clone. A sync of unversioned files has one over any
-/// two files.
+/// has one over any files and of as many replies as it may have, and so has a clone. A sync of unversioned files and a scrub have
+/// one over any two files.
 pub fn some_outcome()
     ensures outcome { HasSomeOutcome }
     ensures synced { HasSomeSyncOutcome }
     ensures cloned { HasSomeCloneOutcome }
     ensures merged { HasSomeUvSync }
+    ensures scrubbed { HasSomeScrub }
 {}

@@ -18,7 +18,7 @@ use Rattle.fsl_journal.specs.Log.{WhereEmpty}
 use Rattle.fsl_scrub.specs.declared.faults.WriteFault.{WriteFault}
 use Rattle.fsl_scrub.specs.declared.faults.WriteFault.TheVariants as write_fault
 use Rattle.fsl_scrub.specs.Growing.{EachBegins, EndsAt, Grows}
-use Rattle.fsl_scrub.specs.Closing.{ClosesFile, IsUnopened, ScrubFailed, UnopenedOr, WritesFile}
+use Rattle.fsl_scrub.specs.Closing.{ClosesFile, IsOfWriting, IsUnopened, ScrubFailed, UnopenedOr, WritesFile}
 use Rattle.fsl_scrub.specs.Faults.{ReadFails, SpareFails, fault_of}
 use Rattle.fsl_repo.specs.Machine.{State}
 use Rattle.fsl_order.specs.Rows.{ascending}
@@ -198,3 +198,10 @@ scrub_failed write_fault.Unwritten old new s0 s1 s2 same read rose = inr (subst 
 scrub_failed write_fault.Unread old new s0 s1 s2 same read stays = inl (read, stays ∙ same)
 scrub_failed (write_fault.Damaged name found) old new s0 s1 s2 same read stays = (read.0, (read.1, stays ∙ same))
 scrub_failed write_fault.Memory old new s0 s1 s2 same read stays = (read, stays ∙ same)
+
+-- and it isn't that the spare file has bytes
+pub of_writing : (e : WriteFault) → IsOfWriting (fault_of e)
+of_writing write_fault.Unwritten = tt
+of_writing write_fault.Unread = tt
+of_writing (write_fault.Damaged name found) = tt
+of_writing write_fault.Memory = tt

@@ -15,6 +15,11 @@ pub same_fault : {X E : Type 0} (r : Result X E) (fault : E) → IsErrAnd r (λ 
 same_fault (Ok x) fault h P p = absurd h
 same_fault (Err e) fault h P p = subst P (sym h) p
 
+-- and what is so of it
+pub error_with : {X E : Type 0} (r : Result X E) (fault : E) → IsErrAnd r (λ e. e ≡ fault) → (P : E → Type 0) → P fault → IsErrAnd r P
+error_with (Ok x) fault h P p = absurd h
+error_with (Err e) fault h P p = subst P (sym h) p
+
 pub fault_cause : {X E : Type 0} (r : Result X E) (Q : E → Type 0) → IsErrAnd r Q → (before now : ℕ) → before ≤ now → Rose before now → HasCause before now r
 fault_cause (Ok x) Q h before now later rose = absurd h
 fault_cause (Err e) Q h before now later rose = record { later = later; failed = rose; same = tt }

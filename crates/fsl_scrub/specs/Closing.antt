@@ -1,5 +1,5 @@
 -- What a crash leaves while a new file is written, and in the end.
-use Rattle.std.specs.Prelude.{◌≡◌, ◌≢◌, ◌⊎◌, ℕ, ◌^◌, ◌<◌, ◌≤◌, Bool, true, List, ◌∷◌, ◌++◌, length, Some, Result, IfOk, IfErr, OnOk}
+use Rattle.std.specs.Prelude.{◌≡◌, ◌≢◌, ◌⊎◌, ℕ, ◌^◌, ◌<◌, ◌≤◌, Bool, true, List, [], ◌∷◌, ◌++◌, length, Some, Result, IfOk, IfErr, IsErrAnd, OnOk, ⊤}
 use Rattle.fsl_order.specs.Causes.{Rose}
 use Rattle.fsl_disk.specs.Disk.{DiskState, IsModelled, Told, Keeps, LeavesOnly, Only, Quiet}
 use Rattle.fsl_record.specs.declared.Record.{Record}
@@ -10,6 +10,7 @@ use Rattle.fsl_journal.specs.File.{IsFileOf, header, mark_2, open_gate}
 use Rattle.fsl_journal.specs.Log.{WhereEmpty}
 use Rattle.fsl_repo.specs.Machine.{State}
 use Rattle.fsl_repo.specs.Replies.{IsSpoilt}
+use Rattle.fsl_repo.specs.Whole.{Whole}
 use Rattle.fsl_scrub.specs.declared.faults.ScrubFault.{ScrubFault}
 use Rattle.fsl_scrub.specs.declared.faults.ScrubFault.TheVariants as scrub_fault
 use Rattle.fsl_scrub.specs.declared.faults.WriteFault.{WriteFault}
@@ -87,6 +88,30 @@ ScrubFailed (scrub_fault.NotEmpty len) old new before after = (0 < len) × Told 
 ScrubFailed scrub_fault.Disk old new before after = OneFailed old new before after
 ScrubFailed (scrub_fault.Damaged name found) old new before after = IsSpoilt old name found × NoneFailed old new before after
 ScrubFailed scrub_fault.Memory old new before after = NoneFailed old new before after
+
+-- ---- the length of the spare file, which comes first
+
+-- the spare file was empty, where its disk tells its contents
+abbrev pub WasEmpty : DiskState → Type 0
+WasEmpty before = Told before (λ held. held ≡ [])
+
+-- a fault other than that the spare file has bytes
+abbrev pub IsOfWriting : ScrubFault → Type 0
+IsOfWriting (scrub_fault.NotEmpty len) = ⊥
+IsOfWriting why = ⊤
+
+-- what is answered for the length of the spare file: it was read and isn't 0, or the call that reads it failed
+abbrev pub IsOfLength : ScrubFault → DiskState → DiskState → Type 0
+IsOfLength (scrub_fault.NotEmpty len) before after = (0 < len) × Told before (λ held. len ≡ length held) × (after.faults ≡ before.faults)
+IsOfLength scrub_fault.Disk before after = Rose before.faults after.faults
+IsOfLength why before after = ⊥
+
+-- the spare file was empty, and it isn't answered that it has bytes; or its length is answered for, with the repository as it was, and nothing of the spare file
+-- changed. So where it has bytes and its disk tells them, that is answered, unless the call that reads the length failed
+abbrev pub HasBegun : {A D : Type 0} → Whole D → Whole D → DiskState → DiskState → Result A ScrubFault → Type 0
+HasBegun old new before after result =
+    (WasEmpty before × IfErr result IsOfWriting)
+    ⊎ (IsErrAnd result (λ why. IsOfLength why before after) × Quiet before after × (new ≡ old))
 
 -- ---- laws
 

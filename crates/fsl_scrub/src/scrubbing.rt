@@ -5,7 +5,7 @@ ghost use Rattle.fsl_journal.specs.File.{IsFileOf};
 ghost use Rattle.fsl_journal.specs.Log.{WhereEmpty};
 ghost use Rattle.fsl_repo.specs.Machine.{Leaves};
 ghost use Rattle.fsl_repo.specs.Whole.{log_of};
-ghost use Rattle.fsl_scrub.specs.Closing.{ClosesRecords, IsNewFile, ScrubFailed, UnopenedOr, WhereHonest, WritesGroup, WritesWhole};
+ghost use Rattle.fsl_scrub.specs.Closing.{ClosesRecords, HasBegun, IsNewFile, ScrubFailed, UnopenedOr, WasEmpty, WhereHonest, WritesGroup, WritesWhole};
 ghost use Rattle.fsl_scrub.specs.Copying.{AsWritten, OnlyReads, WritesRecords, blob_now, blobs_now, group_now};
 ghost use Rattle.fsl_scrub.specs.Growing.{EndsAt};
 ghost use Rattle.fsl_scrub.specs.Scrubbed.{IsScrubbed, file_text, scrubbed};
@@ -132,9 +132,10 @@ fn write_file<D: Disk, P: Disk>(
 /// Over a repository's disk that tells its contents and meets the disk model the new file has the held contents. Over every
 /// other disk it has bytes of the same names and sizes in their place.
 ///
-/// Errors: `NotEmpty` with the length of the spare file where it isn't 0; `Disk` where a call of one of the two disks
-/// failed; `Damaged` with a held name and that of the bytes that were read for it, where it is another one; `Memory`. A
-/// spare file that isn't finished is no repository.
+/// Errors: `NotEmpty` with the length of the spare file where it was read and isn't 0, before anything is read of the
+/// repository, and nothing else for such a file; `Disk` where a call of one of the two disks failed; `Damaged` with a held
+/// name and that of the bytes that were read for it, where it is another one; `Memory`. A spare file that isn't finished is
+/// no repository.
 pub fn scrub<D: Disk, P: Disk>(
     alloc: Global,
     repo: &mut Repo<D>,
@@ -142,10 +143,12 @@ pub fn scrub<D: Disk, P: Disk>(
 ) -> Result<Scrubbed, ScrubFault>
     requires { length repo.old.seen.state.records ≡ repo.old.seen.state.committed }
     ensures scrubbed { IfOk result (IsScrubbed repo.old.seen.state.records) }
-    // The spare file was empty.
-    ensures empty { OnOk result (Told (P.state spare.old) (λ held. held ≡ [])) }
-    // Where it had bytes nothing of it changed, whatever is answered.
+    // The spare file was empty; or its length wasn't 0 or couldn't be read, and just that is answered.
+    ensures begun { HasBegun repo.old repo.new (P.state spare.old) (P.state spare.new) result }
+    ensures empty { OnOk result (WasEmpty (P.state spare.old)) }
+    // Where it had bytes nothing of it changed, whatever is answered, and the repository wasn't read.
     ensures untouched { Told (P.state spare.old) (λ held. held ≢ [] → Quiet (P.state spare.old) (P.state spare.new)) }
+    ensures unread { Told (P.state spare.old) (λ held. held ≢ [] → repo.new ≡ repo.old) }
     // After Ok it is exactly the new one,
     ensures contents { OnOk result (WhereHonest repo.old.seen.state (λ all. Told (P.state spare.old) (λ _. (P.state spare.new).contents ≡ Some (file_text all)))) }
     // which stands for the scrubbed records.

@@ -1,4 +1,4 @@
-use Rattle.std.proofs.Common.{◌≡◌, false, Some, refl, sym, subst}
+use Rattle.std.proofs.Common.{◌≡◌, false, Some, sym, subst}
 use Rattle.fsl_disk.specs.Disk.{DiskState}
 use Rattle.fsl_outside.specs.Streams.{SourceState, SinkState}
 use Rattle.fsl_words.specs.declared.Command.{Command}
@@ -7,7 +7,7 @@ use Rattle.fossil.specs.Uses.{command_reads, command_opens, command_meets, comma
 use Rattle.fossil.specs.Run.{HasRun}
 use Rattle.fossil.specs.Acts.{IsObeyable, input_of, clock_of, output_of, file_of}
 use Rattle.fossil.specs.RunCall.{Moments}
-use Rattle.fossil.proofs.CommandLemmas.{usage_of, ingest_acted, gen_acted, serve_run}
+use Rattle.fossil.proofs.CommandLemmas.{ingest_acted, gen_acted, serve_run}
 use Rattle.fossil.proofs.PrintedLemmas.{written}
 use Rattle.fossil.proofs.UvLemmas.{uv_opens, uv_alone}
 use Rattle.fossil.proofs.top.obey.Goals as goal
@@ -150,13 +150,3 @@ returns-in-Checkin-clause-runs g c =
     let file : DiskState × DiskState = (g.D.Disk.state c.args.repo, g.D.Disk.state c.checkin-answer.result.1) in
     subst (λ (x : Command). HasRun (Some x) (input_of input) (clock_of clock) (output_of out) (file_of file) c.print-status-in-Checkin.result) (sym c.in-Checkin.is)
     (written (Some (command_of.Checkin c.in-Checkin.parent c.in-Checkin.user c.in-Checkin.comment)) (input_of input) (clock_of clock) (file_of file) c.checkin-answer.result.0 (output_of out) c.print-status-in-Checkin.result c.checkin-answer.ensures c.print-status-in-Checkin.ensures)
-
-pub returns-clause-runs : goal.returns-clause-runs
-returns-clause-runs g c =
-    let input : SourceState × SourceState = (g.S.Source.state c.args.input.now, g.S.Source.state c.args.input.now) in
-    let clock : Moments × Moments = (g.C.Clock.told c.args.clock.now, g.C.Clock.told c.args.clock.now) in
-    let out : SinkState × SinkState = (g.K.Sink.state c.args.out.now, g.K.Sink.state c.say_usage-status-in-Scrub.new.out) in
-    let file : DiskState × DiskState = (g.D.Disk.state c.args.repo, g.D.Disk.state c.args.repo) in
-    subst (λ (x : Command). HasRun (Some x) (input_of input) (clock_of clock) (output_of out) (file_of file) c.say_usage-status-in-Scrub.result) (sym c.in-Scrub.is)
-    (usage_of (Some (command_of.Scrub _)) (λ opened. cc) (λ read bytes due. due) (λ honest read moment bytes. refl) (input_of input) clock.0 (g.D.Disk.state c.args.repo) (λ model f left. g.met.D.Disk.only_now c.args.repo f model left) (output_of out) c.say_usage-status-in-Scrub.result
-    c.say_usage-status-in-Scrub.ensures.status c.say_usage-status-in-Scrub.ensures.said)

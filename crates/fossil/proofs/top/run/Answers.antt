@@ -22,6 +22,8 @@ use Rattle.fossil.proofs.UnopenedLemmas.{idle_synced}
 use Rattle.fossil.proofs.WordsLemmas.{obeyable, said_is, none_said}
 use Rattle.fossil.specs.UvSyncs.{MergesIf}
 use Rattle.fossil.proofs.UvSyncLemmas.{idle_merged}
+use Rattle.fossil.specs.Scrubs.{ScrubsIf}
+use Rattle.fossil.proofs.ScrubLemmas.{idle_scrubbed}
 use Rattle.fossil.proofs.top.run.Goals as goal
 
 pub start-requires : goal.start-requires
@@ -43,6 +45,7 @@ returns-in-Ok g c =
           subst (λ (x : Command). Syncs x files peers dials outs c.start.result.status) same (c.start.ensures.syncs (subst (λ (x : Command). IsTrue (command_syncs x)) (sym same) asks));
       cloned = subst (λ (o : Option Command). ClonesIf o g.D.Disk.state c.args.repo c.start.result.repo dials outs c.start.result.status) (sym e) c.start.ensures.cloned;
       merged = subst (λ (o : Option Command). MergesIf o files peers outs c.start.result.status) (sym e) c.start.ensures.merged;
+      scrubbed = subst (λ (o : Option Command). ScrubsIf o files peers outs c.start.result.status) (sym e) c.start.ensures.scrubbed;
       unread = λ h. c.start.ensures.unread (sym (ap reads e) ∙ h);
       untouched = λ h. c.start.ensures.untouched (sym (ap opens e) ∙ h);
       unasked = λ h. c.start.ensures.unasked (sym (ap (λ (o : Option Command). option_map_or command_asks_peer o false) e) ∙ h);
@@ -65,6 +68,7 @@ returns-in-Err-Usage g c =
       synced = λ command is asks. absurd (none_or_some command (sym none ∙ is));
       cloned = λ address server fields is. absurd (none_or_some (command_of.Clone address server fields) (sym none ∙ is));
       merged = λ path is. absurd (none_or_some (command_of.Unversioned (uv.Sync path)) (sym none ∙ is));
+      scrubbed = λ path is. absurd (none_or_some (command_of.Scrub path) (sym none ∙ is));
       unread = λ h. refl {a = c.args.input.now};
       untouched = λ h. refl {a = c.args.repo};
       unasked = λ h. refl {a = c.args.peer};
@@ -90,6 +94,9 @@ returns-in-Err-Memory g c =
           idle_cloned g.D.Disk.state server fields c.args.repo (g.N.Link.state c.args.dial.now) out c.print-status.result c.print-status.ensures;
       merged = λ path is.
           idle_merged (g.D.Disk.state c.args.repo) (g.P.Disk.state c.args.peer) out c.print-status.result (λ model f left. g.met.D.Disk.only_now c.args.repo f model left)
+          (λ model f left. g.met.P.Disk.only_now c.args.peer f model left) c.print-status.ensures;
+      scrubbed = λ path is.
+          idle_scrubbed (g.D.Disk.state c.args.repo) (g.P.Disk.state c.args.peer) out c.print-status.result (λ model f left. g.met.D.Disk.only_now c.args.repo f model left)
           (λ model f left. g.met.P.Disk.only_now c.args.peer f model left) c.print-status.ensures;
       unread = λ h. refl {a = c.args.input.now};
       untouched = λ h. refl {a = c.args.repo};
