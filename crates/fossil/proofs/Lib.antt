@@ -26,6 +26,11 @@ pub mod PutLemmas
 pub mod ReadLemmas
 pub mod TreeLemmas
 pub mod CheckinLemmas
+pub mod ReturningName
+pub mod ReturningText
+pub mod ReturningHeld
+pub mod ReturningTree
+pub mod ReturningLaw
 pub mod ShunLemmas
 pub mod UnshunLemmas
 pub mod InitLemmas

@@ -14,6 +14,7 @@ pub mod Trees
 pub mod Checkins
 pub mod Outcome
 pub mod Run
+pub mod Returning
 pub mod Acts
 pub mod Served
 pub mod Serving

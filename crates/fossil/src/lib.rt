@@ -20,6 +20,7 @@
 
 mod answers;
 mod commands;
+mod laws;
 mod ran;
 mod reading;
 mod top;
@@ -27,5 +28,6 @@ mod worked;
 
 pub use answers::status::NO_MEMORY;
 pub use commands::serving::{Served, State, serve};
+pub use laws::tree_comes_back;
 pub use ran::Ran;
 pub use top::{one_outcome, run, some_outcome};
