@@ -1,5 +1,5 @@
 -- What the steps of a sync leave.
-use Rattle.std.proofs.Common.{◌≡◌, ◌⊎◌, inl, inr, ℕ, false, List, [], ◌++◌, length, map, take, Result, Ok, Err, None, refl, sym, ap, subst, ◌∙◌}
+use Rattle.std.proofs.Common.{◌≡◌, ◌⊎◌, inl, inr, ℕ, false, List, [], ◌++◌, length, map, take, Result, Ok, Err, None, Some, refl, sym, ap, subst, ◌∙◌}
 use Rattle.std.proofs.lemmas.List.{append-nil, take_at}
 use Rattle.fsl_order.specs.Causes.{Rose}
 use Rattle.fsl_disk.specs.Disk.{DiskState, IsModelled, Keeps, LeavesOnly}
@@ -8,7 +8,7 @@ use Rattle.fsl_record.specs.declared.Record.{Record}
 use Rattle.fsl_journal.specs.declared.CommitFault.{CommitFault}
 use Rattle.fsl_journal.specs.declared.CommitFault.TheVariants as commit_fault
 use Rattle.fsl_journal.specs.File.{IsFileOf}
-use Rattle.fsl_journal.specs.Journal.{Committed, CommitFailed}
+use Rattle.fsl_journal.specs.Journal.{Committed, CommitFailed, WritesGroup}
 use Rattle.fsl_journal.specs.Log.{Log, committed, BeforeOrAll}
 use Rattle.fsl_uv.specs.declared.Card.{Card}
 use Rattle.fsl_uv.specs.declared.ApplyFault.{ApplyFault}
@@ -20,7 +20,7 @@ use Rattle.fsl_uv.specs.Maps.{is_over}
 use Rattle.fsl_uv.specs.Cards.{IsMessage, message_text}
 use Rattle.fsl_uv.specs.Syncing.{offered, answered, given, peer_answer, applied}
 use Rattle.fsl_uv.specs.Stores.{Seen, Whole, IsUv, IsApplied, IsSettled, Answers, blob_of}
-use Rattle.fsl_uv.specs.Exchanging.{taken, with_taken, Commits, Took, Takes, gets, gives, Syncs}
+use Rattle.fsl_uv.specs.Exchanging.{taken, with_taken, log_taken, Commits, Took, Takes, gets, gives, Syncs}
 use Rattle.fsl_uv.proofs.OneWay.{messages_read_one_way}
 use Rattle.fsl_uv.proofs.Talking.{stores_talk}
 
@@ -33,6 +33,7 @@ record Applied (before mid : Seen) (cards : List Card) (count : ℕ) : Type 0 wh
   runs : mid.log.stopped ≡ None
   map : mid.map ≡ applied before.map cards
   config : mid.config ≡ before.config
+  log : mid.log ≡ log_taken before cards
 
 applied-as : (before mid : Seen) (message : List ℕ) (cards : List Card) (count : ℕ) → IsMessage message cards → IsApplied before message (Ok count) mid → Applied before mid cards count
 applied-as before mid message cards count is (runs, others, reads, fits, many, left) =
@@ -46,6 +47,7 @@ applied-as before mid message cards count is (runs, others, reads, fits, many, l
       runs = ap (λ (s : Seen). s.log.stopped) left ∙ runs;
       map = ap (λ (s : Seen). s.map) left;
       config = ap (λ (s : Seen). s.config) left;
+      log = ap (λ (s : Seen). s.log) left;
     })
 
 module _ {D : Type 0} (state : D → DiskState) (before mid after : Whole D) (message : List ℕ) (cards : List Card) (count : ℕ) (settled : IsSettled before.seen.log) (is : IsMessage message cards)
@@ -76,22 +78,33 @@ module _ {D : Type 0} (state : D → DiskState) (before mid after : Whole D) (me
         (moments (subst (λ (d : D). IsModelled (state d)) (sym disk) modelled)));
   }
 
+  no_more : taken before.seen cards ≡ [] → IsSettled mid.seen.log
+  no_more none =
+      let records : mid.seen.log.records ≡ before.seen.log.records = is_applied.records ∙ ap (λ es. before.seen.log.records ++ map blob_of es) none ∙ append-nil before.seen.log.records in
+      (is_applied.runs, is_applied.stable ∙ settled.1 ∙ ap length (sym records))
+
+  done_as : (n : ℕ) → Committed n mid.seen.log after.seen.log (state mid.disk) (state after.disk)
+      → Committed (length (with_taken before.seen cards)) (log_taken before.seen cards) after.seen.log (state before.disk) (state after.disk)
+  done_as n done =
+      let counted = subst (λ (k : ℕ). Committed k mid.seen.log after.seen.log (state mid.disk) (state after.disk)) done.all done in
+      let logged = subst (λ (l : Log). Committed (length l.records) l after.seen.log (state mid.disk) (state after.disk)) is_applied.log counted in
+      subst (λ (d : D). Committed (length (with_taken before.seen cards)) (log_taken before.seen cards) after.seen.log (state d) (state after.disk)) disk logged
+
   pub took : (n : ℕ) → Committed n mid.seen.log after.seen.log (state mid.disk) (state after.disk)
-      → (IsModelled (state mid.disk) → (c : List ℕ) → (state after.disk).images c → IsFileOf c mid.seen.log.records) → Takes state before cards (Ok count) after
-  took n done lasts = (
+      → (IsModelled (state mid.disk) → (c : List ℕ) → (state after.disk).images c → IsFileOf c mid.seen.log.records) → WritesGroup mid.seen.log (state mid.disk) (state after.disk)
+      → (mid.seen.log.stable ≡ length mid.seen.log.records → after.disk ≡ mid.disk) → Takes state before cards (Ok count) after
+  took n done lasts writes idle = (
     is_applied.many,
     record {
       commits = commits done.records;
       settled = (done.goes_on, done.stable ∙ ap length (sym done.records));
       faults = done.faults ∙ ap (λ (d : D). (state d).faults) disk;
       lasts = λ modelled c left. subst (λ (rs : List Record). IsFileOf c rs) is_applied.records (lasts (subst (λ (d : D). IsModelled (state d)) (sym disk) modelled) c left);
+      done = done_as n done;
+      written = subst (λ (l : Log). WritesGroup l (state before.disk) (state after.disk)) is_applied.log (subst (λ (d : D). WritesGroup mid.seen.log (state d) (state after.disk)) disk writes);
+      idle = λ none. idle (no_more none).1 ∙ disk;
     },
   )
-
-  no_more : taken before.seen cards ≡ [] → IsSettled mid.seen.log
-  no_more none =
-      let records : mid.seen.log.records ≡ before.seen.log.records = is_applied.records ∙ ap (λ es. before.seen.log.records ++ map blob_of es) none ∙ append-nil before.seen.log.records in
-      (is_applied.runs, is_applied.stable ∙ settled.1 ∙ ap length (sym records))
 
   pub lost : (fault : CommitFault) (n : ℕ) (result : Result ℕ CommitFault) → result ≡ Err fault → (IsSettled mid.seen.log → result ≡ Ok n) → CommitFailed fault mid.seen.log after.seen.log (state mid.disk) (state after.disk)
       → Takes state before cards (Err sync_fault.Disk) after
@@ -100,6 +113,7 @@ module _ {D : Type 0} (state : D → DiskState) (before mid after : Whole D) (me
     commits = commits (ap (λ (l : Log). l.records) f.1);
     due = λ none. let e = sym (nothing (no_more none)) ∙ failed in cc;
     rose = subst (λ (d : D). Rose (state d).faults (state after.disk).faults) disk f.2;
+    stopped = f.1 ∙ ap (λ (l : Log). record l { stopped = Some (state after.disk).faults }) is_applied.log;
   }
 
 -- a message that wasn't applied

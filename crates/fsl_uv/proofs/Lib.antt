@@ -25,5 +25,6 @@ pub mod FullFirst
 pub mod OneFault
 pub mod OneMap
 pub mod SomeMap
+pub mod SomeMessage
 pub mod Talking
 pub mod Exchanges

@@ -30,11 +30,11 @@ use Rattle.fsl_uv.proofs.RecordLemmas.{no-entries, other-record, more-record}
 -- ---- the entry that a text would be
 
 -- what stands before the first such byte, and behind it
-abbrev before : ℕ → List ℕ → List ℕ
+abbrev pub before : ℕ → List ℕ → List ℕ
 before c [] = []
 before c (b ∷ text) = if b == c then [] else b ∷ before c text
 
-abbrev behind : ℕ → List ℕ → List ℕ
+abbrev pub behind : ℕ → List ℕ → List ℕ
 behind c [] = []
 behind c (b ∷ text) = if b == c then text else behind c text
 
@@ -49,16 +49,16 @@ not-second : (a b : Bool) → (a || b) ≡ false → b ≡ false
 not-second true b h = absurd cc
 not-second false b h = h
 
-before-is : (c : ℕ) (a r : List ℕ) → Lacks c a → before c (a ++ c ∷ r) ≡ a
+pub before-is : (c : ℕ) (a r : List ℕ) → Lacks c a → before c (a ++ c ∷ r) ≡ a
 before-is c [] r lacks = ap (λ (t : Bool). if t then [] else c ∷ before c r) (same-byte c)
 before-is c (x ∷ a) r lacks =
     ap (λ (t : Bool). if t then [] else x ∷ before c (a ++ c ∷ r)) (not-first (x == c) (stands c a) lacks) ∙ ap (λ (l : List ℕ). x ∷ l) (before-is c a r (not-second (x == c) (stands c a) lacks))
 
-behind-is : (c : ℕ) (a r : List ℕ) → Lacks c a → behind c (a ++ c ∷ r) ≡ r
+pub behind-is : (c : ℕ) (a r : List ℕ) → Lacks c a → behind c (a ++ c ∷ r) ≡ r
 behind-is c [] r lacks = ap (λ (t : Bool). if t then r else behind c r) (same-byte c)
 behind-is c (x ∷ a) r lacks = ap (λ (t : Bool). if t then a ++ c ∷ r else behind c (a ++ c ∷ r)) (not-first (x == c) (stands c a) lacks) ∙ behind-is c a r (not-second (x == c) (stands c a) lacks)
 
-abbrev or_zero : Option ℕ → ℕ
+abbrev pub or_zero : Option ℕ → ℕ
 or_zero None = 0
 or_zero (Some n) = n
 

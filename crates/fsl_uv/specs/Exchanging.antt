@@ -1,9 +1,11 @@
 -- A sync of two stores: what each of its steps answers and leaves, and the whole.
-use Rattle.std.specs.Prelude.{◌≡◌, ◌≢◌, ◌⊎◌, ◌++◌, ℕ, true, false, List, [], length, map, Result, Ok, Err}
+use Rattle.std.specs.Prelude.{◌≡◌, ◌≢◌, ◌⊎◌, ◌++◌, ℕ, true, false, List, [], length, map, Some, Result, Ok, Err}
 use Rattle.fsl_order.specs.Causes.{Rose}
 use Rattle.fsl_disk.specs.Disk.{DiskState, IsModelled, Keeps, LeavesOnly}
 use Rattle.fsl_record.specs.declared.Record.{Record}
 use Rattle.fsl_journal.specs.File.{IsFileOf}
+use Rattle.fsl_journal.specs.Journal.{Committed, WritesGroup}
+use Rattle.fsl_journal.specs.Log.{Log}
 use Rattle.fsl_uv.specs.declared.Entry.{Entry}
 use Rattle.fsl_uv.specs.declared.Card.{Card}
 use Rattle.fsl_uv.specs.declared.SyncFault.{SyncFault}
@@ -12,7 +14,7 @@ use Rattle.fsl_uv.specs.Entries.{Version}
 use Rattle.fsl_uv.specs.Maps.{is_over}
 use Rattle.fsl_uv.specs.Cards.{message_text, IsMessage}
 use Rattle.fsl_uv.specs.Syncing.{offered, files, stored, applied, given, peer_answer, synced_here, synced_there}
-use Rattle.fsl_uv.specs.Stores.{Seen, Whole, IsUv, IsSettled, LastsAs, blob_of}
+use Rattle.fsl_uv.specs.Stores.{Seen, Whole, IsUv, IsSettled, LastsAs, blob_of, log_with}
 
 -- ---- what stores say to each other are messages
 
@@ -34,6 +36,10 @@ taken s cards = stored s.map (files cards)
 abbrev pub with_taken : Seen → List Card → List Record
 with_taken s cards = s.log.records ++ map blob_of (taken s cards)
 
+-- the journal with those entries, none of which is committed
+abbrev pub log_taken : Seen → List Card → Log
+log_taken s cards = log_with s.log (taken s cards)
+
 -- what is so of the disk whether the commit was done or failed
 pub record Commits {D : Type 0} (state : D → DiskState) (before : Whole D) (cards : List Card) (after : Whole D) : Type 0 where
   pub fits : is_over (applied before.seen.map cards) ≡ false
@@ -51,12 +57,19 @@ pub record Took {D : Type 0} (state : D → DiskState) (before : Whole D) (cards
   pub settled : IsSettled after.seen.log
   pub faults : (state after.disk).faults ≡ (state before.disk).faults
   pub lasts : LastsAs (with_taken before.seen cards) (state before.disk) (state after.disk)
+  -- the journal is the one that a commit of those entries leaves
+  pub done : Committed (length (with_taken before.seen cards)) (log_taken before.seen cards) after.seen.log (state before.disk) (state after.disk)
+  -- they are one group in the file, and where there is none no device is called
+  pub written : WritesGroup (log_taken before.seen cards) (state before.disk) (state after.disk)
+  pub idle : taken before.seen cards ≡ [] → after.disk ≡ before.disk
 
 -- a call of the disk failed in the commit
 pub record Lost {D : Type 0} (state : D → DiskState) (before : Whole D) (cards : List Card) (after : Whole D) : Type 0 where
   pub commits : Commits state before cards after
   pub due : taken before.seen cards ≢ []
   pub rose : Rose (state before.disk).faults (state after.disk).faults
+  -- the store is stopped, and those entries stand behind its committed records
+  pub stopped : after.seen.log ≡ record (log_taken before.seen cards) { stopped = Some (state after.disk).faults }
 
 -- the files of the message with these cards were taken in and committed, and so many of them were stored; or the store stays, for a limit or for want of memory; or
 -- the disk failed

@@ -30,6 +30,10 @@ pub record MessagesFailOneWay : Type 0 where
   pub one_fault : (message : List ℕ) (one other : UvMessageFault) → FailsBy message one → FailsBy message other → one ≡ other
   pub not_both : (message : List ℕ) (cards : List Card) (fault : UvMessageFault) → IsMessage message cards → ¬ (FailsBy message fault)
 
+-- And each has cards, or fails.
+abbrev pub MessagesReadSomeWay : Type 0
+MessagesReadSomeWay = (message : List ℕ) → ((cards : List Card) × IsMessage message cards) ⊎ ((fault : UvMessageFault) × FailsBy message fault)
+
 -- Where the answer of the peer was applied here, what is given for it isn't `Full` at the peer. So a sync that is refused for a
 -- limit is refused here, before anything was put in at the peer.
 abbrev pub FullComesFirst : Type 0

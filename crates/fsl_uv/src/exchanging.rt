@@ -78,7 +78,8 @@ fn hand_on<D: Disk, P: Disk>(
 /// other takes in what it lacks, and commits it. Answers how many entries each stored.
 ///
 /// Errors: `Full` where a store would be above a limit, which is told here before anything is stored, as far as versions of a
-/// path with one moment and one hash are the same; `Disk` where a call of one of the disks failed; `Memory`.
+/// path with one moment and one hash are the same; `Disk` where a call of one of the disks failed, whose store is stopped then;
+/// `Memory`.
 pub fn sync<D: Disk, P: Disk>(
     here: &mut Store<D>,
     there: &mut Store<P>,
@@ -92,10 +93,11 @@ pub fn sync<D: Disk, P: Disk>(
     let Ok(answer) = answered(here, there) else {
         return Err(SyncFault::Memory);
     };
-    let received = take(here, answer.bytes());
+    let message = answer.bytes();
+    let received = take(here, message);
     match received {
         Ok(received) => {
-            let sent = hand_on(here, there, answer.bytes());
+            let sent = hand_on(here, there, message);
             drop(answer);
             match sent {
                 Ok(sent) => Ok((received, sent)),

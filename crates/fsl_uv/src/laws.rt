@@ -12,7 +12,7 @@ ghost use Rattle.fsl_uv.specs.Laws.{
   SyncMerges,
 };
 ghost use Rattle.fsl_uv.specs.Exchanging.{StoresTalk};
-ghost use Rattle.fsl_uv.specs.Refusals.{RecordsReadOneWay, RecordsReadSomeWay, MessagesFailOneWay, FullComesFirst};
+ghost use Rattle.fsl_uv.specs.Refusals.{RecordsReadOneWay, RecordsReadSomeWay, MessagesFailOneWay, MessagesReadSomeWay, FullComesFirst};
 
 /// Versions that tie are the same.
 pub fn ties_are_same()
@@ -57,6 +57,11 @@ pub fn messages_read_one_way()
 /// A message fails in one way, and not where it has cards.
 pub fn messages_fail_one_way()
     ensures { MessagesFailOneWay }
+{}
+
+/// A message has cards, or fails.
+pub fn messages_read_some_way()
+    ensures { MessagesReadSomeWay }
 {}
 
 /// Records have one map at most, and one first Blob that is no entry, and not both.

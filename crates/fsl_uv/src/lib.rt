@@ -34,9 +34,9 @@ use fsl_name::Name;
 use fsl_text::{Memory, Text};
 pub use laws::{
     full_comes_first, kept_is_merged, merges_in_any_order, merges_to_the_greater,
-    messages_fail_one_way, messages_read_one_way, records_read_one_way, records_read_some_way,
-    same_for_the_set, stores_talk, sync_merges, sync_merges_at, ties_are_same, uv_is_the_newest,
-    uv_of_both_is_merge,
+    messages_fail_one_way, messages_read_one_way, messages_read_some_way, records_read_one_way,
+    records_read_some_way, same_for_the_set, stores_talk, sync_merges, sync_merges_at,
+    ties_are_same, uv_is_the_newest, uv_of_both_is_merge,
 };
 pub use store::Store;
 pub use version::Version;

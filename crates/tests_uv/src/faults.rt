@@ -3,8 +3,8 @@ use crate::stores::{CONFIG_ALONE, fresh, has, loaded, put};
 use fsl_disk::MemoryDisk;
 use fsl_journal::CommitFault;
 use fsl_name::Name;
-use fsl_text::Memory;
-use fsl_uv::{ApplyFault, Put, Store, UvFault, UvLoadFault};
+use fsl_text::{Memory, Text};
+use fsl_uv::{ApplyFault, Put, Store, UvFault, UvLoadFault, UvMessageFault};
 use std::alloc::Global;
 use std::test::Fail;
 
@@ -41,16 +41,23 @@ fn tells_why_a_file_is_refused(rt: HostRuntime) -> Result<(), Fail> {
 }
 
 /// Messages, and the line at which each fails; 0 where it has cards, none of which is stored.
-const MESSAGES: [(&[u8], u64); 18] = [
+const MESSAGES: [(&[u8], u64); 22] = [
     (b"", 0),
     (b"\n", 1),
     (b"frob a\n", 1),
     (b"uvgimme a", 1),
     (b"uvgimme a\n\n", 2),
     (b"uvgimme  a\n", 1),
+    (b"uvgimme \n", 1),
     (b"uvgimme a//b\n", 1),
+    (b"uvgimme a\\qb\n", 1),
     (b"uvgimme a\\sb\nuvgimme a b\n", 2),
     (b"uvigot a 1970-01-01T00:00:00 - 0\n", 1),
+    (b"uvigot a 1970-02-30T00:00:00.000 - 0\n", 1),
+    (
+        b"uvigot a 1970-01-01T00:00:00.000 a9993e364706816aba3e25717850c26c9cd0d89d 18446744073709551616\n",
+        1,
+    ),
     (b"uvigot a 1970-01-01T00:00:00.000 - 1\n", 1),
     (b"uvigot a 1970-01-01T00:00:00.000 - 00\n", 1),
     (
@@ -80,17 +87,38 @@ const MESSAGES: [(&[u8], u64); 18] = [
     (b"uvfile a 1970-01-01T00:00:00.000 - 0\n\nuvgimme\n", 2),
 ];
 
-/// Whether each of these is applied so, and leaves the path as it was.
+/// Why a message isn't answered.
+fn fault_in(text: Result<Text, UvMessageFault>) -> Option<UvMessageFault> {
+    match text {
+        Ok(text) => {
+            drop(text);
+            None
+        }
+        Err(fault) => Some(fault),
+    }
+}
+
+/// Whether a message isn't answered, nor anything given for it, because of this.
+fn fails_by(store: &Store<MemoryDisk>, message: &[u8], fault: Option<UvMessageFault>) -> bool {
+    fault_in(store.answer(message)) == fault && fault_in(store.give(message)) == fault
+}
+
+/// Whether a message is refused for a line, and refused by each call that reads it; or has cards, where the line is 0.
+fn reads_so(store: &mut Store<MemoryDisk>, message: &[u8], line: u64) -> bool {
+    if line == 0 {
+        store.apply(message) == Ok(0) && fails_by(store, message, None)
+    } else {
+        store.apply(message) == Err(ApplyFault::Line { line })
+            && fails_by(store, message, Some(UvMessageFault::Line { line }))
+    }
+}
+
+/// Whether each of these is read so, and leaves the path as it was.
 fn read_right(alloc: Global, store: &mut Store<MemoryDisk>) -> bool {
     let _ = put(alloc, store, b"a", 1, Some(b"kept"));
     let mut all = true;
     for (message, line) in MESSAGES {
-        let due = if line == 0 {
-            Ok(0)
-        } else {
-            Err(ApplyFault::Line { line })
-        };
-        if store.apply(message) != due || !has(alloc, store, b"a", 1, Some(b"kept")) {
+        if !reads_so(store, message, line) || !has(alloc, store, b"a", 1, Some(b"kept")) {
             all = false;
         }
     }
@@ -106,14 +134,16 @@ fn tells_the_first_bad_line(rt: HostRuntime) -> Result<(), Fail> {
     Ok(())
 }
 
-/// A file and then one whose content has another name; whether the first is there then; and two files.
+/// A file and then one whose content has another name.
+const MISNAMED: &[u8] =
+    b"uvfile a 1970-01-01T00:00:00.000 - 0\n\nuvfile b 1970-01-01T00:00:00.000 a9993e364706816aba3e25717850c26c9cd0d89d 2\nab\nfrob\n";
+
+/// What that is answered; whether the first file is there then; and two files.
 fn named(
     alloc: Global,
     store: &mut Store<MemoryDisk>,
 ) -> (Result<u64, ApplyFault>, bool, Result<u64, ApplyFault>) {
-    let wrong = store.apply(
-        b"uvfile a 1970-01-01T00:00:00.000 - 0\n\nuvfile b 1970-01-01T00:00:00.000 a9993e364706816aba3e25717850c26c9cd0d89d 2\nab\n",
-    );
+    let wrong = store.apply(MISNAMED);
     let there = has(alloc, store, b"a", 0, None);
     let two = store.apply(
         b"uvfile a 1970-01-01T00:00:00.000 - 0\n\nuvfile a 1970-01-01T00:00:00.000 a9993e364706816aba3e25717850c26c9cd0d89d 3\nabc\n",
@@ -124,9 +154,15 @@ fn named(
 #[test]
 fn tells_a_wrong_name(rt: HostRuntime) -> Result<(), Fail> {
     let mut store = fresh(rt.alloc())?;
+    let (kept, found) = (Name::of(b"abc"), Name::of(b"ab"));
+    let fails = fails_by(
+        &store,
+        MISNAMED,
+        Some(UvMessageFault::NameWrong { kept, found }),
+    );
     let (wrong, there, two) = named(rt.alloc(), &mut store);
     drop(store.close());
-    let (kept, found) = (Name::of(b"abc"), Name::of(b"ab"));
+    assert!(rt; fails);
     assert_eq!(rt; wrong, Err(ApplyFault::NameWrong { kept, found }));
     assert!(rt; !there);
     assert_eq!(rt; two, Ok(2));

@@ -2,7 +2,11 @@
 #![tactic(auto)]
 
 #[cfg(test)]
+mod crashes;
+#[cfg(test)]
 mod faults;
+#[cfg(test)]
+mod holds;
 #[cfg(test)]
 mod limits;
 #[cfg(test)]

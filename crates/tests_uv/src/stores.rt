@@ -1,8 +1,8 @@
 //! Stores in memory, and what their calls answer.
 use fsl_date::Moment;
-use fsl_disk::MemoryDisk;
+use fsl_disk::{FuseDisk, MemoryDisk};
 use fsl_text::{Memory, Text};
-use fsl_uv::{Entry, Put, Store, UvFault, UvLoadFault, Version, is_path};
+use fsl_uv::{Entry, Put, Store, UvFault, UvLoadFault, Version, is_path, sync};
 use std::alloc::Global;
 
 /// A file with a Config alone, 68 bytes.
@@ -98,6 +98,68 @@ pub(crate) fn has(
         Ok(path) => {
             let is = is_version(store.find(&path), ms, bytes);
             drop(path);
+            is
+        }
+        Err(_) => false,
+    }
+}
+
+/// How many entries a sync stored here and there, or nothing where it failed.
+pub(crate) type Counts = Option<(u64, u64)>;
+
+/// What a sync of two files stored, and both disks behind it.
+#[derive(Drop)]
+pub(crate) struct Left {
+    pub(crate) counts: Counts,
+    pub(crate) here: MemoryDisk,
+    pub(crate) there: MemoryDisk,
+}
+
+/// Opens the stores of two disks and syncs them.
+pub(crate) fn sync_files(
+    alloc: Global,
+    here: FuseDisk<MemoryDisk>,
+    there: FuseDisk<MemoryDisk>,
+) -> Left {
+    match Store::load(alloc, here) {
+        Ok(mut here) => match Store::load(alloc, there) {
+            Ok(mut there) => Left {
+                counts: sync(&mut here, &mut there).ok(),
+                here: here.close().inner(),
+                there: there.close().inner(),
+            },
+            Err((there, _)) => Left {
+                counts: None,
+                here: here.close().inner(),
+                there: there.inner(),
+            },
+        },
+        Err((here, _)) => Left {
+            counts: None,
+            here: here.inner(),
+            there: there.inner(),
+        },
+    }
+}
+
+/// Whether a store lists these lines.
+pub(crate) fn lists(store: &Store<MemoryDisk>, lines: &[u8]) -> bool {
+    match store.list() {
+        Ok(text) => {
+            let is = text.bytes() == lines;
+            drop(text);
+            is
+        }
+        Err(_) => false,
+    }
+}
+
+/// Whether the store of a disk lists these lines.
+pub(crate) fn shows(alloc: Global, disk: MemoryDisk, lines: &[u8]) -> bool {
+    match loaded(alloc, disk) {
+        Ok(store) => {
+            let is = lists(&store, lines);
+            drop(store.close());
             is
         }
         Err(_) => false,

@@ -1,6 +1,6 @@
 //! Which of two entries is the greater, and syncs of two stores.
-use crate::stores::{fresh, has, loaded, put};
-use fsl_disk::MemoryDisk;
+use crate::stores::{Counts, Left, fresh, has, loaded, put, sync_files};
+use fsl_disk::{FuseDisk, MemoryDisk};
 use fsl_text::{Memory, Text};
 use fsl_uv::{Put, Store};
 use std::alloc::Global;
@@ -145,5 +145,85 @@ fn the_greater_hash_wins_a_tie(rt: HostRuntime) -> Result<(), Fail> {
     let all = tied(rt.alloc(), &mut store);
     drop(store.close());
     assert!(rt; all);
+    Ok(())
+}
+
+/// Contents of a path at one moment here and there, or none where it is deleted, what a sync stores, and what both then have.
+const MEETINGS: [(Option<&[u8]>, Option<&[u8]>, Counts, Option<&[u8]>); 6] = [
+    (Some(b"a"), Some(b"b"), Some((1, 0)), Some(b"b")),
+    (Some(b"b"), Some(b"a"), Some((0, 1)), Some(b"b")),
+    (None, Some(b"a"), Some((1, 0)), Some(b"a")),
+    (Some(b"a"), None, Some((0, 1)), Some(b"a")),
+    (Some(b"a"), Some(b"a"), Some((0, 0)), Some(b"a")),
+    (None, None, Some((0, 0)), None),
+];
+
+/// A disk with a file of one entry.
+fn filed(alloc: Global, bytes: Option<&[u8]>) -> Option<FuseDisk<MemoryDisk>> {
+    match fresh(alloc) {
+        Ok(mut store) => {
+            let _ = put(alloc, &mut store, b"a", 5, bytes);
+            let _ = store.commit();
+            Some(FuseDisk::new(store.close(), u64::MAX))
+        }
+        Err(_) => None,
+    }
+}
+
+/// A sync of two such files.
+fn meet(alloc: Global, here: Option<&[u8]>, there: Option<&[u8]>) -> Option<Left> {
+    match filed(alloc, here) {
+        Some(here) => match filed(alloc, there) {
+            Some(there) => Some(sync_files(alloc, here, there)),
+            None => {
+                drop(here);
+                None
+            }
+        },
+        None => None,
+    }
+}
+
+/// Whether the file of a disk has this content at that moment.
+fn keeps(alloc: Global, disk: MemoryDisk, bytes: Option<&[u8]>) -> bool {
+    match loaded(alloc, disk) {
+        Ok(store) => {
+            let is = has(alloc, &store, b"a", 5, bytes);
+            drop(store.close());
+            is
+        }
+        Err(_) => false,
+    }
+}
+
+/// What a sync of two such files stores, where both then have this content.
+fn met(alloc: Global, here: Option<&[u8]>, there: Option<&[u8]>, bytes: Option<&[u8]>) -> Counts {
+    match meet(alloc, here, there) {
+        Some(
+            Left {
+                counts,
+                here,
+                there,
+            },
+        ) => {
+            let both = keeps(alloc, here, bytes) & keeps(alloc, there, bytes);
+            if both { counts } else { None }
+        }
+        None => None,
+    }
+}
+
+/// Whether each of these goes so.
+fn meet_all(alloc: Global) -> bool {
+    let mut all = true;
+    for (here, there, counts, bytes) in MEETINGS {
+        all = all & (met(alloc, here, there, bytes) == counts);
+    }
+    all
+}
+
+#[test]
+fn a_tie_is_settled_whoever_asks(rt: HostRuntime) -> Result<(), Fail> {
+    assert!(rt; meet_all(rt.alloc()));
     Ok(())
 }

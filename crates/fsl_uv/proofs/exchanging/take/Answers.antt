@@ -1,4 +1,4 @@
-use Rattle.std.proofs.Common.{length, Err, subst}
+use Rattle.std.proofs.Common.{length, inr, Err, subst}
 use Rattle.fsl_uv.specs.declared.ApplyFault.{ApplyFault}
 use Rattle.fsl_uv.specs.Stores.{IsApplied}
 use Rattle.fsl_uv.proofs.Exchanges.{took, lost, too-full, stays}
@@ -8,6 +8,7 @@ pub returns-in-Ok-commit : goal.returns-in-Ok-commit
 returns-in-Ok-commit g c = λ cards is.
     took g.D.Disk.state c.args.store.now c.apply.new.self c.commit.new.self c.args.message.now cards c.in-Ok.count c.requires.settled is c.in-Ok.ensures.applied c.apply.ensures.disk
     c.commit.ensures.map c.commit.ensures.config c.commit.ensures.keeps c.commit.ensures.any_moment c.in-Ok-commit.field-0 c.in-Ok-commit.ensures.ok c.in-Ok-commit.ensures.durable
+    c.in-Ok-commit.ensures.written (λ all. c.commit.ensures.idle (inr all))
 
 pub returns-in-Err-commit : goal.returns-in-Err-commit
 returns-in-Err-commit g c = λ cards is.
