@@ -103,7 +103,7 @@ module _ (a : Asked) where
   pub checkin_timed : (clock : Clock) (receipt : Brought) (answered : Bool) (text bytes : List ℕ) (records : List Record) (t : List TreeItem) (items : List Item) (over : Option (List ℕ))
       → IsPutReceipt clock.before clock.after receipt → IsFileOf bytes records → nat_lt (2 ^ 27) (length text) ≡ false → IsTreeText text t
       → AreItems (contents records).held items → parent_of (contents records) items a.parent ≡ Ok over → IsTimed (Some (asked_for a)) clock answered text receipt.moment bytes
-  checkin_timed clock receipt answered text bytes records t items over taken is short tree each found = inl ((records, is, (short, (t, tree), (items, over, each, found))), taken.answered)
+  checkin_timed clock receipt answered text bytes records t items over taken is short tree each found = inl ((records, is, (short, (t, tree), (items, over, each, found))), (taken.is_moment, taken.answered))
 
   module _ (input : Input) (clock : Clock) (moment : ℕ) (bytes : List ℕ) (before after : Loaded) (answer : Printed) (appended : List Record)
       (records : after.journal.records ≡ before.journal.records ++ appended) (stable : after.journal.stable ≡ before.journal.stable) where

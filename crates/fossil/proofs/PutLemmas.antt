@@ -25,7 +25,7 @@ use Rattle.fossil.proofs.AppendLemmas.{IsPlain, IsAppended}
 -- the moment of a message that has its form was taken
 pub form_timed : (clock : Clock) (receipt : Brought) (answered : Bool) (message : List ℕ) (bytes : List ℕ) (records : List Record) (files : List Sent) → IsPutReceipt clock.before clock.after receipt → IsFileOf bytes records
     → nat_lt (2 ^ 27) (length message) ≡ false → IsFileList message files → IsTimed (Some command_of.Put) clock answered message receipt.moment bytes
-form_timed clock receipt answered message bytes records files taken is short list = inl (((records, is), (short, (files, list))), taken.answered)
+form_timed clock receipt answered message bytes records files taken is short list = inl (((records, is), (short, (files, list))), (taken.is_moment, taken.answered))
 
 module _ (input : Input) (clock : Clock) (moment : ℕ) (bytes : List ℕ) (before after : Loaded) (answer : Printed) (appended : List Record)
     (records : after.journal.records ≡ before.journal.records ++ appended) (stable : after.journal.stable ≡ before.journal.stable) where

@@ -8,7 +8,6 @@ use Rattle.fsl_order.specs.Causes.{Rose}
 use Rattle.fsl_order.specs.Maps.{value_at}
 use Rattle.fsl_text.specs.Escapes.{escape}
 use Rattle.fsl_text.specs.declared.memory.Memory.{Memory}
-use Rattle.fsl_outside.specs.Clocks.{Asks}
 use Rattle.fsl_outside.specs.Streams.{SourceState}
 use Rattle.fsl_record.specs.declared.Record.{Record}
 use Rattle.fsl_disk.specs.Disk.{DiskState, IsModelled, Told, Keeps, LeavesOnly}
@@ -49,7 +48,7 @@ use Rattle.fossil.specs.UvUses.{uv_use}
 use Rattle.fossil.specs.Uses.{command_opens, command_meets}
 use Rattle.fossil.specs.UvCalls.{loaded_store, IsNoStoreAnswer, IsPutAnswer, IsPutDone, HasPut, putting, IsPutDue, IsToldAs}
 use Rattle.fossil.specs.Outcome.{Outcome, with_commit, uv_outcome, IsUvOf, IsUvOutcome, IsLoaded, IsSaidOutcome}
-use Rattle.fossil.specs.Run.{Input, Clock, File, Agrees, reads, TakesMoment, IsTimed}
+use Rattle.fossil.specs.Run.{Input, Clock, File, Agrees, reads, TakesMoment, TakesOne, IsTimed}
 use Rattle.fossil.specs.Acts.{ActsBy, HasActed, IsTimedBy, IsCaused, IsOpened, IsUnopened, IsNotLoaded, IsNotLoadedAnswer, IsInput, KeepsContents, KeepsUnreadable}
 use Rattle.fossil.proofs.InputLemmas.{some_bytes}
 use Rattle.fossil.proofs.FileLemmas.{both, Loads, stands, agrees, loaded_left, loaded_touches, loaded_durable}
@@ -268,7 +267,7 @@ there path m moment (Some held) e some = rw (e) refl
 
 module _ {D : Type 0} (before mid : Whole D) (input : Input) (clock : Clock) (bytes : List ℕ) (answer : Printed) (map_is : IsUv before.seen.log.records before.seen.map) where
   -- of a path, a moment and a content or none
-  appended_of : (path : List ℕ) (moment : ℕ) (held : Option (List ℕ)) → IsPutDue path held before.seen.map input → Asks clock.before clock.after (moment ∷ []) → HasPut (record { path = path; moment = moment; bytes = held }) before.seen mid.seen answer
+  appended_of : (path : List ℕ) (moment : ℕ) (held : Option (List ℕ)) → IsPutDue path held before.seen.map input → TakesOne clock moment → HasPut (record { path = path; moment = moment; bytes = held }) before.seen mid.seen answer
       → IsAppended (asks (putting path held)) input clock bytes (loaded_store before) (loaded_store mid) answer
   appended_of path moment (Some content) due asked has =
       let d = put_done before.seen.map (record { path = path; moment = moment; bytes = Some content }) in
@@ -302,13 +301,13 @@ module _ {D : Type 0} (before mid : Whole D) (input : Input) (clock : Clock) (by
         end = λ z reads_it. absurd (cc);
       }
 
-  pub put_appended : (e : Entry) → IsPutDue e.path e.bytes before.seen.map input → Asks clock.before clock.after (e.moment ∷ []) → HasPut e before.seen mid.seen answer
+  pub put_appended : (e : Entry) → IsPutDue e.path e.bytes before.seen.map input → TakesOne clock e.moment → HasPut e before.seen mid.seen answer
       → IsAppended (asks (putting e.path e.bytes)) input clock bytes (loaded_store before) (loaded_store mid) answer
   put_appended e due asked has = appended_of e.path e.moment e.bytes due asked has
 
 -- the moment of an entry that is due was taken
 pub put_timed : {D : Type 0} (before : Whole D) (given : Input) (clock : Clock) (bytes : List ℕ) (answered : Bool) (path : List ℕ) (moment : ℕ) (held : Option (List ℕ)) → IsUv before.seen.log.records before.seen.map → IsFileOf bytes before.seen.log.records
-    → IsPutDue path held before.seen.map given → Asks clock.before clock.after (moment ∷ []) → (read : List ℕ) × Agrees given.before.left read × IsTimed (asks (putting path held)) clock answered read moment bytes
+    → IsPutDue path held before.seen.map given → TakesOne clock moment → (read : List ℕ) × Agrees given.before.left read × IsTimed (asks (putting path held)) clock answered read moment bytes
 put_timed before given clock bytes answered path moment (Some content) map_is file due asked = (content, due.0, inl (((before.seen.map, (before.seen.log.records, file, map_is)), due.2), asked))
 put_timed before given clock bytes answered path moment None map_is file due asked =
     let read = some_bytes given.before.left in (read.0, read.1, inl ((before.seen.map, (before.seen.log.records, file, map_is), due), asked))

@@ -4,6 +4,7 @@ use Rattle.std.specs.Option.{option_map_or}
 use Rattle.std.specs.Io.KnownBytes.{Appends, IsAtEnd}
 use Rattle.fsl_order.specs.Causes.{Rose}
 use Rattle.fsl_text.specs.Limits.{most_of_message}
+use Rattle.fsl_date.specs.Moment.{IsMoment}
 use Rattle.fsl_outside.specs.Clocks.{Asks}
 use Rattle.fsl_outside.specs.Streams.{SourceState, SinkState}
 use Rattle.fsl_record.specs.declared.Record.{Record}
@@ -164,9 +165,9 @@ TakesMoment (Some (Checkin parent user comment)) read bytes =
 TakesMoment (Some (Unversioned asked)) read bytes = TakesUvMoment asked read bytes
 TakesMoment command read bytes = ⊥
 
--- one moment was taken, which is now the last that is told
+-- one moment was taken, of the years 0 to 9999, which is now the last that is told
 abbrev pub TakesOne : Clock → ℕ → Type 0
-TakesOne clock moment = Asks clock.before clock.after (moment ∷ [])
+TakesOne clock moment = IsMoment moment × Asks clock.before clock.after (moment ∷ [])
 
 -- none was taken, and what is told stays
 abbrev pub TakesNone : Clock → Type 0

@@ -7,6 +7,7 @@ use Rattle.std.specs.Str.{bytes_eq}
 use Rattle.std.specs.BTreeMap.{BTreeMap, get, insert_entry}
 use Rattle.std.specs.BTreeSet.{BTreeSet, contains}
 use Rattle.fsl_order.specs.Names.{bytes_cmp, has}
+use Rattle.fsl_date.specs.Moment.{IsMoment}
 use Rattle.fsl_outside.specs.Clocks.{Asks}
 use Rattle.fsl_outside.specs.Streams.{SourceState}
 use Rattle.fsl_record.specs.Receipts.{Brought}
@@ -69,6 +70,7 @@ HaveArrived receipt files old new (came.Refused refusal) = Arrive (Some receipt)
 -- what a clock gave of one moment: the receipt of what is put, which has the moment that it answered
 pub record IsPutReceipt (before after : Moments) (receipt : Brought) : Type 0 where
   pub put : receipt ≡ put_receipt receipt.moment
+  pub is_moment : IsMoment receipt.moment
   pub answered : Asks before after (receipt.moment ∷ [])
 
 -- what `put` did with a message over a repository that was opened, under this clock, of whatever input and file these are

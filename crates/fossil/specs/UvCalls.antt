@@ -2,6 +2,7 @@
 use Rattle.std.specs.Prelude.{◌≡◌, ◌⊎◌, ◌++◌, ◌∷◌, ℕ, List, [], map, codes, decimal, Option, Some, None, is_some, Result, Ok, Err, IsTrue}
 use Rattle.fsl_text.specs.Escapes.{escape}
 use Rattle.fsl_order.specs.Maps.{value_at}
+use Rattle.fsl_date.specs.Moment.{IsMoment}
 use Rattle.fsl_outside.specs.Clocks.{Asks}
 use Rattle.fsl_outside.specs.Streams.{SourceState}
 use Rattle.fsl_disk.specs.Disk.{DiskState}
@@ -76,7 +77,7 @@ IsPutDue path None m input = IsTrue (is_some (file_in (value_at m path)))
 abbrev pub PutsEntry : {D : Type 0} → Entry → (D → DiskState) × Whole D × Whole D → Result Printed Fault → Type 0
 PutsEntry e store result =
     (disk : _) (input : SourceState × SourceState) (clock : Moments × Moments) → IsPutDue e.path e.bytes store.1.seen.map (input_of input)
-    → Asks clock.0 clock.1 (e.moment ∷ []) → IsOpened (store.0 disk) (store.0 store.1.disk) (loaded_store store.1)
+    → IsMoment e.moment × Asks clock.0 clock.1 (e.moment ∷ []) → IsOpened (store.0 disk) (store.0 store.1.disk) (loaded_store store.1)
     → Acts (command_of.Unversioned (putting e.path e.bytes)) input clock (store.0 disk, store.0 store.2.disk) result
 
 -- the same of a content, which is put in behind one moment of this clock

@@ -12,7 +12,7 @@ use Rattle.fossil.proofs.commands.unversioned.remove_from.Goals as goal
 
 pub returns-then-is_there : goal.returns-then-is_there
 returns-then-is_there g c = λ disk input opened.
-    c.store_entry-answer.ensures disk (input, input) (g.C.Clock.told c.args.clock.now, g.C.Clock.told c.now.new.self) (sym c.is_there.ensures ∙ c.if-is_there.true) c.now.ensures.tells opened
+    c.store_entry-answer.ensures disk (input, input) (g.C.Clock.told c.args.clock.now, g.C.Clock.told c.now.new.self) (sym c.is_there.ensures ∙ c.if-is_there.true) (c.now.ensures.moment, c.now.ensures.tells) opened
 
 pub returns-in_ok-no_file : goal.returns-in_ok-no_file
 returns-in_ok-no_file g c = λ disk input opened.
