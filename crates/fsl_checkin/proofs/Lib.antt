@@ -6,3 +6,5 @@ pub mod HavingLemmas
 pub mod FilesLemmas
 pub mod LawLemmas
 pub mod OneLemmas
+pub mod SomeTree
+pub mod SomeTreeText

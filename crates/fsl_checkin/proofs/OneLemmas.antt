@@ -23,7 +23,7 @@ use Rattle.fsl_checkin.specs.declared.answers.Verdict.TheVariants as verdict
 use Rattle.fsl_checkin.specs.Trees.{IsBadItem, IsItemText, paths}
 use Rattle.fsl_checkin.specs.Sums.{sum}
 use Rattle.fsl_checkin.specs.Exports.{IsExport, IsVerdict, checkin_at, checkins, items_at, kept_sum, missing, missing_in, tree}
-use Rattle.fsl_checkin.specs.Laws.{BadIsNoTree, BadIsOne, ExportIsOne, VerdictIsOne}
+use Rattle.fsl_checkin.specs.Laws.{BadIsNoTree, BadIsOne, ExportIsOne, VerdictIsOne, HadIsAnswered}
 use Rattle.fsl_checkin.proofs.FilesLemmas.{files_are, files_by}
 use Rattle.fsl_checkin.proofs.FrontLemmas.{item_unique}
 use Rattle.fsl_checkin.proofs.LawLemmas.{flat, some_byte}
@@ -192,3 +192,9 @@ export_is_one held items name each a b h k = one_export held items name each a b
 
 pub verdict_is_one : VerdictIsOne
 verdict_is_one held items name a b h k = one_verdict held items name a b h k
+
+pub had_is_answered : HadIsAnswered
+had_is_answered held items name t each had = record {
+  exported = λ e is. export_is_one held items name each e (export.Tree t) is had.same;
+  verified = λ v is. verdict_is_one held items name v verdict.Right is ((λ none. let no : Some (sum t) ≡ None = sym had.kept ∙ none in cc), ap (option_map sum) had.same ∙ sym had.kept);
+}

@@ -1,17 +1,21 @@
 -- Laws of trees and of their check-ins.
-use Rattle.std.specs.Prelude.{◌≡◌, ℕ, ◌^◌, ◌<◌, true, List, length, Option, Some, IsTrue}
+use Rattle.std.specs.Prelude.{◌≡◌, ◌⊎◌, ℕ, ◌^◌, ◌<◌, Bool, true, List, length, Option, Some, IsTrue}
 use Rattle.std.specs.List.{AllByRecursion, list_all}
 use Rattle.fsl_name.specs.Name.{name_of}
 use Rattle.fsl_order.specs.Rows.{rises}
 use Rattle.fsl_text.specs.Paths.{path_ok}
 use Rattle.fsl_card.specs.Cards.{IsTextOf}
 use Rattle.fsl_manifest.specs.Manifests.{IsManifest}
-use Rattle.fsl_blobs.specs.Fold.{HeldSet}
+use Rattle.fsl_record.specs.declared.Record.{Record}
+use Rattle.fsl_record.specs.Records.{AreRecords}
+use Rattle.fsl_blobs.specs.Fold.{HeldSet, contents}
 use Rattle.fsl_cross.specs.declared.Item.{Item}
 use Rattle.fsl_repo.specs.Machine.{AreItems}
 use Rattle.fsl_checkin.specs.declared.types.TreeItem.{TreeItem}
 use Rattle.fsl_checkin.specs.declared.answers.Export.{Export}
+use Rattle.fsl_checkin.specs.declared.answers.Export.TheVariants.{Tree}
 use Rattle.fsl_checkin.specs.declared.answers.Verdict.{Verdict}
+use Rattle.fsl_checkin.specs.declared.answers.Verdict.TheVariants.{Right}
 use Rattle.fsl_checkin.specs.Trees.{IsBadItem, IsTreeText, paths, tree_text}
 use Rattle.fsl_checkin.specs.Sums.{sum}
 use Rattle.fsl_checkin.specs.Checkins.{checkin_of}
@@ -63,3 +67,27 @@ ExportIsDue = (held : HeldSet) (items : List Item) (name : List ℕ) → AreItem
 -- and so is what a test of a checksum reads
 abbrev pub VerdictIsDue : Type 0
 VerdictIsDue = (held : HeldSet) (items : List Item) (name : List ℕ) → AreItems held items → (v : Verdict) → IsVerdictRead true held items name v → IsVerdict held items name v
+
+-- a text is a tree, or has a first bad item
+abbrev pub IsSomeTree : Type 0
+IsSomeTree = (text : List ℕ) → length text < 2 ^ 64 → ((items : List TreeItem) × IsTreeText text items) ⊎ ((number : ℕ) × IsBadItem text number)
+
+-- an export has an answer, whatever the disk
+abbrev pub HasExport : Type 0
+HasExport =
+    (honest : Bool) (records : List Record) → AreRecords records → (items : List Item) → AreItems (contents records).held items → (name : List ℕ)
+    → (e : Export) × IsExportRead honest (contents records).held items name e
+
+-- and a test of a checksum has one
+abbrev pub HasVerdict : Type 0
+HasVerdict =
+    (honest : Bool) (records : List Record) → AreRecords records → (items : List Item) → AreItems (contents records).held items → (name : List ℕ)
+    → (v : Verdict) × IsVerdictRead honest (contents records).held items name v
+
+-- what is answered of a tree that was checked in: an export gives this tree alone, and a test of its checksum that it is right
+pub record IsAnswered (held : HeldSet) (items : List Item) (name : List ℕ) (t : List TreeItem) : Type 0 where
+  pub exported : (e : Export) → IsExport held items name e → e ≡ Tree t
+  pub verified : (v : Verdict) → IsVerdict held items name v → v ≡ Right
+
+abbrev pub HadIsAnswered : Type 0
+HadIsAnswered = (held : HeldSet) (items : List Item) (name : List ℕ) (t : List TreeItem) → AreItems held items → IsHad held items name t → IsAnswered held items name t

@@ -1,5 +1,5 @@
 //! Laws of trees and their check-ins. These functions have no code.
-ghost use Rattle.fsl_checkin.specs.Laws.{BadIsNoTree, BadIsOne, ExportIsDue, ExportIsOne, IsOneTree, TreesComeBack, VerdictIsDue, VerdictIsOne, WrittenReadsBack};
+ghost use Rattle.fsl_checkin.specs.Laws.{BadIsNoTree, BadIsOne, ExportIsDue, ExportIsOne, HadIsAnswered, HasExport, HasVerdict, IsOneTree, IsSomeTree, TreesComeBack, VerdictIsDue, VerdictIsOne, WrittenReadsBack};
 
 /// A text is one tree at most.
 pub fn text_is_one_tree()
@@ -45,4 +45,24 @@ pub fn export_reads_what_is_held()
 /// And so is what a test of a checksum reads.
 pub fn verify_reads_what_is_held()
     ensures { VerdictIsDue }
+{}
+
+/// A text is a tree, or has a first item that is none.
+pub fn text_is_tree_or_not()
+    ensures { IsSomeTree }
+{}
+
+/// An export has an answer, whatever the disk.
+pub fn export_has_an_answer()
+    ensures { HasExport }
+{}
+
+/// And a test of a checksum has one.
+pub fn verify_has_an_answer()
+    ensures { HasVerdict }
+{}
+
+/// Of a tree that comes back an export answers this tree alone, and a test of its checksum that it is right.
+pub fn tree_that_comes_back_is_answered()
+    ensures { HadIsAnswered }
 {}

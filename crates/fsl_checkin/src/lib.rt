@@ -18,9 +18,10 @@ mod writing;
 pub use answers::{Export, ExportFault, Verdict};
 pub use exporting::export;
 pub use laws::{
-    bad_item_is_one, bad_text_is_no_tree, export_has_one_answer, export_reads_what_is_held,
-    text_is_one_tree, trees_come_back, verify_has_one_answer, verify_reads_what_is_held,
-    written_tree_reads_back,
+    bad_item_is_one, bad_text_is_no_tree, export_has_an_answer, export_has_one_answer,
+    export_reads_what_is_held, text_is_one_tree, text_is_tree_or_not,
+    tree_that_comes_back_is_answered, trees_come_back, verify_has_an_answer, verify_has_one_answer,
+    verify_reads_what_is_held, written_tree_reads_back,
 };
 pub use manifests::manifest;
 pub use reading::read_tree;
