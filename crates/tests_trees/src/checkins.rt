@@ -36,6 +36,10 @@ const OVER_BASELINE: &[u8] =
 
 const OVER_BASELINE_TREE: &[u8] = b"add a.txt - 3\nabc\nadd b.txt x 3\nabc\n";
 
+/// Its file has the permission `w`, which counts as none.
+const WRITABLE: &[u8] =
+    b"C w\nD 2024-01-02T03:04:06\nF a.txt a9993e364706816aba3e25717850c26c9cd0d89d w\nR 6bee3e4d66f0e718f92afb7a3c77d92f\nU ann\nZ e9de215dc115b154a073995f6248e769\n";
+
 /// Its second file has a foreign hash, and its third one isn't held.
 const WITH_FOREIGN: &[u8] =
     b"C w\nD 2024-01-02T03:04:06\nF a.txt a9993e364706816aba3e25717850c26c9cd0d89d\nF b.txt 3333333333333333333333333333333333333333333333333333333333333333 l\nF c.txt 2222222222222222222222222222222222222222\nR 00000000000000000000000000000000\nU ann\nZ 404acbc92d2db309086cc6a18775bf01\n";
@@ -117,6 +121,7 @@ fn trees_come_back_and_sums_are_tested(rt: HostRuntime) -> Result<(), Fail> {
     assert!(rt; comes_back(alloc, &mut repo, EMPTY_CHECKIN, b""));
     assert!(rt; arrives(&mut repo, OVER_BASELINE));
     assert!(rt; comes_back(alloc, &mut repo, OVER_BASELINE, OVER_BASELINE_TREE));
+    assert!(rt; arrives(&mut repo, WRITABLE) & comes_back(alloc, &mut repo, WRITABLE, TREE));
     assert!(rt; arrives(&mut repo, WITHOUT_SUM) & arrives(&mut repo, WRONG_SUM));
     assert!(rt; exports(alloc, &mut repo, WRONG_SUM, TREE));
     let kept = [0; 16];

@@ -10,7 +10,11 @@ use std::test::Fail;
 const CHECKIN: &[u8] =
     b"C first\nD 1970-01-01T00:00:00.000\nF a.txt a9993e364706816aba3e25717850c26c9cd0d89d\nR 6bee3e4d66f0e718f92afb7a3c77d92f\nU ann\nZ 0097365ae02228957f4ffa9e1a281475\n";
 
-/// The file of a repository with the check-in and its content `abc`, whose first byte stands at 106.
+/// The name of the check-in's text with its first byte turned, a `B`, as `sha1sum` says.
+const TURNED: [u8; 20] =
+    *b"\x4f\x37\x5b\x1a\xfc\xe6\x75\xfb\x6f\xd3\x0e\xa4\x23\xb9\xa1\xfd\x0c\x28\xa7\xd4";
+
+/// The file of a repository with the check-in, whose first byte stands at 139, and its content `abc`, whose first one at 106.
 fn file(alloc: Global) -> Option<MemoryDisk> {
     let mut repo = opened(alloc, EMPTY)?;
     let all = arrives(&mut repo, b"abc") & arrives(&mut repo, CHECKIN) & repo.commit().is_ok();
@@ -48,12 +52,10 @@ fn over_fuse(alloc: Global, calls: u64) -> Option<(bool, bool)> {
     Some(answers)
 }
 
-/// The answers over a disk that gives the first byte of `abc` wrong after so many reads of it.
-fn over_flip(alloc: Global, reads: u64) -> Option<(bool, bool)> {
-    let mut repo = loaded(alloc, FlipDisk::new(file(alloc)?, 106, reads))?;
-    let name = Name::of(b"abc");
-    let found = Name::of(b"\x60bc");
-    let answers = answer(alloc, &mut repo, ExportFault::Damaged { name, found });
+/// The answers over a disk that gives the byte at a place wrong after so many reads of it.
+fn over_flip(alloc: Global, at: u64, reads: u64, fault: ExportFault) -> Option<(bool, bool)> {
+    let mut repo = loaded(alloc, FlipDisk::new(file(alloc)?, at, reads))?;
+    let answers = answer(alloc, &mut repo, fault);
     let disk = repo.close();
     drop(disk);
     Some(answers)
@@ -81,7 +83,21 @@ fn a_failing_disk_is_told(rt: HostRuntime) -> Result<(), Fail> {
 #[test]
 fn a_damaged_content_is_told(rt: HostRuntime) -> Result<(), Fail> {
     let alloc = rt.alloc();
-    assert!(rt; over_flip(alloc, 1) == Some((true, false)));
-    assert!(rt; over_flip(alloc, 3) == Some((true, true)));
+    let name = Name::of(b"abc");
+    let found = Name::of(b"\x60bc");
+    let fault = ExportFault::Damaged { name, found };
+    assert!(rt; over_flip(alloc, 106, 1, fault) == Some((true, false)));
+    assert!(rt; over_flip(alloc, 106, 3, fault) == Some((true, true)));
+    Ok(())
+}
+
+#[test]
+fn a_damaged_check_in_is_told_of_its_sum_alone(rt: HostRuntime) -> Result<(), Fail> {
+    let alloc = rt.alloc();
+    let name = Name::of(CHECKIN);
+    let found = Name::from_bytes(TURNED);
+    let fault = ExportFault::Damaged { name, found };
+    assert!(rt; over_flip(alloc, 139, 1, fault) == Some((true, false)));
+    assert!(rt; over_flip(alloc, 139, 2, fault) == Some((true, true)));
     Ok(())
 }

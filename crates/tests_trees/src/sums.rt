@@ -33,22 +33,39 @@ pub(crate) const CHECKINS: [(&[u8], &[u8], i64, &[u8]); 4] = [
     ),
 ];
 
+/// A check-in without a parent, one without a file too, and one that took all files away; with the checksums of Python's hashlib.
+const FIRST: &[u8] =
+    b"C first\nD 1970-01-01T00:00:00.000\nF a.txt a9993e364706816aba3e25717850c26c9cd0d89d\nR 6bee3e4d66f0e718f92afb7a3c77d92f\nU ann\nZ 0097365ae02228957f4ffa9e1a281475\n";
+
+const FIRST_EMPTY: &[u8] =
+    b"C first\nD 1970-01-01T00:00:00.000\nR d41d8cd98f00b204e9800998ecf8427e\nU ann\nZ 5df716ffa5f8073e108691fa581f4d3b\n";
+
+const PARENT: &[u8] = b"f51124d84700ffaa021e62be5f28614ddc43fe19";
+
+const EMPTIED: &[u8] =
+    b"C first\nD 1970-01-01T00:00:00.000\nP f51124d84700ffaa021e62be5f28614ddc43fe19\nR d41d8cd98f00b204e9800998ecf8427e\nU ann\nZ 7cb320968eb5d92ca878dcde76826129\n";
+
 /// The checksum of a tree without files.
 const OF_NONE: [u8; 16] = *b"\xd4\x1d\x8c\xd9\x8f\x00\xb2\x04\xe9\x80\x09\x98\xec\xf8\x42\x7e";
 
 /// Whether the tree becomes this check-in.
-fn becomes(alloc: Global, tree: &[u8], parent: &[u8], moment: i64, wanted: &[u8]) -> bool {
+fn becomes(alloc: Global, tree: &[u8], parent: Option<Name>, moment: i64, wanted: &[u8]) -> bool {
     let Some(moment) = Moment::new(moment) else {
-        return false;
-    };
-    let Ok(parent) = Name::read(parent) else {
         return false;
     };
     let Ok(items) = read_tree(alloc, tree) else {
         return false;
     };
-    match manifest(alloc, &items, Some(parent), b"ann", b"first", moment) {
+    match manifest(alloc, &items, parent, b"ann", b"first", moment) {
         Ok(written) => written.bytes() == wanted,
+        Err(_) => false,
+    }
+}
+
+/// Whether it becomes this check-in over a parent.
+fn becomes_over(alloc: Global, tree: &[u8], parent: &[u8], moment: i64, wanted: &[u8]) -> bool {
+    match Name::read(parent) {
+        Ok(parent) => becomes(alloc, tree, Some(parent), moment, wanted),
         Err(_) => false,
     }
 }
@@ -56,8 +73,17 @@ fn becomes(alloc: Global, tree: &[u8], parent: &[u8], moment: i64, wanted: &[u8]
 #[test]
 fn a_tree_becomes_the_manifest_that_fossil_writes(rt: HostRuntime) -> Result<(), Fail> {
     for (tree, parent, moment, wanted) in CHECKINS {
-        assert!(rt; becomes(rt.alloc(), tree, parent, moment, wanted));
+        assert!(rt; becomes_over(rt.alloc(), tree, parent, moment, wanted));
     }
+    Ok(())
+}
+
+#[test]
+fn a_first_check_in_has_no_parent(rt: HostRuntime) -> Result<(), Fail> {
+    let alloc = rt.alloc();
+    assert!(rt; becomes(alloc, b"add a.txt - 3\nabc\n", None, 0, FIRST));
+    assert!(rt; becomes(alloc, b"", None, 0, FIRST_EMPTY));
+    assert!(rt; becomes_over(alloc, b"", PARENT, 0, EMPTIED));
     Ok(())
 }
 

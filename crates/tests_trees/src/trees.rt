@@ -8,7 +8,7 @@ use std::test::Fail;
 /// A tree whose path is written with an escape that it doesn't need.
 const ESCAPED: &[u8] = b"add \x5ca - 0\x0a\x0aadd b - 1\x0a\x0a\x0a";
 
-const CASES: [(&[u8], u64, usize); 24] = [
+const CASES: [(&[u8], u64, usize); 32] = [
     (b"", 0, 0),
     (b"add a.txt - 3\x0aabc\x0a", 0, 1),
     (b"add a.txt x 3\x0aabc\x0aadd b l 0\x0a\x0a", 0, 2),
@@ -33,6 +33,14 @@ const CASES: [(&[u8], u64, usize); 24] = [
     (b"add a - 0\x0a", 1, 0),
     (b"add a/b - 1\x0ax\x0aadd a.b - 1\x0ay\x0a", 2, 0),
     (b"add a.b - 1\x0ax\x0aadd a/b - 1\x0ay\x0a", 0, 2),
+    (b"add a - 1\x0axy\x0a", 1, 0),
+    (b"add . - 0\x0a\x0a", 1, 0),
+    (b"add a/./b - 0\x0a\x0a", 1, 0),
+    (b"add a//b - 0\x0a\x0a", 1, 0),
+    (b"add /a - 0\x0a\x0a", 1, 0),
+    (b"add a/ - 0\x0a\x0a", 1, 0),
+    (b"add a - 0\x0a\x0aadd b/.. - 0\x0a\x0a", 2, 0),
+    (b"add .a/b. - 0\x0a\x0a", 0, 1),
 ];
 
 /// Whether a tree is written as this text.
