@@ -1,5 +1,5 @@
 -- What a repository holds of a check-in, as it is read.
-use Rattle.std.proofs.Common.{◌≡◌, ◌≢◌, ℕ, suc, ◌+◌, ◌<◌, ◌≤◌, Bool, true, false, cond, List, [], ◌∷◌, ◌++◌, length, take, drop, get_or, map, Option, Some, None, Result, Ok, Err, is_some, refl, sym, ap, subst, ◌∙◌, arith}
+use Rattle.std.proofs.Common.{◌≡◌, ◌≢◌, inl, inr, ℕ, suc, ◌+◌, ◌<◌, ◌≤◌, Bool, true, false, cond, List, [], ◌∷◌, ◌++◌, length, take, drop, get_or, map, Option, Some, None, Result, Ok, Err, is_some, refl, sym, ap, subst, ◌∙◌, arith}
 use Rattle.std.specs.Prelude.{◌||◌, find, flat_map, is_none, option_map, option_and_then, IfOk, IfErr}
 use Rattle.std.specs.List.{AllZip, cons_option, list_all}
 use Rattle.std.specs.List.Sorted.{IsStrictlySortedBy}
@@ -25,6 +25,9 @@ use Rattle.fsl_artifact.specs.declared.Artifact.{Artifact}
 use Rattle.fsl_artifact.specs.Kind.{IsKind}
 use Rattle.fsl_artifact.proofs.OneKind.{one_artifact}
 use Rattle.fsl_files.specs.declared.FileRow.{FileRow}
+use Rattle.fsl_files.specs.declared.Listing.{Listing}
+use Rattle.fsl_files.specs.declared.Listing.TheVariants as listing
+use Rattle.fsl_files.specs.Files.{files}
 use Rattle.fsl_blobs.specs.Fold.{Held, HeldSet}
 use Rattle.fsl_cross.specs.declared.Item.{Item}
 use Rattle.fsl_cross.specs.Facts.{as_manifest}
@@ -42,9 +45,9 @@ use Rattle.fsl_checkin.specs.declared.answers.Export.{Export}
 use Rattle.fsl_checkin.specs.declared.answers.Export.TheVariants as export
 use Rattle.fsl_checkin.specs.declared.answers.ExportFault.{ExportFault}
 use Rattle.fsl_checkin.specs.declared.answers.ExportFault.TheVariants as fault
-use Rattle.fsl_checkin.specs.Exports.{all_there, checkin_at, content_name, first_missing, held_at, item_at, items_at, perm_of, with_first}
+use Rattle.fsl_checkin.specs.Exports.{all_there, checkin_at, checkins, content_name, first_missing, held_at, item_at, items_at, perm_of, with_first}
 use Rattle.fsl_checkin.specs.Having.{IsFilled, IsLackingOf}
-use Rattle.fsl_checkin.specs.Reads.{AreCardsOf, ExportFails, IsOnlyRead, IsReadContent, IsReadFile, Kept, content_names, kept_by}
+use Rattle.fsl_checkin.specs.Reads.{AreCardsOf, AskFails, ExportFails, HasSumRead, IsOnlyRead, IsReadContent, IsReadFile, IsTestedIn, Kept, content_names, kept_by}
 use Rattle.fsl_checkin.specs.Sums.{sum, summed_file}
 
 -- ---- the item of a held name
@@ -301,10 +304,13 @@ pub damaged_fails : (s new : State) (name found : List ℕ) → ContentFails (bl
 damaged_fails s new name found failed = (one_name name, failed.0, failed.1)
 
 -- what fails by some contents fails by more
-pub fails_by : (why : ExportFault) (s left : State) (names more : List (List ℕ)) → ((q : List ℕ) → has names q ≡ true → has more q ≡ true) → ExportFails why s names left → ExportFails why s more left
-fails_by fault.Disk s left names more among h = (h.0, among h.0 h.1, h.2)
-fails_by (fault.Damaged name found) s left names more among h = (among name h.0, h.1, h.2)
-fails_by fault.Memory s left names more among h = h
+pub asks_more : (why : ExportFault) (s left : State) (IsAsked IsMore : List ℕ → Type 0) → ((q : List ℕ) → IsAsked q → IsMore q) → AskFails IsAsked why s left → AskFails IsMore why s left
+asks_more fault.Disk s left IsAsked IsMore among h = (h.0, among h.0 h.1, h.2)
+asks_more (fault.Damaged name found) s left IsAsked IsMore among h = (among name h.0, h.1, h.2)
+asks_more fault.Memory s left IsAsked IsMore among h = h
+
+fails_by : (why : ExportFault) (s left : State) (names more : List (List ℕ)) → ((q : List ℕ) → has names q ≡ true → has more q ≡ true) → ExportFails why s names left → ExportFails why s more left
+fails_by why s left names more among h = asks_more why s left (λ q. has names q ≡ true) (λ q. has more q ≡ true) among h
 
 -- by one file of some
 own_one : (file : FileRow) (name : List ℕ) → content_name file ≡ Some name → content_names (file ∷ []) ≡ name ∷ []
@@ -338,18 +344,32 @@ of_files why s left rows i row lt is h =
     fails_by why s left (content_names (row ∷ [])) (content_names rows)
     (λ q there. ap (λ (xs : List FileRow). has (content_names xs) q) (split_at rows i row lt is) ∙ among_files (take i rows) row (drop (suc i) rows) q there) h
 
-pub in_first : (name : List ℕ) (names : List (List ℕ)) (q : List ℕ) → has (name ∷ []) q ≡ true → has (name ∷ names) q ≡ true
-in_first name names q h = or_left (bytes_eq q name) (has names q) (or_false (bytes_eq q name) h)
+same_name : (name q : List ℕ) → has (name ∷ []) q ≡ true → q ≡ name
+same_name name q h = (bytes_decides q name).0 (or_false (bytes_eq q name) h)
 
-pub in_rest : (name : List ℕ) (names : List (List ℕ)) (q : List ℕ) → has names q ≡ true → has (name ∷ names) q ≡ true
-in_rest name names q h = or_right (bytes_eq q name) (has names q) h
+-- by the text of a check-in whose checksum is tested
+module _ (why : ExportFault) (s left : State) (items : List Item) (name : List ℕ) where
+  abbrev held_then : HeldSet
+  held_then = (now s).held
 
--- by a file of a check-in whose checksum is tested
-pub tested_fails : (why : ExportFault) (s mid left : State) (name : List ℕ) (rows : List FileRow) (names : List (List ℕ)) → mid ≡ s → names ≡ name ∷ content_names rows
-    → ExportFails why mid (content_names rows) left → ExportFails why s names left
-tested_fails why s mid left name rows names same is h =
-    subst (λ (ns : List (List ℕ)). ExportFails why s ns left) (sym is)
-    (fails_by why s left (content_names rows) (name ∷ content_names rows) (in_rest name (content_names rows)) (subst (λ (x : State). ExportFails why x (content_names rows) left) same h))
+  abbrev TestedOf : Listing → Type 0
+  TestedOf l = AskFails (IsTestedIn s.honest held_then name l) why s left
+
+  pub based_fails : files (checkins items) name ≡ listing.NoBaseline → ExportFails why s (name ∷ []) left → TestedOf (files (checkins items) name)
+  based_fails is h = subst TestedOf (sym is) (asks_more why s left (λ q. has (name ∷ []) q ≡ true) (λ q. q ≡ name) (same_name name) h)
+
+  module _ (rows : List FileRow) (is : files (checkins items) name ≡ listing.Known rows) where
+    pub text_fails : ExportFails why s (name ∷ []) left → TestedOf (files (checkins items) name)
+    text_fails h =
+        subst TestedOf (sym is)
+        (asks_more why s left (λ q. has (name ∷ []) q ≡ true) (IsTestedIn s.honest held_then name (listing.Known rows)) (λ q one. inl (same_name name q one)) h)
+
+    -- or by a file of it
+    pub files_fail : (mid : State) → mid ≡ s → HasSumRead s.honest held_then name → ExportFails why mid (content_names rows) left → TestedOf (files (checkins items) name)
+    files_fail mid same sum h =
+        subst TestedOf (sym is)
+        (asks_more why s left (λ q. has (content_names rows) q ≡ true) (IsTestedIn s.honest held_then name (listing.Known rows)) (λ q one. inr (sum, one))
+        (subst (λ (x : State). ExportFails why x (content_names rows) left) same h))
 
 -- ---- what was only read
 

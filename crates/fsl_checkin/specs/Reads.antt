@@ -1,5 +1,5 @@
 -- Check-ins as their contents are read from a disk, and why they can't be.
-use Rattle.std.specs.Prelude.{◌≡◌, ◌≢◌, ℕ, Bool, true, IsTrue, List, [], ◌∷◌, length, filter_map, Option, Some, None, unwrap_or, option_and_then}
+use Rattle.std.specs.Prelude.{◌≡◌, ◌≢◌, ◌⊎◌, ℕ, Bool, true, IsTrue, List, [], ◌∷◌, length, filter_map, Option, Some, None, unwrap_or, option_and_then}
 use Rattle.std.specs.List.{AllZip}
 use Rattle.fsl_name.specs.Name.{name_of}
 use Rattle.fsl_name.specs.declared.reference.Ref.{Ref}
@@ -74,6 +74,10 @@ AreCardsRead honest held name kept = (text : List ℕ) × IsReadContent honest h
 abbrev pub IsSumRead : Bool → HeldSet → List ℕ → Option (List ℕ) → Type 0
 IsSumRead honest held name checksum = (kept : Kept) × AreCardsRead honest held name kept × (checksum ≡ kept.checksum)
 
+-- it has an R card
+abbrev pub HasSumRead : Bool → HeldSet → List ℕ → Type 0
+HasSumRead honest held name = (kept : List ℕ) × IsSumRead honest held name (Some kept)
+
 -- ---- answers
 
 -- the baseline of a check-in, or its own name where its text is read as one that has none; over an honest disk no text of a check-in without files is
@@ -103,7 +107,7 @@ IsExportRead honest held items name (export.Tree t) = IsReadTree honest held ite
 abbrev pub IsVerdictRead : Bool → HeldSet → List Item → List ℕ → Verdict → Type 0
 IsVerdictRead honest held items name verdict.NotCheckin = checkin_at items name ≡ None
 IsVerdictRead honest held items name verdict.NoSum = (checkin_at items name ≢ None) × IsSumRead honest held name None
-IsVerdictRead honest held items name (verdict.Incomplete m) = ((kept : List ℕ) × IsSumRead honest held name (Some kept)) × IsLacking honest held items name m
+IsVerdictRead honest held items name (verdict.Incomplete m) = HasSumRead honest held name × IsLacking honest held items name m
 IsVerdictRead honest held items name (verdict.Wrong kept found) =
     IsSumRead honest held name (Some kept) × ((t : List TreeItem) × IsReadTree honest held items name t × (found ≡ sum t)) × (kept ≢ found)
 IsVerdictRead honest held items name verdict.Right = (t : List TreeItem) × IsReadTree honest held items name t × IsSumRead honest held name (Some (sum t))
@@ -130,20 +134,28 @@ asked_in name (listing.Known rows) = content_names rows
 abbrev pub asked : List Item → List ℕ → List (List ℕ)
 asked items name = asked_in name (files (checkins items) name)
 
--- those that a test of a checksum asks for: that of the check-in, which has the R card, and those of the files
-abbrev pub tested_in : List ℕ → Listing → List (List ℕ)
-tested_in name listing.NotCheckin = []
-tested_in name listing.NoBaseline = name ∷ []
-tested_in name (listing.Known rows) = name ∷ content_names rows
+-- a test of a checksum asks for this content: for that of the check-in, which has the R card; and where this is there, as the text is read, for those of the files
+abbrev pub IsTestedIn : Bool → HeldSet → List ℕ → Listing → List ℕ → Type 0
+IsTestedIn honest held name listing.NotCheckin content = ⊥
+IsTestedIn honest held name listing.NoBaseline content = content ≡ name
+IsTestedIn honest held name (listing.Known rows) content = (content ≡ name) ⊎ (HasSumRead honest held name × IsTrue (has (content_names rows) content))
 
-abbrev pub tested : List Item → List ℕ → List (List ℕ)
-tested items name = tested_in name (files (checkins items) name)
+abbrev pub IsTested : Bool → HeldSet → List Item → List ℕ → List ℕ → Type 0
+IsTested honest held items name content = IsTestedIn honest held name (files (checkins items) name) content
 
--- why there is no answer that asks for these contents: a call of the disk failed, and its count rose; the bytes that were read for one of them have another name, which is never so over an honest disk; or there was no memory
+-- why there is no answer that asks for such contents: a call of the disk failed, and its count rose; the bytes that were read for one of them have another name, which is never so over an honest disk; or there was no memory
+abbrev pub AskFails : (List ℕ → Type 0) → ExportFault → State → State → Type 0
+AskFails IsAsked fault.Disk old new = (name : List ℕ) × IsAsked name × Rose old.faults new.faults
+AskFails IsAsked (fault.Damaged name found) old new = IsAsked name × IsSpoilt old name found × (new.faults ≡ old.faults)
+AskFails IsAsked fault.Memory old new = new.faults ≡ old.faults
+
+-- none that asks for these contents
 abbrev pub ExportFails : ExportFault → State → List (List ℕ) → State → Type 0
-ExportFails fault.Disk old names new = (name : List ℕ) × IsTrue (has names name) × Rose old.faults new.faults
-ExportFails (fault.Damaged name found) old names new = IsTrue (has names name) × IsSpoilt old name found × (new.faults ≡ old.faults)
-ExportFails fault.Memory old names new = new.faults ≡ old.faults
+ExportFails why old names new = AskFails (λ name. IsTrue (has names name)) why old new
+
+-- no test of the checksum of a check-in
+abbrev pub VerifyFails : ExportFault → Seen → List ℕ → State → Type 0
+VerifyFails why seen name new = AskFails (IsTested seen.state.honest (now seen.state).held seen.items name) why seen.state new
 
 -- a repository that was only read is as it was, but for its disk's count of faults
 pub record IsOnlyRead {D : Type 0} (disk : D → DiskState) (old new : Whole D) : Type 0 where

@@ -6,7 +6,7 @@ ghost use Rattle.fsl_files.specs.declared.Listing.TheVariants.{Known, NoBaseline
 ghost use Rattle.fsl_repo.specs.Machine.{now};
 ghost use Rattle.fsl_checkin.specs.Exports.{IsVerdict, checkin_at, checkins};
 ghost use Rattle.fsl_checkin.specs.Having.{IsAbsorbed, IsCompared, IsJudged, IsMissing, IsSummed};
-ghost use Rattle.fsl_checkin.specs.Reads.{ExportFails, IsOnlyRead, VerdictRead, content_names, tested};
+ghost use Rattle.fsl_checkin.specs.Reads.{ExportFails, IsOnlyRead, VerdictRead, VerifyFails, content_names};
 
 use crate::answers::{ExportFault, Verdict};
 use crate::contents::{cards_at, content_of};
@@ -119,7 +119,7 @@ fn tested<D: Disk>(
 ) -> Result<Verdict, ExportFault>
     requires { files (checkins repo.old.seen.items) name ≡ Known rows.now }
     ensures read { IfOk result (VerdictRead repo.old.seen name) }
-    ensures fault { IfErr result (λ why. ExportFails why repo.old.seen.state (tested repo.old.seen.items name) repo.new.seen.state) }
+    ensures fault { IfErr result (λ why. VerifyFails why repo.old.seen name repo.new.seen.state) }
     ensures count { OnOk result (repo.new.seen.state ≡ repo.old.seen.state) }
     ensures repo { IsOnlyRead D.state repo.old repo.new }
 {
@@ -141,7 +141,7 @@ fn without_baseline<D: Disk>(
 ) -> Result<Verdict, ExportFault>
     requires { files (checkins repo.old.seen.items) name ≡ NoBaseline }
     ensures read { IfOk result (VerdictRead repo.old.seen name) }
-    ensures fault { IfErr result (λ why. ExportFails why repo.old.seen.state (tested repo.old.seen.items name) repo.new.seen.state) }
+    ensures fault { IfErr result (λ why. VerifyFails why repo.old.seen name repo.new.seen.state) }
     ensures count { OnOk result (repo.new.seen.state ≡ repo.old.seen.state) }
     ensures repo { IsOnlyRead D.state repo.old repo.new }
 {
@@ -160,7 +160,7 @@ fn without_baseline<D: Disk>(
 /// Whether the checksum of a check-in is that of its tree, each as it is read.
 fn verified<D: Disk>(alloc: Global, repo: &mut Repo<D>, name: Name) -> Result<Verdict, ExportFault>
     ensures read { IfOk result (VerdictRead repo.old.seen name) }
-    ensures fault { IfErr result (λ why. ExportFails why repo.old.seen.state (tested repo.old.seen.items name) repo.new.seen.state) }
+    ensures fault { IfErr result (λ why. VerifyFails why repo.old.seen name repo.new.seen.state) }
     ensures count { OnOk result (repo.new.seen.state ≡ repo.old.seen.state) }
     ensures unread { checkin_at repo.old.seen.items name ≡ None → repo.new ≡ repo.old }
     ensures repo { IsOnlyRead D.state repo.old repo.new }
@@ -181,7 +181,7 @@ fn verified<D: Disk>(alloc: Global, repo: &mut Repo<D>, name: Name) -> Result<Ve
 /// name and the size of these. Nothing changes but the disk's count of faults.
 ///
 /// Errors: `Disk` where a call of the disk failed, `Damaged` where the bytes that were read for the check-in or for a content
-/// of its tree have another name, or `Memory`.
+/// of its tree have another name, or `Memory`. The contents of its tree are asked for only where it has an R card.
 pub fn verify<D: Disk>(
     alloc: Global,
     repo: &mut Repo<D>,
@@ -189,7 +189,7 @@ pub fn verify<D: Disk>(
 ) -> Result<Verdict, ExportFault>
     ensures verdict { repo.old.seen.state.honest ≡ true → IfOk result (IsVerdict (now repo.old.seen.state).held repo.old.seen.items name) }
     ensures read { IfOk result (VerdictRead repo.old.seen name) }
-    ensures fault { IfErr result (λ why. ExportFails why repo.old.seen.state (tested repo.old.seen.items name) repo.new.seen.state) }
+    ensures fault { IfErr result (λ why. VerifyFails why repo.old.seen name repo.new.seen.state) }
     ensures count { OnOk result (repo.new.seen.state ≡ repo.old.seen.state) }
     // Where no check-in has the name, no device is called.
     ensures unread { checkin_at repo.old.seen.items name ≡ None → repo.new ≡ repo.old }

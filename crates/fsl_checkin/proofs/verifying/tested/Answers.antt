@@ -1,12 +1,12 @@
-use Rattle.std.proofs.Common.{◌∷◌, [], ap, subst, sym}
+use Rattle.std.proofs.Common.{subst, sym}
 use Rattle.fsl_repo.specs.Machine.{State, now}
 use Rattle.fsl_repo.proofs.ItemLemmas.{items_rise}
 use Rattle.fsl_checkin.specs.declared.answers.ExportFault.{ExportFault}
 use Rattle.fsl_checkin.specs.declared.answers.Verdict.{Verdict}
 use Rattle.fsl_checkin.specs.Having.{IsJudged, as_kept}
-use Rattle.fsl_checkin.specs.Reads.{ExportFails, IsVerdictRead, content_names, tested as asked_of, tested_in}
+use Rattle.fsl_checkin.specs.Reads.{ExportFails, IsVerdictRead, VerifyFails, content_names}
 use Rattle.fsl_checkin.proofs.FilesLemmas.{known_checkin, known_fit, verdict_known, verdict_no_sum}
-use Rattle.fsl_checkin.proofs.HavingLemmas.{fails_by, if_err_map, if_ok_map, in_first, tested_fails}
+use Rattle.fsl_checkin.proofs.HavingLemmas.{files_fail, if_err_map, if_ok_map, text_fails}
 use Rattle.fsl_checkin.proofs.verifying.tested.Goals as goal
 
 pub cards_at-requires : goal.cards_at-requires
@@ -29,12 +29,12 @@ returns-in-Some-clause-read g c =
 
 pub returns-in-Some-clause-fault : goal.returns-in-Some-clause-fault
 returns-in-Some-clause-fault g c =
-    let s = c.args.repo.now.seen.state in
+    let seen = c.args.repo.now.seen in
+    let s = seen.state in
     let mid = c.cards_at.new.repo.seen.state in
     let left = c.judged.new.repo.seen.state in
-    let names = asked_of c.args.repo.now.seen.items c.args.name in
-    if_err_map c.judged.result (λ (why : ExportFault). ExportFails why mid (content_names c.args.rows.now) left) (λ (why : ExportFault). ExportFails why s names left)
-    (λ why h. tested_fails why s mid left c.args.name c.args.rows.now names c.in-Ok.ensures.count (ap (tested_in c.args.name) c.requires) h)
+    if_err_map c.judged.result (λ (why : ExportFault). ExportFails why mid (content_names c.args.rows.now) left) (λ (why : ExportFault). VerifyFails why seen c.args.name left)
+    (λ why h. files_fail why s left seen.items c.args.name c.args.rows.now c.requires mid c.in-Ok.ensures.count (c.in-Some.kept, (as_kept c.in-Ok.cards, c.in-Ok.ensures.cards, sym c.in-Some.is)) h)
     c.judged.ensures.fault
 
 pub returns-in-None-clause-read : goal.returns-in-None-clause-read
@@ -45,5 +45,4 @@ returns-in-None-clause-read g c =
 
 pub returns-in-Err-clause-fault : goal.returns-in-Err-clause-fault
 returns-in-Err-clause-fault g c =
-    subst (λ names. ExportFails c.in-Err.fault c.args.repo.now.seen.state names c.cards_at.new.repo.seen.state) (sym (ap (tested_in c.args.name) c.requires))
-    (fails_by c.in-Err.fault c.args.repo.now.seen.state c.cards_at.new.repo.seen.state (c.args.name ∷ []) (c.args.name ∷ content_names c.args.rows.now) (in_first c.args.name (content_names c.args.rows.now)) c.in-Err.ensures.fault)
+    text_fails c.in-Err.fault c.args.repo.now.seen.state c.cards_at.new.repo.seen.state c.args.repo.now.seen.items c.args.name c.args.rows.now c.requires c.in-Err.ensures.fault

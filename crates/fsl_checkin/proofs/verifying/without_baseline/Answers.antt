@@ -1,9 +1,8 @@
-use Rattle.std.proofs.Common.{ap, subst, sym}
 use Rattle.fsl_repo.specs.Machine.{now}
 use Rattle.fsl_repo.proofs.ItemLemmas.{items_rise}
 use Rattle.fsl_checkin.specs.Having.{as_kept}
-use Rattle.fsl_checkin.specs.Reads.{ExportFails, tested_in}
 use Rattle.fsl_checkin.proofs.FilesLemmas.{baseline_checkin, verdict_baseline, verdict_no_sum}
+use Rattle.fsl_checkin.proofs.HavingLemmas.{based_fails}
 use Rattle.fsl_checkin.proofs.verifying.without_baseline.Goals as goal
 
 pub cards_at-requires : goal.cards_at-requires
@@ -23,4 +22,4 @@ returns-in-None-clause-read g c =
 
 pub returns-in-Err-clause-fault : goal.returns-in-Err-clause-fault
 returns-in-Err-clause-fault g c =
-    subst (λ names. ExportFails c.in-Err.fault c.args.repo.now.seen.state names c.cards_at.new.repo.seen.state) (sym (ap (tested_in c.args.name) c.requires)) c.in-Err.ensures.fault
+    based_fails c.in-Err.fault c.args.repo.now.seen.state c.cards_at.new.repo.seen.state c.args.repo.now.seen.items c.args.name c.requires c.in-Err.ensures.fault
