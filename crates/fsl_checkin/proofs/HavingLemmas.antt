@@ -47,7 +47,7 @@ use Rattle.fsl_checkin.specs.declared.answers.ExportFault.{ExportFault}
 use Rattle.fsl_checkin.specs.declared.answers.ExportFault.TheVariants as fault
 use Rattle.fsl_checkin.specs.Exports.{all_there, checkin_at, checkins, content_name, first_missing, held_at, item_at, items_at, perm_of, with_first}
 use Rattle.fsl_checkin.specs.Having.{IsFilled, IsLackingOf}
-use Rattle.fsl_checkin.specs.Reads.{AreCardsOf, AskFails, ExportFails, HasSumRead, IsOnlyRead, IsReadContent, IsReadFile, IsTestedIn, Kept, content_names, kept_by}
+use Rattle.fsl_checkin.specs.Reads.{AreCardsOf, AskFails, ExportFails, FilesFail, HasSumRead, IsOnlyRead, IsReadContent, IsReadFile, IsTestedIn, Kept, asked_files, content_names, kept_by, up_to_missing}
 use Rattle.fsl_checkin.specs.Sums.{sum, summed_file}
 
 -- ---- the item of a held name
@@ -335,14 +335,21 @@ behind : (o : Option (List ℕ)) (names : List (List ℕ)) (q : List ℕ) → ha
 behind None names q h = h
 behind (Some name) names q h = or_right (bytes_eq q name) (has names q) h
 
-among_files : (front : List FileRow) (row : FileRow) (rest : List FileRow) (q : List ℕ) → has (content_names (row ∷ [])) q ≡ true → has (content_names (front ++ row ∷ rest)) q ≡ true
-among_files [] row rest q h = in_front (content_name row) (content_names rest) q h
-among_files (f ∷ front) row rest q h = behind (content_name f) (content_names (front ++ row ∷ rest)) q (among_files front row rest q h)
+-- a file behind others that were read is asked for
+among_files : (honest : Bool) (held : HeldSet) (front : List FileRow) (items : List TreeItem) (row : FileRow) (rest : List FileRow) (q : List ℕ)
+    → AllZip (IsReadFile honest held) front items → has (content_names (row ∷ [])) q ≡ true → has (asked_files held (front ++ row ∷ rest)) q ≡ true
+among_files honest held [] [] row rest q all h = in_front (content_name row) (content_names (cond (is_none (item_at held row)) [] (up_to_missing held rest))) q h
+among_files honest held [] (item ∷ items) row rest q all h = absurd all
+among_files honest held (f ∷ front) [] row rest q all h = absurd all
+among_files honest held (f ∷ front) (item ∷ items) row rest q all h =
+    ap (λ (o : Option TreeItem). has (content_names (f ∷ cond (is_none o) [] (up_to_missing held (front ++ row ∷ rest)))) q) (there_read honest held f item all.0).1
+    ∙ behind (content_name f) (asked_files held (front ++ row ∷ rest)) q (among_files honest held front items row rest q all.1 h)
 
-pub of_files : (why : ExportFault) (s left : State) (rows : List FileRow) (i : ℕ) (row : FileRow) → i < length rows → row ≡ get_or rows i row → ExportFails why s (content_names (row ∷ [])) left → ExportFails why s (content_names rows) left
-of_files why s left rows i row lt is h =
-    fails_by why s left (content_names (row ∷ [])) (content_names rows)
-    (λ q there. ap (λ (xs : List FileRow). has (content_names xs) q) (split_at rows i row lt is) ∙ among_files (take i rows) row (drop (suc i) rows) q there) h
+pub of_files : (why : ExportFault) (s left : State) (rows : List FileRow) (i : ℕ) (row : FileRow) (items : List TreeItem) → i < length rows → row ≡ get_or rows i row
+    → AllZip (IsReadFile s.honest (now s).held) (take i rows) items → ExportFails why s (content_names (row ∷ [])) left → FilesFail why s rows left
+of_files why s left rows i row items lt is all h =
+    fails_by why s left (content_names (row ∷ [])) (asked_files (now s).held rows)
+    (λ q there. ap (λ (xs : List FileRow). has (asked_files (now s).held xs) q) (split_at rows i row lt is) ∙ among_files s.honest (now s).held (take i rows) items row (drop (suc i) rows) q all there) h
 
 same_name : (name q : List ℕ) → has (name ∷ []) q ≡ true → q ≡ name
 same_name name q h = (bytes_decides q name).0 (or_false (bytes_eq q name) h)
@@ -365,11 +372,11 @@ module _ (why : ExportFault) (s left : State) (items : List Item) (name : List �
         (asks_more why s left (λ q. has (name ∷ []) q ≡ true) (IsTestedIn s.honest held_then name (listing.Known rows)) (λ q one. inl (same_name name q one)) h)
 
     -- or by a file of it
-    pub files_fail : (mid : State) → mid ≡ s → HasSumRead s.honest held_then name → ExportFails why mid (content_names rows) left → TestedOf (files (checkins items) name)
+    pub files_fail : (mid : State) → mid ≡ s → HasSumRead s.honest held_then name → FilesFail why mid rows left → TestedOf (files (checkins items) name)
     files_fail mid same sum h =
         subst TestedOf (sym is)
-        (asks_more why s left (λ q. has (content_names rows) q ≡ true) (IsTestedIn s.honest held_then name (listing.Known rows)) (λ q one. inr (sum, one))
-        (subst (λ (x : State). ExportFails why x (content_names rows) left) same h))
+        (asks_more why s left (λ q. has (asked_files held_then rows) q ≡ true) (IsTestedIn s.honest held_then name (listing.Known rows)) (λ q one. inr (sum, one))
+        (subst (λ (x : State). FilesFail why x rows left) same h))
 
 -- ---- what was only read
 

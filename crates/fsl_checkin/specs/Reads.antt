@@ -1,5 +1,5 @@
 -- Check-ins as their contents are read from a disk, and why they can't be.
-use Rattle.std.specs.Prelude.{◌≡◌, ◌≢◌, ◌⊎◌, ℕ, Bool, true, IsTrue, List, [], ◌∷◌, length, filter_map, Option, Some, None, unwrap_or, option_and_then}
+use Rattle.std.specs.Prelude.{◌≡◌, ◌≢◌, ◌⊎◌, ℕ, Bool, true, cond, is_none, IsTrue, List, [], ◌∷◌, length, filter_map, Option, Some, None, unwrap_or, option_and_then}
 use Rattle.std.specs.List.{AllZip}
 use Rattle.fsl_name.specs.Name.{name_of}
 use Rattle.fsl_name.specs.declared.reference.Ref.{Ref}
@@ -27,7 +27,7 @@ use Rattle.fsl_checkin.specs.declared.answers.Verdict.{Verdict}
 use Rattle.fsl_checkin.specs.declared.answers.Verdict.TheVariants as verdict
 use Rattle.fsl_checkin.specs.declared.answers.ExportFault.{ExportFault}
 use Rattle.fsl_checkin.specs.declared.answers.ExportFault.TheVariants as fault
-use Rattle.fsl_checkin.specs.Exports.{checkin_at, checkins, content_name, first_missing, held_at, perm_of, tree}
+use Rattle.fsl_checkin.specs.Exports.{checkin_at, checkins, content_name, first_missing, held_at, item_at, perm_of, tree}
 use Rattle.fsl_checkin.specs.Sums.{sum}
 
 -- ---- contents that are read
@@ -125,20 +125,32 @@ VerdictRead seen name v = IsVerdictRead seen.state.honest (now seen.state).held 
 abbrev pub content_names : List FileRow → List (List ℕ)
 content_names rows = filter_map content_name rows
 
--- the contents that an export asks for: those of the files; and where these aren't defined that of the check-in, which names the baseline
-abbrev pub asked_in : List ℕ → Listing → List (List ℕ)
-asked_in name listing.NotCheckin = []
-asked_in name listing.NoBaseline = name ∷ []
-asked_in name (listing.Known rows) = content_names rows
+-- the files up to the first one that is foreign or whose content isn't held, with that one
+abbrev pub up_to_missing : HeldSet → List FileRow → List FileRow
+up_to_missing held [] = []
+up_to_missing held (row ∷ rows) = row ∷ cond (is_none (item_at held row)) [] (up_to_missing held rows)
 
-abbrev pub asked : List Item → List ℕ → List (List ℕ)
-asked items name = asked_in name (files (checkins items) name)
+-- the contents of files that are asked for: none behind the first that is missing
+abbrev pub asked_files : HeldSet → List FileRow → List (List ℕ)
+asked_files held rows = content_names (up_to_missing held rows)
+
+-- the contents that an export asks for: those of the files; and where these aren't defined that of the check-in, which names the baseline
+abbrev pub asked_in : HeldSet → List ℕ → Listing → List (List ℕ)
+asked_in held name listing.NotCheckin = []
+asked_in held name listing.NoBaseline = name ∷ []
+asked_in held name (listing.Known rows) = asked_files held rows
+
+abbrev pub asked : HeldSet → List Item → List ℕ → List (List ℕ)
+asked held items name = asked_in held name (files (checkins items) name)
+
+abbrev pub asked_of : Seen → List ℕ → List (List ℕ)
+asked_of seen name = asked (now seen.state).held seen.items name
 
 -- a test of a checksum asks for this content: for that of the check-in, which has the R card; and where this is there, as the text is read, for those of the files
 abbrev pub IsTestedIn : Bool → HeldSet → List ℕ → Listing → List ℕ → Type 0
 IsTestedIn honest held name listing.NotCheckin content = ⊥
 IsTestedIn honest held name listing.NoBaseline content = content ≡ name
-IsTestedIn honest held name (listing.Known rows) content = (content ≡ name) ⊎ (HasSumRead honest held name × IsTrue (has (content_names rows) content))
+IsTestedIn honest held name (listing.Known rows) content = (content ≡ name) ⊎ (HasSumRead honest held name × IsTrue (has (asked_files held rows) content))
 
 abbrev pub IsTested : Bool → HeldSet → List Item → List ℕ → List ℕ → Type 0
 IsTested honest held items name content = IsTestedIn honest held name (files (checkins items) name) content
@@ -152,6 +164,10 @@ AskFails IsAsked fault.Memory old new = new.faults ≡ old.faults
 -- none that asks for these contents
 abbrev pub ExportFails : ExportFault → State → List (List ℕ) → State → Type 0
 ExportFails why old names new = AskFails (λ name. IsTrue (has names name)) why old new
+
+-- none that asks for those of files
+abbrev pub FilesFail : ExportFault → State → List FileRow → State → Type 0
+FilesFail why old rows new = ExportFails why old (asked_files (now old).held rows) new
 
 -- no test of the checksum of a check-in
 abbrev pub VerifyFails : ExportFault → Seen → List ℕ → State → Type 0

@@ -7,7 +7,7 @@ ghost use Rattle.fsl_files.specs.declared.Listing.TheVariants.{NoBaseline};
 ghost use Rattle.fsl_repo.specs.Machine.{now};
 ghost use Rattle.fsl_checkin.specs.Exports.{IsExport, checkin_at, checkins};
 ghost use Rattle.fsl_checkin.specs.Having.{IsFileAdded, IsFilled, IsLackingOf, as_kept};
-ghost use Rattle.fsl_checkin.specs.Reads.{ExportFails, ExportRead, IsOnlyRead, asked, baseline_or, content_names};
+ghost use Rattle.fsl_checkin.specs.Reads.{ExportFails, ExportRead, FilesFail, IsOnlyRead, asked_of, baseline_or, content_names};
 
 use crate::TreeItem;
 use crate::answers::{Export, ExportFault};
@@ -71,7 +71,7 @@ fn filled<D: Disk>(
 ) -> Result<Export, ExportFault>
     requires { IsTrue (list_all (λ file. is_some file.hash) files.now) }
     ensures export { IfOk result (IsFilled repo.old.seen.state files.now) }
-    ensures fault { IfErr result (λ why. ExportFails why repo.old.seen.state (content_names files.now) repo.new.seen.state) }
+    ensures fault { IfErr result (λ why. FilesFail why repo.old.seen.state files.now repo.new.seen.state) }
     ensures count { OnOk result (repo.new.seen.state ≡ repo.old.seen.state) }
     ensures repo { IsOnlyRead D.state repo.old repo.new }
 {
@@ -107,7 +107,7 @@ fn without_baseline<D: Disk>(
 ) -> Result<Export, ExportFault>
     requires { files (checkins repo.old.seen.items) name ≡ NoBaseline }
     ensures read { IfOk result (ExportRead repo.old.seen name) }
-    ensures fault { IfErr result (λ why. ExportFails why repo.old.seen.state (asked repo.old.seen.items name) repo.new.seen.state) }
+    ensures fault { IfErr result (λ why. ExportFails why repo.old.seen.state (asked_of repo.old.seen name) repo.new.seen.state) }
     ensures count { OnOk result (repo.new.seen.state ≡ repo.old.seen.state) }
     ensures repo { IsOnlyRead D.state repo.old repo.new }
 {
@@ -123,7 +123,7 @@ fn without_baseline<D: Disk>(
 /// The tree of a check-in, with each content as it is read.
 fn exported<D: Disk>(alloc: Global, repo: &mut Repo<D>, name: Name) -> Result<Export, ExportFault>
     ensures read { IfOk result (ExportRead repo.old.seen name) }
-    ensures fault { IfErr result (λ why. ExportFails why repo.old.seen.state (asked repo.old.seen.items name) repo.new.seen.state) }
+    ensures fault { IfErr result (λ why. ExportFails why repo.old.seen.state (asked_of repo.old.seen name) repo.new.seen.state) }
     ensures count { OnOk result (repo.new.seen.state ≡ repo.old.seen.state) }
     ensures unread { checkin_at repo.old.seen.items name ≡ None → repo.new ≡ repo.old }
     ensures repo { IsOnlyRead D.state repo.old repo.new }
@@ -144,11 +144,11 @@ fn exported<D: Disk>(alloc: Global, repo: &mut Repo<D>, name: Name) -> Result<Ex
 /// the size of these. Nothing changes but the disk's count of faults.
 ///
 /// Errors: `Disk` where a call of the disk failed, `Damaged` where the bytes that were read for a content that the tree asks
-/// for have another name, or `Memory`.
+/// for have another name, or `Memory`. Behind a file that isn't held no content is asked for.
 pub fn export<D: Disk>(alloc: Global, repo: &mut Repo<D>, name: Name) -> Result<Export, ExportFault>
     ensures export { repo.old.seen.state.honest ≡ true → IfOk result (IsExport (now repo.old.seen.state).held repo.old.seen.items name) }
     ensures read { IfOk result (ExportRead repo.old.seen name) }
-    ensures fault { IfErr result (λ why. ExportFails why repo.old.seen.state (asked repo.old.seen.items name) repo.new.seen.state) }
+    ensures fault { IfErr result (λ why. ExportFails why repo.old.seen.state (asked_of repo.old.seen name) repo.new.seen.state) }
     ensures count { OnOk result (repo.new.seen.state ≡ repo.old.seen.state) }
     // Where no check-in has the name, no device is called.
     ensures unread { checkin_at repo.old.seen.items name ≡ None → repo.new ≡ repo.old }

@@ -6,7 +6,7 @@ ghost use Rattle.fsl_files.specs.declared.Listing.TheVariants.{Known, NoBaseline
 ghost use Rattle.fsl_repo.specs.Machine.{now};
 ghost use Rattle.fsl_checkin.specs.Exports.{IsVerdict, checkin_at, checkins};
 ghost use Rattle.fsl_checkin.specs.Having.{IsAbsorbed, IsCompared, IsJudged, IsMissing, IsSummed};
-ghost use Rattle.fsl_checkin.specs.Reads.{ExportFails, IsOnlyRead, VerdictRead, VerifyFails, content_names};
+ghost use Rattle.fsl_checkin.specs.Reads.{ExportFails, FilesFail, IsOnlyRead, VerdictRead, VerifyFails, content_names};
 
 use crate::answers::{ExportFault, Verdict};
 use crate::contents::{cards_at, content_of};
@@ -51,7 +51,7 @@ fn absorb<D: Disk>(
 /// The checksum of files with their contents as they are read, or the hash of the first that is foreign or not held.
 fn summed<D: Disk>(repo: &mut Repo<D>, files: &[FileRow]) -> Result<Total, ExportFault>
     ensures summed { IfOk result (IsSummed repo.old.seen.state files.now) }
-    ensures fault { IfErr result (λ why. ExportFails why repo.old.seen.state (content_names files.now) repo.new.seen.state) }
+    ensures fault { IfErr result (λ why. FilesFail why repo.old.seen.state files.now repo.new.seen.state) }
     ensures count { OnOk result (repo.new.seen.state ≡ repo.old.seen.state) }
     ensures repo { IsOnlyRead D.state repo.old repo.new }
 {
@@ -99,7 +99,7 @@ fn judged<D: Disk>(
 ) -> Result<Verdict, ExportFault>
     requires { IsTrue (list_all (λ file. is_some file.hash) files.now) }
     ensures verdict { IfOk result (IsJudged repo.old.seen.state files.now kept) }
-    ensures fault { IfErr result (λ why. ExportFails why repo.old.seen.state (content_names files.now) repo.new.seen.state) }
+    ensures fault { IfErr result (λ why. FilesFail why repo.old.seen.state files.now repo.new.seen.state) }
     ensures count { OnOk result (repo.new.seen.state ≡ repo.old.seen.state) }
     ensures repo { IsOnlyRead D.state repo.old repo.new }
 {
@@ -181,7 +181,8 @@ fn verified<D: Disk>(alloc: Global, repo: &mut Repo<D>, name: Name) -> Result<Ve
 /// name and the size of these. Nothing changes but the disk's count of faults.
 ///
 /// Errors: `Disk` where a call of the disk failed, `Damaged` where the bytes that were read for the check-in or for a content
-/// of its tree have another name, or `Memory`. The contents of its tree are asked for only where it has an R card.
+/// of its tree have another name, or `Memory`. The contents of its tree are asked for only where it has an R card,
+/// and none behind a file that isn't held.
 pub fn verify<D: Disk>(
     alloc: Global,
     repo: &mut Repo<D>,

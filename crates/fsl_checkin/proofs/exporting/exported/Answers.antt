@@ -7,7 +7,7 @@ use Rattle.fsl_repo.proofs.ItemLemmas.{items_rise}
 use Rattle.fsl_checkin.specs.declared.answers.Export.{Export}
 use Rattle.fsl_checkin.specs.declared.answers.ExportFault.{ExportFault}
 use Rattle.fsl_checkin.specs.Having.{IsFilled}
-use Rattle.fsl_checkin.specs.Reads.{ExportFails, IsExportRead, asked_in, content_names}
+use Rattle.fsl_checkin.specs.Reads.{ExportFails, IsExportRead, asked_files, asked_in}
 use Rattle.fsl_checkin.proofs.FilesLemmas.{baseline_checkin, export_known, known_checkin, known_fit, not_checkin}
 use Rattle.fsl_checkin.proofs.HavingLemmas.{if_ok_map}
 use Rattle.fsl_checkin.proofs.exporting.exported.Goals as goal
@@ -39,8 +39,9 @@ returns-in-Ok-Known-clause-read g c =
 pub returns-in-Ok-Known-clause-fault : goal.returns-in-Ok-Known-clause-fault
 returns-in-Ok-Known-clause-fault g c =
     let is = sym c.in-Ok-Known.ensures ∙ c.in-Ok-Known.field-0-is in
+    let held = (now c.args.repo.now.seen.state).held in
     subst (λ names. IfErr c.filled.result (λ (why : ExportFault). ExportFails why c.args.repo.now.seen.state names c.filled.new.repo.seen.state))
-    (ap content_names c.items.ensures ∙ sym (ap (asked_in c.args.name) is)) c.filled.ensures.fault
+    (ap (asked_files held) c.items.ensures ∙ sym (ap (asked_in held c.args.name) is)) c.filled.ensures.fault
 
 pub returns-in-Ok-Known-clause-unread : goal.returns-in-Ok-Known-clause-unread
 returns-in-Ok-Known-clause-unread g c = λ none.

@@ -18,7 +18,7 @@ returns-then-not-there-clause-export g c =
 pub returns-in-Err-clause-fault : goal.returns-in-Err-clause-fault
 returns-in-Err-clause-fault g c =
     let left = c.add_file.new.repo.seen.state in
-    of_files c.in-Err.fault c.args.repo.now.seen.state left c.args.files.now c.loop-file.file-index c.file-item.result c.loop-file-test.true c.file-item.is
+    of_files c.in-Err.fault c.args.repo.now.seen.state left c.args.files.now c.loop-file.file-index c.file-item.result c.loop-file.items c.loop-file-test.true c.file-item.is c.loop-file.invariant.items
     (subst (λ (s : State). ExportFails c.in-Err.fault s (content_names (c.file-item.result ∷ [])) left) c.loop-file.invariant.state c.in-Err.ensures.fault)
 
 pub loop-file-preserved : goal.loop-file-preserved

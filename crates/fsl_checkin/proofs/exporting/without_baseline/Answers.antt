@@ -17,4 +17,4 @@ returns-in-Ok-clause-read g c =
 
 pub returns-in-Err-clause-fault : goal.returns-in-Err-clause-fault
 returns-in-Err-clause-fault g c =
-    subst (λ names. ExportFails c.in-Err.fault c.args.repo.now.seen.state names c.cards_at.new.repo.seen.state) (sym (ap (asked_in c.args.name) c.requires)) c.in-Err.ensures.fault
+    subst (λ names. ExportFails c.in-Err.fault c.args.repo.now.seen.state names c.cards_at.new.repo.seen.state) (sym (ap (asked_in (now c.args.repo.now.seen.state).held c.args.name) c.requires)) c.in-Err.ensures.fault

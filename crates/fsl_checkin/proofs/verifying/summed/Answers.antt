@@ -17,7 +17,7 @@ returns-then-not-there-clause-summed g c =
 pub returns-in-Err-clause-fault : goal.returns-in-Err-clause-fault
 returns-in-Err-clause-fault g c =
     let left = c.absorb.new.repo.seen.state in
-    of_files c.in-Err.fault c.args.repo.now.seen.state left c.args.files.now c.loop-file.file-index c.file-item.result c.loop-file-test.true c.file-item.is
+    of_files c.in-Err.fault c.args.repo.now.seen.state left c.args.files.now c.loop-file.file-index c.file-item.result c.loop-file.invariant.taken.0 c.loop-file-test.true c.file-item.is c.loop-file.invariant.taken.1
     (subst (λ (s : State). ExportFails c.in-Err.fault s (content_names (c.file-item.result ∷ [])) left) c.loop-file.invariant.state c.in-Err.ensures.fault)
 
 pub loop-file-preserved : goal.loop-file-preserved

@@ -4,7 +4,7 @@ use Rattle.fsl_repo.proofs.ItemLemmas.{items_rise}
 use Rattle.fsl_checkin.specs.declared.answers.ExportFault.{ExportFault}
 use Rattle.fsl_checkin.specs.declared.answers.Verdict.{Verdict}
 use Rattle.fsl_checkin.specs.Having.{IsJudged, as_kept}
-use Rattle.fsl_checkin.specs.Reads.{ExportFails, IsVerdictRead, VerifyFails, content_names}
+use Rattle.fsl_checkin.specs.Reads.{FilesFail, IsVerdictRead, VerifyFails}
 use Rattle.fsl_checkin.proofs.FilesLemmas.{known_checkin, known_fit, verdict_known, verdict_no_sum}
 use Rattle.fsl_checkin.proofs.HavingLemmas.{files_fail, if_err_map, if_ok_map, text_fails}
 use Rattle.fsl_checkin.proofs.verifying.tested.Goals as goal
@@ -33,7 +33,7 @@ returns-in-Some-clause-fault g c =
     let s = seen.state in
     let mid = c.cards_at.new.repo.seen.state in
     let left = c.judged.new.repo.seen.state in
-    if_err_map c.judged.result (λ (why : ExportFault). ExportFails why mid (content_names c.args.rows.now) left) (λ (why : ExportFault). VerifyFails why seen c.args.name left)
+    if_err_map c.judged.result (λ (why : ExportFault). FilesFail why mid c.args.rows.now left) (λ (why : ExportFault). VerifyFails why seen c.args.name left)
     (λ why h. files_fail why s left seen.items c.args.name c.args.rows.now c.requires mid c.in-Ok.ensures.count (c.in-Some.kept, (as_kept c.in-Ok.cards, c.in-Ok.ensures.cards, sym c.in-Some.is)) h)
     c.judged.ensures.fault
 
