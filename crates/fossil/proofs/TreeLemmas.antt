@@ -24,7 +24,7 @@ use Rattle.fsl_checkin.specs.declared.answers.Verdict.{Verdict}
 use Rattle.fsl_checkin.specs.declared.answers.Verdict.TheVariants as verdict
 use Rattle.fsl_checkin.specs.declared.answers.ExportFault.{ExportFault}
 use Rattle.fsl_checkin.specs.declared.answers.ExportFault.TheVariants as unread
-use Rattle.fsl_checkin.specs.Reads.{ExportFails, IsOnlyRead}
+use Rattle.fsl_checkin.specs.Reads.{AskFails, IsOnlyRead}
 use Rattle.fossil.specs.declared.answers.fault.Fault.{Fault}
 use Rattle.fossil.specs.declared.answers.fault.Fault.TheVariants as fault_is
 use Rattle.fossil.specs.Printed.{Printed}
@@ -48,12 +48,13 @@ module _ {X D : Type 0} (way : Reading X) (name : List ℕ) (disk : D → DiskSt
       → IsNamedAnswer way name (disk, before, after) (Ok a)
   named_ok answer a is same = (answer, subst (λ (b : Bool). way.Reads b (now before.seen.state).held before.seen.items name answer) whole.honest is, same)
 
-  named_fault : IsWholeOn (disk after.disk) after → (why : ExportFault) → ExportFails why before.seen.state (way.asks before.seen.items name) after.seen.state → IsNamedAnswer way name (disk, before, after) (Err (fault_as why))
+  named_fault : IsWholeOn (disk after.disk) after → (why : ExportFault) → AskFails (way.Asks before.seen.state.honest (now before.seen.state).held before.seen.items name) why before.seen.state after.seen.state → IsNamedAnswer way name (disk, before, after) (Err (fault_as why))
   named_fault left unread.Disk h = subst (λ (n : ℕ). Rose n (disk after.disk).faults) whole.faults (subst (λ (n : ℕ). Rose before.seen.state.faults n) left.faults h.2)
-  named_fault left (unread.Damaged damaged found) h = (h.0, spoilt_in disk before damaged found whole h.1, sym left.faults ∙ h.2 ∙ whole.faults)
+  named_fault left (unread.Damaged damaged found) h =
+      (subst (λ (b : Bool). way.Asks b (now before.seen.state).held before.seen.items name damaged) whole.honest h.0, spoilt_in disk before damaged found whole h.1, sym left.faults ∙ h.2 ∙ whole.faults)
   named_fault left unread.Memory h = tt
 
-  pub named_err : IsWholeOn (disk after.disk) after → (why : ExportFault) (fault : Fault) → ExportFails why before.seen.state (way.asks before.seen.items name) after.seen.state → fault ≡ fault_as why
+  pub named_err : IsWholeOn (disk after.disk) after → (why : ExportFault) (fault : Fault) → AskFails (way.Asks before.seen.state.honest (now before.seen.state).held before.seen.items name) why before.seen.state after.seen.state → fault ≡ fault_as why
       → IsNamedAnswer way name (disk, before, after) (Err fault)
   named_err left why fault h same = subst (λ (f : Fault). IsNamedAnswer way name (disk, before, after) (Err f)) (sym same) (named_fault left why h)
 
@@ -64,7 +65,7 @@ pub record IsWay {X : Type 0} (way : Reading X) (prefix : List ℕ) (command : C
   pub only : OnlyReads (Some command)
   pub outcome : (honest : Bool) (bytes : List ℕ) (records : List Record) → IsFileOf bytes records → (a : Printed) → IsOfPrefix (way.Reads honest (contents records).held) way.print prefix (contents records) a
       → (read : List ℕ) → IsSaidOutcome honest (Some command) read 0 bytes (without_commit a)
-  pub damaged : (honest : Bool) (bytes : List ℕ) (records : List Record) → IsFileOf bytes records → (name found : List ℕ) → IsSpoiltOf way.asks honest prefix (contents records) name found → IsDamaged honest (Some command) bytes name found
+  pub damaged : (honest : Bool) (bytes : List ℕ) (records : List Record) → IsFileOf bytes records → (name found : List ℕ) → IsSpoiltOf (way.Asks honest) honest prefix (contents records) name found → IsDamaged honest (Some command) bytes name found
   pub small : (name : List ℕ) (answer : X) → (way.print name answer).status ≤ 3
 
 module _ {X D : Type 0} (way : Reading X) (prefix : List ℕ) (command : Command) (is_way : IsWay way prefix command) (disk : D → DiskState) (of : D) (before after : Whole D) (source : SourceState) (clock : Option (List ℕ))
@@ -107,7 +108,7 @@ module _ {X D : Type 0} (way : Reading X) (prefix : List ℕ) (command : Command
     named_acted (Err (fault_is.Damaged damaged wrong)) is =
         read_damaged (Some command) is_way.only source clock (disk of) (disk before.disk) (disk after.disk) no_other (loaded_of before) opened read.quiet damaged wrong
         (is_way.damaged (is_modelled (disk of)) opened.stands.0 before.seen.state.records opened.stands.2 damaged wrong
-        ((name, before.seen.items, sym found, each, is.0), subst (λ (b : Bool). IsSpoiltIn b (now before.seen.state) damaged wrong) (same_kind (disk of) (disk before.disk) opened.keeps) is.1)) is.2
+        ((name, before.seen.items, sym found, each, subst (λ (b : Bool). way.Asks b (now before.seen.state).held before.seen.items name damaged) (same_kind (disk of) (disk before.disk) opened.keeps) is.0), subst (λ (b : Bool). IsSpoiltIn b (now before.seen.state) damaged wrong) (same_kind (disk of) (disk before.disk) opened.keeps) is.1)) is.2
     named_acted (Err fault_is.Memory) is = read_memory (Some command) is_way.only source clock (disk of) (disk before.disk) (disk after.disk) no_other (loaded_of before) opened read.quiet
 
 -- ---- the two commands

@@ -4,7 +4,7 @@ use Rattle.hex.specs.Hex.{encode_lower}
 use Rattle.fsl_order.specs.Names.{has}
 use Rattle.fsl_name.specs.declared.reference.Ref.{Ref}
 use Rattle.fsl_name.specs.Ref.{ref_text}
-use Rattle.fsl_blobs.specs.Fold.{Contents}
+use Rattle.fsl_blobs.specs.Fold.{Contents, HeldSet}
 use Rattle.fsl_cross.specs.declared.Item.{Item}
 use Rattle.fsl_repo.specs.Machine.{AreItems}
 use Rattle.fsl_query.specs.declared.Refused.{Refused}
@@ -17,7 +17,7 @@ use Rattle.fsl_checkin.specs.declared.answers.Export.TheVariants as export
 use Rattle.fsl_checkin.specs.declared.answers.Verdict.{Verdict}
 use Rattle.fsl_checkin.specs.declared.answers.Verdict.TheVariants as verdict
 use Rattle.fsl_checkin.specs.Trees.{tree_text}
-use Rattle.fsl_checkin.specs.Reads.{IsExportRead, IsVerdictRead, asked, tested}
+use Rattle.fsl_checkin.specs.Reads.{IsExportRead, IsVerdictRead, IsTested, asked}
 use Rattle.fossil.specs.Printed.{Printed}
 use Rattle.fossil.specs.Printed as printing
 
@@ -68,18 +68,22 @@ IsVerified honest prefix c printed = IsOfPrefix (IsVerdictRead honest c.held) ve
 
 -- ---- damaged contents
 
--- the contents that are asked for of the one artifact that a prefix finds have this name among them
-abbrev pub IsAskedOf : (List Item → List ℕ → List (List ℕ)) → List ℕ → Contents → List ℕ → Type 0
-IsAskedOf asked_of prefix c name =
-    (of : List ℕ) × (items : List Item) × (name_found c prefix ≡ Ok of) × AreItems c.held items × IsTrue (has (asked_of items of) name)
+-- a content is asked for of the one artifact that a prefix finds
+abbrev pub IsAskedOf : (HeldSet → List Item → List ℕ → List ℕ → Type 0) → List ℕ → Contents → List ℕ → Type 0
+IsAskedOf Asks prefix c name =
+    (of : List ℕ) × (items : List Item) × (name_found c prefix ≡ Ok of) × AreItems c.held items × Asks c.held items of name
 
--- one of them is damaged, which is never so over an honest disk
-abbrev pub IsSpoiltOf : (List Item → List ℕ → List (List ℕ)) → Bool → List ℕ → Contents → List ℕ → List ℕ → Type 0
-IsSpoiltOf asked_of honest prefix c name found = IsAskedOf asked_of prefix c name × IsSpoiltIn honest c name found
+-- it is damaged, which is never so over an honest disk
+abbrev pub IsSpoiltOf : (HeldSet → List Item → List ℕ → List ℕ → Type 0) → Bool → List ℕ → Contents → List ℕ → List ℕ → Type 0
+IsSpoiltOf Asks honest prefix c name found = IsAskedOf Asks prefix c name × IsSpoiltIn honest c name found
 
--- for `export` the contents of the files; for `verify` that of the check-in, too
+-- for `export` a content of the files; for `verify` that of the check-in, and where that has an R card one of the files; in both of the files none behind the first
+-- that is missing
+abbrev pub IsExportAsked : HeldSet → List Item → List ℕ → List ℕ → Type 0
+IsExportAsked held items of name = IsTrue (has (asked held items of) name)
+
 abbrev pub IsExportSpoilt : Bool → List ℕ → Contents → List ℕ → List ℕ → Type 0
-IsExportSpoilt honest prefix c name found = IsSpoiltOf asked honest prefix c name found
+IsExportSpoilt honest prefix c name found = IsSpoiltOf IsExportAsked honest prefix c name found
 
 abbrev pub IsVerifySpoilt : Bool → List ℕ → Contents → List ℕ → List ℕ → Type 0
-IsVerifySpoilt honest prefix c name found = IsSpoiltOf tested honest prefix c name found
+IsVerifySpoilt honest prefix c name found = IsSpoiltOf (IsTested honest) honest prefix c name found
