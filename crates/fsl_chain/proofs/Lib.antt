@@ -1,0 +1,4 @@
+mod Commits
+mod Ends
+mod Tried
+mod Tries

@@ -1,0 +1,155 @@
+//! Two clusters of which each is the other's member.
+ghost use Rattle.std.specs.Prelude.{◌≡◌, ◌∷◌, [], false, map, IfOk, OnOk};
+ghost use Rattle.std.specs.Str.{bytes_eq};
+ghost use Rattle.fsl_order.specs.Names.{has};
+ghost use Rattle.fsl_order.specs.Rows.{by_name};
+
+use super::plays::{Play, are_same, put, put_name, shown, want};
+use fsl_cluster::{Clusters, Fact};
+use fsl_name::Name;
+use fsl_text::{List, Memory, Steps, Text};
+use std::alloc::Global;
+use std::sync::ledger::Ledger;
+
+fn first() -> Name {
+    Name::of(b"k1")
+}
+
+fn second() -> Name {
+    Name::of(b"k2")
+}
+
+fn list_of(alloc: Global, name: Name) -> Result<List<Name>, Memory> {
+    let mut names = List::new(alloc);
+    names.append(name)?;
+    Ok(names)
+}
+
+/// A public cluster of one member.
+fn cluster(alloc: Global, name: Name, member: Name) -> Result<Fact, Memory>
+    ensures { IfOk result (λ fact. fact.name ≡ name) }
+{
+    let members = list_of(alloc, member)?;
+    let refs = list_of(alloc, member)?;
+    Ok(Fact {
+        name,
+        private: false,
+        members,
+        refs,
+    })
+}
+
+/// Takes a cluster in.
+fn take<L: Ledger>(
+    alloc: Global,
+    clusters: &mut Clusters,
+    fact: Fact,
+    steps: &mut Steps<L>,
+) -> Result<(), Memory>
+    requires absent { has (map (λ f. f.name) clusters.old.facts) fact.name ≡ false }
+    ensures { OnOk result (clusters.new.facts ≡ by_name (λ f. f.name) (fact ∷ clusters.old.facts)) }
+{
+    match clusters.add(alloc, fact, steps) {
+        Ok(undo) => {
+            drop(undo);
+            Ok(())
+        }
+        Err(Memory) => Err(Memory),
+    }
+}
+
+/// Adds the names that a table lists.
+fn show_names(names: Result<List<Name>, Memory>, into: &mut Text) {
+    match &names {
+        Ok(names) => {
+            for name in names.items() {
+                put_name(into, *name);
+            }
+        }
+        Err(_) => put(into, b"no memory"),
+    }
+    drop(names);
+}
+
+/// Adds the names that are unclustered, and then those that are missing.
+fn show(alloc: Global, clusters: &Clusters, into: &mut Text) {
+    put(into, b"unclustered");
+    show_names(clusters.unclustered(alloc), into);
+    put(into, b"missing");
+    show_names(clusters.missing(alloc), into);
+}
+
+/// Takes both clusters in, and shows what stands behind each.
+fn take_both<L: Ledger>(
+    alloc: Global,
+    clusters: &mut Clusters,
+    early: Fact,
+    late: Fact,
+    into: &mut Text,
+    steps: &mut Steps<L>,
+) -> Result<(), Memory>
+    requires none { clusters.old.facts ≡ [] }
+    requires differ { bytes_eq late.name early.name ≡ false }
+{
+    take(alloc, clusters, early, steps)?;
+    show(alloc, clusters, into);
+    take(alloc, clusters, late, steps)?;
+    show(alloc, clusters, into);
+    Ok(())
+}
+
+/// The clusters, the one that comes later first.
+struct Turns {
+    late: Fact,
+    early: Fact,
+}
+
+fn in_turn(alloc: Global, is_reversed: bool) -> Result<Turns, Memory> {
+    let one = cluster(alloc, first(), second())?;
+    let other = cluster(alloc, second(), first())?;
+    Ok(if is_reversed {
+        Turns {
+            late: one,
+            early: other,
+        }
+    } else {
+        Turns {
+            late: other,
+            early: one,
+        }
+    })
+}
+
+/// Clusters come into a circle.
+struct OfClusters;
+
+impl Play for OfClusters {
+    fn play<L: Ledger>(
+        alloc: Global,
+        is_reversed: bool,
+        into: &mut Text,
+        steps: &mut Steps<L>,
+    ) -> Result<(), Memory> {
+        let Turns { late, early } = in_turn(alloc, is_reversed)?;
+        if are_same(late.name, early.name) {
+            return Err(Memory);
+        }
+        let mut clusters = Clusters::new(alloc);
+        take_both(alloc, &mut clusters, early, late, into, steps)
+    }
+}
+
+#[test]
+fn clusters_come_into_a_circle(rt: HostRuntime) -> Result<(), Memory> {
+    want(
+        &rt,
+        shown::<OfClusters>(rt.alloc(), false)?,
+        b" unclustered a2ab missing bfeb unclustered missing",
+    );
+    want(
+        &rt,
+        shown::<OfClusters>(rt.alloc(), true)?,
+        b" unclustered bfeb missing a2ab unclustered missing",
+    );
+    Ok(())
+}
