@@ -53,9 +53,10 @@ fn exports(alloc: Global, repo: &mut Repo<MemoryDisk>, checkin: &[u8], wanted: &
 }
 
 /// Whether a check-in's tree lacks this.
-fn lacks(alloc: Global, repo: &mut Repo<MemoryDisk>, checkin: &[u8], wanted: Ref) -> bool {
-    match export(alloc, repo, Name::of(checkin)) {
-        Ok(Export::Incomplete { missing }) => missing == wanted,
+fn lacks(alloc: Global, repo: &mut Repo<MemoryDisk>, checkin: &[u8], wanted: &Ref) -> bool {
+    let found = export(alloc, repo, Name::of(checkin));
+    match &found {
+        Ok(Export::Incomplete { missing }) => *missing == *wanted,
         _ => false,
     }
 }
@@ -75,7 +76,7 @@ fn are_incomplete(
     checkin: &[u8],
     missing: Ref,
 ) -> bool {
-    let exported = lacks(alloc, repo, checkin, missing);
+    let exported = lacks(alloc, repo, checkin, &missing);
     exported & is_so(alloc, repo, checkin, Verdict::Incomplete { missing })
 }
 

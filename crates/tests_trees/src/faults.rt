@@ -52,10 +52,10 @@ fn over_fuse(alloc: Global, calls: u64) -> Option<(bool, bool)> {
     Some(answers)
 }
 
-/// The answers over a disk that gives the byte at a place wrong after so many reads of it.
-fn over_flip(alloc: Global, at: u64, reads: u64, fault: ExportFault) -> Option<(bool, bool)> {
+/// The answers over a disk that gives the byte at a place wrong after so many reads of it, so that an artifact is read as another.
+fn over_flip(alloc: Global, at: u64, reads: u64, name: Name, found: Name) -> Option<(bool, bool)> {
     let mut repo = loaded(alloc, FlipDisk::new(file(alloc)?, at, reads))?;
-    let answers = answer(alloc, &mut repo, fault);
+    let answers = answer(alloc, &mut repo, ExportFault::Damaged { name, found });
     let disk = repo.close();
     drop(disk);
     Some(answers)
@@ -85,9 +85,8 @@ fn a_damaged_content_is_told(rt: HostRuntime) -> Result<(), Fail> {
     let alloc = rt.alloc();
     let name = Name::of(b"abc");
     let found = Name::of(b"\x60bc");
-    let fault = ExportFault::Damaged { name, found };
-    assert!(rt; over_flip(alloc, 106, 1, fault) == Some((true, false)));
-    assert!(rt; over_flip(alloc, 106, 3, fault) == Some((true, true)));
+    assert!(rt; over_flip(alloc, 106, 1, name, found) == Some((true, false)));
+    assert!(rt; over_flip(alloc, 106, 3, name, found) == Some((true, true)));
     Ok(())
 }
 
@@ -96,8 +95,7 @@ fn a_damaged_check_in_is_told_of_its_sum_alone(rt: HostRuntime) -> Result<(), Fa
     let alloc = rt.alloc();
     let name = Name::of(CHECKIN);
     let found = Name::from_bytes(TURNED);
-    let fault = ExportFault::Damaged { name, found };
-    assert!(rt; over_flip(alloc, 139, 1, fault) == Some((true, false)));
-    assert!(rt; over_flip(alloc, 139, 2, fault) == Some((true, true)));
+    assert!(rt; over_flip(alloc, 139, 1, name, found) == Some((true, false)));
+    assert!(rt; over_flip(alloc, 139, 2, name, found) == Some((true, true)));
     Ok(())
 }
