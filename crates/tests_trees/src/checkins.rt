@@ -102,63 +102,137 @@ fn is_taken(alloc: Global, repo: &mut Repo<MemoryDisk>, tree: &[u8], checkin: &[
     }
 }
 
+/// Whether a check-in of Fossil is taken, and comes back.
+fn is_had_back(
+    alloc: Global,
+    repo: &mut Repo<MemoryDisk>,
+    (tree, _, _, checkin): (&[u8], &[u8], i64, &[u8]),
+) -> bool {
+    let taken = is_taken(alloc, repo, tree, checkin);
+    taken & comes_back(alloc, repo, checkin, tree)
+}
+
+/// Whether all of them are.
+fn are_had_back(alloc: Global, repo: &mut Repo<MemoryDisk>) -> bool {
+    let mut all = true;
+    for case in CHECKINS {
+        all = is_had_back(alloc, repo, case) & all;
+    }
+    all
+}
+
+/// Whether trees come back, also of a check-in without a file, of one over a baseline, and of one with a file that can be written.
+fn are_right(alloc: Global, repo: &mut Repo<MemoryDisk>) -> bool {
+    let taken = is_taken(alloc, repo, TREE, CHECKIN) & arrives(repo, EMPTY_CHECKIN);
+    let first = comes_back(alloc, repo, CHECKIN, TREE);
+    let empty = comes_back(alloc, repo, EMPTY_CHECKIN, b"");
+    let delta = arrives(repo, OVER_BASELINE);
+    let over = comes_back(alloc, repo, OVER_BASELINE, OVER_BASELINE_TREE);
+    let writable = arrives(repo, WRITABLE) & comes_back(alloc, repo, WRITABLE, TREE);
+    taken & first & empty & delta & over & writable
+}
+
+/// Whether a checksum that is another one is told with the one of the tree, which comes back, and none where there is none.
+fn are_told(alloc: Global, repo: &mut Repo<MemoryDisk>) -> bool {
+    let taken = arrives(repo, WITHOUT_SUM) & arrives(repo, WRONG_SUM);
+    let tree = exports(alloc, repo, WRONG_SUM, TREE);
+    let kept = [0; 16];
+    let found = *b"\x6b\xee\x3e\x4d\x66\xf0\xe7\x18\xf9\x2a\xfb\x7a\x3c\x77\xd9\x2f";
+    let wrong = is_so(alloc, repo, WRONG_SUM, Verdict::Wrong { kept, found });
+    taken & tree & wrong & is_so(alloc, repo, WITHOUT_SUM, Verdict::NoSum)
+}
+
+/// Whether a name that is no check-in's is told to be none.
+fn is_no_checkin(alloc: Global, repo: &mut Repo<MemoryDisk>, bytes: &[u8]) -> bool {
+    let exported = match export(alloc, repo, Name::of(bytes)) {
+        Ok(found) => {
+            let none = matches!(found, Export::NotCheckin);
+            drop(found);
+            none
+        }
+        Err(_) => false,
+    };
+    exported & is_so(alloc, repo, bytes, Verdict::NotCheckin)
+}
+
+/// All of that of one repository.
+fn are_tested(alloc: Global, repo: &mut Repo<MemoryDisk>) -> bool {
+    let right = are_right(alloc, repo);
+    let told = are_told(alloc, repo);
+    let held = is_no_checkin(alloc, repo, b"abc");
+    right & told & held & is_no_checkin(alloc, repo, b"gone")
+}
+
+/// A name of these bytes, twenty times.
+fn named(byte: u8) -> Ref {
+    Ref::Own(Name::from_bytes([byte; 20]))
+}
+
+/// Whether what isn't held is told: the baseline, or the first content that is foreign or isn't there.
+fn are_missed(alloc: Global, repo: &mut Repo<MemoryDisk>) -> bool {
+    let abc = Name::of(b"abc");
+    let taken = arrives(repo, CHECKIN) & arrives(repo, WITHOUT_BASELINE);
+    let more = arrives(repo, WITHOUT_CONTENT) & arrives(repo, WITH_FOREIGN);
+    let first = are_incomplete(alloc, repo, CHECKIN, Ref::Own(abc));
+    let before = are_incomplete(alloc, repo, WITH_FOREIGN, Ref::Own(abc));
+    let back = arrives(repo, b"abc") & comes_back(alloc, repo, CHECKIN, TREE);
+    let baseline = are_incomplete(alloc, repo, WITHOUT_BASELINE, named(0x11));
+    let content = are_incomplete(alloc, repo, WITHOUT_CONTENT, named(0x22));
+    let foreign = are_incomplete(alloc, repo, WITH_FOREIGN, Ref::Foreign([0x33; 32]));
+    taken & more & first & before & back & baseline & content & foreign
+}
+
+/// Whether a shunned content is missed, and comes back by no arrival.
+fn is_shunned(alloc: Global, repo: &mut Repo<MemoryDisk>) -> bool {
+    let abc = Name::of(b"abc");
+    let gone = matches!(repo.shun(abc), Ok(Shunning::Removed));
+    let missed = are_incomplete(alloc, repo, CHECKIN, Ref::Own(abc));
+    let again = arrives(repo, b"abc");
+    gone & missed & again & are_incomplete(alloc, repo, CHECKIN, Ref::Own(abc))
+}
+
+/// What is asked of a new repository.
+#[derive(Clone, Copy)]
+enum Asked {
+    OfFossil,
+    Sums,
+    Missing,
+}
+
+/// Whether it is so of a new repository, which goes before the one end.
+fn holds(alloc: Global, asked: Asked) -> bool {
+    match opened(alloc, EMPTY) {
+        Some(mut repo) => {
+            let so = match asked {
+                Asked::OfFossil => are_had_back(alloc, &mut repo),
+                Asked::Sums => are_tested(alloc, &mut repo),
+                Asked::Missing => {
+                    let missed = are_missed(alloc, &mut repo);
+                    missed & is_shunned(alloc, &mut repo)
+                }
+            };
+            let disk = repo.close();
+            drop(disk);
+            so
+        }
+        None => false,
+    }
+}
+
 #[test]
 fn check_ins_of_fossil_come_back(rt: HostRuntime) -> Result<(), Fail> {
-    let alloc = rt.alloc();
-    let mut repo = opened(alloc, EMPTY).expect(&rt, "it loads");
-    for (tree, _, _, checkin) in CHECKINS {
-        assert!(rt; is_taken(alloc, &mut repo, tree, checkin));
-        assert!(rt; comes_back(alloc, &mut repo, checkin, tree));
-    }
+    assert!(rt; holds(rt.alloc(), Asked::OfFossil));
     Ok(())
 }
 
 #[test]
 fn trees_come_back_and_sums_are_tested(rt: HostRuntime) -> Result<(), Fail> {
-    let alloc = rt.alloc();
-    let mut repo = opened(alloc, EMPTY).expect(&rt, "it loads");
-    assert!(rt; is_taken(alloc, &mut repo, TREE, CHECKIN) & arrives(&mut repo, EMPTY_CHECKIN));
-    assert!(rt; comes_back(alloc, &mut repo, CHECKIN, TREE));
-    assert!(rt; comes_back(alloc, &mut repo, EMPTY_CHECKIN, b""));
-    assert!(rt; arrives(&mut repo, OVER_BASELINE));
-    assert!(rt; comes_back(alloc, &mut repo, OVER_BASELINE, OVER_BASELINE_TREE));
-    assert!(rt; arrives(&mut repo, WRITABLE) & comes_back(alloc, &mut repo, WRITABLE, TREE));
-    assert!(rt; arrives(&mut repo, WITHOUT_SUM) & arrives(&mut repo, WRONG_SUM));
-    assert!(rt; exports(alloc, &mut repo, WRONG_SUM, TREE));
-    let kept = [0; 16];
-    let found = *b"\x6b\xee\x3e\x4d\x66\xf0\xe7\x18\xf9\x2a\xfb\x7a\x3c\x77\xd9\x2f";
-    assert!(rt; is_so(alloc, &mut repo, WRONG_SUM, Verdict::Wrong { kept, found }));
-    assert!(rt; is_so(alloc, &mut repo, WITHOUT_SUM, Verdict::NoSum));
-    assert!(rt; is_so(alloc, &mut repo, b"abc", Verdict::NotCheckin));
-    assert!(rt;
-        matches!(
-            export(alloc, &mut repo, Name::of(b"abc")),
-            Ok(Export::NotCheckin)
-        )
-    );
-    assert!(rt; is_so(alloc, &mut repo, b"gone", Verdict::NotCheckin));
+    assert!(rt; holds(rt.alloc(), Asked::Sums));
     Ok(())
 }
 
 #[test]
 fn what_is_missing_is_told(rt: HostRuntime) -> Result<(), Fail> {
-    let alloc = rt.alloc();
-    let mut repo = opened(alloc, EMPTY).expect(&rt, "it loads");
-    let abc = Name::of(b"abc");
-    assert!(rt; arrives(&mut repo, CHECKIN) & arrives(&mut repo, WITHOUT_BASELINE));
-    assert!(rt; arrives(&mut repo, WITHOUT_CONTENT) & arrives(&mut repo, WITH_FOREIGN));
-    assert!(rt; are_incomplete(alloc, &mut repo, CHECKIN, Ref::Own(abc)));
-    assert!(rt; are_incomplete(alloc, &mut repo, WITH_FOREIGN, Ref::Own(abc)));
-    assert!(rt; arrives(&mut repo, b"abc") & comes_back(alloc, &mut repo, CHECKIN, TREE));
-    let ones = Ref::Own(Name::from_bytes([0x11; 20]));
-    let twos = Ref::Own(Name::from_bytes([0x22; 20]));
-    assert!(rt; are_incomplete(alloc, &mut repo, WITHOUT_BASELINE, ones));
-    assert!(rt; are_incomplete(alloc, &mut repo, WITHOUT_CONTENT, twos));
-    assert!(rt; are_incomplete(alloc, &mut repo, WITH_FOREIGN, Ref::Foreign([0x33; 32])));
-    // a shunned content isn't held, and comes back by no arrival
-    assert!(rt; matches!(repo.shun(abc), Ok(Shunning::Removed)));
-    assert!(rt; are_incomplete(alloc, &mut repo, CHECKIN, Ref::Own(abc)));
-    assert!(rt; arrives(&mut repo, b"abc"));
-    assert!(rt; are_incomplete(alloc, &mut repo, CHECKIN, Ref::Own(abc)));
+    assert!(rt; holds(rt.alloc(), Asked::Missing));
     Ok(())
 }
