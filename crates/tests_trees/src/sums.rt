@@ -2,6 +2,7 @@
 use fsl_checkin::{manifest, read_tree, sum};
 use fsl_date::Moment;
 use fsl_name::Name;
+use fsl_text::{Memory, Text};
 use std::alloc::Global;
 use std::test::Fail;
 
@@ -48,17 +49,37 @@ const EMPTIED: &[u8] =
 /// The checksum of a tree without files.
 const OF_NONE: [u8; 16] = *b"\xd4\x1d\x8c\xd9\x8f\x00\xb2\x04\xe9\x80\x09\x98\xec\xf8\x42\x7e";
 
-/// Whether the tree becomes this check-in.
-fn becomes(alloc: Global, tree: &[u8], parent: Option<Name>, moment: i64, wanted: &[u8]) -> bool {
-    let Some(moment) = Moment::new(moment) else {
-        return false;
-    };
-    let Ok(items) = read_tree(alloc, tree) else {
-        return false;
-    };
-    match manifest(alloc, &items, parent, b"ann", b"first", moment) {
+/// Whether this was written.
+fn is_text(written: Result<Text, Memory>, wanted: &[u8]) -> bool {
+    match written {
         Ok(written) => written.bytes() == wanted,
         Err(_) => false,
+    }
+}
+
+/// Whether the tree becomes this check-in at a moment.
+fn becomes_at(
+    alloc: Global,
+    tree: &[u8],
+    parent: Option<Name>,
+    moment: Moment,
+    wanted: &[u8],
+) -> bool {
+    match read_tree(alloc, tree) {
+        Ok(items) => {
+            let written = manifest(alloc, &items, parent, b"ann", b"first", moment);
+            drop(items);
+            is_text(written, wanted)
+        }
+        Err(_) => false,
+    }
+}
+
+/// Whether it does at the moment of so many milliseconds.
+fn becomes(alloc: Global, tree: &[u8], parent: Option<Name>, moment: i64, wanted: &[u8]) -> bool {
+    match Moment::new(moment) {
+        Some(moment) => becomes_at(alloc, tree, parent, moment, wanted),
+        None => false,
     }
 }
 
