@@ -57,6 +57,12 @@ use Rattle.fossil.proofs.UnopenedLemmas.{told_memory}
 use Rattle.fossil.proofs.UvFileLemmas.{idle_left}
 use Rattle.fossil.proofs.ScrubOutcomes.{no_scrub, some_scrub}
 
+no_kept_aside : kept ≡ aside → ⊥
+no_kept_aside e = cc
+
+no_aside_kept : aside ≡ kept → ⊥
+no_aside_kept e = cc
+
 -- a disk since whose moment there is no other
 abbrev pub IsNow : DiskState → Type 0
 IsNow disk = IsTrue disk.is_model → (c : List ℕ) → disk.since disk.moment c → disk.images c
@@ -184,6 +190,7 @@ module _ (file left : DiskState) (fault : LoadFault) (un : IsUnopened file left 
       peer_left = peer_left;
       peer_keeps = record { tells = refl; model = refl };
       unasked = λ e. untouched peer;
+      opened = λ e. absurd (no_aside_kept e);
     },
   )
 
@@ -209,9 +216,6 @@ module _ (file left : DiskState) (harmless : IsModelled file → LeavesOnly file
       first_fault file left load_fault.Memory un harmless stay peer no_other d (λ bytes s. inr (inr (inr (stay (λ e. cc), refl, due))))
 
 -- ---- it is opened
-
-no_kept_aside : kept ≡ aside → ⊥
-no_kept_aside e = cc
 
 is_full : (records : List Record) (len : ℕ) → 0 < len → scrub_of records len ≡ full_peer len
 is_full records len some = ap (scrub_if records len) (no_zero len some)
@@ -262,6 +266,7 @@ module _ {D : Type 0} (state : D → DiskState) (file : DiskState) (old new : Wh
       peer_left = peer_left;
       peer_keeps = keeps;
       unasked = λ e. absurd (no_kept_aside e);
+      opened = λ e. (records, is_file);
     },
   )
 
@@ -368,6 +373,7 @@ scrubbed_printed file peer d out status (bytes, others, s, here, done, h) writte
         peer_left = h.peer_left;
         peer_keeps = h.peer_keeps;
         unasked = h.unasked;
+        opened = h.opened;
       },
     )
 
@@ -392,6 +398,7 @@ idle_scrubbed file peer out status no_other no_other_peer written =
         peer_left = quiet_scrub (is_modelled file) peer peer (quiet_none peer) no_other_peer own.0 others.0 s.0 s.1;
         peer_keeps = record { tells = refl; model = refl };
         unasked = λ e. untouched peer;
+        opened = λ e. absurd (no_aside_kept e);
       },
     )
 

@@ -3,6 +3,7 @@ use Rattle.std.proofs.Common.{◌≡◌, ◌≢◌, ◌⊎◌, inl, inr, ℕ, Bo
 use Rattle.std.specs.Prelude.{codes, decimal, if◌then◌else◌}
 use Rattle.fsl_disk.specs.Disk.{DiskState, IsModelled, Keeps, LeavesOnly}
 use Rattle.fsl_record.specs.declared.Record.{Record}
+use Rattle.fsl_journal.specs.File.{IsFileOf}
 use Rattle.fsl_journal.specs.Journal.{HeldOrSame, IsSpared}
 use Rattle.fsl_journal.proofs.Unique.{one_file}
 use Rattle.fsl_uv.specs.declared.Entry.{Entry}
@@ -128,10 +129,13 @@ module _ (file peer : File) (d : Due) (bytes others : List ℕ) (file_told : Agr
   abbrev Untouched : Part → Type 0
   Untouched here = here ≡ aside → IsUntouched peer
 
-  by_answer : (s : UvSync) (here there : Part) → IsUvSync bytes others s → IsAnswer s file peer here there Tells → IsLeftAs here file bytes → IsLeftAs there peer others → Untouched here
+  abbrev IsThere : Part → Type 0
+  IsThere here = (here ≡ aside → ⊥) → (records : List Record) × IsFileOf bytes records
+
+  by_answer : (s : UvSync) (here there : Part) → IsUvSync bytes others s → IsAnswer s file peer here there Tells → IsLeftAs here file bytes → IsLeftAs there peer others → Untouched here → IsThere here
       → (s.printed.status ≡ 0 → (more back : List Record) → here ≡ takes more → there ≡ takes back → AreMerged bytes others more back) → Merged
-  by_answer s here there is answer left peer_left unasked merged =
-      (bytes, others, s, here, there, record { file_told = file_told; peer_told = peer_told; outcome = is; answer = answer; here_left = left; there_left = peer_left; unasked = unasked; merged = merged })
+  by_answer s here there is answer left peer_left unasked opened merged =
+      (bytes, others, s, here, there, record { file_told = file_told; peer_told = peer_told; outcome = is; answer = answer; here_left = left; there_left = peer_left; unasked = unasked; opened = opened; merged = merged })
 
   -- the outcome is told, or want of memory in its place
   told_or_short : (s : UvSync) → IsDue s.printed d → IsSteady file → IsSteady peer → IsAnswer s file peer s.here s.there Tells
@@ -234,7 +238,7 @@ module _ {D P : Type 0} (state : D → DiskState) (other : P → DiskState) (fil
 
   by_parts : (s : UvSync) (a b : Part) → IsUvSync bytes others s → IsAnswer s x y a b (λ o. printed d ≡ o) → IsLeftAs a x bytes → IsLeftAs b y others → (a ≡ aside → ⊥)
       → (s.printed.status ≡ 0 → (more back : List Record) → a ≡ takes more → b ≡ takes back → AreMerged bytes others more back) → Came
-  by_parts s a b is answer left_here left_there opened merged = by_answer x y d bytes others file_told peer_told s a b is answer left_here left_there (λ e. absurd (opened e)) merged
+  by_parts s a b is answer left_here left_there opened merged = by_answer x y d bytes others file_told peer_told s a b is answer left_here left_there (λ e. absurd (opened e)) (λ there. (here.seen.log.records, ready.opened.stands.2)) merged
 
   -- ---- stores of two projects
 
@@ -346,7 +350,7 @@ module _ (file mid : DiskState) (s : Seen) (ready : IsReady file mid s) (peer pe
   alone_by : (others : List ℕ) → Agrees peer.contents others → (t : UvSync) (b : Part) → IsUvSync held others t → IsAnswer t (both file mid) (both peer peer_left) kept b (λ o. printed d ≡ o)
       → IsLeftAs b (both peer peer_left) others → Alone
   alone_by others told t b is answer left =
-      by_answer (both file mid) (both peer peer_left) d held others held_told told t kept b is answer (kept_left file mid s ready held) left (λ e. absurd (no_kept_aside e)) (λ zero a c e f. absurd (no_takes_kept a e))
+      by_answer (both file mid) (both peer peer_left) d held others held_told told t kept b is answer (kept_left file mid s ready held) left (λ e. absurd (no_kept_aside e)) (λ there. (s.log.records, ready.opened.stands.2)) (λ zero a c e f. absurd (no_takes_kept a e))
 
   pub no_peer_comes : (fault : UvLoadFault) → OpenFailed fault peer peer_left → IsNoPeerDue fault d → Alone
   no_peer_comes load_fault.Disk failed due =
@@ -385,33 +389,33 @@ module _ (file file_left : DiskState) (spared : IsSpared file file_left) (betwee
   First = HasMerged (both file file_left) (both peer peer) (λ o. printed d ≡ o)
 
   first_by : (own : List ℕ) → Agrees file.contents own → (t : UvSync) (a : Part) → IsUvSync own theirs.0 t → IsAnswer t (both file file_left) (both peer peer) a aside (λ o. printed d ≡ o)
-      → IsLeftAs a (both file file_left) own → First
-  first_by own told t a is answer left =
-      by_answer (both file file_left) (both peer peer) d own theirs.0 told theirs.1 t a aside is answer left (idle_left peer no_other theirs.0) (λ e. untouched peer) (λ zero b c e f. absurd (no_takes_aside c f))
+      → IsLeftAs a (both file file_left) own → ((a ≡ aside → ⊥) → (records : List Record) × IsFileOf own records) → First
+  first_by own told t a is answer left opened =
+      by_answer (both file file_left) (both peer peer) d own theirs.0 told theirs.1 t a aside is answer left (idle_left peer no_other theirs.0) (λ e. untouched peer) opened (λ zero b c e f. absurd (no_takes_aside c f))
 
   pub no_file_comes : (fault : UvLoadFault) → OpenFailed fault file file_left → IsNoStoreDue fault d → First
   no_file_comes load_fault.Disk failed due =
       let own = some_bytes file.contents in
       let t = some_uv_sync own.0 theirs.0 in
-      first_by own.0 own.1 t.0 aside t.1 (inr (inl (inl (refl, refl), failed, refl, due))) (aside_left file file_left load_fault.Disk failed spared between unreadable harmless keeps own.0)
+      first_by own.0 own.1 t.0 aside t.1 (inr (inl (inl (refl, refl), failed, refl, due))) (aside_left file file_left load_fault.Disk failed spared between unreadable harmless keeps own.0) (λ there. absurd (there refl))
   no_file_comes (load_fault.NotRepository at) failed due =
       let own = failed.2.0 in
       let told = agrees file.contents own failed.2.1 in
       let text = printed_of (not_repository at) in
       first_by own told (unsynced text aside aside) aside (inl (at, failed.2.2, refl))
       (bare_or_short (both file file_left) (both peer peer) d own theirs.0 told theirs.1 text aside aside (inl refl) (inl refl) due failed.0.faults refl)
-      (aside_left file file_left (load_fault.NotRepository at) failed spared between unreadable harmless keeps own)
+      (aside_left file file_left (load_fault.NotRepository at) failed spared between unreadable harmless keeps own) (λ there. absurd (there refl))
   no_file_comes (load_fault.NotEntry name) failed due =
       let own = failed.2.0 in
       let told = agrees file.contents own failed.2.1 in
       let text = said_printed (not_unversioned name) in
       first_by own told (unsynced text kept aside) kept (inr (failed.1, failed.2.2, inl (name, failed.3, refl)))
       (bare_or_short (both file file_left) (both peer peer) d own theirs.0 told theirs.1 text kept aside (inr refl) (inl refl) due failed.0.faults refl)
-      (no_entry_left file file_left (load_fault.NotEntry name) failed spared between unreadable harmless keeps own name refl)
+      (no_entry_left file file_left (load_fault.NotEntry name) failed spared between unreadable harmless keeps own name refl) (λ there. (failed.1, failed.2.2))
   no_file_comes load_fault.Memory failed due =
       let own = some_bytes file.contents in
       let t = some_uv_sync own.0 theirs.0 in
-      first_by own.0 own.1 t.0 aside t.1 (inr (inr (inr (inl (inl refl, inl refl), failed.faults, refl, due)))) (aside_left file file_left load_fault.Memory failed spared between unreadable harmless keeps own.0)
+      first_by own.0 own.1 t.0 aside t.1 (inr (inr (inr (inl (inl refl, inl refl), failed.faults, refl, due)))) (aside_left file file_left load_fault.Memory failed spared between unreadable harmless keeps own.0) (λ there. absurd (there refl))
 
 -- ---- the printing
 
@@ -438,6 +442,7 @@ merged_printed file peer d out status (bytes, others, s, here, there, m) written
         here_left = m.here_left;
         there_left = m.there_left;
         unasked = m.unasked;
+        opened = m.opened;
         merged = m.merged;
       },
     )
@@ -463,6 +468,7 @@ idle_merged file peer out status no_other no_other_peer written =
         here_left = idle_left file no_other own.0;
         there_left = idle_left peer no_other_peer others.0;
         unasked = λ e. untouched peer;
+        opened = λ there. absurd (there refl);
         merged = λ zero a b e f. absurd (no_takes_aside a e);
       },
     )

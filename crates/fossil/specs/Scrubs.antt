@@ -119,8 +119,9 @@ pub record ScrubsBy (file peer : File) (Tells : Printed → Type 0) (bytes other
   pub here_left : IsLeftAs here file bytes
   pub peer_left : IsPeerLeft (is_modelled file.before) s.of peer done
   pub peer_keeps : Keeps peer.before peer.after
-  -- the peer's file isn't looked at unless this one was opened
+  -- the peer's file isn't looked at unless this one was opened, which is one of a repository
   pub unasked : here ≡ aside → IsUntouched peer
+  pub opened : here ≡ kept → (records : List Record) × IsFileOf bytes records
 
 abbrev pub HasScrubbed : File → File → (Printed → Type 0) → Type 0
 HasScrubbed file peer Tells =

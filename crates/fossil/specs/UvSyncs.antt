@@ -189,8 +189,9 @@ pub record MergesBy (file peer : File) (Tells : Printed → Type 0) (bytes other
   pub answer : IsAnswer s file peer here there Tells
   pub here_left : IsLeftAs here file bytes
   pub there_left : IsLeftAs there peer others
-  -- the peer's file isn't looked at unless this one was opened
+  -- the peer's file isn't looked at unless this one was opened, which stands for records
   pub unasked : here ≡ aside → IsUntouched peer
+  pub opened : here ≢ aside → (records : List Record) × IsFileOf bytes records
   pub merged : s.printed.status ≡ 0 → (more back : List Record) → here ≡ takes more → there ≡ takes back → AreMerged bytes others more back
 
 abbrev pub HasMerged : File → File → (Printed → Type 0) → Type 0

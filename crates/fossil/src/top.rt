@@ -274,7 +274,7 @@ fn start<S: Source, K: Sink, D: Disk, P: Disk, N: Dial, C: Clock>(
 ///
 /// A scrub opens its own file, which stands for the same records at each moment, and then writes a new file of them over a
 /// peer's file without bytes; one with bytes is refused, and stays as it is, as it does where the own file isn't a
-/// repository. At each moment the peer's file is no repository or the whole new one; after status 0 it is exactly that file,
+/// repository. At each moment the peer's file is no repository or the whole new one; after status 0 and 6 it is exactly that file,
 /// and so is each of its images, so no byte is left of what is shunned. It stands for records that leave what those of the
 /// own file leave.
 pub fn run<S: Source, K: Sink, D: Disk, P: Disk, N: Dial, C: Clock>(

@@ -86,3 +86,70 @@ module _ (entries : List Record) (places : List ℕ) (many : length places ≡ l
       cached = so_far.cached;
       fit = (tail left rest entry so_far.fit next).1;
     }
+
+-- ---- records behind those that were read before
+
+-- what was read of further records, and what is left
+pub record IsMore (entries : List Record) (places : List ℕ) (first seen : Seen) (left : List Record) : Type 0 where
+  pub taken : List Record
+  pub all : entries ≡ taken ++ left
+  pub now : seen ≡ record first { records = first.records ++ taken; starts = first.starts ++ take (length taken) places }
+  pub fit : AllByRecursion IsWritable left
+
+pub more-none : (entries : List Record) (places : List ℕ) (first : Seen) → AllByRecursion IsWritable entries → IsMore entries places first first entries
+more-none entries places first fit = record {
+  taken = [];
+  all = refl;
+  now = λ i. record first { records = sym (append-nil first.records) i; starts = sym (append-nil first.starts) i };
+  fit = fit;
+}
+
+fit_tail : (l rest : List Record) (entry : Record) → AllByRecursion IsWritable l → l ≡ entry ∷ rest → IsWritable entry × AllByRecursion IsWritable rest
+fit_tail [] rest entry h e = absurd cc
+fit_tail (r ∷ rs) rest entry h e =
+    let first : r ≡ entry = cc in
+    let same : rs ≡ rest = cc in
+    (subst IsWritable first h.0, subst (AllByRecursion IsWritable) same h.1)
+
+module _ (entries : List Record) (places : List ℕ) (many : length places ≡ length entries) (first old : Seen) (quiet : first.announced ≡ set.empty) (left : List Record) (so_far : IsMore entries places first old left) where
+  old_records : old.records ≡ first.records ++ so_far.taken
+  old_records = ap (λ (b : Seen). b.records) so_far.now
+
+  -- how many came so far
+  pub more-count : length old.records ≡ length first.records + length so_far.taken
+  more-count = ap length old_records ∙ length-append first.records so_far.taken
+
+  pub more-writable : (entry : Record) (rest : List Record) → left ≡ entry ∷ rest → IsWritable entry
+  more-writable entry rest next = (fit_tail left rest entry so_far.fit next).0
+
+  pub more-there : (entry : Record) (rest : List Record) → left ≡ entry ∷ rest → length so_far.taken < length places
+  more-there entry rest next =
+      let all : length entries ≡ length so_far.taken + length left = ap length so_far.all ∙ length-append so_far.taken left in
+      let some : length left ≡ suc (length rest) = ap length next in
+      omega (arith, many, all, some)
+
+  pub more-all : left ≡ [] → old ≡ record first { records = first.records ++ entries; starts = first.starts ++ places }
+  more-all none =
+      let taken : so_far.taken ≡ entries = sym (so_far.all ∙ ap (λ (rs : List Record). so_far.taken ++ rs) none ∙ append-nil so_far.taken) in
+      let starts : take (length so_far.taken) places ≡ places = take-all places (length so_far.taken) (ap length taken ∙ sym many) in
+      so_far.now ∙ (λ i. record first { records = first.records ++ taken i; starts = first.starts ++ starts i })
+
+  module _ (new : Seen) (at : ℕ) (entry : Record) (rest : List Record) (next : left ≡ entry ∷ rest) (now : new ≡ applied old at entry) (begins : slice_get places (length so_far.taken) ≡ Some at) where
+    still_quiet : still_new (contents (old.records ++ entry ∷ [])) old.announced ≡ first.announced
+    still_quiet =
+        ap (still_new (contents (old.records ++ entry ∷ []))) (ap (λ (b : Seen). b.announced) so_far.now ∙ quiet) ∙ still_none (contents (old.records ++ entry ∷ [])) ∙ sym quiet
+
+    pub more-on : IsMore entries places first new rest
+    more-on = record {
+      taken = so_far.taken ++ entry ∷ [];
+      all = so_far.all ∙ ap (λ (rs : List Record). so_far.taken ++ rs) next ∙ sym (append_assoc so_far.taken (entry ∷ []) rest);
+      now =
+          let records : old.records ++ entry ∷ [] ≡ first.records ++ (so_far.taken ++ entry ∷ []) = ap (λ (rs : List Record). rs ++ entry ∷ []) old_records ∙ append_assoc first.records so_far.taken (entry ∷ []) in
+          let starts : old.starts ++ at ∷ [] ≡ first.starts ++ take (length (so_far.taken ++ entry ∷ [])) places =
+          ap (λ (ns : List ℕ). ns ++ at ∷ []) (ap (λ (b : Seen). b.starts) so_far.now)
+          ∙ append_assoc first.starts (take (length so_far.taken) places) (at ∷ [])
+          ∙ ap (λ (ns : List ℕ). first.starts ++ ns) (sym (take-more places (length so_far.taken) at begins) ∙ ap (λ (n : ℕ). take n places) (sym (length-append so_far.taken (entry ∷ [])))) in
+          let cached : old.cached ≡ first.cached = ap (λ (b : Seen). b.cached) so_far.now in
+          now ∙ (λ i. record { records = records i; starts = starts i; announced = still_quiet i; cached = cached i });
+      fit = (fit_tail left rest entry so_far.fit next).1;
+    }

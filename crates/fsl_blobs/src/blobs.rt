@@ -1,6 +1,7 @@
 //! The held artifacts, and how records change them.
-ghost use Rattle.std.specs.Prelude.{◌≡◌, ◌<◌, ◌∷◌, [], length, slice_get, Some, IfOk, OnOk, OnErr, IsTrue};
+ghost use Rattle.std.specs.Prelude.{◌≡◌, ◌<◌, ◌++◌, ◌∷◌, [], length, slice_get, Some, IfOk, OnOk, OnErr, IsTrue};
 ghost use Rattle.std.specs.FinSet as set;
+ghost use Rattle.std.specs.List.{AllByRecursion};
 ghost use Rattle.fsl_record.specs.Records.{AreRecords, IsWritable, is_config};
 ghost use Rattle.fsl_record.specs.declared.Record.TheVariants as record_of;
 ghost use Rattle.lru.specs.LruCache.{lru_cache};
@@ -135,6 +136,25 @@ impl Blobs {
         let mut blobs = Blobs::configured(alloc, start_at(starts, 0), first)?;
         for entry in rest {
             let at = start_at(starts, blobs.read());
+            blobs.apply(at, entry)?;
+        }
+        Ok(blobs)
+    }
+
+    /// The same with further records, none of them a Config, whose contents begin in the file at these places, one for each.
+    /// Their contents are not kept. It is for artifacts of which no name is announced. `Memory` is the only error, and then
+    /// nothing comes back.
+    pub fn and_more(self, places: &List<u64>, entries: List<Record>) -> Result<Blobs, Memory>
+        requires fit { AllByRecursion IsWritable entries }
+        requires places { length places.now ≡ length entries }
+        requires quiet { self.announced ≡ set.empty }
+        ensures { IfOk result (λ b. b ≡ record self { records = self.records ++ entries; starts = self.starts ++ places.now }) }
+    {
+        let before = self.read();
+        let starts = places.items();
+        let mut blobs = self;
+        for entry in entries.into_vec() {
+            let at = start_at(starts, blobs.read() - before);
             blobs.apply(at, entry)?;
         }
         Ok(blobs)

@@ -11,6 +11,7 @@ pub mod Failing
 mod Files
 mod Gate
 mod Groups
+mod Grouping
 mod Making
 mod Opening
 mod Pending

@@ -12,12 +12,13 @@ use Rattle.fsl_journal.specs.declared.LoadFault.TheVariants as load_fault
 use Rattle.fsl_journal.specs.File.{header, IsFileOf, FailsAt}
 use Rattle.fsl_journal.specs.Journal.{Belongs, LoadFailed, HeldOrSame, IsSpared}
 use Rattle.fsl_journal.specs.Places.{HasContent, StandsAt, ArePlaced}
-use Rattle.fsl_journal.specs.Reading.{FileFailed, ReadFailed}
-use Rattle.fsl_journal.specs.Log.{Log, IsLog, IsLoaded, IsBetween, StandsBetween}
+use Rattle.fsl_journal.specs.Reading.{FileFailed}
+use Rattle.fsl_journal.specs.Log.{Log, IsLog, IsLoaded, IsBetween, StandsBetween, WhereBetween}
 use Rattle.fsl_journal.proofs.Standing.{numbered_length, stands_front}
 use Rattle.fsl_journal.proofs.Failing.{no_file}
 use Rattle.fsl_journal.proofs.Files.{laid, is_log, groups_bytes}
 use Rattle.fsl_journal.proofs.Gate.{some_same}
+use Rattle.fsl_journal.proofs.Grouping.{of_before}
 use Rattle.fsl_journal.proofs.Unique.{one_file}
 
 module _ (records : List Record) (mark place : ℕ) (held : List ℕ) (is : IsLog records mark place held) where
@@ -164,21 +165,19 @@ pub reads_back : (log : Log) (loaded : List Record) (disk : DiskState) → IsLoa
 reads_back log loaded disk is belongs held told =
     subst (IsFileOf held) (take_all log.stable log.records (omega (arith, is.stable, ap length is.records)) ∙ is.records) (belongs.reads is.runs held told).0.file
 
--- a file that doesn't read, or no memory for what it holds
-pub load_failed : (fault : LoadFault) (s0 s2 : DiskState) (file : List ℕ) → Quiet s0 s2 → s2.faults ≡ s0.faults → Told s0 (λ held. file ≡ held) → FileFailed file fault → LoadFailed fault s0 s2
-load_failed load_fault.Disk s0 s2 file quiet faults told fails = absurd fails
-load_failed (load_fault.NotRepository at) s0 s2 file quiet faults told fails = (record { contents = quiet.contents; faults = faults }, quiet, (file, told, fails))
-load_failed load_fault.Memory s0 s2 file quiet faults told fails = (record { contents = quiet.contents; faults = faults }, quiet)
+-- a file that doesn't read, or no memory for what it holds, after a sync
+pub load_failed : (fault : LoadFault) (s0 s1 s2 : DiskState) → Quiet s0 s2 → s1.contents ≡ s0.contents → s1.faults ≡ s0.faults → FileFailed fault s1 s2 → LoadFailed fault s0 s2
+load_failed load_fault.Disk s0 s1 s2 quiet same count fails = subst (λ n. Rose n s2.faults) count fails
+load_failed (load_fault.NotRepository at) s0 s1 s2 quiet same count fails = (record { contents = quiet.contents; faults = fails.0 ∙ count }, quiet, of_before s0 s1 (λ bytes. FailsAt bytes at) same fails.1)
+load_failed load_fault.Memory s0 s1 s2 quiet same count fails = (record { contents = quiet.contents; faults = fails ∙ count }, quiet)
 
--- a read that failed
-pub read_failed : (fault : LoadFault) (s0 s1 s2 : DiskState) → Quiet s0 s2 → s1.faults ≡ s0.faults → ReadFailed fault s1 s2 → LoadFailed fault s0 s2
-read_failed load_fault.Disk s0 s1 s2 quiet same fails = subst (λ n. Rose n s2.faults) same fails
-read_failed (load_fault.NotRepository at) s0 s1 s2 quiet same fails = absurd fails
-read_failed load_fault.Memory s0 s1 s2 quiet same fails = (record { contents = quiet.contents; faults = fails ∙ same }, quiet)
-
--- and it says nothing of the file
-pub read_says_none : (X : Type 0) (fault : LoadFault) (s1 s2 : DiskState) → ReadFailed fault s1 s2 → (at : ℕ) → fault ≡ load_fault.NotRepository at → X
-read_says_none X fault s1 s2 fails at is = absurd (subst (λ f. ReadFailed f s1 s2) is fails)
+-- and a file that each image stands for doesn't fail to be one
+pub load_stays : (fault : LoadFault) (s0 s2 : DiskState) → LoadFailed fault s0 s2 → ((held : List ℕ) → IsTrue s0.is_model → s0.contents ≡ Some held → s0.images held) → (at : ℕ) → fault ≡ load_fault.NotRepository at → WhereBetween s0 (λ _ _. ⊥)
+load_stays fault s0 s2 failed reads_as_image at is modelled low high between =
+    let told = told_contents s0 modelled in
+    let first = between told.0 (reads_as_image told.0 modelled.model told.1) in
+    let fails = (subst (λ (f : LoadFault). LoadFailed f s0 s2) is failed).2 in
+    no_file told.0 at first.0 (subst (λ (f : List ℕ). FailsAt f at) (fails.1 told.0 told.1) fails.2) first.1
 
 -- a file that stands for records doesn't fail to
 pub not_refused : (X : Type 0) (records : List Record) (mark place : ℕ) (file held : List ℕ) → IsLog records mark place file → file ≡ held → (at : ℕ) → FailsAt held at → X

@@ -1,8 +1,7 @@
 -- What a reader of a file knows.
-use Rattle.std.proofs.Common.{◌≡◌, ◌≢◌, ◌⊎◌, inl, inr, Bool, true, false, ◌==◌, ℕ, ◌+◌, ◌-◌, ◌<◌, ◌≤◌, ◌^◌, List, [], ◌∷◌, ◌++◌, length, get_or, take, drop, refl, sym, ◌∙◌, ap, subst, arith, append_assoc, length-append}
+use Rattle.std.proofs.Common.{◌≡◌, ◌≢◌, inl, inr, Bool, true, false, ◌==◌, ℕ, ◌+◌, ◌-◌, ◌<◌, ◌≤◌, ◌^◌, List, [], ◌∷◌, ◌++◌, length, get_or, take, drop, refl, sym, ◌∙◌, ap, subst, arith, append_assoc, length-append}
 use Rattle.std.specs.List.{AllByRecursion}
 use Rattle.std.proofs.lemmas.Bool.Decides.{nat_tests}
-use Rattle.fsl_record.specs.declared.RecordFault.TheVariants.{Memory as MemoryFault}
 use Rattle.std.proofs.lemmas.List.{drop_more, take_at}
 use Rattle.fsl_record.specs.declared.Record.{Record}
 use Rattle.fsl_record.specs.Records.{records_bytes}
@@ -10,9 +9,7 @@ use Rattle.fsl_journal.specs.Commit.{eight}
 use Rattle.fsl_journal.specs.File.{header, version_of, IsGroup, AreRecordsOf, FailsAt}
 use Rattle.fsl_journal.specs.Log.{IsLog}
 use Rattle.fsl_journal.specs.Places.{group_places, IsPlacedFile}
-use Rattle.fsl_journal.specs.Reading.{group_body, NoGroup, GroupFailed, FileFailed}
-use Rattle.fsl_journal.specs.declared.LoadFault.{LoadFault}
-use Rattle.fsl_journal.specs.declared.LoadFault.TheVariants.{Disk, NotRepository, Memory}
+use Rattle.fsl_journal.specs.Reading.{group_body, NoGroup}
 use Rattle.fsl_journal.proofs.Failing.{stuck_fails}
 use Rattle.fsl_journal.proofs.Files.{Laid, is_log, placed_file, groups_bytes, records_in, length-eight}
 use Rattle.fsl_journal.proofs.Groups.{groups_push, records_push}
@@ -32,9 +29,6 @@ pub record IsReadTo (file : List ℕ) (mark : ℕ) (records : List Record) (grou
   -- before the first group nothing is read, and behind a group something stands
   pub first : records ≡ [] → groups ≡ []
   pub some : records ≢ [] → 0 < length rest
-
-pub read_first : (file : List ℕ) (mark : ℕ) (rest : List ℕ) → file ≡ header mark ++ rest → IsReadTo file mark [] [] rest
-read_first file mark rest split = record { split = split; whole = tt; all = refl; read = inl refl; first = λ _. refl; some = λ none. absurd (none refl) }
 
 pub read_on : (file : List ℕ) (mark : ℕ) (rest behind more : List ℕ) (records after k : List Record) (groups : List (List Record)) → IsReadTo file mark records groups rest → rest ≡ 79 ∷ behind → IsGroup k → AreRecordsOf (version_of mark) after → after ≡ records ++ k → behind ≡ group_body k ++ more → 0 < length more
     → IsReadTo file mark after (groups ++ k ∷ []) more
@@ -135,14 +129,6 @@ not_read v at records behind body bytes size first fault number fits bytes_are f
       group_no_fault v first bytes group fault (is_group_of v records group bytes first first_is is_group.0 layout are) fails;
 }
 
-pub fault_failed : (v at : ℕ) (records : List Record) (behind body bytes : List ℕ) (size : ℕ) (first : Bool) (fault : RecordFault) (given : LoadFault) → behind ≡ eight size ++ body → size < 2 ^ 64 → bytes ≡ take size body → first ≡ (length records == 0)
-    → (fault ≡ MemoryFault) ⊎ IsGroupFault v first bytes fault → ((fault ≡ MemoryFault) × (given ≡ Memory)) ⊎ ((fault ≢ MemoryFault) × (given ≡ NotRepository at)) → GroupFailed v at records behind given
-fault_failed v at records behind body bytes size first fault given number fits bytes_are first_is fails (inl memory) = subst (GroupFailed v at records behind) (sym memory.1) tt
-fault_failed v at records behind body bytes size first fault given number fits bytes_are first_is fails (inr other) = elim fails [
-  | inl memory ↦ absurd (other.0 memory)
-  | inr is ↦ subst (GroupFailed v at records behind) (sym other.1) (not_read v at records behind body bytes size first fault number fits bytes_are first_is is)
-]
-
 -- whether records were read
 pub none_is : (items : List Record) (n : ℕ) → n ≡ length items → true ≡ (n == 0) → items ≡ []
 none_is [] n is empty = refl
@@ -173,13 +159,3 @@ group_there v behind body bytes more size first group number fits split long is 
 pub group_on : (v : ℕ) (records group after items : List Record) (bytes : List ℕ) (first : Bool) → first ≡ (length records == 0) → AreReadSoFar v records → IsGroupOf v first bytes group → items ≡ group → after ≡ records ++ items → AreRecordsOf v after
 group_on v records group after items bytes first first_is before is items_are after_is =
     subst (AreRecordsOf v) (sym (after_is ∙ ap (λ (l : List Record). records ++ l) items_are)) (are_with v records group bytes first first_is before is)
-
-pub group_failed : (file : List ℕ) (mark : ℕ) (rest behind : List ℕ) (records : List Record) (groups : List (List Record)) (at : ℕ) (fault : LoadFault) → IsReadTo file mark records groups rest → rest ≡ 79 ∷ behind → at ≡ length file - length rest → GroupFailed (version_of mark) at records behind fault → FileFailed file fault
-group_failed file mark rest behind records groups at Disk read is at_is fails = fails
-group_failed file mark rest behind records groups at (NotRepository found) read is at_is fails = read_stuck file mark rest behind records groups at found read is at_is fails
-group_failed file mark rest behind records groups at Memory read is at_is fails = tt
-
--- the version is that of the mark
-pub group_failed_of : (v : ℕ) (file : List ℕ) (mark : ℕ) (rest behind : List ℕ) (records : List Record) (groups : List (List Record)) (at : ℕ) (fault : LoadFault) → v ≡ version_of mark → IsReadTo file mark records groups rest → rest ≡ 79 ∷ behind → GroupFailed v at records behind fault → at ≡ length file - length rest → FileFailed file fault
-group_failed_of v file mark rest behind records groups at fault v_is read is fails at_is =
-    group_failed file mark rest behind records groups at fault read is at_is (subst (λ (w : ℕ). GroupFailed w at records behind fault) v_is fails)

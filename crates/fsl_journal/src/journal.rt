@@ -1,22 +1,24 @@
 //! A journal: the records of a repository, and how many of them are committed.
-ghost use Rattle.std.specs.Prelude.{◌≡◌, ◌⊎◌, IsSome, ◌++◌, ◌∷◌, [], ◌<◌, ◌≤◌, ◌+◌, ◌-◌, map, ◌^◌, List, ℕ, None, Some, Ok, length, take, IfOk, IfErr, OnOk, OnErr, false};
+ghost use Rattle.std.specs.Prelude.{◌≡◌, ◌⊎◌, IsSome, ◌++◌, ◌∷◌, [], ◌<◌, ◌≤◌, ◌+◌, ◌-◌, ◌^◌, List, ℕ, None, Some, Ok, length, take, IfOk, IfErr, OnOk, OnErr, false};
 ghost use Rattle.fsl_disk.specs.Disk.{IsModelled, Keeps, LeavesOnly, Quiet};
 ghost use Rattle.fsl_record.specs.Records.{AreRecords, IsWritable, is_config};
 ghost use Rattle.fsl_journal.specs.File.{IsFileOf};
 ghost use Rattle.fsl_journal.specs.Journal.{Belongs, Unspoilt, BytesFailed, Committed, CommitFailed, WritesGroup};
 ghost use Rattle.fsl_journal.specs.Log.{Log, BeforeOrAll};
 ghost use Rattle.fsl_journal.specs.Places.{HasContent, HasAppended, HasPending, IsAppendedText, IsPendingText, next_place, with_record, without_last};
+ghost use Rattle.fsl_journal.specs.Reading.{records_of, places_of, resumed_log};
 ghost use Rattle.fsl_journal.specs.declared.BytesFault.TheVariants.{Memory as MemoryFault};
 
 use crate::commit::{carried_mark, write_commit};
 use crate::contents::{copy_part, read_if_there, read_text};
+use crate::found::Found;
 use crate::names::know_names;
 use crate::places::write_behind;
 use crate::{BytesFault, CommitFault};
 use fsl_disk::Disk;
 use fsl_record::Record;
 use fsl_text::{Memory, Text};
-use std::alloc::{AllocError, Global};
+use std::alloc::Global;
 use std::marker::Model;
 use std::snapshot::Snapshot;
 
@@ -52,26 +54,6 @@ impl Model for Journal {
     ghost invariant = { IsSound };
 }
 
-fn kept_records(alloc: Global, loaded: &[Record]) -> Result<Vec<Snapshot<Record>>, AllocError>
-    ensures { IfOk result (λ kept. map (λ s. s.value) kept.items ≡ loaded.now) }
-{
-    let mut records = Vec::new(alloc);
-    for record in loaded {
-        records.push(Snapshot::of(record))?;
-    }
-    Ok(records)
-}
-
-fn kept_places(alloc: Global, places: &[u64]) -> Result<Vec<Snapshot<u64>>, AllocError>
-    ensures { IfOk result (λ kept. map (λ s. s.value) kept.items ≡ places.now) }
-{
-    let mut kept = Vec::new(alloc);
-    for place in places {
-        kept.push(Snapshot::of(place))?;
-    }
-    Ok(kept)
-}
-
 impl Journal {
     /// How many records there are: loaded, committed and appended.
     pub fn count(&self) -> u64
@@ -94,34 +76,33 @@ impl Journal {
         self.stopped
     }
 
-    /// A journal whose records are all committed, with these places of their contents, in a file with this mark and with
-    /// the closed gate at this place.
-    pub(crate) fn resumed(
-        alloc: Global,
-        loaded: &[Record],
-        places: &[u64],
-        mark: u8,
-        place: u64,
-    ) -> Result<Journal, AllocError>
-        requires fit { AreRecords loaded.now }
-        requires place { place < 2 ^ 63 }
-        requires header { 15 ≤ place }
-        requires as_many { length places.now ≡ length loaded.now }
-        requires inside { (at : ℕ) (content : List ℕ) → HasContent loaded.now places.now at content → (at + length content ≤ place) × (15 ≤ at) }
-        ensures { IfOk result (λ journal. journal ≡ record { records = loaded.now; places = places.now; stable = length loaded.now; stopped = None; mark = mark; place = place }) }
+    /// A journal whose records are all committed: those that were found in a file, whose closed gate stands where the last
+    /// group ends.
+    pub(crate) fn resumed(alloc: Global, found: Found) -> Journal
+        requires fit { AreRecords (records_of found) }
+        requires place { found.place < 2 ^ 63 }
+        requires header { 15 ≤ found.place }
+        requires as_many { length (places_of found) ≡ length (records_of found) }
+        requires inside { (at : ℕ) (content : List ℕ) → HasContent (records_of found) (places_of found) at content → (at + length content ≤ found.place) × (15 ≤ at) }
+        ensures { result ≡ resumed_log found }
     {
-        let records = kept_records(alloc, loaded)?;
-        let places = kept_places(alloc, places)?;
-        Ok(Journal {
+        let Found {
+            records,
+            places,
+            mark,
+            place,
+        } = found;
+        let stable = records.len() as u64;
+        Journal {
             records,
             places,
             pending: Text::empty(alloc),
             starts: Vec::new(alloc),
-            stable: loaded.len() as u64,
+            stable,
             mark,
             place,
             stopped: None,
-        })
+        }
     }
 
     /// Adds a record, in memory alone, and makes all the room that `commit` needs. Answers the place in the file where the

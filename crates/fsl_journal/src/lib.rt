@@ -15,12 +15,15 @@
 mod commit;
 mod contents;
 mod creating;
+mod found;
 mod journal;
 mod laws;
 mod loading;
 mod names;
 mod places;
 mod reading;
+mod taking;
+mod window;
 
 ghost use Rattle.std.specs.Prelude.{◌≡◌};
 ghost use Rattle.fsl_journal.specs.declared.BytesFault.TheVariants as bytes_fault;
@@ -33,6 +36,7 @@ use fsl_text::Memory;
 pub use journal::Journal;
 pub use laws::{fails_once, is_no_file, is_one_file, some_file};
 use std::alloc::AllocError;
+pub use taking::Taker;
 use thiserror::Error;
 
 /// Why no file was made.
@@ -104,6 +108,14 @@ impl From<AllocError> for LoadFault {
     ghost from_gives = { λ _ fault. fault ≡ load_fault.Memory };
 
     fn from(_: AllocError) -> Self {
+        LoadFault::Memory
+    }
+}
+
+impl From<Memory> for LoadFault {
+    ghost from_gives = { λ _ fault. fault ≡ load_fault.Memory };
+
+    fn from(_: Memory) -> Self {
         LoadFault::Memory
     }
 }

@@ -27,3 +27,4 @@ pub mod Touched
 pub mod Placings
 pub mod Fronts
 pub mod ReadItems
+pub mod Gathers

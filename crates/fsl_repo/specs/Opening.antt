@@ -1,5 +1,6 @@
 -- What the opening of a repository answers.
-use Rattle.std.specs.Prelude.{◌≡◌, ◌⊎◌, ℕ, ◌+◌, ◌-◌, List, [], length, take, slice_get, Option, Some, None, Result, Ok, Err}
+use Rattle.std.specs.Prelude.{◌≡◌, ◌⊎◌, ℕ, ◌+◌, ◌-◌, List, [], length, take, slice_get, Option, Some, None, Result, Ok, Err, ⊤}
+use Rattle.std.specs.List.{AllZip}
 use Rattle.fsl_disk.specs.Disk.{DiskState, Told, Quiet}
 use Rattle.fsl_order.specs.Causes.{Rose}
 use Rattle.fsl_record.specs.declared.Record.{Record}
@@ -32,6 +33,25 @@ IsReadOf r found = found ≡ None
 -- what was read of the record at a held artifact's place is what its bytes are
 abbrev pub IsReadAt : List (Option Artifact) → Holding → Type 0
 IsReadAt found h = (a : Artifact) × (slice_get found (h.place - 1) ≡ Some (Some a)) × IsKind h.bytes.now.value a
+
+-- the records of the groups that were read so far, and where their contents begin; none before the first group
+abbrev pub records_in : Option blobs.Seen → List Record
+records_in None = []
+records_in (Some kept) = kept.records
+
+abbrev pub starts_in : Option blobs.Seen → List ℕ
+starts_in None = []
+starts_in (Some kept) = kept.starts
+
+-- nothing is announced, and no content kept in memory
+abbrev pub AreFresh : Option blobs.Seen → Type 0
+AreFresh None = ⊤
+AreFresh (Some kept) = (kept.announced ≡ set.empty) × (kept.cached ≡ [])
+
+-- and of each record it was read what a blob's bytes are
+pub record AreGathered (kept : Option blobs.Seen) (found : List (Option Artifact)) : Type 0 where
+  pub fresh : AreFresh kept
+  pub read : AllZip IsReadOf (records_in kept) found
 
 -- the artifacts that these records leave, whose contents begin at these places; nothing is announced, and no content kept in memory
 abbrev pub IsFolded : List Record → List ℕ → blobs.Seen → Type 0

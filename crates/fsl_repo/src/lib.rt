@@ -9,6 +9,7 @@ mod asking;
 mod building;
 mod clusters;
 mod commits;
+mod gathering;
 mod laws;
 mod listing;
 mod machine;
@@ -33,7 +34,7 @@ pub use laws::{
     held_are_items, held_are_one_list, unshunning_has_an_answer, unshunning_has_one_answer,
 };
 pub use machine::steps_go_on;
-pub use parsing::{derived, items_of, read_artifact};
+pub use parsing::{items_of, read_artifact};
 pub use repo::Repo;
 use std::marker::Model;
 pub use wanting::wants_of;

@@ -8,14 +8,15 @@ ghost use Rattle.fsl_journal.specs.declared.LoadFault.TheVariants as load_fault;
 ghost use Rattle.fsl_repo.specs.Opening.{IsOpened, OpenFailed, disk_of};
 
 use crate::Repo;
-use crate::parsing::derived;
+use crate::gathering::{Gathered, derived};
 use fsl_disk::Disk;
 use fsl_journal::{Journal, LoadFault};
 use std::alloc::Global;
 
 impl<D: Disk> Repo<D> {
     /// Opens the repository of a disk: makes what it holds stable, reads the file, cuts what stands behind the closed
-    /// gate, and derives all tables. It may be stopped at any moment. On a fault the disk comes back.
+    /// gate, and derives all tables. It reads the file group by group, and a group's contents go before the next one is read.
+    /// It may be stopped at any moment. On a fault the disk comes back.
     ///
     /// Errors: `Disk` where a call of the disk failed; `NotRepository` with the place at which the file fails to stand for
     /// records; `Memory`.
@@ -38,22 +39,27 @@ impl<D: Disk> Repo<D> {
         // It isn't `NotRepository` then.
         ensures stays { IfErr result (λ failed. (at : ℕ) → failed.1 ≡ load_fault.NotRepository at → WhereBetween (D.state disk) (λ _ _. ⊥)) }
     {
-        let (journal, places, records) = match Journal::load(alloc, &mut disk) {
-            Ok(loaded) => loaded,
-            Err(fault) => return Err((disk, fault)),
-        };
-        let loaded = journal.count();
-        match derived(alloc, &places, records) {
-            Ok((blobs, tables)) => Ok(Repo {
-                alloc,
-                disk,
-                journal,
-                blobs,
-                tables,
-                loaded,
-                stored: 0,
-            }),
-            Err(_) => Err((disk, LoadFault::Memory)),
+        let mut gathered = Gathered::nothing(alloc);
+        match Journal::load_into(alloc, &mut disk, &mut gathered) {
+            Ok(journal) => {
+                let loaded = journal.count();
+                match derived(gathered) {
+                    Ok((blobs, tables)) => Ok(Repo {
+                        alloc,
+                        disk,
+                        journal,
+                        blobs,
+                        tables,
+                        loaded,
+                        stored: 0,
+                    }),
+                    Err(_) => Err((disk, LoadFault::Memory)),
+                }
+            }
+            Err(fault) => {
+                drop(gathered);
+                Err((disk, fault))
+            }
         }
     }
 }

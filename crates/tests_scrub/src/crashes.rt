@@ -1,5 +1,5 @@
 //! What a scrub leaves that is stopped at a call of the spare file's disk.
-use crate::files::{NEW, OLD, ROW_NEW};
+use crate::files::{NEW, OLD, ROW_NEW, ROW_SHUNNED};
 use crate::repo::{opened, spare_of};
 use fsl_disk::{FuseDisk, MemoryDisk};
 use fsl_journal::LoadFault;
@@ -63,7 +63,7 @@ fn crashes_leave_none_or_the_whole(rt: HostRuntime) -> Result<(), Fail> {
             "after {calls} calls"
         );
         assert_eq!(rt;
-            stops(rt.alloc(), ROW_NEW, ROW_NEW, calls),
+            stops(rt.alloc(), ROW_SHUNNED, ROW_NEW, calls),
             Some((11 <= calls, true)),
             "after {calls} calls"
         );

@@ -22,6 +22,10 @@ pub(crate) const NEW_1: &[u8] =
 pub(crate) const ROW: &[u8] =
     b"fossil-blobs-2\nO\0\0\0\0\0\0\0+C\x11\x11\x11\x11\x11\x11\x11\x11\x11\x11\x11\x11\x11\x11\x11\x11\x11\x11\x11\x11\"\"\"\"\"\"\"\"\"\"\"\"\"\"\"\"\"\"\"\"\0\0O\0\0\0\0\0\0\0-R\0\xA9\x99>6G\x06\x81j\xBA>%qxP\xC2l\x9C\xD0\xD8\x9D\0\08\x8Ao\x04`\0\0\0\0\0\0\0\0\0\0\0\0\x03abcC";
 
-/// The same with `abc` shunned and scrubbed: 89 bytes.
+/// The same with `abc` shunned: 152 bytes.
+pub(crate) const ROW_SHUNNED: &[u8] =
+    b"fossil-blobs-2\nO\0\0\0\0\0\0\0+C\x11\x11\x11\x11\x11\x11\x11\x11\x11\x11\x11\x11\x11\x11\x11\x11\x11\x11\x11\x11\"\"\"\"\"\"\"\"\"\"\"\"\"\"\"\"\"\"\"\"\0\0O\0\0\0\0\0\0\0-R\0\xA9\x99>6G\x06\x81j\xBA>%qxP\xC2l\x9C\xD0\xD8\x9D\0\08\x8Ao\x04`\0\0\0\0\0\0\0\0\0\0\0\0\x03abcO\0\0\0\0\0\0\0\x15S\xA9\x99>6G\x06\x81j\xBA>%qxP\xC2l\x9C\xD0\xD8\x9DC";
+
+/// That file scrubbed: 89 bytes.
 pub(crate) const ROW_NEW: &[u8] =
     b"fossil-blobs-2\nO\0\0\0\0\0\0\0@C\x11\x11\x11\x11\x11\x11\x11\x11\x11\x11\x11\x11\x11\x11\x11\x11\x11\x11\x11\x11\"\"\"\"\"\"\"\"\"\"\"\"\"\"\"\"\"\"\"\"\0\0S\xA9\x99>6G\x06\x81j\xBA>%qxP\xC2l\x9C\xD0\xD8\x9DC";

@@ -1,54 +1,33 @@
-use Rattle.std.proofs.Common.{◌==◌, ◌∙◌, ap, arith, length, refl, ℕ}
-use Rattle.fsl_journal.proofs.Ends.{no_answer, same_fault}
-use Rattle.fsl_journal.proofs.Walking.{length-numbered, too_short, too_long, fault_failed, group_on, group_there}
+use Rattle.std.proofs.Common.{arith, subst, sym}
+use Rattle.fsl_journal.specs.Reading.{records_of, GroupFailed}
+use Rattle.fsl_journal.proofs.Ends.{same_fault}
+use Rattle.fsl_journal.proofs.Grouping.{noted_none, group_fault_of, more_noted, window_long}
+use Rattle.fsl_journal.proofs.Records.{AreReadSoFar, are_with}
 use Rattle.fsl_journal.proofs.reading.read_group.Goals as goal
 
-pub returns-in_default : goal.returns-in_default
-returns-in_default c = record { some = tt; records = tt; ok = tt; fault = too_short c.args.version c.args.at c.args.records.now.items c.args.behind.now c.in_default.ensures }
+pub returns-in_err-group-clause-fault : goal.returns-in_err-group-clause-fault
+returns-in_err-group-clause-fault g c =
+    let found = c.args.found.now in
+    let v = c.version_of-version.result in
+    let s = g.D.Disk.state c.args.disk.now in
+    let after = g.D.Disk.state c.read_body.new.disk in
+    let first_is = noted_none found c.is_empty-first.result c.is_empty-first.ensures found.records.ok.0 in
+    let failed = group_fault_of c.in_err-group.field-0.0 v c.is_empty-first.result found.place c.args.size (records_of found) s after first_is (omega (arith, c.requires.inside, c.requires.fits)) c.requires.gate c.in_err-group.ensures.fault in
+    same_fault c.from_residual.result _ c.from_residual.ensures.1 _ (subst (λ w. GroupFailed w found.place (records_of found) c.in_err-group.field-0.0 s after) c.version_of-version.ensures.value failed)
 
-pub returns-then-size-body : goal.returns-then-size-body
-returns-then-size-body c = record {
-  some = tt;
-  records = tt;
-  ok = tt;
-  fault = too_long c.args.version c.args.at c.args.records.now.items c.args.behind.now c.in-Some.body.now c.in-Some.size c.in-Some.ensures.0 c.in-Some.ensures.1 c.if-size-body.true;
-}
+pub returns-clause-ok : goal.returns-clause-ok
+returns-clause-ok g c =
+    let found = c.args.found.now in
+    let v = c.version_of-version.result in
+    let s = g.D.Disk.state c.args.disk.now in
+    let first_is = noted_none found c.is_empty-first.result c.is_empty-first.ensures found.records.ok.0 in
+    more_noted c.hand_on.result v c.is_empty-first.result c.args.size found c.hand_on.new.found s c.in_ok-group.group c.in_ok-group.ensures.ok c.version_of-version.ensures.value first_is
+    (subst (λ w. AreReadSoFar w (records_of found)) (sym c.version_of-version.ensures.value) c.requires.read) (omega (arith, c.requires.inside, c.requires.fits)) c.requires.gate (λ held told. omega (arith, c.requires.inside, window_long c.args.window.now s c.requires.holds held told))
+    c.hand_on.ensures.records c.hand_on.ensures.places c.hand_on.ensures.place c.hand_on.ensures.mark
 
-pub add_group-requires : goal.add_group-requires
-add_group-requires c = record {
-  fit = c.in-Ok.ensures.records.fit;
-  fits =
-      (let parts = c.split_at.ensures in
-      omega (arith, c.requires.fits, ap length c.in-Some.ensures.0, length-numbered c.in-Some.size c.in-Some.body.now, ap length c.in-Ok.ensures.records.layout, parts.front_len, c.if-size-body.false));
-}
-
-pub returns-in_err-add_group-in-Ok : goal.returns-in_err-add_group-in-Ok
-returns-in_err-add_group-in-Ok c =
-    let r = c.from_residual.result in
-    let is = c.from_residual.ensures.1 in record {
-      some = no_answer r _ is _;
-      records = no_answer r _ is _;
-      ok = no_answer r _ is _;
-      fault = same_fault r _ is _ tt;
-    }
-
-pub returns-in_ok-add_group-in-Ok : goal.returns-in_ok-add_group-in-Ok
-returns-in_ok-add_group-in-Ok c =
-    let parts = c.split_at.ensures in
-    let there = group_there c.args.version c.args.behind.now c.in-Some.body.now c.split_at.result.0.now c.split_at.result.1.now c.in-Some.size c.is_empty.result c.in-Ok.group c.in-Some.ensures.0 c.in-Some.ensures.1 parts.by_index.0 parts.front_len c.in-Ok.ensures.records in record {
-      some = (let back = parts.back_len in omega (arith, back));
-      records =
-          group_on c.args.version c.args.records.now.items c.in-Ok.group c.add_group.new.records.items c.in-Ok.group _ c.is_empty.result (c.is_empty.ensures ∙ ap (λ (n : ℕ). n == 0) c.args.records.now.ok.0) c.requires.read c.in-Ok.ensures.records refl c.in_ok-add_group-in-Ok.ensures.records;
-      ok = (c.in-Ok.group, there.0, c.in_ok-add_group-in-Ok.ensures.records, c.in_ok-add_group-in-Ok.ensures.places, there.1);
-      fault = tt;
-    }
-
-pub returns-in-Err : goal.returns-in-Err
-returns-in-Err c = record {
-  some = tt;
-  records = tt;
-  ok = tt;
-  fault =
-      fault_failed c.args.version c.args.at c.args.records.now.items c.args.behind.now c.in-Some.body.now c.split_at.result.0.now c.in-Some.size c.is_empty.result c.in-Err.fault c.fault_at.result c.in-Some.ensures.0 c.in-Some.ensures.1 c.split_at.ensures.front
-      (c.is_empty.ensures ∙ ap (λ (n : ℕ). n == 0) c.args.records.now.ok.0) c.in-Err.ensures.fault c.fault_at.ensures;
-}
+pub hand_on-requires-clause-records : goal.hand_on-requires-clause-records
+hand_on-requires-clause-records g c =
+    let found = c.args.found.now in
+    let first_is = noted_none found c.is_empty-first.result c.is_empty-first.ensures found.records.ok.0 in
+    let body = c.in_ok-group.ensures.ok in
+    (are_with c.version_of-version.result (records_of found) c.in_ok-group.group body.bytes c.is_empty-first.result first_is (subst (λ w. AreReadSoFar w (records_of found)) (sym c.version_of-version.ensures.value) c.requires.read) body.is).0
