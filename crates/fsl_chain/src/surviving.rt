@@ -1,5 +1,5 @@
 //! Lives of a repository, one after the other.
-ghost use Rattle.std.specs.Prelude.{◌≡◌, IfOk};
+ghost use Rattle.std.specs.Prelude.{◌≡◌, length, IfOk};
 ghost use Rattle.fsl_disk.specs.Disk.{DiskState, IsModelled};
 ghost use Rattle.fsl_chain.specs.Chain.{Has, SurvivesAll};
 
@@ -59,6 +59,8 @@ pub fn live_on<D: Disk + Drop, W: Work<D>, O: Outage<D>>(
     outage: &mut O,
 ) -> Result<Story<D>, Memory>
     ensures modelled { IfOk result (λ story. IsModelled (D.state disk) → IsModelled (D.state story.disk)) }
+    // One for each work.
+    ensures each { IfOk result (λ story. length story.heard.items ≡ length works.now) }
     ensures survives { IfOk result (λ story. SurvivesAll (λ w. W.puts w) works.now story.heard.items (D.state disk) (D.state story.disk)) }
 {
     let mut story = Story {
