@@ -2,11 +2,7 @@
 ghost use Rattle.std.specs.Prelude.{◌≡◌};
 ghost use Rattle.fsl_answer.specs.Replies.{taken};
 
-/// Files are taken until their sizes, and as many bytes more for each as its line may take, reach so many bytes.
-const BUDGET: u64 = 1_000_000;
-
-/// What a file takes of the budget beside its size.
-const LINE: u64 = 64;
+use fsl_text::{BUDGET, SHARE};
 
 /// How many leading files the budget takes, by their sizes in bytes: a file is taken while the sum before it, 64 bytes
 /// more for each, is below 1,000,000. So the first is always taken. Takes no memory.
@@ -18,7 +14,7 @@ pub fn taken(sizes: &[u64]) -> u64
         if left == 0 {
             return at as u64;
         }
-        left = left.saturating_sub(*size).saturating_sub(LINE);
+        left = left.saturating_sub(*size).saturating_sub(SHARE);
     }
     sizes.len() as u64
 }

@@ -4,12 +4,9 @@ ghost use Rattle.fsl_answer.specs.Replies.{error_line, push_line, igot_line, gim
 
 use crate::{Lists, SentFile};
 use fsl_name::Name;
-use fsl_text::{Memory, Text};
+use fsl_text::{MOST_NOTICES, Memory, Text};
 use fsl_wire::{append_error, append_file, append_gimme, append_igot, append_line, append_seqno};
 use std::alloc::Global;
-
-/// The greatest number of notices of a reply.
-const MOST_NOTICES: usize = 100;
 
 /// Puts an error card for each notice at the end of a text, and none for those behind the first 100.
 fn append_notices(into: &mut Text, notices: &[Text]) -> Result<(), Memory>

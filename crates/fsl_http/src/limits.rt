@@ -1,4 +1,5 @@
 //! How long heads and bodies may be, and how much is read at a time.
+use fsl_text::MOST_OF_MESSAGE;
 
 /// The most bytes of a head.
 pub const HEAD_LIMIT: usize = 16_384;
@@ -7,7 +8,7 @@ pub const HEAD_LIMIT: usize = 16_384;
 pub const FIELD_LIMIT: usize = 64;
 
 /// The most bytes of a body.
-pub const BODY_LIMIT: u64 = 1 << 27;
+pub const BODY_LIMIT: u64 = MOST_OF_MESSAGE;
 
 /// The most bytes that one read asks for.
 pub const PIECE: usize = 4_096;

@@ -5,12 +5,9 @@ ghost use Rattle.fsl_login.specs.UserFiles.{AreUsers, IsUsersFile, IsUsersFault}
 
 use super::lines::{add_line, line_at};
 use crate::{User, Users, UsersFault};
-use fsl_text::{List, Memory};
+use fsl_text::{List, MOST_OF_USERS, Memory};
 use std::alloc::Global;
 use std::collections::BTreeSet;
-
-/// The greatest place, in bytes, to which a line of a users file may reach, its newline included.
-const MOST_BYTES: usize = 1 << 20;
 
 impl From<Memory> for UsersFault {
     ghost from_gives = { λ _ fault. fault ≡ users_fault.Memory };
@@ -32,7 +29,7 @@ fn read_users(alloc: Global, bytes: &[u8], users: &mut List<User>) -> Result<(),
     let mut number = 1u64;
     'lines: loop {
         let cut = line_at(bytes, at);
-        if cut.end > MOST_BYTES {
+        if cut.end > MOST_OF_USERS {
             return Err(UsersFault::Line { line: number });
         }
         if !add_line(alloc, users, &mut seen, cut.line)? {

@@ -24,13 +24,10 @@ use fsl_name::Name;
 use fsl_outside::Dial;
 use fsl_record::Config;
 use fsl_repo::Repo;
-use fsl_text::{List, Memory, Steps, Text};
+use fsl_text::{List, MOST_ROUNDS, Memory, Steps, Text};
 use fsl_wire::{Message, WireCard};
 use std::alloc::Global;
 use std::sync::ledger::Ledger;
-
-/// A clone that isn't at its end behind so many rounds is given up.
-const MOST_ROUNDS: u64 = 100_000;
 
 /// The place from which the first round of a clone asks.
 const FIRST_PLACE: u64 = 1;

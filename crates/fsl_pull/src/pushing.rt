@@ -17,13 +17,10 @@ use fsl_disk::Disk;
 use fsl_name::Name;
 use fsl_outside::Dial;
 use fsl_repo::Repo;
-use fsl_text::{List, Memory, Steps};
+use fsl_text::{List, MOST_ROUNDS, Memory, Steps};
 use fsl_wire::WireCard;
 use std::alloc::Global;
 use std::sync::ledger::Ledger;
-
-/// A push that isn't at its end behind so many rounds is given up.
-const MOST_ROUNDS: u64 = 100_000;
 
 /// What follows a round of a push.
 #[derive(Drop)]

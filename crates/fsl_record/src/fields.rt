@@ -4,10 +4,7 @@ ghost use Rattle.std.specs.List.{list_all};
 ghost use Rattle.fsl_order.specs.Names.{has};
 ghost use Rattle.fsl_record.specs.Records.{is_letter, is_field_byte, is_field, AreFields};
 
-use fsl_text::Text;
-
-/// The greatest number of configured fields.
-pub const MOST_FIELDS: usize = 256;
+use fsl_text::{MOST_FIELDS, Text};
 
 /// The greatest length of a field's name, in bytes.
 const LONGEST_FIELD: usize = 64;

@@ -8,17 +8,14 @@ ghost use Rattle.fsl_record.specs.declared.RecordFault.TheVariants.{NameWrong as
 ghost use Rattle.fsl_record.specs.Records.{AreFields, IsVersion};
 ghost use Rattle.fsl_record.specs.Reading.{IsRead, IsFieldRead, AreRead, FieldFails, FieldsFail, Fails};
 
-use crate::fields::{MOST_FIELDS, is_new_field};
+use crate::fields::is_new_field;
 use crate::pieces::{split_bytes, split_count, split_length, split_login_length};
 use crate::receipts::{LAST_MOMENT, MOST_OF_LOGIN, MS_BEFORE_1970};
 use crate::{Config, Receipt, Record, RecordFault};
 use fsl_date::Moment;
 use fsl_name::Name;
-use fsl_text::{List, Text};
+use fsl_text::{List, MOST_FIELDS, MOST_OF_ARTIFACT, Text};
 use std::alloc::Global;
-
-/// The greatest number of bytes of a blob.
-const MOST_BYTES: u64 = 1 << 24;
 
 /// Reads a field and adds it: its length in one byte, and its bytes.
 fn read_field<'a>(
@@ -147,7 +144,7 @@ fn read_content<'a>(
     ensures content { IfOk result (λ read. IsContentRead name bytes.now read.0 read.1.now) }
     ensures fault { IfErr result (λ fault. (fault ≡ MemoryFault) ⊎ ContentFails name bytes.now fault) }
 {
-    let (length, bytes) = read_number(bytes, MOST_BYTES)?;
+    let (length, bytes) = read_number(bytes, MOST_OF_ARTIFACT)?;
     let Some((content, rest)) = split_bytes(bytes, length as usize) else {
         return Err(RecordFault::Short);
     };

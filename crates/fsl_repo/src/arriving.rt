@@ -26,18 +26,9 @@ use fsl_disk::Disk;
 use fsl_journal::Journal;
 use fsl_name::Name;
 use fsl_record::{Receipt, Record};
-use fsl_text::{Memory, Steps, Text};
+use fsl_text::{MOST_HELD_BYTES, MOST_NAMES, MOST_OF_ARTIFACT, Memory, Steps, Text};
 use std::alloc::Global;
 use std::sync::ledger::Ledger;
-
-/// So many bytes may be held.
-const MOST_BYTES: u128 = 1_073_741_824;
-
-/// So many artifacts may be held, and so many names wanted.
-pub(crate) const MOST_NAMES: u64 = 1_048_576;
-
-/// An artifact has at most so many bytes.
-const MOST_SIZE: u64 = 16_777_216;
 
 /// Adds a record to the journal and to what its records leave, or to neither.
 pub(crate) fn keep(journal: &mut Journal, blobs: &mut Blobs, entry: Record) -> Result<(), Memory>
@@ -82,14 +73,14 @@ fn room(alloc: Global, blobs: &Blobs, all: &Tables, size: u64) -> Result<(), Arr
     let count = blobs.count() + 1;
     let table = all.cluster();
     let missing = table.missing_count();
-    if bytes <= MOST_BYTES && count <= MOST_NAMES && missing <= MOST_NAMES {
+    if bytes <= MOST_HELD_BYTES && count <= MOST_NAMES && missing <= MOST_NAMES {
         return Ok(());
     }
     let Ok(wanted) = wanted(alloc, table, blobs) else {
         return Err(ArriveFault::Memory);
     };
     let wants = wanted.items().len() as u64;
-    if bytes > MOST_BYTES || count > MOST_NAMES || wants > MOST_NAMES {
+    if bytes > MOST_HELD_BYTES || count > MOST_NAMES || wants > MOST_NAMES {
         return Err(ArriveFault::Full {
             bytes,
             count,
@@ -170,7 +161,7 @@ impl<D: Disk> Repo<D> {
             return Err(ArriveFault::Stopped { faults });
         }
         let size = bytes.len() as u64;
-        if size > MOST_SIZE {
+        if size > MOST_OF_ARTIFACT {
             return Err(ArriveFault::TooLarge { size });
         }
         let found = Name::of(bytes);

@@ -9,7 +9,7 @@ ghost use Rattle.fsl_repo.specs.Arriving.{appended};
 ghost use Rattle.fsl_repo.specs.Machine.{ShunStep, UnshunStep, IsDueOrMemory, IsUnshunning, now, unshunned};
 ghost use Rattle.fsl_repo.specs.declared.UnshunFault.TheVariants as unshun_fault;
 
-use crate::arriving::{MOST_NAMES, keep};
+use crate::arriving::keep;
 use crate::wanting::wanted;
 use crate::{Repo, ShunFault, Shunning, UnshunFault, Unshunning};
 use fsl_blobs::{BlobState, Blobs, shunned_are_not_held};
@@ -18,7 +18,7 @@ use fsl_disk::Disk;
 use fsl_journal::Journal;
 use fsl_name::Name;
 use fsl_record::Record;
-use fsl_text::Memory;
+use fsl_text::{MOST_NAMES, Memory};
 use std::mem::replace;
 
 impl<D: Disk> Repo<D> {

@@ -9,14 +9,8 @@ ghost use Rattle.fsl_repo.specs.Sending.{IsSized, as_held, front_after, names_of
 
 use fsl_blobs::{Blobs, Holding, Placed};
 use fsl_name::Name;
-use fsl_text::Memory;
+use fsl_text::{BUDGET, Memory, SHARE};
 use std::alloc::Global;
-
-/// Files are sent until their sizes, and so much for each, reach this many bytes.
-const BUDGET: u64 = 1_000_000;
-
-/// So much each file counts beside its size.
-const SHARE: u64 = 64;
 
 /// A held artifact at its place. Its bytes are in the file, and clauses alone see them.
 #[derive(Clone, Copy)]

@@ -16,11 +16,8 @@ use fsl_blobs::Blobs;
 use fsl_cluster::Clusters;
 use fsl_name::{Name, ordered, stands};
 use fsl_record::Config;
-use fsl_text::{List, Memory, Text};
+use fsl_text::{List, MOST_NOTICES, Memory, Text};
 use std::alloc::Global;
-
-/// The greatest number of notices of a reply.
-const MOST_NOTICES: usize = 100;
 
 /// The first 100 notices.
 fn front(notices: &[Text]) -> &[Text]

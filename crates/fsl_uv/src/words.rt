@@ -9,12 +9,9 @@ ghost use Rattle.fsl_uv.specs.Words.{stands, IsHash};
 
 use fsl_date::Moment;
 use fsl_name::Name;
-use fsl_text::{Memory, Text, decimal, escape, path_ok, unescape};
+use fsl_text::{MOST_OF_PATH, Memory, Text, decimal, escape, path_ok, unescape};
 use itoa::Buffer;
 use std::alloc::Global;
-
-/// The most bytes of a path.
-const MOST_OF_PATH: usize = 512;
 
 /// Where a byte stands first.
 fn place_of(bytes: &[u8], byte: u8) -> Option<usize>

@@ -6,13 +6,10 @@ ghost use Rattle.fsl_words.specs.Grammar.{all_differ, fields_in};
 ghost use Rattle.fsl_words.specs.Answers.{IsAnswer};
 
 use crate::WordsFault;
-use fsl_text::{List, Memory, Text};
+use fsl_text::{List, MOST_FIELDS, Memory, Text};
 use std::alloc::Global;
 use std::collections::BTreeSet;
 use std::slice;
-
-/// The greatest number of configured fields.
-const MOST_FIELDS: usize = 256;
 
 /// Copies of the words.
 fn texts(alloc: Global, words: &[String]) -> Result<List<Text>, Memory>

@@ -5,9 +5,9 @@ ghost use Rattle.fsl_name.specs.Name.{is_name_digit, name_in};
 ghost use Rattle.fsl_words.specs.Grammar.{is_word, is_prefix, prefix_in, is_path, path_in, number_in};
 ghost use Rattle.fsl_words.specs.Answers.{IsAnswer};
 
-use crate::{MOST_OF_PATH, WordsFault};
+use crate::WordsFault;
 use fsl_name::Name;
-use fsl_text::{Text, decimal, path_ok};
+use fsl_text::{MOST_OF_PATH, Text, decimal, path_ok};
 use std::alloc::Global;
 
 /// Whether a word has a byte, and doesn't begin with `-` unless it is `-` alone.

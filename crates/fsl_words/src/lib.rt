@@ -41,9 +41,6 @@ pub enum Question {
     Phantoms,
 }
 
-/// The greatest number of bytes of the path of an unversioned file.
-pub const MOST_OF_PATH: usize = 512;
-
 /// A command of unversioned files, which stand in a file of their own. A path is one whose parts between slashes aren't empty,
 /// `.` or `..`, of at most 512 bytes.
 #[derive(Drop)]

@@ -17,18 +17,9 @@ use fsl_artifact::{Artifact, members, refs};
 use fsl_cluster::Fact;
 use fsl_name::Name;
 use fsl_repo::{Arrival, ArriveFault, read_artifact};
-use fsl_text::{List, Memory, Text};
+use fsl_text::{List, MOST_HELD_BYTES, MOST_NAMES, MOST_OF_ARTIFACT, Memory, Text};
 use std::alloc::Global;
 use std::collections::{BTreeMap, BTreeSet};
-
-/// So many bytes may be held.
-const MOST_BYTES: u128 = 1_073_741_824;
-
-/// So many artifacts may be held, and so many names wanted.
-const MOST_NAMES: u64 = 1_048_576;
-
-/// An artifact has at most so many bytes.
-const MOST_SIZE: u64 = 16_777_216;
 
 /// Artifacts by what each tells the table of clusters, under its name, the number of their bytes, and the names that they
 /// refer to and that aren't among theirs.
@@ -115,7 +106,7 @@ fn in_order(alloc: Global, facts: BTreeMap<Name, Fact>) -> Result<Vec<Fact>, Mem
 fn room(bytes: u128, count: u64, wants: u64) -> Result<Arrival, ArriveFault>
     ensures { result ≡ room_of bytes count wants }
 {
-    if bytes > MOST_BYTES || count > MOST_NAMES || wants > MOST_NAMES {
+    if bytes > MOST_HELD_BYTES || count > MOST_NAMES || wants > MOST_NAMES {
         Err(ArriveFault::Full {
             bytes,
             count,
@@ -183,7 +174,7 @@ impl Gathered {
         ensures { IsGatheredBy file self.old self.new result }
     {
         let size = file.bytes.bytes().len() as u64;
-        if size > MOST_SIZE {
+        if size > MOST_OF_ARTIFACT {
             return Err(ArriveFault::TooLarge { size });
         }
         let found = Name::of(file.bytes.bytes());

@@ -4,11 +4,11 @@ ghost use Rattle.fossil.specs.Acts.{input_of, IsInput, IsUnread};
 
 use crate::answers::fault::Fault;
 use fsl_outside::{ReadFault, Source, read_whole};
-use fsl_text::Text;
+use fsl_text::{MOST_OF_MESSAGE, Text};
 use std::alloc::Global;
 
 /// The most bytes that an input has.
-const LIMIT: usize = 1 << 27;
+const LIMIT: usize = MOST_OF_MESSAGE as usize;
 
 /// Reads the input to its end, or gives `None` where it is too long.
 pub fn read_input<S: Source>(alloc: Global, input: &mut S) -> Result<Option<Text>, Fault>

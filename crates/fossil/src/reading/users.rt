@@ -11,11 +11,8 @@ use crate::answers::answer::numbered_refusal;
 use crate::answers::due::{Due, answered};
 use fsl_login::{Users, UsersFault};
 use fsl_outside::{ReadFault, Source};
-use fsl_text::Text;
+use fsl_text::{MOST_OF_USERS, Text};
 use std::alloc::Global;
-
-/// The most bytes that a users file has.
-const MOST_BYTES: usize = 1 << 20;
 
 // How many bytes are asked for at a time.
 const PIECE: usize = 65536;
@@ -30,14 +27,14 @@ fn read_front<S: Source>(alloc: Global, source: &mut S) -> Result<Text, ReadFaul
 {
     let mut text = Vec::new(alloc);
     let mut piece = [0u8; PIECE];
-    for _ in 0..=MOST_BYTES {
+    for _ in 0..=MOST_OF_USERS {
         match source.read(&mut piece) {
             Ok(0) => return Ok(Text::from_vec(text)),
             Ok(count) => {
                 if text.extend_from_slice(&piece[..count]).is_err() {
                     return Err(ReadFault::Memory);
                 }
-                if text.len() > MOST_BYTES {
+                if text.len() > MOST_OF_USERS {
                     return Ok(Text::from_vec(text));
                 }
             }

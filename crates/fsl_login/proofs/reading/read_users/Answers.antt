@@ -18,12 +18,12 @@ pub returns-then-cut-clause-users : goal.returns-then-cut-clause-users
 returns-then-cut-clause-users c =
     let cut = c.line_at-cut.result in
     file_read c.args.bytes.now cut.line.now c.lines.at c.lines.number cut.end cut.last c.lines.users c.lines.invariant.read c.line_at-cut.ensures c.in_ok-add_line.field-0 c.in_ok-add_line.ensures.good
-    c.if-not-branch.false c.if-cut-gt-MOST_BYTES.false c.add_line.new.users (c.in_ok-add_line.ensures.users c.if-not-branch.false) c.if-cut.true
+    c.if-not-branch.false c.if-cut-gt-MOST_OF_USERS.false c.add_line.new.users (c.in_ok-add_line.ensures.users c.if-not-branch.false) c.if-cut.true
 
 pub lines-preserved : goal.lines-preserved
 lines-preserved c =
     let cut = c.line_at-cut.result in
-    let within = c.if-cut-gt-MOST_BYTES.false in
+    let within = c.if-cut-gt-MOST_OF_USERS.false in
     let short = c.line_at-cut.ensures.short in
     let le : length cut.line.now ≤ 2 ^ 20 = omega arith in
     record {

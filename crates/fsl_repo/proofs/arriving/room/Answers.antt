@@ -13,5 +13,5 @@ returns-then-missing-le-MOST_NAMES-clause-told c =
     let facts = (tables c.args.all.now.fields c.args.all.now.items).clusters in
     let missing = c.missing_count-missing.ensures ∙ ap (λ fs. length (clusters.missing fs)) c.cluster-table.ensures.facts in
     inr (room_fits (held_bytes records.held + c.args.size) (map_of.len records.held + 1) (length (clusters.wants facts (set.items records.shunned)))
-    (omega (arith, c.if-bytes-le-MOST_BYTES.true, c.bytes.ensures.bytes, c.from.ensures)) (omega (arith, c.if-count-le-MOST_NAMES.true, c.count-count.ensures.count))
+    (omega (arith, c.if-bytes-le-MOST_HELD_BYTES.true, c.bytes.ensures.bytes, c.from.ensures)) (omega (arith, c.if-count-le-MOST_NAMES.true, c.count-count.ensures.count))
     (omega (arith, c.if-missing-le-MOST_NAMES.true, missing, wants_few facts (set.items records.shunned))))
