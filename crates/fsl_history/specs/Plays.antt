@@ -41,8 +41,16 @@ module _ {M E A : Type 0} where
   abbrev pub awaited : Step (Maybe M) → Sat M E A → ℕ → Sat M E A → Type 0
   awaited st me n me' = Awaits n me' me.0
 
+  -- the pass with this ticket has the machine out, as it took it
+  abbrev pub HasOut : ℕ → Tale E A → ℕ → Sat M E A → Type 0
+  HasOut k t left me = (m : M) × (me ≡ served t left (Holds k m) (Some m))
+
+  -- the machine that it has out made this step since then
+  abbrev pub HasStepped : (M → E → A → M → Type 0) → ℕ → Tale E A → ℕ → E → A → Sat M E A → Type 0
+  HasStepped may k t left e a me = (m : M) × (m' : M) × may m e a m' × (me ≡ served t left (Holds k m) (Some m'))
+
   abbrev pub Takes : Sat M E A → View M E A → Type 0
-  Takes me' (Pass t left (Serves k)) = (m : M) × (me' ≡ served t left (Holds k m) (Some m))
+  Takes me' (Pass t left (Serves k)) = HasOut k t left me'
   Takes me' v = Unit {0}
 
   -- the machine is out, and this pass has it
@@ -56,6 +64,10 @@ module _ {M E A : Type 0} where
   -- the machine is back, after the step of this call
   abbrev pub given : Maybe (E × A) → Step (Maybe M) → Sat M E A → ℕ → Sat M E A → Type 0
   given call st me n me' = IfSome call (λ c. Gives c me' me.0)
+
+  -- where the machine that it has out made this step, it gives it back and names the step
+  abbrev pub GoesAhead : (M → E → A → M → Type 0) → ℕ → Tale E A → ℕ → E → A → Sat M E A → Sat M E A → Type 0
+  GoesAhead may k t left e a me me' = HasStepped may k t left e a me → me' ≡ sat t left (Ahead k e a)
 
   -- where the first state is known, this is a history that leads from it to that state
   abbrev pub Leads : (M → E → A → M → Type 0) → Maybe M → List (Entry E A) → M → Type 0
@@ -75,8 +87,12 @@ module _ {M E A : Type 0} where
     pub left : Leads may first t'.seen after
     pub share : t'.share + count before ≡ t.share + count after
 
+  -- the pass made this call, and has no ticket
+  abbrev pub HasCalled : (M → E → A → M → Type 0) → (M → ℕ) → Maybe M → Tale E A → ℕ → E → A → Sat M E A → Type 0
+  HasCalled may count first t left e a me = (t' : Tale E A) × IsCalled may count first t t' e a × (me ≡ sat t' left Idle)
+
   abbrev pub Releases : (M → E → A → M → Type 0) → (M → ℕ) → Maybe M → Sat M E A → View M E A → Type 0
-  Releases may count first me' (Pass t left (Ahead k e a)) = (t' : Tale E A) × IsCalled may count first t t' e a × (me' ≡ sat t' left Idle)
+  Releases may count first me' (Pass t left (Ahead k e a)) = HasCalled may count first t left e a me'
   Releases may count first me' v = Unit {0}
 
   -- the turn has its entry, behind all that this pass had seen and what others did since then
@@ -94,8 +110,12 @@ module _ {M E A : Type 0} where
     pub met : Leads may first t'.seen state
     pub share : t'.share ≡ t.share
 
+  -- the pass has seen so many turns, and has no ticket
+  abbrev pub HasLooked : (M → E → A → M → Type 0) → Maybe M → Tale E A → ℕ → ℕ → Sat M E A → Type 0
+  HasLooked may first t left n me = (t' : Tale E A) × IsShown may first t t' n × (me ≡ sat t' left Idle)
+
   abbrev pub Looks : (M → E → A → M → Type 0) → Maybe M → ℕ → Sat M E A → View M E A → Type 0
-  Looks may first n me' (Pass t left Idle) = (t' : Tale E A) × IsShown may first t t' n × (me' ≡ sat t' left Idle)
+  Looks may first n me' (Pass t left Idle) = HasLooked may first t left n me'
   Looks may first n me' v = Unit {0}
 
   abbrev pub looked : (M → E → A → M → Type 0) → Maybe M → Step (Maybe M) → Sat M E A → ℕ → Sat M E A → Type 0

@@ -5,7 +5,6 @@
 //! no value of it is made.
 #![tactic(auto)]
 
-mod bell;
 mod chronicle;
 mod housed;
 mod rule;

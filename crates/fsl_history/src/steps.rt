@@ -1,8 +1,7 @@
 //! The steps of a turn.
-ghost use Rattle.std.specs.Prelude.{◌≡◌, ℕ, ◌-◌, ◌<◌, Some, None};
-ghost use Rattle.fsl_history.specs.declared.view.Tale.{Tale};
+ghost use Rattle.std.specs.Prelude.{◌≡◌, ℕ, ◌-◌, ◌<◌, Some};
 ghost use Rattle.fsl_history.specs.declared.view.Stage.TheVariants as at;
-ghost use Rattle.fsl_history.specs.Plays.{sat, served, IsCalled, IsShown};
+ghost use Rattle.fsl_history.specs.Plays.{sat, HasOut, HasStepped, GoesAhead, HasCalled, HasLooked};
 
 use crate::chronicle::Chronicle;
 use crate::rule::{Awaits, Call, Chair, Draws, Gives, Looks, Releases, Takes};
@@ -17,9 +16,6 @@ const TURN: usize = 0;
 
 /// The word that counts the tickets drawn.
 const TICKET: usize = 1;
-
-/// How often a pass looks for its turn before it sleeps, where it is the next.
-const LOOKS: u64 = 100;
 
 impl<M: Machine, B: Chronicle<M>> Ticketed<M, B> {
     /// Draws a ticket.
@@ -44,75 +40,63 @@ impl<M: Machine, B: Chronicle<M>> Ticketed<M, B> {
             if turn == ticket {
                 return;
             }
-            self.rest(rt, ticket, turn);
+            spin_loop();
         }
         unreachable!()
     }
 
-    /// Waits a while for the turn of this ticket. Where the turn before it is being made it looks on first, and then it sleeps until
-    /// it is called. It may also return before.
-    fn rest<R: Wait>(&self, rt: &R, ticket: u64, turn: u64) {
-        if turn.wrapping_add(1) == ticket && self.looks_on(ticket) {
-            return;
-        }
-        self.bells.lie_down(ticket);
-        if self.table.shared.peek(TURN) != ticket {
-            self.bells.sleep(rt, ticket);
-        }
-    }
-
-    /// Looks some times whether the turn of this ticket has come, and answers whether it did.
-    fn looks_on(&self, ticket: u64) -> bool {
-        for _look in 0..LOOKS {
-            if self.table.shared.peek(TURN) == ticket {
-                return true;
-            }
-            spin_loop();
-        }
-        false
-    }
-
-    /// Takes the machine out of its slot.
-    fn take(&self, chair: &mut Chair<M, M::Event, M::Answer>, ticket: u64) -> M
+    /// Takes the machine, which stays in its place.
+    fn take(&self, chair: &mut Chair<M, M::Event, M::Answer>, ticket: u64)
         requires table { chair.old.table_id ≡ self.now.table.shared.table_id }
         requires serves { (t : _) × (left : ℕ) × (chair.old.me ≡ sat t left (at.Serves ticket)) }
         ensures table { (chair.new.table_id ≡ chair.old.table_id) × (chair.new.id ≡ chair.old.id) }
-        ensures holds { (t : _) (left : ℕ) → chair.old.me ≡ sat t left (at.Serves ticket) → chair.new.me ≡ served t left (at.Holds ticket result) None }
+        ensures out { (t : _) (left : ℕ) → chair.old.me ≡ sat t left (at.Serves ticket) → HasOut ticket t left chair.new.me }
     {
         self.table.shared.load::<Takes>(chair, TURN);
-        self.table.shared.exchange(chair, 0, None).unwrap()
     }
 
-    /// Gives the machine back to its slot, after its step.
+    /// Makes the step of an event, on the machine in its place.
+    fn work(
+        &self,
+        chair: &mut Chair<M, M::Event, M::Answer>,
+        ticket: u64,
+        event: &M::Event,
+    ) -> M::Answer
+        requires table { chair.old.table_id ≡ self.now.table.shared.table_id }
+        requires out { (t : _) × (left : ℕ) × HasOut ticket t left chair.old.me }
+        ensures table { (chair.new.table_id ≡ chair.old.table_id) × (chair.new.id ≡ chair.old.id) }
+        ensures stepped { (t : _) (left : ℕ) → HasOut ticket t left chair.old.me → HasStepped M.may_step ticket t left event.now result chair.new.me }
+    {
+        match chair.slot_mut(&self.table.shared, 0) {
+            Some(machine) => step_uncounted(machine, event),
+            None => unreachable!(),
+        }
+    }
+
+    /// Gives the machine back, after its step.
     fn give<N: Call<M::Event, M::Answer>>(
         &self,
         chair: &mut Chair<M, M::Event, M::Answer>,
         ticket: u64,
-        machine: M,
     )
         requires table { chair.old.table_id ≡ self.now.table.shared.table_id }
-        requires holds { (t : _) × (left : ℕ) × (m : M) × (e : M.Event) × (a : M.Answer) × (N.call ≡ Some (e, a)) × (chair.old.me ≡ served t left (at.Holds ticket m) None) × M.may_step m e a machine }
+        requires stepped { (t : _) × (left : ℕ) × (e : _) × (a : _) × (N.call ≡ Some (e, a)) × HasStepped M.may_step ticket t left e a chair.old.me }
         ensures table { (chair.new.table_id ≡ chair.old.table_id) × (chair.new.id ≡ chair.old.id) }
-        ensures ahead { (t : _) (left : ℕ) (m : M) (e : M.Event) (a : M.Answer) → N.call ≡ Some (e, a) → chair.old.me ≡ served t left (at.Holds ticket m) None → chair.new.me ≡ sat t left (at.Ahead ticket e a) }
+        ensures ahead { (t : _) (left : ℕ) (e : _) (a : _) → N.call ≡ Some (e, a) → GoesAhead M.may_step ticket t left e a chair.old.me chair.new.me }
     {
-        match self.table.shared.exchange(chair, 0, Some(machine)) {
-            None => {}
-            Some(_) => unreachable!(),
-        }
         self.table.shared.load::<Gives<N>>(chair, TURN);
     }
 
-    /// Ends the turn, and wakes who sleeps until the next.
+    /// Ends the turn.
     fn release(&self, chair: &mut Chair<M, M::Event, M::Answer>, ticket: u64)
         requires table { chair.old.table_id ≡ self.now.table.shared.table_id }
         requires ahead { (t : _) × (left : ℕ) × (e : M.Event) × (a : M.Answer) × (chair.old.me ≡ sat t left (at.Ahead ticket e a)) }
         ensures table { (chair.new.table_id ≡ chair.old.table_id) × (chair.new.id ≡ chair.old.id) }
-        ensures called { (t : _) (left : ℕ) (e : M.Event) (a : M.Answer) → chair.old.me ≡ sat t left (at.Ahead ticket e a) → (t' : _) × IsCalled M.may_step M.stored_count B.first t t' e a × (chair.new.me ≡ sat t' left at.Idle) }
+        ensures called { (t : _) (left : ℕ) (e : _) (a : _) → chair.old.me ≡ sat t left (at.Ahead ticket e a) → HasCalled M.may_step M.stored_count B.first t left e a chair.new.me }
     {
         self.table
             .shared
             .fetch_add::<Releases<M, B>>(chair, TURN, 1);
-        self.bells.call(ticket.wrapping_add(1));
     }
 
     /// The whole turn.
@@ -125,14 +109,16 @@ impl<M: Machine, B: Chronicle<M>> Ticketed<M, B> {
         requires table { chair.old.table_id ≡ self.now.table.shared.table_id }
         requires idle { (t : _) × (left : ℕ) × (0 < left) × (chair.old.me ≡ sat t left at.Idle) }
         ensures table { (chair.new.table_id ≡ chair.old.table_id) × (chair.new.id ≡ chair.old.id) }
-        ensures called { (t : _) (left : ℕ) → chair.old.me ≡ sat t left at.Idle → (t' : _) × IsCalled M.may_step M.stored_count B.first t t' event.now result × (chair.new.me ≡ sat t' (left - 1) at.Idle) }
+        ensures called { (t : _) (left : ℕ) → chair.old.me ≡ sat t left at.Idle → HasCalled M.may_step M.stored_count B.first t (left - 1) event.now result chair.new.me }
     {
+        let lane = self.lane.lock(rt);
         let ticket = self.draw(chair);
         self.wait(rt, chair, ticket);
-        let mut machine = self.take(chair, ticket);
-        let answer = step_uncounted(&mut machine, event);
-        self.give_after(chair, ticket, machine, event, &answer);
+        self.take(chair, ticket);
+        let answer = self.work(chair, ticket, event);
+        self.give_after(chair, ticket, event, &answer);
         self.release(chair, ticket);
+        drop(lane);
         answer
     }
 
@@ -141,16 +127,15 @@ impl<M: Machine, B: Chronicle<M>> Ticketed<M, B> {
         &self,
         chair: &mut Chair<M, M::Event, M::Answer>,
         ticket: u64,
-        machine: M,
         event: &M::Event,
         answer: &M::Answer,
     )
         requires table { chair.old.table_id ≡ self.now.table.shared.table_id }
-        requires holds { (t : _) × (left : ℕ) × (m : M) × (chair.old.me ≡ served t left (at.Holds ticket m) None) × M.may_step m event.now answer.now machine }
+        requires stepped { (t : _) × (left : ℕ) × HasStepped M.may_step ticket t left event.now answer.now chair.old.me }
         ensures table { (chair.new.table_id ≡ chair.old.table_id) × (chair.new.id ≡ chair.old.id) }
-        ensures ahead { (t : _) (left : ℕ) (m : M) → chair.old.me ≡ served t left (at.Holds ticket m) None → chair.new.me ≡ sat t left (at.Ahead ticket event.now answer.now) }
+        ensures ahead { (t : _) (left : ℕ) → GoesAhead M.may_step ticket t left event.now answer.now chair.old.me chair.new.me }
     {
-        self.give_as::<Brand>(chair, ticket, machine, event, answer);
+        self.give_as::<Brand>(chair, ticket, event, answer);
     }
 
     /// The same, where the call has a name.
@@ -158,17 +143,16 @@ impl<M: Machine, B: Chronicle<M>> Ticketed<M, B> {
         &self,
         chair: &mut Chair<M, M::Event, M::Answer>,
         ticket: u64,
-        machine: M,
         event: &M::Event,
         answer: &M::Answer,
     )
         requires call { N.call ≡ Some (event.now, answer.now) }
         requires table { chair.old.table_id ≡ self.now.table.shared.table_id }
-        requires holds { (t : _) × (left : ℕ) × (m : M) × (chair.old.me ≡ served t left (at.Holds ticket m) None) × M.may_step m event.now answer.now machine }
+        requires stepped { (t : _) × (left : ℕ) × HasStepped M.may_step ticket t left event.now answer.now chair.old.me }
         ensures table { (chair.new.table_id ≡ chair.old.table_id) × (chair.new.id ≡ chair.old.id) }
-        ensures ahead { (t : _) (left : ℕ) (m : M) → chair.old.me ≡ served t left (at.Holds ticket m) None → chair.new.me ≡ sat t left (at.Ahead ticket event.now answer.now) }
+        ensures ahead { (t : _) (left : ℕ) → GoesAhead M.may_step ticket t left event.now answer.now chair.old.me chair.new.me }
     {
-        self.give::<N>(chair, ticket, machine);
+        self.give::<N>(chair, ticket);
     }
 
     /// Reads how many turns were made.
@@ -176,7 +160,7 @@ impl<M: Machine, B: Chronicle<M>> Ticketed<M, B> {
         requires table { chair.old.table_id ≡ self.now.table.shared.table_id }
         requires idle { (t : _) × (left : ℕ) × (chair.old.me ≡ sat t left at.Idle) }
         ensures table { (chair.new.table_id ≡ chair.old.table_id) × (chair.new.id ≡ chair.old.id) }
-        ensures shown { (t : _) (left : ℕ) → chair.old.me ≡ sat t left at.Idle → (t' : _) × IsShown M.may_step B.first t t' result × (chair.new.me ≡ sat t' left at.Idle) }
+        ensures shown { (t : _) (left : ℕ) → chair.old.me ≡ sat t left at.Idle → HasLooked M.may_step B.first t left result chair.new.me }
     {
         self.table.shared.load::<Looks<M, B>>(chair, TURN)
     }

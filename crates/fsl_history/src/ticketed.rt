@@ -8,7 +8,6 @@ ghost use Rattle.fsl_history.specs.Entries.{newcomer, newcomers, shares_in, IsFi
 ghost use Rattle.fsl_history.specs.Plays.{sat, IsCalled, IsShown};
 ghost use Rattle.fsl_history.specs.Rule.{tale_in, most_turns};
 
-use crate::bell::Bells;
 use crate::chronicle::Chronicle;
 use crate::housed::{Desk, Housed, emptied};
 use crate::rule::{Chair, Gathers, Issues};
@@ -33,7 +32,8 @@ struct Keeper<M: Machine, B: Chronicle<M>> {
 pub struct Ticketed<M: Machine, B: Chronicle<M>> {
     pub(crate) table: Desk<M, M::Event, M::Answer>,
     keeper: Mutex<Keeper<M, B>>,
-    pub(crate) bells: Bells,
+    /// Who has this lock may draw a ticket, so that no pass waits with one.
+    pub(crate) lane: Mutex<()>,
     /// The machine's count when the table was made.
     began: u64,
     of: PhantomData<B>,
@@ -144,7 +144,7 @@ impl<M: Machine, B: Chronicle<M>> Ticketed<M, B> {
         let ticketed = Ticketed {
             table,
             keeper: Mutex::new(keeper),
-            bells: Bells::new(),
+            lane: Mutex::new(()),
             began,
             of: PhantomData,
         };
@@ -170,7 +170,7 @@ impl<M: Machine, B: Chronicle<M>> Ticketed<M, B> {
         let Ticketed {
             table,
             keeper,
-            bells: _,
+            lane: _,
             began,
             of: _,
         } = self;
