@@ -91,6 +91,14 @@ module _ {M E A : Type 0} where
   abbrev pub HasCalled : (M → E → A → M → Type 0) → (M → ℕ) → Maybe M → Tale E A → ℕ → E → A → Sat M E A → Type 0
   HasCalled may count first t left e a me = (t' : Tale E A) × IsCalled may count first t t' e a × (me ≡ sat t' left Idle)
 
+  -- from where it has no ticket it comes to have made this call
+  abbrev pub MakesTurn : (M → E → A → M → Type 0) → (M → ℕ) → Maybe M → Tale E A → ℕ → E → A → Sat M E A → Sat M E A → Type 0
+  MakesTurn may count first t left e a me me' = me ≡ sat t left Idle → HasCalled may count first t (left - 1) e a me'
+
+  -- from where it gave the machine back it comes to have made this call
+  abbrev pub EndsTurn : (M → E → A → M → Type 0) → (M → ℕ) → Maybe M → Tale E A → ℕ → ℕ → E → A → Sat M E A → Sat M E A → Type 0
+  EndsTurn may count first t left k e a me me' = me ≡ sat t left (Ahead k e a) → HasCalled may count first t left e a me'
+
   abbrev pub Releases : (M → E → A → M → Type 0) → (M → ℕ) → Maybe M → Sat M E A → View M E A → Type 0
   Releases may count first me' (Pass t left (Ahead k e a)) = HasCalled may count first t left e a me'
   Releases may count first me' v = Unit {0}

@@ -1,7 +1,7 @@
 //! The steps of a turn.
 ghost use Rattle.std.specs.Prelude.{◌≡◌, ℕ, ◌-◌, ◌<◌, Some};
 ghost use Rattle.fsl_history.specs.declared.view.Stage.TheVariants as at;
-ghost use Rattle.fsl_history.specs.Plays.{sat, HasOut, HasStepped, GoesAhead, HasCalled, HasLooked};
+ghost use Rattle.fsl_history.specs.Plays.{sat, HasOut, HasStepped, GoesAhead, EndsTurn, MakesTurn, HasLooked};
 
 use crate::chronicle::Chronicle;
 use crate::rule::{Awaits, Call, Chair, Draws, Gives, Looks, Releases, Takes};
@@ -28,7 +28,8 @@ impl<M: Machine, B: Chronicle<M>> Ticketed<M, B> {
         self.table.shared.fetch_add::<Draws>(chair, TICKET, 1)
     }
 
-    /// Waits until as many turns were made as the ticket says.
+    /// Waits until as many turns were made as the ticket says. They were when it was drawn, since no other pass had a ticket then; no
+    /// clause says so, and so it looks.
     fn wait<R: Wait>(&self, rt: &R, chair: &mut Chair<M, M::Event, M::Answer>, ticket: u64)
         requires table { chair.old.table_id ≡ self.now.table.shared.table_id }
         requires waits { (t : _) × (left : ℕ) × (chair.old.me ≡ sat t left (at.Waits ticket)) }
@@ -92,7 +93,7 @@ impl<M: Machine, B: Chronicle<M>> Ticketed<M, B> {
         requires table { chair.old.table_id ≡ self.now.table.shared.table_id }
         requires ahead { (t : _) × (left : ℕ) × (e : M.Event) × (a : M.Answer) × (chair.old.me ≡ sat t left (at.Ahead ticket e a)) }
         ensures table { (chair.new.table_id ≡ chair.old.table_id) × (chair.new.id ≡ chair.old.id) }
-        ensures called { (t : _) (left : ℕ) (e : _) (a : _) → chair.old.me ≡ sat t left (at.Ahead ticket e a) → HasCalled M.may_step M.stored_count B.first t left e a chair.new.me }
+        ensures called { (t : _) (left : ℕ) (e : _) (a : _) → EndsTurn M.may_step M.stored_count B.first t left ticket e a chair.old.me chair.new.me }
     {
         self.table
             .shared
@@ -109,7 +110,7 @@ impl<M: Machine, B: Chronicle<M>> Ticketed<M, B> {
         requires table { chair.old.table_id ≡ self.now.table.shared.table_id }
         requires idle { (t : _) × (left : ℕ) × (0 < left) × (chair.old.me ≡ sat t left at.Idle) }
         ensures table { (chair.new.table_id ≡ chair.old.table_id) × (chair.new.id ≡ chair.old.id) }
-        ensures called { (t : _) (left : ℕ) → chair.old.me ≡ sat t left at.Idle → HasCalled M.may_step M.stored_count B.first t (left - 1) event.now result chair.new.me }
+        ensures called { (t : _) (left : ℕ) → MakesTurn M.may_step M.stored_count B.first t left event.now result chair.old.me chair.new.me }
     {
         let lane = self.lane.lock(rt);
         let ticket = self.draw(chair);

@@ -32,7 +32,7 @@ struct Keeper<M: Machine, B: Chronicle<M>> {
 pub struct Ticketed<M: Machine, B: Chronicle<M>> {
     pub(crate) table: Desk<M, M::Event, M::Answer>,
     keeper: Mutex<Keeper<M, B>>,
-    /// Who has this lock may draw a ticket, so that no pass waits with one.
+    /// Who has this lock may draw a ticket. So no pass sleeps with a ticket, which would hold up all that drew theirs behind it.
     pub(crate) lane: Mutex<()>,
     /// The machine's count when the table was made.
     began: u64,

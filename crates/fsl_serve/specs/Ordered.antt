@@ -11,6 +11,7 @@ use Rattle.fsl_repo.specs.Whole.{Whole}
 use Rattle.fsl_history.specs.Entries.{Entry, calls_by, IsHistory}
 use Rattle.fsl_serve.specs.declared.work.Crew.{Crew}
 use Rattle.fsl_serve.specs.declared.work.Work.{Work}
+use Rattle.fsl_serve.specs.declared.crews.Served.{Served}
 use Rattle.fsl_serve.specs.Points.{Points}
 use Rattle.fsl_serve.specs.Workers.{IsGated}
 
@@ -38,3 +39,9 @@ abbrev pub HasOneHistory : {D A G C : Type 0} → (D → DiskState) → (A → L
     List User → List ℕ → ℕ → List Work → List (Crew A G C) → List (Crew A G C) → Whole D → Whole D → Type 0
 HasOneHistory tells crew users project requests works xs ys repo last =
     IsOneHistory tells (λ x. crew.0 x.door) (λ x. crew.1 x.gate) (λ x. crew.2 x.clock) users project requests works xs ys repo last
+
+-- the same of what the crews left
+abbrev pub LeavesOneHistory : {D A G C : Type 0} → (D → DiskState) → (A → LinkState) × (G → Option Points) × (C → Option (List ℕ)) →
+    List User → List ℕ → ℕ → List (Crew A G C) → Whole D → Served D A G C → Type 0
+LeavesOneHistory tells crew users project requests xs repo served =
+    HasOneHistory tells crew users project requests served.works.items xs served.crews.items repo served.repo

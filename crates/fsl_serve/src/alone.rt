@@ -40,6 +40,6 @@ pub fn session_alone<D: Disk, K: Link, G: Gate, C: Clock, R: Wait>(
     ensures stands { (K.state link.new).standing ≡ (K.state link.old).standing }
 {
     session(
-        turns, rt, alloc, pass, users, project, link, gate, clock, number,
+        rt, alloc, turns, pass, users, project, link, gate, clock, number,
     )
 }

@@ -5,7 +5,7 @@ ghost use Rattle.fsl_repo.specs.Whole.{stored};
 ghost use Rattle.fsl_serve.specs.Workers.{HasPassed};
 ghost use Rattle.fsl_repo.specs.declared.Event.TheVariants as event;
 ghost use Rattle.fsl_serve.specs.Crews.{AreWorked, AreGated, AreAllCommitted};
-ghost use Rattle.fsl_serve.specs.Ordered.{HasOneHistory, steps_by};
+ghost use Rattle.fsl_serve.specs.Ordered.{LeavesOneHistory, steps_by};
 
 use crate::staff::{dismissed, staffed};
 use crate::work::{Crew, Work, worker};
@@ -30,9 +30,9 @@ pub(crate) struct Job<A, G, C, P> {
 
 /// One worker.
 fn run_one<T: Turns<Repo<D>>, D: Disk, A: Door, G: Gate, C: Clock, R: Wait>(
-    turns: &T,
     rt: &R,
     alloc: Global,
+    turns: &T,
     users: &Users,
     project: Name,
     job: &mut Job<A, G, C, T::Pass>,
@@ -42,9 +42,9 @@ fn run_one<T: Turns<Repo<D>>, D: Disk, A: Door, G: Gate, C: Clock, R: Wait>(
     ensures worked { HasPassed D.state users.now project requests (A.state, G.passed, C.told, job.old.crew, job.new.crew) (T.calls, job.old.pass, job.new.pass) job.new.work }
 {
     job.work = worker(
-        turns,
         rt,
         alloc,
+        turns,
         &mut job.pass,
         users,
         project,
@@ -62,9 +62,9 @@ pub(crate) fn run_all<
     C: Clock + Send,
     R: Threads + Wait + Sync,
 >(
-    turns: &T,
     rt: &R,
     alloc: Global,
+    turns: &T,
     users: &Users,
     project: Name,
     jobs: &mut Vec<Job<A, G, C, T::Pass>>,
@@ -84,7 +84,7 @@ where
         &|_, job: &mut Job<A, G, C, T::Pass>|
             ensures grown { T.grows job.old.pass job.new.pass }
             ensures worked { HasPassed D.state users.entry.now project requests (A.state, G.passed, C.told, job.old.crew, job.new.crew) (T.calls, job.old.pass, job.new.pass) job.new.work }
-        { run_one(turns, rt, alloc, users, project, job, requests) },
+        { run_one(rt, alloc, turns, users, project, job, requests) },
     );
 }
 
@@ -134,7 +134,7 @@ pub fn serve_crews<
     ensures settled { IfOk result (λ s. AreAllCommitted s.repo.seen.state) }
     ensures worked { IfOk result (λ s. AreWorked D.state (λ c. A.state c.door) users.now project requests s.works.items crews.items s.crews.items) }
     ensures gates { IfOk result (λ s. AreGated D.state (A.state, G.passed, C.told) users.now project requests s.works.items crews.items s.crews.items) }
-    ensures history { IfOk result (λ s. HasOneHistory D.state (A.state, G.passed, C.told) users.now project requests s.works.items crews.items s.crews.items repo s.repo) }
+    ensures history { IfOk result (λ s. LeavesOneHistory D.state (A.state, G.passed, C.told) users.now project requests crews.items repo s) }
     ensures refused { IfErr result (λ r. (r.0 ≡ repo) × (r.1.items ≡ crews.items)) }
 {
     match Housed::new(alloc, repo) {
@@ -171,7 +171,7 @@ fn serve_housed<
     ensures settled { IfOk result (λ s. AreAllCommitted s.repo.seen.state) }
     ensures worked { IfOk result (λ s. AreWorked D.state (λ c. A.state c.door) users.now project requests s.works.items crews.items s.crews.items) }
     ensures gates { IfOk result (λ s. AreGated D.state (A.state, G.passed, C.told) users.now project requests s.works.items crews.items s.crews.items) }
-    ensures history { IfOk result (λ s. IfSome B.first (λ f. HasOneHistory D.state (A.state, G.passed, C.told) users.now project requests s.works.items crews.items s.crews.items f s.repo)) }
+    ensures history { IfOk result (λ s. IfSome B.first (λ f. LeavesOneHistory D.state (A.state, G.passed, C.told) users.now project requests crews.items f s)) }
     ensures refused { IfErr result (λ r. (B.first ≡ Some r.0) × (r.1.items ≡ crews.items)) }
 {
     let count = crews.len() as u64;
@@ -191,7 +191,7 @@ fn serve_housed<
         }
     };
     let mut jobs = staffed(jobs, &mut crews, &mut passes);
-    run_all(&ticketed, rt, alloc, users, project, &mut jobs, requests);
+    run_all(rt, alloc, &ticketed, users, project, &mut jobs, requests);
     let works = dismissed(jobs, &mut crews, &mut passes, works);
     let (mut repo, stored) = ticketed.finish(passes);
     settle(&mut repo);

@@ -100,9 +100,9 @@ fn said_to<T: Turns<Repo<D>>, D: Disk, G: Gate, C: Clock, R: Wait>(
 /// before its first arrival it asks the clock once, for the receipt of all that it brings, which has the user of the first login
 /// or `nobody`. The gate is passed behind the arrivals and announcements, and once the reply is written.
 pub fn session<T: Turns<Repo<D>>, D: Disk, K: Link, G: Gate, C: Clock, R: Wait>(
-    turns: &T,
     rt: &R,
     alloc: Global,
+    turns: &T,
     pass: &mut T::Pass,
     users: &Users,
     project: Name,

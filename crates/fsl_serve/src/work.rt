@@ -35,9 +35,9 @@ pub struct Work {
 /// Serves as many connections as are asked for, or up to where the door fails or is closed. Each connection is let go once its session
 /// ended. The sessions are numbered from 0 where they pass the gate. Each asks the clock at most once.
 pub fn worker<T: Turns<Repo<D>>, D: Disk, A: Door, G: Gate, C: Clock, R: Wait>(
-    turns: &T,
     rt: &R,
     alloc: Global,
+    turns: &T,
     pass: &mut T::Pass,
     users: &Users,
     project: Name,
