@@ -29,8 +29,8 @@ use Rattle.fsl_query.specs.declared.Refused.{Refused}
 use Rattle.fsl_query.specs.declared.Refused.TheVariants as refused_as
 use Rattle.fsl_query.specs.declared.QueryFault.{QueryFault}
 use Rattle.fsl_query.specs.declared.QueryFault.TheVariants as query_fault
-use Rattle.fsl_query.specs.Answers.{IsAnswer, IsReported, IsReportedIn, IsReportedOn, IsSpoiltIn, IsUnread, content_asked, one_of, prefix_of}
-use Rattle.fsl_query.specs.Reports.{IsReadContent, IsReport, IsTold, by_found, content, name_found, receipt_report, report}
+use Rattle.fsl_query.specs.Answers.{IsAnswer, IsReported, IsReportedIn, IsReportedOn, IsSpoiltIn, IsContentUntold, content_asked, one_of, prefix_of}
+use Rattle.fsl_query.specs.Reports.{IsReadContent, IsReport, IsReportTold, by_found, content, name_found, receipt_report, report}
 use Rattle.fsl_query.proofs.Prefixes.{of_one}
 
 -- ---- questions that ask for no content
@@ -70,7 +70,7 @@ reported_receipt honest c prefix faults (Err (query_fault.Damaged name found)) h
 reported_receipt honest c prefix faults (Err query_fault.Memory) h = refl
 
 -- and its value is told as it is
-as_due : (honest : Bool) (question : Question) (due : Result (List ℕ) Refused) (text : List ℕ) → prefix_of question ≡ None → due ≡ Ok text → IsTold honest question due (Ok text)
+as_due : (honest : Bool) (question : Question) (due : Result (List ℕ) Refused) (text : List ℕ) → prefix_of question ≡ None → due ≡ Ok text → IsReportTold honest question due (Ok text)
 as_due honest (question_of.Cat prefix) due text unread is = absurd cc
 as_due honest (question_of.Receipt prefix) due text unread is = is
 as_due honest (question_of.Timeline count) due text unread is = is
@@ -83,7 +83,7 @@ as_due honest (question_of.Ticket id) due text unread is = is
 as_due honest (question_of.Thread name) due text unread is = is
 as_due honest question_of.Phantoms due text unread is = is
 
-pub value_of : (honest : Bool) (question : Question) (due : Result (List ℕ) Refused) (told : Result (List ℕ) QueryFault) → prefix_of question ≡ None → IsAnswer due told → IfOk told (λ text. IsTold honest question due (Ok text))
+pub value_of : (honest : Bool) (question : Question) (due : Result (List ℕ) Refused) (told : Result (List ℕ) QueryFault) → prefix_of question ≡ None → IsAnswer due told → IfOk told (λ text. IsReportTold honest question due (Ok text))
 value_of honest question due (Ok text) unread h = as_due honest question due text unread h
 value_of honest question due (Err fault) unread h = tt
 
@@ -117,8 +117,8 @@ refused_content honest c prefix before after told refused h is =
 
 -- and so of the question that asks for it
 module _ (honest : Bool) (c : Contents) (items : List Item) (question : Question) (prefix : List ℕ) (asks : prefix_of question ≡ Some prefix) (before after : ℕ) (told : Result (List ℕ) QueryFault) (h : IsReported honest c (question_of.Cat prefix) before after told) where
-  pub content_told : IfOk told (λ text. IsTold honest question (report c items question) (Ok text))
-  content_told = subst (λ q. IfOk told (λ text. IsTold honest q (report c items q) (Ok text))) (sym (is_cat question prefix asks)) (told_content honest c prefix before after told h)
+  pub content_told : IfOk told (λ text. IsReportTold honest question (report c items question) (Ok text))
+  content_told = subst (λ q. IfOk told (λ text. IsReportTold honest q (report c items q) (Ok text))) (sym (is_cat question prefix asks)) (told_content honest c prefix before after told h)
 
   pub content_refused : (refused : Refused) → told ≡ Err (query_fault.Refused refused) → report c items question ≡ Err refused
   content_refused refused is = ap (report c items) (is_cat question prefix asks) ∙ refused_content honest c prefix before after told refused h is
@@ -195,7 +195,7 @@ module _ (honest : Bool) (records : List Record) (are : AreRecords records) (pre
     told_as : (after : ℕ) (told due : QueryFault) → told ≡ due → Reported after (Err due) → Reported after (Err told)
     told_as after told due why h = subst (λ t. Reported after (Err t)) (sym why) h
 
-    pub fails : (fault : BlobFault) (told : QueryFault) (after : ℕ) → IsUnread prefix name fault told → Fails fault after → Reported after (Err told)
+    pub fails : (fault : BlobFault) (told : QueryFault) (after : ℕ) → IsContentUntold prefix name fault told → Fails fault after → Reported after (Err told)
     fails blob_fault.Absent told after (inl why) failed = told_as after told (query_fault.Refused (refused_as.NoArtifact prefix)) why (missing failed.0, failed.1)
     fails blob_fault.Absent told after (inr why) failed = told_as after told query_fault.Memory why failed.1
     fails blob_fault.Disk told after why failed = told_as after told query_fault.Disk why (name, asked, failed)
@@ -217,7 +217,7 @@ module _ (s : State) (are : AreRecords s.records) (prefix name : List ℕ) (is :
       (record { artifact = h.artifact; held = h.held; bytes = h.bytes; sized = h.sized; named = h.named; other = h.other; never = h.never }, failed.1)
   now_fails blob_fault.Memory new failed = failed
 
-  pub fails_now : (fault : BlobFault) (told : QueryFault) (new : State) → IsUnread prefix name fault told → ContentFails fault s name new → IsReportedIn s (question_of.Cat prefix) new (Err told)
+  pub fails_now : (fault : BlobFault) (told : QueryFault) (new : State) → IsContentUntold prefix name fault told → ContentFails fault s name new → IsReportedIn s (question_of.Cat prefix) new (Err told)
   fails_now fault told new why failed = fails s.honest s.records are prefix s.faults name is fault told new.faults why (now_fails fault new failed)
 
 never_true : (b : Bool) → (b ≡ true → ⊥) → b ≡ false
@@ -253,7 +253,7 @@ module _ (before after : DiskState) (b : Seen) (are : AreRecords b.records) (cac
   on_fails blob_fault.Memory r fails absent failed = failed
 
   pub fails_on : (fault : BlobFault) (told : QueryFault) (r : Result (List ℕ) BlobFault) → r ≡ Err fault → (r ≡ Err blob_fault.Absent) ↔ (map_of.get (contents b.records).held name ≡ None)
-      → IsUnread prefix name fault told → ContentFailed fault b name before after → IsReportedOn before b.records (question_of.Cat prefix) after (Err told)
+      → IsContentUntold prefix name fault told → ContentFailed fault b name before after → IsReportedOn before b.records (question_of.Cat prefix) after (Err told)
   fails_on fault told r is_fault absent why failed =
       fails (is_modelled before) b.records are prefix before.faults name is fault told after.faults why (on_fails fault r is_fault absent failed)
 

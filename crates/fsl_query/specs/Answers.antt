@@ -72,11 +72,11 @@ abbrev pub IsReportedOn : DiskState → List Record → Question → DiskState �
 IsReportedOn before records question after result = IsReported (is_modelled before) (contents records) question before.faults after.faults result
 
 -- why a content isn't told: it isn't held, the disk failed, the content has another name, or there was no memory
-abbrev pub IsUnread : List ℕ → List ℕ → BlobFault → QueryFault → Type 0
-IsUnread prefix name blob_fault.Absent result = (result ≡ RefusedFault (NoArtifact prefix)) ⊎ (result ≡ Memory)
-IsUnread prefix name blob_fault.Disk result = result ≡ Disk
-IsUnread prefix name (blob_fault.Damaged found) result = result ≡ Damaged name found
-IsUnread prefix name blob_fault.Memory result = result ≡ Memory
+abbrev pub IsContentUntold : List ℕ → List ℕ → BlobFault → QueryFault → Type 0
+IsContentUntold prefix name blob_fault.Absent result = (result ≡ RefusedFault (NoArtifact prefix)) ⊎ (result ≡ Memory)
+IsContentUntold prefix name blob_fault.Disk result = result ≡ Disk
+IsContentUntold prefix name (blob_fault.Damaged found) result = result ≡ Damaged name found
+IsContentUntold prefix name blob_fault.Memory result = result ≡ Memory
 
 -- by the state of a repository, and the one that is left
 abbrev pub IsReportedIn : State → Question → State → Result (List ℕ) QueryFault → Type 0

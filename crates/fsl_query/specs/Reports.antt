@@ -143,9 +143,9 @@ report c items (Thread name) = thread_report (tables_now c items).threads name
 report c items Phantoms = Ok (phantoms_report (wants c items))
 
 -- what is told for a report that is due: a content as it is read, and every other report as it is
-abbrev pub IsTold : Bool → Question → Result (List ℕ) Refused → Result (List ℕ) Refused → Type 0
-IsTold honest (Cat prefix) due result = IsReadContent honest due result
-IsTold honest question due result = due ≡ result
+abbrev pub IsReportTold : Bool → Question → Result (List ℕ) Refused → Result (List ℕ) Refused → Type 0
+IsReportTold honest (Cat prefix) due result = IsReadContent honest due result
+IsReportTold honest question due result = due ≡ result
 
 -- the report of a repository
 abbrev pub report_in : Seen → Question → Result (List ℕ) Refused

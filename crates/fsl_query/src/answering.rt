@@ -7,7 +7,7 @@ ghost use Rattle.fsl_repo.specs.Whole.{log_of};
 ghost use Rattle.fsl_words.specs.declared.Question.TheVariants as question_of;
 ghost use Rattle.fsl_query.specs.declared.Refused.{Refused};
 ghost use Rattle.fsl_query.specs.declared.QueryFault.TheVariants as query_fault;
-ghost use Rattle.fsl_query.specs.Reports.{IsTold, of_prefix, files_report, leaves_report, receipt_report, tables_now, report_in};
+ghost use Rattle.fsl_query.specs.Reports.{IsReportTold, of_prefix, files_report, leaves_report, receipt_report, tables_now, report_in};
 ghost use Rattle.fsl_query.specs.Answers.{IsAnswer, IsReportedIn, content_asked, prefix_of};
 
 use crate::finding::{copied, found, prefix_of};
@@ -102,7 +102,7 @@ pub fn report<D: Disk>(
     repo: &mut Repo<D>,
     question: &Question,
 ) -> Result<Text, QueryFault>
-    ensures ok { IfOk result (λ text. IsTold repo.old.seen.state.honest question.now (report_in repo.old.seen question.now) (Ok text)) }
+    ensures ok { IfOk result (λ text. IsReportTold repo.old.seen.state.honest question.now (report_in repo.old.seen question.now) (Ok text)) }
     ensures refused { (refused : Refused) → result ≡ Err (query_fault.Refused refused) → report_in repo.old.seen question.now ≡ Err refused }
     ensures means { IsReportedIn repo.old.seen.state question.now repo.new.seen.state result }
     // Where no content is asked for, or the prefix doesn't find one name, no device is called.

@@ -9,7 +9,7 @@ ghost use Rattle.fsl_record.specs.Records.{AreRecords};
 ghost use Rattle.fsl_repo.specs.Machine.{Leaves, now};
 ghost use Rattle.fsl_repo.specs.Whole.{log_of};
 ghost use Rattle.fsl_words.specs.declared.Question.TheVariants as question_of;
-ghost use Rattle.fsl_query.specs.Answers.{IsAnswer, IsReportedIn, IsReportedOn, IsUnread, content_asked, prefix_of};
+ghost use Rattle.fsl_query.specs.Answers.{IsAnswer, IsReportedIn, IsReportedOn, IsContentUntold, content_asked, prefix_of};
 ghost use Rattle.fsl_query.specs.Reports.{by_found, name_found};
 
 use crate::{QueryFault, Refused};
@@ -67,7 +67,7 @@ pub(crate) fn prefix_of(question: &Question) -> Option<&[u8]>
 
 /// Why a content isn't told that wasn't read.
 fn unread(alloc: Global, prefix: &[u8], name: Name, fault: BlobFault) -> QueryFault
-    ensures { IsUnread prefix.now name fault result }
+    ensures { IsContentUntold prefix.now name fault result }
 {
     match fault {
         BlobFault::Absent => match Text::of(alloc, prefix) {
