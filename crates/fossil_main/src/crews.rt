@@ -1,15 +1,20 @@
 //! Crews over one listening socket.
-ghost use Rattle.std.specs.Prelude.{◌≡◌, vec_len, IfOk};
+ghost use Rattle.std.specs.Prelude.{◌≡◌, vec_len, IfOk, IfSome};
 
-use fsl_outside::{NoGate, StdClock, TcpDoor};
+use fsl_outside::{NoGate, StdClock, StdSink, TcpDoor};
 use fsl_serve::Crew;
+use fsl_watch::LoggedDoor;
 use std::alloc::{AllocError, Global};
+use std::io::Stderr;
 use std::net::Net;
 use std::sync::Arc;
 use std::time::Clock;
 
 /// A crew over real sockets and the system's clock.
 pub type RealCrew<R> = Crew<TcpDoor<R>, NoGate, StdClock<R>>;
+
+/// One whose door puts out a line for each connection on standard error.
+pub type LoggedCrew<R> = Crew<LoggedDoor<TcpDoor<R>, StdSink<Stderr>, R>, NoGate, StdClock<R>>;
 
 /// So many crews, whose doors take the connections of one listening socket; where there is none, each call of a door fails.
 pub fn crews<R: Net + Clock + Clone + Drop>(
@@ -65,4 +70,40 @@ fn failing<R: Net + Clock + Clone + Drop>(
         })?;
     }
     Ok(crews)
+}
+
+/// The same crews, whose doors put out a line for each connection; none where there was no memory for one of them.
+pub fn logged<R: Net + Clock + Clone + Drop>(
+    rt: &R,
+    alloc: Global,
+    err: Stderr,
+    crews: Vec<RealCrew<R>>,
+) -> Option<Vec<LoggedCrew<R>>>
+    ensures { IfSome result (λ logged. vec_len logged ≡ vec_len crews) }
+{
+    let count = crews.len();
+    let mut logged = Vec::new(alloc);
+    for crew in crews {
+        add_logged(rt, alloc, err, &mut logged, crew);
+    }
+    if logged.len() == count {
+        Some(logged)
+    } else {
+        None
+    }
+}
+
+/// Puts such a crew at the end, where there is memory for it.
+fn add_logged<R: Net + Clock + Clone + Drop>(
+    rt: &R,
+    alloc: Global,
+    err: Stderr,
+    logged: &mut Vec<LoggedCrew<R>>,
+    crew: RealCrew<R>,
+) {
+    if let Ok(watch) = rt.clone() {
+        let Crew { door, gate, clock } = crew;
+        let door = LoggedDoor::new(alloc, door, StdSink::new(err), watch);
+        drop(logged.push(Crew { door, gate, clock }));
+    }
 }

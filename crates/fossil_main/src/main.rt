@@ -7,44 +7,86 @@ mod open;
 mod sockets;
 
 use fossil::{NO_MEMORY, run};
-use fsl_disk::FileDisk;
-use fsl_outside::{StdClock, StdSink, StdSource, TcpDial};
+use fsl_disk::{Disk, FileDisk};
+use fsl_outside::{Dial, Source, StdClock, StdSink, StdSource, TcpDial};
+use fsl_watch::{LoggedDial, WatchedDisk, WatchedSource, Whose};
 use fsl_words::{Command, WordsFault, read};
-use open::{Disks, dial, listen, open, open_served, open_users};
-use sockets::serve_at;
+use open::{Disks, dial, listen, log_of, open, open_served, open_users, tell_ended};
+use sockets::{Staff, serve_at};
 use std::alloc::Global;
 use std::env::Args;
 use std::io;
-use std::io::ErrorKind;
+use std::io::{ErrorKind, IsTerminal, Stderr};
 use std::process::ExitCode;
 
 /// Runs a command over the real input, the real output, its files, its dial and the system's clock, and gives the status.
 fn over_file(rt: &HostRuntime, words: &[String], command: &Command) -> u8 {
     match dial(rt, words, command) {
-        Some(mut dial) => {
-            let status = over_dial(rt, words, command, &mut dial);
-            drop(dial);
-            status
+        Some(dial) => {
+            let disks = open(rt, words, command);
+            if rt.stderr().is_terminal() {
+                over_watched(rt, words, disks, dial)
+            } else {
+                over_plain(rt, words, disks, dial)
+            }
         }
         None => NO_MEMORY,
     }
 }
 
-/// The same, over this dial.
-fn over_dial(
+/// The same, over these disks and this dial.
+fn over_plain(rt: &HostRuntime, words: &[String], disks: Disks, dial: TcpDial<HostRuntime>) -> u8 {
+    let Disks { own, peer } = disks;
+    let mut dial = dial;
+    let mut input = StdSource::new(rt.stdin());
+    let status = over(rt, words, &mut input, own, peer, &mut dial);
+    drop(dial);
+    status
+}
+
+/// The same, and how far it is goes to standard error.
+fn over_watched(
     rt: &HostRuntime,
     words: &[String],
-    command: &Command,
-    dial: &mut TcpDial<HostRuntime>,
+    disks: Disks,
+    dial: TcpDial<HostRuntime>,
 ) -> u8 {
-    let mut input = StdSource::new(rt.stdin());
+    let alloc = rt.alloc();
+    let Disks { own, peer } = disks;
+    let own = WatchedDisk::new(alloc, own, Whose::Own, StdSink::new(rt.stderr()), rt);
+    let peer = WatchedDisk::new(alloc, peer, Whose::Peer, StdSink::new(rt.stderr()), rt);
+    let mut dial = LoggedDial::new(alloc, dial, StdSink::new(rt.stderr()), rt);
+    let mut input = WatchedSource::new(alloc, StdSource::new(rt.stdin()), told_of_input(rt), rt);
+    let status = over(rt, words, &mut input, own, peer, &mut dial);
+    dial.end();
+    drop(dial);
+    status
+}
+
+/// Where it goes how much of the input was read: nowhere where somebody types it.
+fn told_of_input(rt: &HostRuntime) -> StdSink<Stderr> {
+    if rt.stdin().is_terminal() {
+        StdSink::none()
+    } else {
+        StdSink::new(rt.stderr())
+    }
+}
+
+/// Runs words over this input, these disks and this dial, the real output and the system's clock.
+fn over<S: Source, D: Disk + Drop, P: Disk + Drop, N: Dial>(
+    rt: &HostRuntime,
+    words: &[String],
+    input: &mut S,
+    own: D,
+    peer: P,
+    dial: &mut N,
+) -> u8 {
     let mut out = StdSink::new(io::writer(rt));
     let mut clock = StdClock::new(rt);
-    let Disks { own, peer } = open(rt, words, command);
     run(
         rt.alloc(),
         words,
-        &mut input,
+        input,
         &mut out,
         own,
         peer,
@@ -57,20 +99,15 @@ fn over_dial(
 /// Runs words outside the grammar, which get no input, no file and no dial.
 fn over_nothing(rt: &HostRuntime, words: &[String]) -> u8 {
     let mut input: StdSource<io::Empty> = StdSource::none();
-    let mut out = StdSink::new(io::writer(rt));
     let mut dial: TcpDial<HostRuntime> = TcpDial::none();
-    let mut clock = StdClock::new(rt);
-    run(
-        rt.alloc(),
+    over(
+        rt,
         words,
         &mut input,
-        &mut out,
         FileDisk::none(),
         FileDisk::none(),
         &mut dial,
-        &mut clock,
     )
-    .status
 }
 
 /// The words behind the program's name, or none where there is no memory for them. A word that isn't UTF-8 is outside the grammar, as no
@@ -101,16 +138,29 @@ fn main(rt: HostRuntime) -> ExitCode {
     let status = match read(rt.alloc(), words) {
         Ok(parsed) => {
             let status = match &parsed.command {
-                Command::Serve { workers, .. } => serve_at(
-                    &rt,
-                    rt.alloc(),
-                    words,
-                    &mut open_users(&rt, words),
-                    open_served(&rt, words, &parsed.command),
-                    listen(&rt, words),
-                    *workers,
-                    &mut StdSink::new(io::writer(&rt)),
-                ),
+                Command::Serve { workers, .. } => {
+                    let mut users = open_users(&rt, words);
+                    let disk = open_served(&rt, words, &parsed.command);
+                    let listener = listen(&rt, words);
+                    let has_listened = listener.is_some();
+                    let staff = Staff {
+                        listener,
+                        workers: *workers,
+                        log: log_of(&rt),
+                    };
+                    let mut out = StdSink::new(io::writer(&rt));
+                    let status = serve_at(
+                        &rt,
+                        rt.alloc(),
+                        words,
+                        &mut users,
+                        disk,
+                        staff,
+                        &mut out,
+                    );
+                    tell_ended(&rt, has_listened);
+                    status
+                }
                 command => over_file(&rt, words, command),
             };
             drop(parsed);

@@ -4,9 +4,10 @@ use fsl_disk::FileDisk;
 use fsl_outside::{StdSource, TcpDial};
 use fsl_words::{Command, Unversioned};
 use std::alloc::{AllocError, Global};
+use std::env::VarError;
 use std::fs::{File, OpenOptions};
 use std::io;
-use std::io::ErrorKind;
+use std::io::{ErrorKind, Stderr};
 use std::net::TcpListener;
 
 /// What standard error says where a file system has no locks.
@@ -172,10 +173,36 @@ pub fn open_users(rt: &HostRuntime, words: &[String]) -> StdSource<File> {
     }
 }
 
-/// The socket of a serve, which listens at the address that its third word is. None where nothing can listen there.
+/// The socket of a serve, which listens at the address that its third word is, and says so on standard error. None where nothing can listen
+/// there.
 pub fn listen(rt: &HostRuntime, words: &[String]) -> Option<TcpListener> {
-    match words.get(2) {
-        Some(address) => TcpListener::bind(rt, address.as_str()).ok(),
-        None => None,
+    let address = words.get(2)?;
+    let listener = TcpListener::bind(rt, address.as_str()).ok()?;
+    tell_listening(rt, address.as_str(), &listener);
+    Some(listener)
+}
+
+/// Says on standard error where a socket listens: its own address, whose port the system chose where 0 was asked for, or else the one
+/// that was asked for. What can't be said isn't.
+fn tell_listening(rt: &HostRuntime, asked: &str, listener: &TcpListener) {
+    match listener.local_addr() {
+        Ok(address) => drop(eprintln!(rt; "fossil: listening at {address}")),
+        Err(_) => drop(eprintln!(rt; "fossil: listening at {asked}")),
+    }
+}
+
+/// Says on standard error that a server which listened has ended.
+pub fn tell_ended(rt: &HostRuntime, has_listened: bool) {
+    if has_listened {
+        drop(eprintln!(rt; "fossil: the server has ended"));
+    }
+}
+
+/// Where the lines of a server's connections go: to standard error where the variable FOSSIL_LOG is set and not empty, else nowhere.
+pub fn log_of(rt: &HostRuntime) -> Option<Stderr> {
+    match std::env::var(rt, "FOSSIL_LOG") {
+        Ok(value) if value.is_empty() => None,
+        Ok(_) | Err(VarError::NotUnicode) => Some(rt.stderr()),
+        Err(_) => None,
     }
 }
