@@ -18,9 +18,9 @@ pub(crate) enum Unasked {
     Memory,
 }
 
-/// Makes one exchange on a connection of its own, and answers the cards of the reply, or the first thing that is wrong
+/// Sends a request on a connection of its own and reads the reply to it: answers its cards, or the first thing that is wrong
 /// with it.
-pub(crate) fn ask<N: Dial>(
+pub(crate) fn send_and_read<N: Dial>(
     alloc: Global,
     dial: &mut N,
     request: &[u8],

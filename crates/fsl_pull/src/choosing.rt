@@ -10,7 +10,7 @@ ghost use Rattle.fsl_pull.specs.Pushes.{is_public, public_file};
 ghost use Rattle.fsl_pull.specs.Sent.{IsWith, public_size};
 ghost use Rattle.fsl_pull.specs.PushTurns.{due_names};
 
-use crate::sent::Sent;
+use crate::sent::SentSoFar;
 use fsl_answer::taken;
 use fsl_blobs::BlobState;
 use fsl_disk::Disk;
@@ -100,7 +100,7 @@ fn sizes_of<D: Disk>(alloc: Global, repo: &Repo<D>, names: &[Name]) -> Result<Ve
 }
 
 /// Whether a name was neither sent nor seen. It is seen from now on.
-fn is_first(sent: &Sent, seen: &mut BTreeSet<Name>, name: Name) -> Result<bool, Memory>
+fn is_first(sent: &SentSoFar, seen: &mut BTreeSet<Name>, name: Name) -> Result<bool, Memory>
     ensures first { IfOk result (λ first. first ≡ not (stands (seen.old.keys ++ sent.now.order) name)) }
     ensures with { IfOk result (λ first. first ≡ true → IsWith (seen.new.keys ++ sent.now.order) name (seen.old.keys ++ sent.now.order)) }
     ensures same { IfOk result (λ first. first ≡ false → seen.new ≡ seen.old) }
@@ -113,7 +113,7 @@ fn is_first(sent: &Sent, seen: &mut BTreeSet<Name>, name: Name) -> Result<bool, 
 }
 
 /// Those of some names that weren't sent, in their order, each once.
-fn unsent(alloc: Global, sent: &Sent, names: &[Name]) -> Result<Vec<Name>, Memory>
+fn unsent(alloc: Global, sent: &SentSoFar, names: &[Name]) -> Result<Vec<Name>, Memory>
     ensures { IfOk result (λ list. list.items ≡ each_once sent.now.order names.now) }
 {
     let mut seen = BTreeSet::new(alloc);
@@ -131,7 +131,7 @@ fn unsent(alloc: Global, sent: &Sent, names: &[Name]) -> Result<Vec<Name>, Memor
 pub(crate) fn due<D: Disk>(
     alloc: Global,
     repo: &Repo<D>,
-    sent: &Sent,
+    sent: &SentSoFar,
     gimmes: &[Name],
 ) -> Result<Vec<Name>, Memory>
     ensures { IfOk result (λ names. names.items ≡ due_names repo.now.seen sent.now gimmes.now) }

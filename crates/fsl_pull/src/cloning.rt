@@ -13,7 +13,7 @@ ghost use Rattle.fsl_pull.specs.Asking.{IsAsked, IsDialCounted};
 ghost use Rattle.fsl_pull.specs.CloneCalls.{IsEmptied, NoneOr, UnlessDisk, IsUndamaged, IsClonedOver};
 ghost use Rattle.fsl_pull.specs.CloneTurns.{clone_bytes, IsUnreplied, place_by, IsCloneTaken, IsCloneTurned, IsOnly, opening_fault, making_fault, IsMadeBy, IsUnopened, IsUnmadeBy, made_disk, IsBegunBy, IsUnbegun, IsClonedOn, IsClosedOn};
 
-use crate::asking::{Unasked, ask};
+use crate::asking::{Unasked, send_and_read};
 use crate::committing::commit;
 use crate::requests::clone_request;
 use crate::taking::take_cards;
@@ -24,10 +24,9 @@ use fsl_name::Name;
 use fsl_outside::Dial;
 use fsl_record::Config;
 use fsl_repo::Repo;
-use fsl_text::{List, MOST_ROUNDS, Memory, Steps, Text};
+use fsl_text::{List, MOST_ROUNDS, Memory, Text};
 use fsl_wire::{Message, WireCard};
 use std::alloc::Global;
-use std::sync::ledger::Ledger;
 
 /// The place from which the first round of a clone asks.
 const FIRST_PLACE: u64 = 1;
@@ -264,11 +263,10 @@ fn begun<D: Disk>(
 
 /// Takes the cards of a reply to a request for the files from a place on, and commits. It answers the place that the next
 /// round asks from, or none at the end.
-fn take_reply<D: Disk, L: Ledger>(
+fn take_reply<D: Disk>(
     repo: &mut Repo<D>,
     from: u64,
     cards: &[WireCard],
-    steps: &mut Steps<L>,
 ) -> Result<Option<u64>, PullFault>
     requires runs { repo.old.seen.state.stopped ≡ None }
     ensures step { IsCloneTaken from cards.now (D.state repo.old.disk) (D.state repo.new.disk)
@@ -279,7 +277,7 @@ fn take_reply<D: Disk, L: Ledger>(
     ensures keeps { Keeps (D.state repo.old.disk) (D.state repo.new.disk) }
 {
     repo.is_whole();
-    match take_cards(repo, cards, Some(from), steps) {
+    match take_cards(repo, cards, Some(from)) {
         Ok(_) => {}
         Err(fault) => return Err(fault),
     }
@@ -316,7 +314,7 @@ fn reply_from<N: Dial>(
         Ok(request) => request,
         Err(_) => return Err(PullFault::Memory),
     };
-    match ask(alloc, dial, request.bytes()) {
+    match send_and_read(alloc, dial, request.bytes()) {
         Ok(Ok(reply)) => Ok(reply),
         Ok(Err(why)) => Err(PullFault::Peer(why)),
         Err(Unasked::Link) => Err(PullFault::Link),
@@ -325,13 +323,12 @@ fn reply_from<N: Dial>(
 }
 
 /// One round behind the first.
-fn clone_round<D: Disk, N: Dial, L: Ledger>(
+fn clone_round<D: Disk, N: Dial>(
     alloc: Global,
     repo: &mut Repo<D>,
     dial: &mut N,
     login: &Option<Login>,
     from: u64,
-    steps: &mut Steps<L>,
 ) -> Result<Option<u64>, PullFault>
     requires runs { repo.old.seen.state.stopped ≡ None }
     ensures round { IsCloneTurned login.now from (N.state dial.old) (N.state dial.new) (D.state repo.old.disk) (D.state repo.new.disk)
@@ -344,19 +341,18 @@ fn clone_round<D: Disk, N: Dial, L: Ledger>(
     ensures counts { IsDialCounted (N.state dial.old) (N.state dial.new) result }
 {
     match reply_from(alloc, dial, login, from) {
-        Ok(reply) => take_reply(repo, from, reply.cards(), steps),
+        Ok(reply) => take_reply(repo, from, reply.cards()),
         Err(fault) => Err(fault),
     }
 }
 
 /// All rounds of a clone whose repository was begun by this first reply.
-fn rounds<D: Disk, N: Dial, L: Ledger>(
+fn rounds<D: Disk, N: Dial>(
     alloc: Global,
     repo: &mut Repo<D>,
     dial: &mut N,
     login: &Option<Login>,
     first: &[WireCard],
-    steps: &mut Steps<L>,
 ) -> Result<Pulled, PullFault>
     requires runs { repo.old.seen.state.stopped ≡ None }
     ensures clones { IsClonedOn login.now first.now (N.state dial.old) (N.state dial.new)
@@ -368,7 +364,7 @@ fn rounds<D: Disk, N: Dial, L: Ledger>(
     ensures keeps { Keeps (D.state repo.old.disk) (D.state repo.new.disk) }
 {
     repo.is_whole();
-    let mut from = match take_reply(repo, FIRST_PLACE, first, steps) {
+    let mut from = match take_reply(repo, FIRST_PLACE, first) {
         Ok(Some(next)) => next,
         Ok(None) => {
             return Ok(Pulled {
@@ -379,7 +375,7 @@ fn rounds<D: Disk, N: Dial, L: Ledger>(
         Err(fault) => return Err(fault),
     };
     for round in 1..MOST_ROUNDS {
-        match clone_round(alloc, repo, dial, login, from, steps) {
+        match clone_round(alloc, repo, dial, login, from) {
             Ok(Some(next)) => from = next,
             Ok(None) => {
                 return Ok(Pulled {
@@ -394,13 +390,12 @@ fn rounds<D: Disk, N: Dial, L: Ledger>(
 }
 
 /// All rounds over a repository that was begun by this first reply, and its disk.
-fn closed_rounds<D: Disk, N: Dial, L: Ledger>(
+fn closed_rounds<D: Disk, N: Dial>(
     alloc: Global,
     repo: Repo<D>,
     dial: &mut N,
     login: &Option<Login>,
     first: &[WireCard],
-    steps: &mut Steps<L>,
 ) -> (D, Result<Pulled, PullFault>)
     requires runs { repo.seen.state.stopped ≡ None }
     ensures clones { IsClosedOn login.now first.now (N.state dial.old) (N.state dial.new)
@@ -413,20 +408,19 @@ fn closed_rounds<D: Disk, N: Dial, L: Ledger>(
 {
     let mut repo = repo;
     repo.is_whole();
-    let answer = rounds(alloc, &mut repo, dial, login, first, steps);
+    let answer = rounds(alloc, &mut repo, dial, login, first);
     repo.is_whole();
     (repo.close(), answer)
 }
 
 /// A clone onto a disk that is empty.
-fn clone_onto<D: Disk, N: Dial, L: Ledger>(
+fn clone_onto<D: Disk, N: Dial>(
     alloc: Global,
     disk: D,
     dial: &mut N,
     server: Name,
     fields: &List<Text>,
     login: &Option<Login>,
-    steps: &mut Steps<L>,
 ) -> (D, Result<Pulled, PullFault>)
     requires fields { AreFields fields.now }
     requires empty { Told (D.state disk) (λ held. held ≡ []) }
@@ -441,7 +435,7 @@ fn clone_onto<D: Disk, N: Dial, L: Ledger>(
         Err(fault) => return (disk, Err(fault)),
     };
     match begun(alloc, disk, server, fields, first.cards()) {
-        Ok(repo) => closed_rounds(alloc, repo, dial, login, first.cards(), steps),
+        Ok(repo) => closed_rounds(alloc, repo, dial, login, first.cards()),
         Err((disk, fault)) => (disk, Err(fault)),
     }
 }
@@ -459,14 +453,13 @@ fn clone_onto<D: Disk, N: Dial, L: Ledger>(
 /// behind all cards where there is no number; `Rounds` after 100,000 rounds; `NotRepository` where the file that was made
 /// reads back as another, which never comes over a disk that tells its contents; `Memory`. The rounds that were committed
 /// stay.
-pub fn clone_from<D: Disk, N: Dial, L: Ledger>(
+pub fn clone_from<D: Disk, N: Dial>(
     alloc: Global,
     disk: D,
     server: Name,
     fields: &List<Text>,
     dial: &mut N,
     login: &Option<Login>,
-    steps: &mut Steps<L>,
 ) -> (D, Result<Pulled, PullFault>)
     requires { AreFields fields.now }
     ensures clones { IsClonedOver D.state server fields.now login.now (N.state dial.old) (N.state dial.new) disk result.0 result.1 }
@@ -487,5 +480,5 @@ pub fn clone_from<D: Disk, N: Dial, L: Ledger>(
     if len != 0 {
         return (disk, Err(PullFault::NotEmpty { len }));
     }
-    clone_onto(alloc, disk, dial, server, fields, login, steps)
+    clone_onto(alloc, disk, dial, server, fields, login)
 }

@@ -20,16 +20,14 @@ use crate::{PullFault, Pulled};
 use fsl_disk::Disk;
 use fsl_name::Name;
 use fsl_repo::Repo;
-use fsl_text::{List, Memory, Steps};
+use fsl_text::{List, Memory};
 use std::alloc::Global;
-use std::sync::ledger::Ledger;
 
 /// Takes the artifact of a name as it is read, where the peer holds it as public.
-fn take_given<D: Disk, P: Disk, L: Ledger>(
+fn take_given<D: Disk, P: Disk>(
     repo: &mut Repo<D>,
     peer: &mut Repo<P>,
     name: Name,
-    steps: &mut Steps<L>,
 ) -> Result<bool, PullFault>
     ensures taken { TakesGiven peer.old.seen.state name repo.old.seen result repo.new.seen peer.new.seen.state }
     ensures faults { IfErr result IsLocalFault }
@@ -41,7 +39,7 @@ fn take_given<D: Disk, P: Disk, L: Ledger>(
         Ok(None) => return Ok(false),
         Err(fault) => return Err(fault),
     };
-    match take_file(repo, name, bytes.bytes(), steps) {
+    match take_file(repo, name, bytes.bytes()) {
         Ok(arrival) => Ok(moves(arrival)),
         Err(fault) => Err(file_fault(name, fault)),
     }
@@ -49,11 +47,10 @@ fn take_given<D: Disk, P: Disk, L: Ledger>(
 
 /// Takes the artifacts of those of some names that the peer holds as public, in order, each as it is read, up to the first
 /// that is wrong or isn't read, and answers whether one was stored or published.
-fn take_asked<D: Disk, P: Disk, L: Ledger>(
+fn take_asked<D: Disk, P: Disk>(
     repo: &mut Repo<D>,
     peer: &mut Repo<P>,
     asked: &[Name],
-    steps: &mut Steps<L>,
 ) -> Result<bool, PullFault>
     ensures taken { TakesAsked peer.old.seen.state asked.now repo.old.seen result repo.new.seen peer.new.seen.state }
     ensures faults { IfErr result IsLocalFault }
@@ -62,7 +59,7 @@ fn take_asked<D: Disk, P: Disk, L: Ledger>(
 {
     let mut moved = false;
     for name in asked {
-        match take_given(repo, peer, *name, steps) {
+        match take_given(repo, peer, *name) {
             Ok(more) => moved = either(moved, more),
             Err(fault) => return Err(fault),
         }
@@ -82,13 +79,12 @@ fn answer(step: Step) -> Option<List<Name>>
 
 /// One round: takes what the peer gives of the names that are asked for, and commits. It answers the names that the next
 /// round asks for, or none at the end. `told` are the unclustered public names of the peer.
-fn local_round<D: Disk, P: Disk, L: Ledger>(
+fn local_round<D: Disk, P: Disk>(
     alloc: Global,
     repo: &mut Repo<D>,
     peer: &mut Repo<P>,
     told: &[Name],
     asked: &[Name],
-    steps: &mut Steps<L>,
 ) -> Result<Option<List<Name>>, PullFault>
     requires runs { repo.old.seen.state.stopped ≡ None }
     requires rising { IsStrictlySortedBy bytes_cmp asked.now }
@@ -103,7 +99,7 @@ fn local_round<D: Disk, P: Disk, L: Ledger>(
     ensures peer { IsOnlyRead P.state peer.old peer.new }
 {
     repo.is_whole();
-    let moved = match take_asked(repo, peer, asked, steps) {
+    let moved = match take_asked(repo, peer, asked) {
         Ok(moved) => moved,
         Err(fault) => return Err(fault),
     };
@@ -152,11 +148,10 @@ fn other_project<D: Disk, P: Disk>(repo: &Repo<D>, peer: &Repo<P>) -> Option<Nam
 /// by the first artifact with which a limit would be passed; `Disk` where a call of one of the two disks failed; `Damaged`
 /// with the name of an artifact of the peer and that of the bytes that were read for it, where that is another one;
 /// `Memory`. The rounds that were committed stay, and so does in memory what the last one appended.
-pub fn pull_local<D: Disk, P: Disk, L: Ledger>(
+pub fn pull_local<D: Disk, P: Disk>(
     alloc: Global,
     repo: &mut Repo<D>,
     peer: &mut Repo<P>,
-    steps: &mut Steps<L>,
 ) -> Result<Pulled, PullFault>
     ensures pulls { IsPulledFrom (D.state repo.old.disk) (D.state repo.new.disk)
         repo.old.seen repo.new.seen peer.old.seen peer.new.seen result }
@@ -201,7 +196,7 @@ pub fn pull_local<D: Disk, P: Disk, L: Ledger>(
             Some(number) => number,
             None => return Err(PullFault::Memory),
         };
-        match local_round(alloc, repo, peer, told.items(), names.items(), steps) {
+        match local_round(alloc, repo, peer, told.items(), names.items()) {
             Ok(Some(next)) => names = next,
             Ok(None) => {
                 return Ok(Pulled {

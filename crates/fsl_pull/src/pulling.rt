@@ -10,7 +10,7 @@ ghost use Rattle.fsl_pull.specs.PullTurns.{IsTaken, IsTurned};
 ghost use Rattle.fsl_pull.specs.Calls.{IsPulledOver};
 ghost use Rattle.fsl_pull.specs.Asking.{IsDialCounted};
 
-use crate::asking::{Unasked, ask};
+use crate::asking::{Unasked, send_and_read};
 use crate::committing::commit;
 use crate::next::{Step, announced, wanted, what_follows};
 use crate::requests::pull_request;
@@ -20,10 +20,9 @@ use fsl_disk::Disk;
 use fsl_name::Name;
 use fsl_outside::Dial;
 use fsl_repo::Repo;
-use fsl_text::{List, MOST_ROUNDS, Memory, Steps};
+use fsl_text::{List, MOST_ROUNDS, Memory};
 use fsl_wire::WireCard;
 use std::alloc::Global;
-use std::sync::ledger::Ledger;
 
 /// The names of the round that follows, or none at the end, or what is missing there.
 fn answer(step: Step) -> Result<Option<List<Name>>, PullFault>
@@ -53,12 +52,11 @@ fn told_step<D: Disk>(
 }
 
 /// Takes the cards of a reply to a request for these names, and commits.
-fn take_reply<D: Disk, L: Ledger>(
+fn take_reply<D: Disk>(
     alloc: Global,
     repo: &mut Repo<D>,
     asked: &[Name],
     cards: &[WireCard],
-    steps: &mut Steps<L>,
 ) -> Result<Option<List<Name>>, PullFault>
     requires runs { repo.old.seen.state.stopped ≡ None }
     requires rising { IsStrictlySortedBy bytes_cmp asked.now }
@@ -71,7 +69,7 @@ fn take_reply<D: Disk, L: Ledger>(
     ensures keeps { Keeps (D.state repo.old.disk) (D.state repo.new.disk) }
 {
     repo.is_whole();
-    let moved = match take_cards(repo, cards, None, steps) {
+    let moved = match take_cards(repo, cards, None) {
         Ok(moved) => moved,
         Err(fault) => return Err(fault),
     };
@@ -88,13 +86,12 @@ fn take_reply<D: Disk, L: Ledger>(
 
 /// One round of a pull: asks for these names, takes the files that come, and commits. It answers the names that the next
 /// round asks for, or none at the end.
-fn pull_round<D: Disk, N: Dial, L: Ledger>(
+fn pull_round<D: Disk, N: Dial>(
     alloc: Global,
     repo: &mut Repo<D>,
     dial: &mut N,
     login: &Option<Login>,
     asked: &[Name],
-    steps: &mut Steps<L>,
 ) -> Result<Option<List<Name>>, PullFault>
     requires runs { repo.old.seen.state.stopped ≡ None }
     requires rising { IsStrictlySortedBy bytes_cmp asked.now }
@@ -112,8 +109,8 @@ fn pull_round<D: Disk, N: Dial, L: Ledger>(
         Ok(request) => request,
         Err(_) => return Err(PullFault::Memory),
     };
-    match ask(alloc, dial, request.bytes()) {
-        Ok(Ok(reply)) => take_reply(alloc, repo, asked, reply.cards(), steps),
+    match send_and_read(alloc, dial, request.bytes()) {
+        Ok(Ok(reply)) => take_reply(alloc, repo, asked, reply.cards()),
         Ok(Err(why)) => Err(PullFault::Peer(why)),
         Err(Unasked::Link) => Err(PullFault::Link),
         Err(Unasked::Memory) => Err(PullFault::Memory),
@@ -129,12 +126,11 @@ fn pull_round<D: Disk, N: Dial, L: Ledger>(
 /// one of the disk did; `Peer`, `TooLarge` and `Full` by the first thing that is wrong with a reply; `Missing` at the end
 /// with the least name that is next and that the last reply announced; `Rounds` after 100,000 rounds; `Memory`. The rounds
 /// that were committed stay, and so does in memory what the last one appended.
-pub fn pull<D: Disk, N: Dial, L: Ledger>(
+pub fn pull<D: Disk, N: Dial>(
     alloc: Global,
     repo: &mut Repo<D>,
     dial: &mut N,
     login: &Option<Login>,
-    steps: &mut Steps<L>,
 ) -> Result<Pulled, PullFault>
     ensures pulls { IsPulledOver login.now (N.state, dial.old, dial.new) (D.state, repo.old, repo.new) result }
     ensures loaded { repo.new.seen.loaded ≡ repo.old.seen.loaded }
@@ -154,7 +150,7 @@ pub fn pull<D: Disk, N: Dial, L: Ledger>(
         Err(_) => return Err(PullFault::Memory),
     };
     for round in 0..MOST_ROUNDS {
-        match pull_round(alloc, repo, dial, login, names.items(), steps) {
+        match pull_round(alloc, repo, dial, login, names.items()) {
             Ok(Some(next)) => names = next,
             Ok(None) => {
                 return Ok(Pulled {

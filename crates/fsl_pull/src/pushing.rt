@@ -5,22 +5,21 @@ ghost use Rattle.fsl_pull.specs.PushTurns.{quiet_by, push_step, push_answer, IsP
 ghost use Rattle.fsl_pull.specs.Calls.{IsPushedOver};
 ghost use Rattle.fsl_pull.specs.Asking.{IsDialCounted};
 
-use crate::asking::{Unasked, ask};
+use crate::asking::{Unasked, send_and_read};
 use crate::choosing::{asked, due, public_ordered};
 use crate::committing::commit;
 use crate::local::unclustered;
 use crate::requests::push_request;
-use crate::sent::Sent;
+use crate::sent::SentSoFar;
 use crate::taking::take_cards;
 use crate::{Login, PeerFault, PullFault, Pulled};
 use fsl_disk::Disk;
 use fsl_name::Name;
 use fsl_outside::Dial;
 use fsl_repo::Repo;
-use fsl_text::{List, MOST_ROUNDS, Memory, Steps};
+use fsl_text::{List, MOST_ROUNDS, Memory};
 use fsl_wire::WireCard;
 use std::alloc::Global;
-use std::sync::ledger::Ledger;
 
 /// What follows a round of a push.
 #[derive(Drop)]
@@ -34,7 +33,7 @@ pub(crate) enum PushStep {
 }
 
 /// What follows a round without files, where these names are asked for, and where these public ones are among them.
-fn quiet_step(sent: &Sent, here: &[Name], next: Vec<Name>) -> PushStep
+fn quiet_step(sent: &SentSoFar, here: &[Name], next: Vec<Name>) -> PushStep
     ensures { result ≡ quiet_by sent.now.order here.now next.items }
 {
     match here.first() {
@@ -53,7 +52,7 @@ fn quiet_step(sent: &Sent, here: &[Name], next: Vec<Name>) -> PushStep
 fn told_step<D: Disk>(
     alloc: Global,
     repo: &Repo<D>,
-    sent: &Sent,
+    sent: &SentSoFar,
     due: &[Name],
     cards: &[WireCard],
 ) -> Result<PushStep, Memory>
@@ -71,7 +70,7 @@ fn told_step<D: Disk>(
 fn noted_step<D: Disk>(
     alloc: Global,
     repo: &Repo<D>,
-    sent: &mut Sent,
+    sent: &mut SentSoFar,
     due: &[Name],
     cards: &[WireCard],
 ) -> Result<PushStep, Memory>
@@ -95,13 +94,12 @@ fn answer(step: PushStep) -> Result<Option<List<Name>>, PullFault>
 }
 
 /// Takes the cards of a reply to a request that sent the files of these names, and commits.
-fn take_reply<D: Disk, L: Ledger>(
+fn take_reply<D: Disk>(
     alloc: Global,
     repo: &mut Repo<D>,
-    sent: &mut Sent,
+    sent: &mut SentSoFar,
     due: &[Name],
     cards: &[WireCard],
-    steps: &mut Steps<L>,
 ) -> Result<Option<List<Name>>, PullFault>
     requires runs { repo.old.seen.state.stopped ≡ None }
     ensures step { IsPushTaken due.now cards.now (D.state repo.old.disk) (D.state repo.new.disk)
@@ -112,7 +110,7 @@ fn take_reply<D: Disk, L: Ledger>(
     ensures keeps { Keeps (D.state repo.old.disk) (D.state repo.new.disk) }
 {
     repo.is_whole();
-    match take_cards(repo, cards, None, steps) {
+    match take_cards(repo, cards, None) {
         Ok(_) => {}
         Err(fault) => return Err(fault),
     }
@@ -128,14 +126,13 @@ fn take_reply<D: Disk, L: Ledger>(
 
 /// One round of a push: announces the public names that stand in no cluster, sends the files that the last reply asked
 /// for as they are read, takes the files that come, and commits. It answers the names that the reply asks for, or none at the end.
-fn push_round<D: Disk, N: Dial, L: Ledger>(
+fn push_round<D: Disk, N: Dial>(
     alloc: Global,
     repo: &mut Repo<D>,
     dial: &mut N,
     login: &Option<Login>,
-    sent: &mut Sent,
+    sent: &mut SentSoFar,
     gimmes: &[Name],
-    steps: &mut Steps<L>,
 ) -> Result<Option<List<Name>>, PullFault>
     requires runs { repo.old.seen.state.stopped ≡ None }
     ensures round { IsPushTurned login.now gimmes.now (N.state dial.old) (N.state dial.new) (D.state repo.old.disk) (D.state repo.new.disk)
@@ -160,8 +157,8 @@ fn push_round<D: Disk, N: Dial, L: Ledger>(
         Ok(request) => request,
         Err(fault) => return Err(fault),
     };
-    match ask(alloc, dial, request.bytes()) {
-        Ok(Ok(reply)) => take_reply(alloc, repo, sent, &due, reply.cards(), steps),
+    match send_and_read(alloc, dial, request.bytes()) {
+        Ok(Ok(reply)) => take_reply(alloc, repo, sent, &due, reply.cards()),
         Ok(Err(why)) => Err(PullFault::Peer(why)),
         Err(Unasked::Link) => Err(PullFault::Link),
         Err(Unasked::Memory) => Err(PullFault::Memory),
@@ -182,12 +179,11 @@ fn push_round<D: Disk, N: Dial, L: Ledger>(
 /// least name that is asked for again, where behind a round without files each public artifact that is asked for was sent;
 /// `Rounds` after 100,000 rounds; `Memory`. The rounds that were committed stay, and so does in memory what the last one
 /// appended.
-pub fn push<D: Disk, N: Dial, L: Ledger>(
+pub fn push<D: Disk, N: Dial>(
     alloc: Global,
     repo: &mut Repo<D>,
     dial: &mut N,
     login: &Option<Login>,
-    steps: &mut Steps<L>,
 ) -> Result<Pulled, PullFault>
     ensures pushes { IsPushedOver login.now (N.state, dial.old, dial.new) (D.state, repo.old, repo.new) result }
     ensures loaded { repo.new.seen.loaded ≡ repo.old.seen.loaded }
@@ -201,10 +197,10 @@ pub fn push<D: Disk, N: Dial, L: Ledger>(
         None => {}
     }
     repo.is_whole();
-    let mut sent = Sent::new(alloc);
+    let mut sent = SentSoFar::new(alloc);
     let mut gimmes = List::new(alloc);
     for round in 0..MOST_ROUNDS {
-        match push_round(alloc, repo, dial, login, &mut sent, gimmes.items(), steps) {
+        match push_round(alloc, repo, dial, login, &mut sent, gimmes.items()) {
             Ok(Some(next)) => gimmes = next,
             Ok(None) => {
                 return Ok(Pulled {

@@ -11,12 +11,12 @@ use std::marker::Model;
 
 /// The names that a push has sent, in the order of the sending, and as a set.
 #[derive(Drop)]
-pub(crate) struct Sent {
+pub(crate) struct SentSoFar {
     order: Vec<Name>,
     set: BTreeSet<Name>,
 }
 
-impl Model for Sent {
+impl Model for SentSoFar {
     ghost use Rattle.fsl_pull.specs.Sent.{SentNames, AreSame};
 
     ghost Value = { SentNames };
@@ -26,12 +26,12 @@ impl Model for Sent {
     ghost invariant = { λ s. AreSame (record { order = s.order.items; set = s.set.keys }) };
 }
 
-impl Sent {
+impl SentSoFar {
     /// Nothing was sent.
-    pub(crate) fn new(alloc: Global) -> Sent
+    pub(crate) fn new(alloc: Global) -> SentSoFar
         ensures { result.order ≡ [] }
     {
-        Sent {
+        SentSoFar {
             order: Vec::new(alloc),
             set: BTreeSet::new(alloc),
         }

@@ -1,5 +1,4 @@
 //! Two repositories that sync: what both show then, also where a pull was cut off and taken up again.
-ghost use Rattle.std.specs.Prelude.{◌≡◌, ◌<◌};
 
 use crate::events::arrives;
 use crate::histories::Dice;
@@ -11,11 +10,8 @@ use fsl_gen::artifacts;
 use fsl_outside::Dial;
 use fsl_pull::{pull, push};
 use fsl_repo::Repo;
-use fsl_text::Steps;
 use std::alloc::Global;
-use std::marker::Brand;
 use std::sync::Wait;
-use std::sync::ledger::{Blank, Ledger};
 use std::test::Fail;
 
 // Another file of the same project.
@@ -54,25 +50,6 @@ fn filled(alloc: Global, bytes: &[u8], number: u64, left_out: u8) -> Option<Repo
     None
 }
 
-fn synced_counted<D: Disk, N: Dial, L: Ledger>(
-    alloc: Global,
-    repo: &mut Repo<D>,
-    dial: &mut N,
-    pushes: bool,
-    blank: Blank,
-) -> bool
-    requires name { blank.name ≡ L.name }
-    requires parts { blank.parts ≡ L.parts }
-    requires counts { 0 < L.parts }
-{
-    let mut steps: Steps<L> = Steps::new(blank);
-    if pushes {
-        push(alloc, repo, dial, &None, &mut steps).is_ok()
-    } else {
-        pull(alloc, repo, dial, &None, &mut steps).is_ok()
-    }
-}
-
 /// Pushes or pulls. Whether it ends without a fault.
 fn is_synced<D: Disk, N: Dial>(
     alloc: Global,
@@ -80,7 +57,11 @@ fn is_synced<D: Disk, N: Dial>(
     dial: &mut N,
     pushes: bool,
 ) -> bool {
-    synced_counted::<D, N, Brand>(alloc, repo, dial, pushes, Blank::new(1))
+    if pushes {
+        push(alloc, repo, dial, &None).is_ok()
+    } else {
+        pull(alloc, repo, dial, &None).is_ok()
+    }
 }
 
 /// Whether two repositories hold and show the same, and hold all of the artifacts.

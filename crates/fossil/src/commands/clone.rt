@@ -1,5 +1,4 @@
 //! `clone`: the repository at the other end of a dial comes onto an empty disk.
-ghost use Rattle.std.specs.Prelude.{◌≡◌, ◌<◌};
 ghost use Rattle.fsl_record.specs.Records.{AreFields};
 ghost use Rattle.fossil.specs.Syncing.{HasCloned};
 
@@ -9,30 +8,8 @@ use fsl_disk::Disk;
 use fsl_name::Name;
 use fsl_outside::Dial;
 use fsl_pull::clone_from;
-use fsl_text::{List, Steps, Text};
+use fsl_text::{List, Text};
 use std::alloc::Global;
-use std::marker::Brand;
-use std::sync::ledger::{Blank, Ledger};
-
-/// Clones onto a disk, with a counter of its own.
-fn clone_counted<D: Disk, N: Dial, L: Ledger>(
-    alloc: Global,
-    server: Name,
-    fields: &List<Text>,
-    disk: D,
-    dial: &mut N,
-    blank: Blank,
-) -> (Due, D)
-    requires name { blank.name ≡ L.name }
-    requires parts { blank.parts ≡ L.parts }
-    requires counts { 0 < L.parts }
-    requires fields { AreFields fields.now }
-    ensures { HasCloned server fields.now (D.state, disk, result.1) (N.state, dial.old, dial.new) result.0 }
-{
-    let mut steps: Steps<L> = Steps::new(blank);
-    let (disk, made) = clone_from(alloc, disk, server, fields, dial, &None, &mut steps);
-    (sync_due(alloc, made), disk)
-}
 
 /// Clones the repository at the other end of the dial onto an empty disk, without login: the new one has its project code,
 /// and the server code and the ticket fields that are given. What is due of that is answered, and the disk comes back.
@@ -46,5 +23,6 @@ pub(crate) fn clone_onto<D: Disk, N: Dial>(
     requires { AreFields fields.now }
     ensures { HasCloned server fields.now (D.state, disk, result.1) (N.state, dial.old, dial.new) result.0 }
 {
-    clone_counted::<D, N, Brand>(alloc, server, fields, disk, dial, Blank::new(1))
+    let (disk, made) = clone_from(alloc, disk, server, fields, dial, &None);
+    (sync_due(alloc, made), disk)
 }

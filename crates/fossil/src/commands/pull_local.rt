@@ -1,5 +1,4 @@
 //! `pull-local`: artifacts come from the repository of another file.
-ghost use Rattle.std.specs.Prelude.{◌≡◌, ◌<◌};
 ghost use Rattle.fsl_disk.specs.Disk.{Keeps};
 ghost use Rattle.fsl_repo.specs.Whole.{IsWholeOn};
 ghost use Rattle.fsl_pull.specs.Reading.{IsOnlyRead};
@@ -9,33 +8,7 @@ use crate::answers::due::Due;
 use crate::answers::sync_due::{sync_due, unopened, unopened_peer};
 use fsl_disk::Disk;
 use fsl_repo::Repo;
-use fsl_text::Steps;
 use std::alloc::Global;
-use std::marker::Brand;
-use std::sync::ledger::{Blank, Ledger};
-
-/// Pulls from one repository into another, with a counter of its own.
-fn pull_counted<D: Disk, P: Disk, L: Ledger>(
-    alloc: Global,
-    repo: &mut Repo<D>,
-    peer: &mut Repo<P>,
-    blank: Blank,
-) -> Due
-    requires name { blank.name ≡ L.name }
-    requires parts { blank.parts ≡ L.parts }
-    requires counts { 0 < L.parts }
-    ensures pulled { HasPulledFrom (D.state repo.old.disk, D.state repo.new.disk) repo.old.seen repo.new.seen (peer.old.seen, peer.new.seen) result }
-    ensures whole { IsWholeOn (D.state repo.new.disk) repo.new }
-    ensures keeps { Keeps (D.state repo.old.disk) (D.state repo.new.disk) }
-    ensures peer { IsOnlyRead P.state peer.old peer.new }
-    ensures peer_whole { IsWholeOn (P.state peer.new.disk) peer.new }
-{
-    let mut steps: Steps<L> = Steps::new(blank);
-    let made = fsl_pull::pull_local(alloc, repo, peer, &mut steps);
-    repo.is_whole();
-    peer.is_whole();
-    sync_due(alloc, made)
-}
 
 /// Pulls from one repository into another, and answers what is due of that.
 fn pull_between<D: Disk, P: Disk>(alloc: Global, repo: &mut Repo<D>, peer: &mut Repo<P>) -> Due
@@ -45,7 +18,10 @@ fn pull_between<D: Disk, P: Disk>(alloc: Global, repo: &mut Repo<D>, peer: &mut 
     ensures peer { IsOnlyRead P.state peer.old peer.new }
     ensures peer_whole { IsWholeOn (P.state peer.new.disk) peer.new }
 {
-    pull_counted::<D, P, Brand>(alloc, repo, peer, Blank::new(1))
+    let made = fsl_pull::pull_local(alloc, repo, peer);
+    repo.is_whole();
+    peer.is_whole();
+    sync_due(alloc, made)
 }
 
 /// Opens the peer, and pulls from it into a repository that was opened. The peer's disk comes back.

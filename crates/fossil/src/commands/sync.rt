@@ -1,5 +1,4 @@
 //! `pull` and `push`: one sync with the repository at the other end of a dial.
-ghost use Rattle.std.specs.Prelude.{◌≡◌, ◌<◌};
 ghost use Rattle.fsl_disk.specs.Disk.{Keeps};
 ghost use Rattle.fsl_repo.specs.Whole.{IsWholeOn};
 ghost use Rattle.fsl_pull.specs.Asking.{IsDialCounted};
@@ -12,10 +11,8 @@ use fsl_disk::Disk;
 use fsl_outside::Dial;
 use fsl_pull::{Login, PullFault, Pulled};
 use fsl_repo::Repo;
-use fsl_text::{Steps, Text};
+use fsl_text::Text;
 use std::alloc::Global;
-use std::marker::Brand;
-use std::sync::ledger::{Blank, Ledger};
 
 /// Which way artifacts go: from the other end, or to it.
 #[derive(Clone, Copy)]
@@ -35,13 +32,12 @@ fn login_of(login: Option<(Text, Text)>) -> Option<Login>
 }
 
 /// Makes one sync that way.
-fn make<D: Disk, N: Dial, L: Ledger>(
+fn make<D: Disk, N: Dial>(
     alloc: Global,
     way: Way,
     login: &Option<Login>,
     repo: &mut Repo<D>,
     dial: &mut N,
-    steps: &mut Steps<L>,
 ) -> Result<Pulled, PullFault>
     ensures made { IsMadeOver way login.now (N.state dial.old, N.state dial.new)
         (D.state repo.old.disk, D.state repo.new.disk) repo.old.seen repo.new.seen result }
@@ -49,32 +45,9 @@ fn make<D: Disk, N: Dial, L: Ledger>(
     ensures keeps { Keeps (D.state repo.old.disk) (D.state repo.new.disk) }
 {
     match way {
-        Way::Pull => fsl_pull::pull(alloc, repo, dial, login, steps),
-        Way::Push => fsl_pull::push(alloc, repo, dial, login, steps),
+        Way::Pull => fsl_pull::pull(alloc, repo, dial, login),
+        Way::Push => fsl_pull::push(alloc, repo, dial, login),
     }
-}
-
-/// Makes one sync that way, with a counter of its own.
-fn make_counted<D: Disk, N: Dial, L: Ledger>(
-    alloc: Global,
-    way: Way,
-    login: &Option<Login>,
-    repo: &mut Repo<D>,
-    dial: &mut N,
-    blank: Blank,
-) -> Due
-    requires name { blank.name ≡ L.name }
-    requires parts { blank.parts ≡ L.parts }
-    requires counts { 0 < L.parts }
-    ensures made { HasMade way login.now (N.state dial.old, N.state dial.new)
-        (D.state repo.old.disk, D.state repo.new.disk) repo.old.seen repo.new.seen result }
-    ensures whole { IsWholeOn (D.state repo.new.disk) repo.new }
-    ensures keeps { Keeps (D.state repo.old.disk) (D.state repo.new.disk) }
-{
-    let mut steps: Steps<L> = Steps::new(blank);
-    let made = make(alloc, way, login, repo, dial, &mut steps);
-    repo.is_whole();
-    sync_due(alloc, made)
 }
 
 /// Makes one sync of an opened repository that way, and answers what is due of that.
@@ -90,7 +63,9 @@ fn sync_open<D: Disk, N: Dial>(
     ensures whole { IsWholeOn (D.state repo.new.disk) repo.new }
     ensures keeps { Keeps (D.state repo.old.disk) (D.state repo.new.disk) }
 {
-    make_counted::<D, N, Brand>(alloc, way, login, repo, dial, Blank::new(1))
+    let made = make(alloc, way, login, repo, dial);
+    repo.is_whole();
+    sync_due(alloc, made)
 }
 
 /// Opens the repository, and syncs it that way with the other end of the dial, under this login or under none. What is due

@@ -39,7 +39,7 @@ returns-in-Ok-Ok-clause-round g c =
     let sent_new = c.take_reply.new.sent in
     let result = c.take_reply.result in
     let quiet = (c.push_request.ensures.repo).quiet in
-    taken_turn c.args.login.now c.args.gimmes.now (g.N.Link.state c.args.dial.now) (g.N.Link.state c.ask.new.dial) before after old new sent sent_new
+    taken_turn c.args.login.now c.args.gimmes.now (g.N.Link.state c.args.dial.now) (g.N.Link.state c.send_and_read.new.dial) before after old new sent sent_new
     c.bytes.result.now c.items.result.now c.deref.result.now (c.is_whole.ensures.seen).items (c.items.ensures ∙ c.in-Ok.ensures) (c.deref.ensures.value ∙ c.in-Ok-due.ensures)
     (subst (λ (text : List ℕ). IsPushed c.args.login.now old.state c.items.result.now c.deref.result.now text) (sym c.bytes.ensures) c.in-Ok-push_request.ensures.request)
     mid old2 (c.take_reply.new.repo.disk ≡ c.push_request.new.repo.disk) quiet (λ f model left. g.met.D.Disk.only_now c.args.repo.now.disk f model left)
@@ -61,21 +61,21 @@ returns-in-Ok-Ok-clause-keeps g c =
 
 pub returns-in-Ok-Err-clause-round : goal.returns-in-Ok-Err-clause-round
 returns-in-Ok-Err-clause-round g c =
-    unread_turn c.args.login.now c.args.gimmes.now (g.N.Link.state c.args.dial.now) (g.N.Link.state c.ask.new.dial) (g.D.Disk.state c.args.repo.now.disk) (g.D.Disk.state c.push_request.new.repo.disk) c.args.repo.now.seen c.push_request.new.repo.seen c.args.sent.now c.args.sent.now
+    unread_turn c.args.login.now c.args.gimmes.now (g.N.Link.state c.args.dial.now) (g.N.Link.state c.send_and_read.new.dial) (g.D.Disk.state c.args.repo.now.disk) (g.D.Disk.state c.push_request.new.repo.disk) c.args.repo.now.seen c.push_request.new.repo.seen c.args.sent.now c.args.sent.now
     c.bytes.result.now c.items.result.now c.deref.result.now (c.is_whole.ensures.seen).items (c.items.ensures ∙ c.in-Ok.ensures) (c.deref.ensures.value ∙ c.in-Ok-due.ensures)
     (subst (λ (text : List ℕ). IsPushed c.args.login.now c.args.repo.now.seen.state c.items.result.now c.deref.result.now text) (sym c.bytes.ensures) c.in-Ok-push_request.ensures.request)
     c.in-Ok-Err.why (rw c.in-Ok-Err.field-0-is at c.in-Ok-Err.ensures.asked) c.in-Ok-push_request.ensures.count (c.push_request.ensures.repo).quiet
 
 pub returns-in-Err-Link-clause-round : goal.returns-in-Err-Link-clause-round
 returns-in-Err-Link-clause-round g c =
-    lost_turn c.args.login.now c.args.gimmes.now (g.N.Link.state c.args.dial.now) (g.N.Link.state c.ask.new.dial) (g.D.Disk.state c.args.repo.now.disk) (g.D.Disk.state c.push_request.new.repo.disk) c.args.repo.now.seen c.push_request.new.repo.seen c.args.sent.now c.args.sent.now
+    lost_turn c.args.login.now c.args.gimmes.now (g.N.Link.state c.args.dial.now) (g.N.Link.state c.send_and_read.new.dial) (g.D.Disk.state c.args.repo.now.disk) (g.D.Disk.state c.push_request.new.repo.disk) c.args.repo.now.seen c.push_request.new.repo.seen c.args.sent.now c.args.sent.now
     c.bytes.result.now c.items.result.now c.deref.result.now (c.is_whole.ensures.seen).items (c.items.ensures ∙ c.in-Ok.ensures) (c.deref.ensures.value ∙ c.in-Ok-due.ensures)
     (subst (λ (text : List ℕ). IsPushed c.args.login.now c.args.repo.now.seen.state c.items.result.now c.deref.result.now text) (sym c.bytes.ensures) c.in-Ok-push_request.ensures.request)
     (rw c.in-Err-Link.field-0-is at c.in-Err-Link.ensures.unasked) c.in-Ok-push_request.ensures.count (c.push_request.ensures.repo).quiet
 
 pub returns-clause-round : goal.returns-clause-round
 returns-clause-round g c =
-    left_turn c.args.login.now c.args.gimmes.now (g.N.Link.state c.args.dial.now) (g.N.Link.state c.ask.new.dial) (g.D.Disk.state c.args.repo.now.disk) (g.D.Disk.state c.push_request.new.repo.disk) c.args.repo.now.seen c.push_request.new.repo.seen c.args.sent.now c.args.sent.now
+    left_turn c.args.login.now c.args.gimmes.now (g.N.Link.state c.args.dial.now) (g.N.Link.state c.send_and_read.new.dial) (g.D.Disk.state c.args.repo.now.disk) (g.D.Disk.state c.push_request.new.repo.disk) c.args.repo.now.seen c.push_request.new.repo.seen c.args.sent.now c.args.sent.now
     c.bytes.result.now c.items.result.now c.deref.result.now (c.is_whole.ensures.seen).items (c.items.ensures ∙ c.in-Ok.ensures) (c.deref.ensures.value ∙ c.in-Ok-due.ensures)
     (subst (λ (text : List ℕ). IsPushed c.args.login.now c.args.repo.now.seen.state c.items.result.now c.deref.result.now text) (sym c.bytes.ensures) c.in-Ok-push_request.ensures.request)
     (rw c.in-Err-Memory.field-0-is at c.in-Err-Memory.ensures.unasked) c.in-Ok-push_request.ensures.count (c.push_request.ensures.repo).quiet
@@ -83,7 +83,7 @@ returns-clause-round g c =
 pub returns-in-Ok-Ok-clause-counts : goal.returns-in-Ok-Ok-clause-counts
 returns-in-Ok-Ok-clause-counts g c =
     push_counts c.deref-in-Ok-Ok.result.now c.cards.result.now (g.D.Disk.state c.push_request.new.repo.disk) (g.D.Disk.state c.take_reply.new.repo.disk) c.push_request.new.repo.seen c.take_reply.new.repo.seen c.args.sent.now c.take_reply.new.sent
-    (c.take_reply.new.repo.disk ≡ c.push_request.new.repo.disk) c.take_reply.result (g.N.Link.state c.args.dial.now) (g.N.Link.state c.ask.new.dial) c.take_reply.ensures.step c.in-Ok-Ok.ensures.counts
+    (c.take_reply.new.repo.disk ≡ c.push_request.new.repo.disk) c.take_reply.result (g.N.Link.state c.args.dial.now) (g.N.Link.state c.send_and_read.new.dial) c.take_reply.ensures.step c.in-Ok-Ok.ensures.counts
 
 pub returns-in-Err-clause-round : goal.returns-in-Err-clause-round
 returns-in-Err-clause-round g c =

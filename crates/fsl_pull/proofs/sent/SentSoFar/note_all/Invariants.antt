@@ -1,5 +1,5 @@
 use Rattle.std.proofs.Common.{◌≡◌, ◌++◌, take}
-use Rattle.fsl_pull.proofs.sent.Sent.note_all.Given as goal
+use Rattle.fsl_pull.proofs.sent.SentSoFar.note_all.Given as goal
 
 abbrev pub invariant-loop-name : goal.invariant-loop-name
 invariant-loop-name l = l.self.order ≡ l.initial.self.order ++ take l.name-index l.names

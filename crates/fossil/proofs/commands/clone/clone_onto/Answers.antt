@@ -1,5 +1,5 @@
 use Rattle.fossil.proofs.CloneLemmas.{due_text}
-use Rattle.fossil.proofs.commands.clone.clone_counted.Goals as goal
+use Rattle.fossil.proofs.commands.clone.clone_onto.Goals as goal
 
 pub returns : goal.returns
 returns g c = record {

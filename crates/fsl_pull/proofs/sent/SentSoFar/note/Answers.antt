@@ -1,7 +1,7 @@
 use Rattle.std.proofs.Common.{ℕ, List, ap, ◌∙◌}
 use Rattle.fsl_order.specs.Names.{has}
 use Rattle.fsl_pull.proofs.SentLemmas.{same_more}
-use Rattle.fsl_pull.proofs.sent.Sent.note.Goals as goal
+use Rattle.fsl_pull.proofs.sent.SentSoFar.note.Goals as goal
 
 pub invariant_of-self-in-Ok : goal.invariant_of-self-in-Ok
 invariant_of-self-in-Ok c = λ q.

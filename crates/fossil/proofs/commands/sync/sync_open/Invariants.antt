@@ -1,4 +1,0 @@
-use Rattle.fossil.proofs.commands.sync.sync_open.Given as goal
-
-abbrev pub ghosts-make_counted : goal.ghosts-make_counted
-ghosts-make_counted g a = record { name = a.blank.name; parts = a.blank.parts }

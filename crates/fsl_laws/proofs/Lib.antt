@@ -1,0 +1,5 @@
+pub mod Made
+pub mod Among
+pub mod Rising
+pub mod Fitting
+pub mod ReadBack
