@@ -10,7 +10,7 @@ use fossil::{NO_MEMORY, run};
 use fsl_disk::{Disk, FileDisk};
 use fsl_outside::{Dial, Source, StdClock, StdSink, StdSource, TcpDial};
 use fsl_watch::{LoggedDial, WatchedDisk, WatchedSource, Whose};
-use fsl_words::{Command, WordsFault, read};
+use fsl_words::{Command, Words, WordsFault, read};
 use open::{Disks, dial, listen, log_of, open, open_served, open_users, tell_ended};
 use sockets::{Staff, serve_at};
 use std::alloc::Global;
@@ -20,10 +20,10 @@ use std::io::{ErrorKind, IsTerminal, Stderr};
 use std::process::ExitCode;
 
 /// Runs a command over the real input, the real output, its files, its dial and the system's clock, and gives the status.
-fn over_file(rt: &HostRuntime, words: &[String], command: &Command) -> u8 {
-    match dial(rt, words, command) {
+fn over_file(rt: &HostRuntime, words: &[String], parsed: &Words) -> u8 {
+    match dial(rt, &parsed.command) {
         Some(dial) => {
-            let disks = open(rt, words, command);
+            let disks = open(rt, parsed);
             if rt.stderr().is_terminal() {
                 over_watched(rt, words, disks, dial)
             } else {
@@ -138,10 +138,15 @@ fn main(rt: HostRuntime) -> ExitCode {
     let status = match read(rt.alloc(), words) {
         Ok(parsed) => {
             let status = match &parsed.command {
-                Command::Serve { workers, .. } => {
-                    let mut users = open_users(&rt, words);
-                    let disk = open_served(&rt, words, &parsed.command);
-                    let listener = listen(&rt, words);
+                Command::Serve {
+                    address,
+                    users,
+                    workers,
+                    ..
+                } => {
+                    let mut users = open_users(&rt, users);
+                    let disk = open_served(&rt, &parsed);
+                    let listener = listen(&rt, address);
                     let has_listened = listener.is_some();
                     let staff = Staff {
                         listener,
@@ -161,7 +166,7 @@ fn main(rt: HostRuntime) -> ExitCode {
                     tell_ended(&rt, has_listened);
                     status
                 }
-                command => over_file(&rt, words, command),
+                _ => over_file(&rt, words, &parsed),
             };
             drop(parsed);
             status

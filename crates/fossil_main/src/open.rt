@@ -2,13 +2,14 @@
 use crate::lock::{Opened, alone, beside_readers};
 use fsl_disk::FileDisk;
 use fsl_outside::{StdSource, TcpDial};
-use fsl_words::{Command, Unversioned};
+use fsl_text::Text;
+use fsl_words::{Command, Unversioned, Words};
 use std::alloc::{AllocError, Global};
 use std::env::VarError;
 use std::fs::{File, OpenOptions};
-use std::io;
 use std::io::{ErrorKind, Stderr};
 use std::net::TcpListener;
+use std::{io, str};
 
 /// What standard error says where a file system has no locks.
 const UNGUARDED: &str =
@@ -20,23 +21,28 @@ pub struct Disks {
     pub peer: FileDisk,
 }
 
+/// A word as the text that it was on the command line. Each word is UTF-8; one that weren't would name nothing.
+fn text_of(word: &Text) -> Option<&str> {
+    str::from_utf8(word.bytes()).ok()
+}
+
 /// The disks of the files that a command opens.
-pub fn open(rt: &HostRuntime, words: &[String], command: &Command) -> Disks {
+pub fn open(rt: &HostRuntime, words: &Words) -> Disks {
     let Opened {
         disk: own,
         is_unguarded: is_own_unguarded,
-    } = open_own(rt, words, command);
+    } = open_own(rt, words);
     let Opened {
         disk: peer,
         is_unguarded: is_peer_unguarded,
-    } = open_peer(rt, words, command);
+    } = open_peer(rt, &words.command);
     tell_unguarded(rt, is_own_unguarded || is_peer_unguarded);
     Disks { own, peer }
 }
 
 /// The disk of the file that a serve opens.
-pub fn open_served(rt: &HostRuntime, words: &[String], command: &Command) -> FileDisk {
-    let Opened { disk, is_unguarded } = open_own(rt, words, command);
+pub fn open_served(rt: &HostRuntime, words: &Words) -> FileDisk {
+    let Opened { disk, is_unguarded } = open_own(rt, words);
     tell_unguarded(rt, is_unguarded);
     disk
 }
@@ -48,15 +54,15 @@ fn tell_unguarded(rt: &HostRuntime, is_unguarded: bool) {
     }
 }
 
-/// The file that the first word names, which is made for `init`, `clone` and `uv-init` alone where it is missing. The disk's calls fail
+/// The repository's file, which is made for `init`, `clone` and `uv-init` alone where it is missing. The disk's calls fail
 /// where the file can't be opened or another process holds it, and for `ingest` and `gen`, which open none.
-fn open_own(rt: &HostRuntime, words: &[String], command: &Command) -> Opened {
-    let Some(path) = words.first() else {
+fn open_own(rt: &HostRuntime, words: &Words) -> Opened {
+    let Some(path) = text_of(&words.repository) else {
         return Opened::none();
     };
     let mut options = OpenOptions::new();
     options.read(true).write(true);
-    match command {
+    match &words.command {
         Command::Ingest | Command::Gen { .. } => return Opened::none(),
         Command::Init { .. }
         | Command::Clone { .. }
@@ -77,7 +83,7 @@ fn open_own(rt: &HostRuntime, words: &[String], command: &Command) -> Opened {
         | Command::Scrub { .. }
         | Command::Unversioned(_) => {}
     }
-    match options.open(rt, path.as_str()) {
+    match options.open(rt, path) {
         Ok(file) => alone(file),
         Err(_) => Opened::none(),
     }
@@ -94,33 +100,38 @@ enum Peer {
     Made,
 }
 
-/// What a command does with the peer's file, which its third word names; none for one without a peer's file.
-fn peer_of(command: &Command) -> Option<Peer> {
+/// What a command does with the peer's file, and the word that names it; none for one without a peer's file.
+fn peer_of(command: &Command) -> Option<(Peer, &Text)> {
     match command {
-        Command::PullLocal { .. } => Some(Peer::Read),
-        Command::Unversioned(Unversioned::Sync { .. }) => Some(Peer::Written),
-        Command::Scrub { .. } => Some(Peer::Made),
+        Command::PullLocal { peer } => Some((Peer::Read, peer)),
+        Command::Unversioned(Unversioned::Sync { peer }) => Some((Peer::Written, peer)),
+        Command::Scrub { peer } => Some((Peer::Made, peer)),
         _ => None,
     }
 }
 
-/// The peer's file, which the third word of a `pull-local`, a `uv-sync` and a `scrub` names: for writing where that is allowed; for
-/// `pull-local` else for reading alone. `scrub` makes it where it is missing. The disk's calls fail where the file can't be opened, where
-/// another process holds it or this one does as its own, and for every other command.
-fn open_peer(rt: &HostRuntime, words: &[String], command: &Command) -> Opened {
-    let (Some(peer), Some(path)) = (peer_of(command), words.get(2)) else {
-        return Opened::none();
-    };
+/// The peer's file of a `pull-local`, a `uv-sync` or a `scrub`, as `open_peer_at` opens it; for every other command the disk's calls fail.
+fn open_peer(rt: &HostRuntime, command: &Command) -> Opened {
+    match peer_of(command) {
+        Some((peer, word)) => match text_of(word) {
+            Some(path) => open_peer_at(rt, peer, path),
+            None => Opened::none(),
+        },
+        None => Opened::none(),
+    }
+}
+
+/// A peer's file: for writing where that is allowed; where it is only read else for reading alone. `scrub` makes it where it is missing.
+/// The disk's calls fail where the file can't be opened, and where another process holds it or this one does as its own.
+fn open_peer_at(rt: &HostRuntime, peer: Peer, path: &str) -> Opened {
     let mut options = OpenOptions::new();
     options.read(true).write(true);
     if matches!(peer, Peer::Made) {
         options.create(true);
     }
-    match options.open(rt, path.as_str()) {
+    match options.open(rt, path) {
         Ok(file) => alone(file),
-        Err(fault) if matches!(peer, Peer::Read) && is_read_only(fault) => {
-            open_to_read(rt, path.as_str())
-        }
+        Err(fault) if matches!(peer, Peer::Read) && is_read_only(fault) => open_to_read(rt, path),
         Err(_) => Opened::none(),
     }
 }
@@ -141,16 +152,25 @@ fn open_to_read(rt: &HostRuntime, path: &str) -> Opened {
     }
 }
 
-/// The dial of a pull, a push or a clone, to the address that its third word is; each call of it fails for every other command. None for
-/// want of memory.
-pub fn dial(rt: &HostRuntime, words: &[String], command: &Command) -> Option<TcpDial<HostRuntime>> {
-    let (Command::Pull { .. } | Command::Push { .. } | Command::Clone { .. }, Some(address)) = (
-        command,
-        words.get(2),
-    ) else {
-        return Some(TcpDial::none());
-    };
-    dial_to(rt, address.as_str(), rt.alloc()).ok()
+/// The address that a command dials; none for one that doesn't.
+fn dialled(command: &Command) -> Option<&Text> {
+    match command {
+        Command::Pull { address, .. }
+        | Command::Push { address, .. }
+        | Command::Clone { address, .. } => Some(address),
+        _ => None,
+    }
+}
+
+/// The dial of a pull, a push or a clone; each call of it fails for every other command. None for want of memory.
+pub fn dial(rt: &HostRuntime, command: &Command) -> Option<TcpDial<HostRuntime>> {
+    match dialled(command) {
+        Some(word) => match text_of(word) {
+            Some(address) => dial_to(rt, address, rt.alloc()).ok(),
+            None => Some(TcpDial::none()),
+        },
+        None => Some(TcpDial::none()),
+    }
 }
 
 /// A dial to an address.
@@ -162,10 +182,10 @@ fn dial_to(
     Ok(TcpDial::new(rt.clone()?, address.to_string(alloc)?))
 }
 
-/// The users file of a serve, which its fourth word names. Each read fails where it can't be opened.
-pub fn open_users(rt: &HostRuntime, words: &[String]) -> StdSource<File> {
-    match words.get(3) {
-        Some(path) => match File::open(rt, path.as_str()) {
+/// The users file of a serve. Each read fails where it can't be opened.
+pub fn open_users(rt: &HostRuntime, users: &Text) -> StdSource<File> {
+    match text_of(users) {
+        Some(path) => match File::open(rt, path) {
             Ok(file) => StdSource::new(file),
             Err(_) => StdSource::none(),
         },
@@ -173,12 +193,11 @@ pub fn open_users(rt: &HostRuntime, words: &[String]) -> StdSource<File> {
     }
 }
 
-/// The socket of a serve, which listens at the address that its third word is, and says so on standard error. None where nothing can listen
-/// there.
-pub fn listen(rt: &HostRuntime, words: &[String]) -> Option<TcpListener> {
-    let address = words.get(2)?;
-    let listener = TcpListener::bind(rt, address.as_str()).ok()?;
-    tell_listening(rt, address.as_str(), &listener);
+/// The socket of a serve, which listens at an address, and says so on standard error. None where nothing can listen there.
+pub fn listen(rt: &HostRuntime, address: &Text) -> Option<TcpListener> {
+    let address = text_of(address)?;
+    let listener = TcpListener::bind(rt, address).ok()?;
+    tell_listening(rt, address, &listener);
     Some(listener)
 }
 
