@@ -10,11 +10,12 @@ use Rattle.fsl_journal.specs.Journal.{OfBytes}
 use Rattle.fsl_journal.proofs.Failing.{no_file}
 use Rattle.fsl_journal.proofs.Unique.{one_file}
 use Rattle.fsl_words.specs.declared.Command.{Command}
+use Rattle.fossil.specs.Due.{printed_fault}
 use Rattle.fossil.specs.declared.answers.fault.Fault.{Fault}
 use Rattle.fossil.specs.declared.answers.fault.Fault.TheVariants as fault_is
 use Rattle.fossil.specs.Outcome.{Outcome, one_commit, not_repository, meets, IsSaidOutcome}
 use Rattle.fossil.specs.Run.{File, Agrees, opens, begins, StandsFor, StandsForAll, StandsForSome, AreOldBy, AreOld, AreImages, is_done, IsLeft, IsFileLeft, IsNoRepository, IsRefused, IsWholeAtAnyMoment, lasts, IsDurable, TakesMoment, after_commits}
-use Rattle.fossil.specs.Acts.{KeepsContents, KeepsImages, KeepsUnreadable, Touches, fault_status}
+use Rattle.fossil.specs.Acts.{KeepsContents, KeepsImages, KeepsUnreadable, Touches}
 
 -- a file stands for some records
 pub stands : (old : List Record) (bytes : List ℕ) → IsFileOf bytes old → StandsFor old bytes
@@ -65,15 +66,19 @@ left_old status old commits bytes none h =
     left_by (is_done status) (status == 4) old commits bytes (λ done. none_is_all old commits bytes (none done) h) h
 
 -- after a fault the command isn't done, and nothing need last
-pub fault_undone : (fault : Fault) → IsTrue (is_done (fault_status fault)) → ⊥
+pub fault_undone : (fault : Fault) → IsTrue (is_done (printed_fault fault).status) → ⊥
+fault_undone fault_is.Usage done = cc
 fault_undone fault_is.Disk done = cc
 fault_undone fault_is.Input done = cc
+fault_undone fault_is.Link done = cc
 fault_undone (fault_is.Damaged name found) done = cc
 fault_undone fault_is.Memory done = cc
 
-pub fault_fades : (command : Option Command) (fault : Fault) → IsTrue (lasts command (fault_status fault)) → ⊥
+pub fault_fades : (command : Option Command) (fault : Fault) → IsTrue (lasts command (printed_fault fault).status) → ⊥
+fault_fades command fault_is.Usage last = cc
 fault_fades command fault_is.Disk last = cc
 fault_fades command fault_is.Input last = cc
+fault_fades command fault_is.Link last = cc
 fault_fades command (fault_is.Damaged name found) last = cc
 fault_fades command fault_is.Memory last = cc
 

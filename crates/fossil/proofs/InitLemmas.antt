@@ -1,5 +1,5 @@
 -- What `init` did.
-use Rattle.std.proofs.Common.{◌≡◌, ◌≢◌, ◌⊎◌, inl, inr, ⊎_elim, ℕ, ◌<◌, Bool, true, false, cond, List, [], ◌∷◌, ◌++◌, length, Option, Some, None, Result, Ok, Err, IsTrue, refl, sym, ap, subst, ◌∙◌, arith}
+use Rattle.std.proofs.Common.{◌≡◌, ◌≢◌, ◌⊎◌, inl, inr, ⊎_elim, ℕ, ◌<◌, Bool, true, false, cond, List, [], ◌∷◌, ◌++◌, length, Option, Some, None, Ok, Err, IsTrue, refl, sym, ap, subst, ◌∙◌, arith}
 use Rattle.std.specs.Prelude.{◌==◌, codes, decimal, replicate}
 use Rattle.std.proofs.lemmas.List.{length-replicate}
 use Rattle.fsl_order.specs.Causes.{Rose}
@@ -13,13 +13,14 @@ use Rattle.fsl_journal.specs.File.{IsFileOf}
 use Rattle.fsl_journal.specs.Journal.{NothingOr, IsMade}
 use Rattle.fsl_words.specs.declared.Command.{Command}
 use Rattle.fsl_words.specs.declared.Command.TheVariants as command_of
+use Rattle.fossil.specs.Due.{Due, printed}
 use Rattle.fossil.specs.declared.answers.fault.Fault.{Fault}
 use Rattle.fossil.specs.declared.answers.fault.Fault.TheVariants as fault_is
 use Rattle.fossil.specs.Printed.{Printed}
 use Rattle.fossil.specs.Printed as printing
 use Rattle.fossil.specs.Outcome.{Outcome, init_outcome, without_commit, one_commit, printed_of}
 use Rattle.fossil.specs.Run.{Input, Agrees, IsTimed, StandsFor, StandsForAll, StandsForSome, AreOldBy, AreImages, is_done, lasts, IsFileLeft, IsWholeAtAnyMoment, IsSpared}
-use Rattle.fossil.specs.Acts.{ActsBy, HasActed, IsCaused, Touches, result_status}
+use Rattle.fossil.specs.Acts.{ActsBy, HasActed, IsCaused, Touches}
 use Rattle.fossil.proofs.InputLemmas.{some_bytes}
 use Rattle.fossil.proofs.ActLemmas.{still, none_due}
 use Rattle.fossil.proofs.FileLemmas.{both, some_same, agrees, agreed, empty_file, old_stands, none_committed, all_committed, one_is_all, left_same, left_failed, fault_fades}
@@ -101,8 +102,8 @@ module _ (config : Config) (source : SourceState) (clock : Option (List ℕ)) (f
     touches = record { kept = quiet_file; any_moment = whole_by (is_empty bytes); keeps = keeps }
 
     -- a fault after which the contents are as they were, or the disk failed
-    pub fault_acted : (fault : Fault) → (fault ≡ fault_is.Input → ⊥) → IsCaused command input (both file left) bytes (outcome bytes) fault → IsFileLeft command (both file left) (result_status (Err fault)) bytes (outcome bytes)
-        → IsSpared command (both file left) (result_status (Err fault)) → ActsBy command input (both file left) (Err fault) (some_bytes source.left).0 0 bytes (outcome bytes)
+    pub fault_acted : (fault : Fault) → (fault ≡ fault_is.Input → ⊥) → IsCaused command input (both file left) bytes (outcome bytes) fault → IsFileLeft command (both file left) ((printed (Err fault)).status) bytes (outcome bytes)
+        → IsSpared command (both file left) ((printed (Err fault)).status) → ActsBy command input (both file left) (Err fault) (some_bytes source.left).0 0 bytes (outcome bytes)
     fault_acted fault other cause contents spared = record {
       input_told = (some_bytes source.left).1;
       file_told = file_told;
@@ -117,7 +118,7 @@ module _ (config : Config) (source : SourceState) (clock : Option (List ℕ)) (f
       spared = spared;
     }
 
-  abbrev Acted : Result Printed Fault → Type 0
+  abbrev Acted : Due → Type 0
   Acted result = HasActed command input (still clock) (both file left) result
 
   unasked : (answered : Bool) (read bytes : List ℕ) → IsTimed command (still clock) answered read 0 bytes

@@ -13,7 +13,7 @@ use Rattle.fossil.specs.Messages.{IsMessageRefused, IsFileList}
 use Rattle.fossil.specs.Printed.{Printed}
 use Rattle.fossil.specs.Printed as printing
 use Rattle.fossil.specs.Arrivals.{none_taken, Arrive}
-use Rattle.fossil.specs.Put.{put_receipt, IsPutRead}
+use Rattle.fossil.specs.Put.{IsPutRead}
 use Rattle.fossil.specs.Run.{Input, Clock, IsTimed}
 use Rattle.fossil.specs.Acts.{loaded_of, IsInput}
 use Rattle.fossil.specs.Taking.{AreAllTaken, IsPutReceipt}

@@ -17,7 +17,7 @@ use Rattle.fsl_query.specs.declared.QueryFault.TheVariants as query_fault
 use Rattle.fsl_query.specs.Refusals.{refusal_text}
 use Rattle.fsl_query.specs.Reports.{IsReport}
 use Rattle.fsl_query.specs.Answers.{content_asked, IsReported, IsReportedOn, IsSpoiltIn}
-use Rattle.fossil.specs.declared.answers.fault.Fault.{Fault}
+use Rattle.fossil.specs.Due.{Due}
 use Rattle.fossil.specs.declared.answers.fault.Fault.TheVariants as fault_is
 use Rattle.fossil.specs.declared.reading.load.Loaded.{Loaded}
 use Rattle.fossil.specs.Printed.{Printed}
@@ -47,7 +47,7 @@ module _ (question : Question) (source : SourceState) (clock : Option (List ℕ)
   abbrev input : Input
   input = record { before = source; after = source }
 
-  abbrev Acted : Result Printed Fault → Type 0
+  abbrev Acted : Due → Type 0
   Acted result = HasActed command input (still clock) (both file left) result
 
   unasked : (answered : Bool) (read bytes : List ℕ) → IsTimed command (still clock) answered read 0 bytes
@@ -135,15 +135,17 @@ module _ (question : Question) (source : SourceState) (clock : Option (List ℕ)
           unasked false read.0 bytes,
         )
 
-    by_answer : (made : Result Printed Fault) → IsAnsweredBy (is_modelled file) l.journal.records question mid.faults left.faults made → Acted made
+    by_answer : (made : Due) → IsAnsweredBy (is_modelled file) l.journal.records question mid.faults left.faults made → Acted made
     by_answer (Ok a) is = answer_acted a is.0
     by_answer (Err fault_is.Disk) is = disk_acted is
+    by_answer (Err fault_is.Usage) is = absurd is
     by_answer (Err fault_is.Input) is = absurd is
+    by_answer (Err fault_is.Link) is = absurd is
     by_answer (Err (fault_is.Damaged name found)) is = damaged_acted name found is.0 is.1 is.2
     by_answer (Err fault_is.Memory) is = no_memory
 
     -- what was found of the loaded records is answered
-    pub found_acted : (found : Result (List ℕ) QueryFault) (made : Result Printed Fault) → IsReportedOn mid l.records question left found → IsAnswerOf found made → Acted made
+    pub found_acted : (found : Result (List ℕ) QueryFault) (made : Due) → IsReportedOn mid l.records question left found → IsAnswerOf found made → Acted made
     found_acted found made is answers =
         by_answer made
         (answers (is_modelled file) l.journal.records question mid.faults left.faults

@@ -1,12 +1,12 @@
 -- What a command did that loads the file and only reads it.
-use Rattle.std.proofs.Common.{◌≡◌, inl, ℕ, ◌≤◌, Bool, true, false, List, Option, Result, Ok, Err, IsTrue, refl, sym, subst, ◌∙◌}
+use Rattle.std.proofs.Common.{◌≡◌, inl, ℕ, ◌≤◌, Bool, true, false, List, Option, Ok, Err, IsTrue, refl, sym, subst, ◌∙◌}
 use Rattle.fsl_order.specs.Causes.{Rose}
 use Rattle.fsl_outside.specs.Streams.{SourceState}
 use Rattle.fsl_disk.specs.Disk.{DiskState, Quiet}
 use Rattle.fsl_disk.proofs.Moments.{keeps_on, modelled_after}
 use Rattle.fsl_repo.specs.Whole.{is_modelled}
 use Rattle.fsl_words.specs.declared.Command.{Command}
-use Rattle.fossil.specs.declared.answers.fault.Fault.{Fault}
+use Rattle.fossil.specs.Due.{Due}
 use Rattle.fossil.specs.declared.answers.fault.Fault.TheVariants as fault_is
 use Rattle.fossil.specs.declared.reading.load.Loaded.{Loaded}
 use Rattle.fossil.specs.Printed.{Printed}
@@ -30,7 +30,7 @@ module _ (command : Option Command) (only : OnlyReads command) (source : SourceS
   abbrev input : Input
   input = record { before = source; after = source }
 
-  abbrev Acted : Result Printed Fault → Type 0
+  abbrev Acted : Due → Type 0
   Acted result = HasActed command input (still clock) (both file left) result
 
   unasked : (answered : Bool) (read bytes : List ℕ) → IsTimed command (still clock) answered read 0 bytes

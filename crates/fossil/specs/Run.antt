@@ -1,5 +1,5 @@
 -- What a run says of its status, its output, its input, its clock and its file, by one reading of what it was handed and one outcome.
-use Rattle.std.specs.Prelude.{◌≡◌, ◌≢◌, ℕ, ◌≤◌, ◌⊎◌, ◌==◌, ◌||◌, ◌&&◌, nat_le, nat_lt, not, Bool, true, false, List, [], ◌∷◌, ◌++◌, length, take, flat_map, Option, Some, None, IsTrue, MatchBool, ⊤, if◌then◌else◌, codes}
+use Rattle.std.specs.Prelude.{[], ◌≡◌, ◌≢◌, ℕ, ◌≤◌, ◌⊎◌, ◌==◌, ◌||◌, ◌&&◌, nat_le, nat_lt, not, Bool, true, false, List, ◌∷◌, ◌++◌, length, take, flat_map, Option, Some, None, IsTrue, MatchBool, ⊤, if◌then◌else◌}
 use Rattle.std.specs.Option.{option_map_or}
 use Rattle.std.specs.Io.KnownBytes.{Appends, IsAtEnd}
 use Rattle.fsl_order.specs.Causes.{Rose}
@@ -16,13 +16,14 @@ use Rattle.fsl_query.specs.Answers.{content_asked, IsSpoiltIn}
 use Rattle.fsl_words.specs.declared.Command.{Command}
 use Rattle.fsl_words.specs.declared.Command.TheVariants.{Init, Ingest, Put, Shun, Unshun, Ask, Serve, Gen, Pull, Push, Clone, PullLocal, Checkin, Export, Verify, Scrub, Unversioned}
 use Rattle.fossil.specs.declared.reading.message.Sent.{Sent}
+use Rattle.fossil.specs.Printed.{Printed, disk_fault, input_fault, no_memory}
 use Rattle.fossil.specs.Printed as printing
 use Rattle.fossil.specs.Messages.{IsFileList}
 use Rattle.fossil.specs.Unversioned.{TakesUvMoment, IsUvRefused}
 use Rattle.fossil.specs.Checkins.{IsToCheckIn}
 use Rattle.fossil.specs.Trees.{IsExportSpoilt, IsVerifySpoilt}
 use Rattle.fossil.specs.Uses.{command_reads, command_opens, command_begins, command_ticks}
-use Rattle.fossil.specs.Outcome.{Outcome, said, IsSaidOutcome}
+use Rattle.fossil.specs.Outcome.{Outcome, printed_of, said, IsSaidOutcome}
 
 -- ---- what a run is handed and leaves
 
@@ -86,28 +87,14 @@ abbrev pub IsCutOff : Output → List ℕ → Type 0
 IsCutOff out text =
     (front : List ℕ) × (rest : List ℕ) × (text ≡ front ++ rest) × Appends out.before.taken out.after.taken front × Rose out.before.faults out.after.faults
 
--- the output took the text, or is cut off
-abbrev pub IsSaid : Output → List ℕ → Type 0
-IsSaid out text = Appends out.before.taken out.after.taken text ⊎ IsCutOff out text
-
 -- the status of an outcome whose text can't be written: 6, but that of a refusal stays
 abbrev pub cut_off_status : ℕ → ℕ
 cut_off_status status = if status == 0 then 6 else status
 
--- status and text are those of the outcome
-abbrev pub IsTold : Outcome → ℕ → Output → Type 0
-IsTold o status out =
-    ((status ≡ o.status) × Appends out.before.taken out.after.taken o.text) ⊎ ((status ≡ cut_off_status o.status) × IsCutOff out o.text)
-
--- the lines of faults
-abbrev pub disk_fault : List ℕ
-disk_fault = codes "disk fault" ++ 10 ∷ []
-
-abbrev pub input_fault : List ℕ
-input_fault = codes "input fault" ++ 10 ∷ []
-
-abbrev pub out_of_memory : List ℕ
-out_of_memory = codes "out of memory" ++ 10 ∷ []
+-- what is due was written and no write failed; or a front of it, where the sink's count rose, with 6 in place of 0
+pub data IsWritten (p : Printed) (out : Output) (status : ℕ) : Type 0 where
+  all : status ≡ p.status → Appends out.before.taken out.after.taken p.text → out.after.faults ≡ out.before.faults → IsWritten p out status
+  front : status ≡ cut_off_status p.status → IsCutOff out p.text → IsWritten p out status
 
 -- the count of the file's disk rose, and a call of it was due: the input wasn't read, so that the file was to be loaded or made; or there is something to
 -- commit. A command that reads no input never reads it, so of that this says only that the count rose
@@ -135,20 +122,19 @@ IsDamaged honest (Some (Verify prefix)) bytes name found =
 IsDamaged honest command bytes name found = ⊥
 
 -- such bytes were read, no call of the disk failed, and both names are said
-pub record IsDamagedFault (command : Option Command) (out : Output) (file : File) (bytes : List ℕ) : Type 0 where
+pub record IsDamagedFault (command : Option Command) (out : Output) (status : ℕ) (file : File) (bytes : List ℕ) : Type 0 where
   pub name : List ℕ
   pub found : List ℕ
   pub damaged : IsDamaged (is_modelled file.before) command bytes name found
   pub faults : file.after.faults ≡ file.before.faults
-  pub said : IsSaid out (printing.damaged name found).text
+  pub said : IsWritten (printing.damaged name found) out status
 
 -- a fault has its status and its line; want of memory has no cause
 abbrev pub IsFaulted : Option Command → Input → Output → File → ℕ → List ℕ → Outcome → Type 0
 IsFaulted command input out file status bytes o =
-    ((status ≡ 4) × IsDiskFault command input file o × IsSaid out disk_fault)
-    ⊎ ((status ≡ 5) × IsInputFault command input bytes × IsSaid out input_fault)
-    ⊎ ((status ≡ 9) × IsSaid out out_of_memory)
-    ⊎ ((status ≡ 12) × IsDamagedFault command out file bytes)
+    (IsDiskFault command input file o × IsWritten disk_fault out status)
+    ⊎ ((IsInputFault command input bytes × IsWritten input_fault out status)
+    ⊎ (IsWritten no_memory out status ⊎ IsDamagedFault command out status file bytes))
 
 -- ---- the clock
 
@@ -301,7 +287,7 @@ pub record RunsBy (command : Option Command) (input : Input) (clock : Clock) (ou
   pub asked : status ≡ 4 → IsCutTimed command input clock read moment bytes
   pub unasked : status ≡ 5 → TakesNone clock
   -- the text is that of the outcome, or the line of a fault
-  pub answer : IsTold o status out ⊎ IsFaulted command input out file status bytes o
+  pub answer : IsWritten (printed_of o) out status ⊎ IsFaulted command input out file status bytes o
   -- after status 0 an input that the command reads was read to its end
   pub end : status ≡ 0 → IsTrue (reads command) → IsAtEnd input.after.left
   pub contents : IsFileLeft command file status bytes o

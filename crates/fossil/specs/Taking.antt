@@ -1,5 +1,5 @@
 -- What the parts of `put` and `ingest` say of the files of a message.
-use Rattle.std.specs.Prelude.{◌≡◌, ◌≤◌, ◌+◌, ◌&&◌, ◌||◌, not, true, false, ℕ, Bool, List, [], ◌∷◌, ◌++◌, length, drop, map, flat_map, codes, Option, Some, None, is_some, if◌then◌else◌, Result, Ok, Err, ⊤}
+use Rattle.std.specs.Prelude.{[], ◌≡◌, ◌≤◌, ◌+◌, ◌&&◌, ◌||◌, not, true, false, ℕ, Bool, List, ◌∷◌, ◌++◌, length, drop, map, flat_map, codes, Option, Some, None, is_some, if◌then◌else◌, Result, Ok, Err, ⊤}
 use Rattle.std.specs.FinSet as set
 use Rattle.std.specs.FinMap as map_of
 use Rattle.std.specs.List.{AllZip}
@@ -24,7 +24,6 @@ use Rattle.fsl_repo.specs.declared.ArriveFault.TheVariants as arrive_fault
 use Rattle.fsl_repo.specs.Machine.{State, now, AreItems, IsItemOf, IsArrival, ArriveStep, arrived}
 use Rattle.fsl_repo.specs.Whole.{Whole, opened}
 use Rattle.fsl_words.specs.declared.Command.TheVariants as command_of
-use Rattle.fossil.specs.declared.answers.fault.Fault.{Fault}
 use Rattle.fossil.specs.declared.reading.message.Sent.{Sent}
 use Rattle.fossil.specs.declared.reading.checking.Checked.{Checked}
 use Rattle.fossil.specs.declared.reading.checking.Checked.TheVariants as checked
@@ -32,6 +31,7 @@ use Rattle.fossil.specs.declared.reading.arrivals.Arrivals.{Arrivals}
 use Rattle.fossil.specs.declared.reading.arrivals.Arrivals.TheVariants as came
 use Rattle.fossil.specs.declared.reading.gathering.Gathered.{Gathered}
 use Rattle.fossil.specs.Messages.{IsMessageRefused, IsFileList}
+use Rattle.fossil.specs.Due.{Due}
 use Rattle.fossil.specs.Printed.{Printed, name_line}
 use Rattle.fossil.specs.Arrivals.{Taken, none_taken, arrival_word, refusal_of, Arrive}
 use Rattle.fossil.specs.Ingest.{fresh}
@@ -74,17 +74,17 @@ pub record IsPutReceipt (before after : Moments) (receipt : Brought) : Type 0 wh
   pub answered : Asks before after (receipt.moment ∷ [])
 
 -- what `put` did with a message over a repository that was opened, under this clock, of whatever input and file these are
-abbrev pub PutsMessage : {C D : Type 0} → List ℕ → (C → Moments) × C × C → (D → DiskState) × Whole D × Whole D → Result Printed Fault → Type 0
+abbrev pub PutsMessage : {C D : Type 0} → List ℕ → (C → Moments) × C × C → (D → DiskState) × Whole D × Whole D → Due → Type 0
 PutsMessage message clock repo result =
     (disk : _) (input : SourceState × SourceState) → IsInput (input_of input) (Some message)
     → IsOpened (repo.0 disk) (repo.0 repo.1.disk) (loaded_of repo.1) → Acts command_of.Put input (states clock) (repo.0 disk, repo.0 repo.2.disk) result
 
 -- the same of its files
-abbrev pub PutsFiles : {C D : Type 0} → List Sent → (C → Moments) × C × C → (D → DiskState) × Whole D × Whole D → Result Printed Fault → Type 0
+abbrev pub PutsFiles : {C D : Type 0} → List Sent → (C → Moments) × C × C → (D → DiskState) × Whole D × Whole D → Due → Type 0
 PutsFiles files clock repo result = (message : List ℕ) → IsFileList message files → PutsMessage message clock repo result
 
 -- the same of its files, behind the moment of this receipt
-abbrev pub PutsWith : {D : Type 0} → Brought → List Sent → (D → DiskState) × Whole D × Whole D → Result Printed Fault → Type 0
+abbrev pub PutsWith : {D : Type 0} → Brought → List Sent → (D → DiskState) × Whole D × Whole D → Due → Type 0
 PutsWith receipt files repo result =
     (message : List ℕ) (clock : Moments × Moments) → IsFileList message files → IsPutReceipt clock.0 clock.1 receipt →
     (disk : _) (input : SourceState × SourceState) → IsInput (input_of input) (Some message)
@@ -92,7 +92,7 @@ PutsWith receipt files repo result =
 
 -- the same of an input, which is read here
 abbrev pub PutsInput : {S C D : Type 0} → (S → SourceState) × S × S → (C → Moments) × C × C → (D → DiskState) × Whole D × Whole D →
-    Result Printed Fault → Type 0
+    Due → Type 0
 PutsInput input clock repo result =
     (disk : _) → IsOpened (repo.0 disk) (repo.0 repo.1.disk) (loaded_of repo.1)
     → Acts command_of.Put (states input) (states clock) (repo.0 disk, repo.0 repo.2.disk) result

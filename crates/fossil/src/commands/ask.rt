@@ -1,8 +1,8 @@
 //! The commands that ask the repository.
 ghost use Rattle.fossil.specs.RunCall.{RunsQuestion};
 
+use crate::answers::due::print_due;
 use crate::answers::reporting::report;
-use crate::answers::say::print;
 use crate::ran::Done;
 use fsl_disk::Disk;
 use fsl_outside::Sink;
@@ -20,6 +20,6 @@ pub(crate) fn ask<K: Sink, D: Disk>(
 {
     let mut repo = repo;
     let answer = report(alloc, question, &mut repo);
-    let status = print(out, answer);
+    let status = print_due(out, answer);
     Done { status, repo }
 }

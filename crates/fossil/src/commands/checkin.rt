@@ -10,6 +10,7 @@ ghost use Rattle.fossil.specs.CheckinCall.{AreArriving, ChecksInput, ChecksOver,
 ghost use Rattle.fossil.specs.RunCall.{ActsReading};
 
 use crate::answers::answer::{Answer, numbered_refusal, too_long};
+use crate::answers::due::Due;
 use crate::answers::fault::Fault;
 use crate::answers::ingest_report::add_line;
 use crate::answers::reporting::question_refusal;
@@ -172,7 +173,7 @@ fn check_in<D: Disk>(
     parent: Option<Name>,
     receipt: &Receipt,
     repo: &mut Repo<D>,
-) -> Result<Answer, Fault>
+) -> Due
     requires can { IsToWrite asked.now items.now }
     requires runs { repo.old.seen.state.stopped ≡ None }
     ensures { ChecksWith asked.now receipt.now items.now parent (D.state, repo.old, repo.new) result }
@@ -203,7 +204,7 @@ fn check_over<C: Clock, D: Disk>(
     parent: Option<Name>,
     clock: &mut C,
     repo: &mut Repo<D>,
-) -> Result<Answer, Fault>
+) -> Due
     requires can { IsToWrite asked.now items.now }
     requires runs { repo.old.seen.state.stopped ≡ None }
     ensures { ChecksOver asked.now items.now parent (C.told, clock.old, clock.new) (D.state, repo.old, repo.new) result }
@@ -221,7 +222,7 @@ fn check_tree<C: Clock, D: Disk>(
     items: &List<TreeItem>,
     clock: &mut C,
     repo: &mut Repo<D>,
-) -> Result<Answer, Fault>
+) -> Due
     requires can { IsToWrite asked.now items.now }
     requires runs { repo.old.seen.state.stopped ≡ None }
     ensures { ChecksTree asked.now items.now (C.told, clock.old, clock.new) (D.state, repo.old, repo.new) result }
@@ -240,7 +241,7 @@ fn check_text<C: Clock, D: Disk>(
     text: &[u8],
     clock: &mut C,
     repo: &mut Repo<D>,
-) -> Result<Answer, Fault>
+) -> Due
     requires user { asked.now.user ≢ [] }
     requires comment { asked.now.comment ≢ [] }
     requires runs { repo.old.seen.state.stopped ≡ None }
@@ -265,7 +266,7 @@ fn check_input<S: Source, C: Clock, D: Disk>(
     input: &mut S,
     clock: &mut C,
     repo: &mut Repo<D>,
-) -> Result<Answer, Fault>
+) -> Due
     requires user { asked.now.user ≢ [] }
     requires comment { asked.now.comment ≢ [] }
     requires runs { repo.old.seen.state.stopped ≡ None }
@@ -287,7 +288,7 @@ pub(crate) fn checkin<S: Source, C: Clock, D: Disk>(
     input: &mut S,
     clock: &mut C,
     disk: D,
-) -> (Result<Answer, Fault>, D)
+) -> (Due, D)
     requires user { asked.now.user ≢ [] }
     requires comment { asked.now.comment ≢ [] }
     ensures { ActsReading (asked_for asked.now) (S.state, input.old, input.new) (C.told, clock.old, clock.new) (D.state, disk, result.1) result.0 }

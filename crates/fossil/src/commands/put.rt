@@ -5,6 +5,7 @@ ghost use Rattle.fossil.specs.RunCall.{ActsReading};
 ghost use Rattle.fossil.specs.Taking.{IsPutReceipt, PutsWith, PutsMessage, PutsFiles, PutsInput};
 
 use crate::answers::answer::{Answer, too_long};
+use crate::answers::due::Due;
 use crate::answers::fault::Fault;
 use crate::answers::status::DONE;
 use crate::reading::arrivals::{Arrivals, arrive};
@@ -33,7 +34,7 @@ fn take_with<D: Disk>(
     files: List<Sent>,
     receipt: &Receipt,
     repo: &mut Repo<D>,
-) -> Result<Answer, Fault>
+) -> Due
     requires runs { repo.old.seen.state.stopped ≡ None }
     ensures { PutsWith receipt.now files (D.state, repo.old, repo.new) result }
 {
@@ -57,7 +58,7 @@ fn take_files<C: Clock, D: Disk>(
     files: List<Sent>,
     clock: &mut C,
     repo: &mut Repo<D>,
-) -> Result<Answer, Fault>
+) -> Due
     requires runs { repo.old.seen.state.stopped ≡ None }
     ensures { PutsFiles files (C.told, clock.old, clock.new) (D.state, repo.old, repo.new) result }
 {
@@ -73,7 +74,7 @@ fn take_message<C: Clock, D: Disk>(
     message: Text,
     clock: &mut C,
     repo: &mut Repo<D>,
-) -> Result<Answer, Fault>
+) -> Due
     requires runs { repo.old.seen.state.stopped ≡ None }
     ensures { PutsMessage message (C.told, clock.old, clock.new) (D.state, repo.old, repo.new) result }
 {
@@ -89,7 +90,7 @@ fn take_input<S: Source, C: Clock, D: Disk>(
     input: &mut S,
     clock: &mut C,
     repo: &mut Repo<D>,
-) -> Result<Answer, Fault>
+) -> Due
     requires runs { repo.old.seen.state.stopped ≡ None }
     ensures { PutsInput (S.state, input.old, input.new) (C.told, clock.old, clock.new) (D.state, repo.old, repo.new) result }
 {
@@ -107,7 +108,7 @@ pub fn put<S: Source, C: Clock, D: Disk>(
     input: &mut S,
     clock: &mut C,
     disk: D,
-) -> (Result<Answer, Fault>, D)
+) -> (Due, D)
     ensures { ActsReading command_of.Put (S.state, input.old, input.new) (C.told, clock.old, clock.new) (D.state, disk, result.1) result.0 }
 {
     match Repo::load(alloc, disk) {

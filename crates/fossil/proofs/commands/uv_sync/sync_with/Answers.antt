@@ -1,6 +1,6 @@
 use Rattle.std.proofs.Common.{◌≡◌, sym, subst}
 use Rattle.fsl_disk.specs.Disk.{DiskState}
-use Rattle.fossil.specs.Serving.{printed}
+use Rattle.fossil.specs.Due.{printed}
 use Rattle.fossil.specs.UvSyncs.{HasMerged}
 use Rattle.fossil.proofs.FileLemmas.{both}
 use Rattle.fossil.proofs.UvSyncLemmas.{stores_come, no_peer_comes}
