@@ -51,7 +51,9 @@ module _ (command : Option Command) (loads : Loads command) (input : Input) (fil
     contents = loaded_left command loads file left bytes o 9 (λ done. absurd (cc)) contents;
     touches = touches;
     durable = λ last. absurd (cc);
+    trimmed = λ last. absurd (cc);
     spared = λ nine begun. absurd (loads.begun begun);
+    steady = tt;
   }
 
   input_by : IsInputFault command input bytes → KeepsContents file left → ActsBy command input (both file left) (Err fault_is.Input) read moment bytes o
@@ -66,7 +68,9 @@ module _ (command : Option Command) (loads : Loads command) (input : Input) (fil
     contents = loaded_left command loads file left bytes o 5 (λ done. absurd (cc)) contents;
     touches = touches;
     durable = λ last. absurd (cc);
+    trimmed = λ last. absurd (cc);
     spared = λ nine begun. absurd (loads.begun begun);
+    steady = tt;
   }
 
   pub disk_by : Rose file.faults left.faults → (input.after ≡ input.before) ⊎ (o.commits ≡ [] → ⊥) → IsFileLeft command (both file left) 4 bytes o
@@ -82,7 +86,9 @@ module _ (command : Option Command) (loads : Loads command) (input : Input) (fil
     contents = contents;
     touches = touches;
     durable = λ last. absurd (cc);
+    trimmed = λ last. absurd (cc);
     spared = λ nine begun. absurd (loads.begun begun);
+    steady = tt;
   }
 
   -- a content is damaged
@@ -99,12 +105,14 @@ module _ (command : Option Command) (loads : Loads command) (input : Input) (fil
     contents = loaded_left command loads file left bytes o 12 (λ done. absurd (cc)) contents;
     touches = touches;
     durable = λ last. absurd (cc);
+    trimmed = λ last. absurd (cc);
     spared = λ nine begun. absurd (loads.begun begun);
+    steady = tt;
   }
 
   -- the place at which the file fails is told
-  nowhere_by : (at : ℕ) → o ≡ not_repository at → KeepsContents file left → KeepsImages file left → ActsBy command input (both file left) (Ok (printed_of (not_repository at))) read moment bytes o
-  nowhere_by at is contents images = record {
+  nowhere_by : (at : ℕ) → o ≡ not_repository at → KeepsContents file left → KeepsImages file left → left.faults ≡ file.faults → ActsBy command input (both file left) (Ok (printed_of (not_repository at))) read moment bytes o
+  nowhere_by at is contents images faults = record {
     input_told = input_told;
     file_told = file_told;
     outcome = outcome;
@@ -115,7 +123,9 @@ module _ (command : Option Command) (loads : Loads command) (input : Input) (fil
     contents = loaded_left command loads file left bytes o 2 (λ done. absurd (cc)) contents;
     touches = touches;
     durable = λ last. absurd (cc);
+    trimmed = λ last. absurd (cc);
     spared = λ nine begun. absurd (loads.begun begun);
+    steady = faults;
   }
 
   -- the input wasn't read
@@ -175,7 +185,7 @@ module _ (command : Option Command) (loads : Loads command) (source : SourceStat
         un.cause.0,
         o,
         nowhere_by command loads input file left read.0 0 un.cause.0 o read.1 (agrees file.contents un.cause.0 un.cause.1) (loads.fails (is_modelled file) read.0 0 un.cause.0 at un.cause.2)
-            (loaded_touches command loads file left un.cause.0 o un.unreadable un.any_moment un.keeps) at refl (un.contents (λ e. cc)) un.any_moment,
+            (loaded_touches command loads file left un.cause.0 o un.unreadable un.any_moment un.keeps) at refl (un.contents (λ e. cc)) un.any_moment (un.faults (λ e. cc)),
         none_due command clock true read.0 0 un.cause.0 (unread_none command loads read.0 un.cause.0 at un.cause.2),
       )
 

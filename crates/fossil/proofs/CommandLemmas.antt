@@ -22,18 +22,10 @@ use Rattle.fossil.specs.Run.{Input, Output, Agrees, reads, opens, TakesMoment, I
 use Rattle.fossil.specs.Acts.{HasActed, IsCaused, IsUnread, IsIngestRun}
 use Rattle.fossil.proofs.InputLemmas.{some_bytes}
 use Rattle.fossil.proofs.MessageLemmas.{refused_status}
-use Rattle.fossil.proofs.FileLemmas.{both, quiet_none, idle_left, idle_touches, fault_undone, fault_fades}
+use Rattle.fossil.proofs.FileLemmas.{both, quiet_none, idle_left, idle_touches, fault_undone, fault_fades, fault_left}
 use Rattle.fossil.proofs.SomeOutcome.{some_said_outcome}
 use Rattle.fossil.proofs.ActLemmas.{still, still_by, none_due}
-use Rattle.fossil.proofs.PrintedLemmas.{written}
-
-no_zero : (fault : Fault) → (printed_fault fault).status ≡ 0 → ⊥
-no_zero fault_is.Usage z = cc
-no_zero fault_is.Disk z = cc
-no_zero fault_is.Input z = cc
-no_zero fault_is.Link z = cc
-no_zero (fault_is.Damaged name found) z = cc
-no_zero fault_is.Memory z = cc
+use Rattle.fossil.proofs.PrintedLemmas.{no_zero, written}
 
 module _ (command : Option Command) (input : Input) (clock : Option (List ℕ)) (file : DiskState) (no_other : IsTrue file.is_model → (c : List ℕ) → file.since file.moment c → file.images c) where
   abbrev Acted : Due → Type 0
@@ -60,7 +52,9 @@ module _ (command : Option Command) (input : Input) (clock : Option (List ℕ)) 
           contents = idle_left command file no_other bytes.0 o o.status (λ done. none);
           touches = idle_touches command file no_other bytes.0 o;
           durable = λ last opened. absurd (closed opened);
+          trimmed = λ last opened. absurd (closed opened);
           spared = λ nine begun. quiet_none file;
+          steady = refl;
         },
         none_due command clock true read 0 bytes.0 (never read bytes.0),
       )
@@ -86,7 +80,9 @@ module _ (command : Option Command) (input : Input) (clock : Option (List ℕ)) 
           contents = idle_left command file no_other bytes.0 o.0 (printed_fault fault).status (λ done. absurd (fault_undone fault done));
           touches = idle_touches command file no_other bytes.0 o.0;
           durable = λ last. absurd (fault_fades command fault last);
+          trimmed = λ last. absurd (fault_left command fault last);
           spared = λ nine begun. quiet_none file;
+          steady = tt;
         },
         still_by command input clock fault other read.0 0 bytes.0,
       )

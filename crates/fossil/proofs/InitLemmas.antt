@@ -10,7 +10,7 @@ use Rattle.fsl_record.specs.declared.Record.TheVariants as record_of
 use Rattle.fsl_disk.specs.Disk.{DiskState, IsModelled, Told, Keeps, Quiet, LeavesOnly}
 use Rattle.fsl_disk.proofs.Moments.{weaker, quiet_moments, told_contents}
 use Rattle.fsl_journal.specs.File.{IsFileOf}
-use Rattle.fsl_journal.specs.Journal.{NothingOr, IsMade}
+use Rattle.fsl_journal.specs.Journal.{NothingOr, IsLeft, IsMade}
 use Rattle.fsl_words.specs.declared.Command.{Command}
 use Rattle.fsl_words.specs.declared.Command.TheVariants as command_of
 use Rattle.fossil.specs.Due.{Due, printed}
@@ -115,7 +115,9 @@ module _ (config : Config) (source : SourceState) (clock : Option (List ℕ)) (f
       contents = contents;
       touches = touches;
       durable = λ last. absurd (fault_fades command fault last);
+      trimmed = λ last opened begun. absurd (cc);
       spared = spared;
+      steady = tt;
     }
 
   abbrev Acted : Due → Type 0
@@ -147,7 +149,9 @@ module _ (config : Config) (source : SourceState) (clock : Option (List ℕ)) (f
               all_stand old (outcome []).commits held (old_none old [] refl are) refl (subst (λ (b : List ℕ). IsFileOf b first) (some_same (sym stands.1 ∙ left_told)) stands.2);
           touches = touches [] told;
           durable = λ last opened modelled file_told old are c image. all_stand old (outcome []).commits c (old_none old [] refl are) refl (durable modelled c image);
+          trimmed = λ last opened begun. absurd (cc);
           spared = λ nine begun. absurd (cc);
+          steady = made.faults;
         },
         unasked true read.0 [],
       )
@@ -160,7 +164,7 @@ module _ (config : Config) (source : SourceState) (clock : Option (List ℕ)) (f
   begun_refused n h =
       ap (λ (b : Bool). cond b (record { status = 0; text = []; commits = first ∷ [] }) (without_commit (printing.refused (codes "file not empty " ++ decimal n)))) (no_zero n h)
 
-  pub refused_acted : (len : ℕ) (answer : Printed) → 0 < len → Told file (λ held. len ≡ length held) → left.contents ≡ file.contents → answer ≡ printing.refused (codes "file not empty " ++ decimal len) → Acted (Ok answer)
+  pub refused_acted : (len : ℕ) (answer : Printed) → 0 < len → Told file (λ held. len ≡ length held) → IsLeft file left → answer ≡ printing.refused (codes "file not empty " ++ decimal len) → Acted (Ok answer)
   refused_acted len answer some is same refusal =
       let read = some_bytes source.left in
       let bytes = of_length file.contents len is in
@@ -177,10 +181,12 @@ module _ (config : Config) (source : SourceState) (clock : Option (List ℕ)) (f
           plain = omega (arith, three);
           cause = tt;
           end = λ z reads. absurd (cc);
-          contents = left_same command file left bytes.0 (outcome bytes.0) answer.status (λ done. absurd (let none = subst (λ (n : ℕ). IsTrue (is_done n)) three done in cc)) same;
+          contents = left_same command file left bytes.0 (outcome bytes.0) answer.status (λ done. absurd (let none = subst (λ (n : ℕ). IsTrue (is_done n)) three done in cc)) same.contents;
           touches = touches bytes.0 bytes.1;
           durable = λ last. absurd (let none = subst (λ (n : ℕ). IsTrue (lasts command n)) three last in cc);
+          trimmed = λ last opened begun. absurd (cc);
           spared = λ nine begun. absurd (omega (arith, three, nine));
+          steady = same.faults;
         },
         unasked true read.0 bytes.0,
       )

@@ -1,6 +1,6 @@
 -- What a run says once the text of what it did is written.
 use Rattle.std.proofs.Common.{◌≡◌, ◌⊎◌, inl, inr, ⊎_elim, ℕ, Bool, true, false, cond, List, Ok, Err, Option, Some, None, IsTrue, refl, sym, ap, subst, ◌∙◌, arith}
-use Rattle.std.specs.Prelude.{◌==◌, ◌&&◌, is_ok}
+use Rattle.std.specs.Prelude.{◌==◌, ◌&&◌, is_ok, IfOk}
 use Rattle.fsl_order.specs.Causes.{Rose}
 use Rattle.fsl_disk.specs.Disk.{DiskState, IsModelled}
 use Rattle.fsl_repo.specs.Whole.{is_modelled}
@@ -11,7 +11,7 @@ use Rattle.fossil.specs.declared.answers.fault.Fault.{Fault}
 use Rattle.fossil.specs.declared.answers.fault.Fault.TheVariants as fault_is
 use Rattle.fossil.specs.Printed.{Printed}
 use Rattle.fossil.specs.Outcome.{Outcome, printed_of}
-use Rattle.fossil.specs.Run.{Input, Clock, Output, File, is_answered, TakesNone, IsTimed, IsCutTimed, IsWritten, all, front, IsDamaged, IsFaulted, IsFileLeft, IsLeft, lasts, IsDurable, IsSpared, RunsBy, HasRun}
+use Rattle.fossil.specs.Run.{Input, Clock, Output, File, is_answered, TakesNone, IsTimed, IsCutTimed, IsWritten, all, front, IsDamaged, IsFaulted, IsFileLeft, IsLeft, lasts, IsDurable, IsSpared, RunsBy, HasRun, trims, IsTrimmed}
 use Rattle.fossil.specs.Acts.{ActsBy, HasActed, IsTimedBy, IsCaused}
 
 -- what is answered is due
@@ -34,7 +34,7 @@ pub ends : (p : Printed) (status : ℕ) (out : Output) → IsWritten p out statu
 ends p status out (all e appended quiet) = inl e
 ends p status out (front e cut) = ⊎_elim inl (λ z. inr (z.0, z.1, cut.4)) (zero_or p.status (p.status == 0) refl status e)
 
-no_zero : (fault : Fault) → (printed_fault fault).status ≡ 0 → ⊥
+pub no_zero : (fault : Fault) → (printed_fault fault).status ≡ 0 → ⊥
 no_zero fault_is.Usage z = cc
 no_zero fault_is.Disk z = cc
 no_zero fault_is.Input z = cc
@@ -98,6 +98,10 @@ module _ (command : Option Command) (input : Input) (file : File) (read : List �
   no_fault (Ok answer) status out acts e answered = refl
   no_fault (Err fault) status out acts (inl e) answered = absurd (fault_answered fault acts.cause (subst (λ (n : ℕ). IsTrue (is_answered n)) e answered))
   no_fault (Err fault) status out acts (inr cut) answered = absurd (no_zero fault cut.0)
+
+  steady_of : (result : Due) → IsTrue (is_ok result) → IfOk result (λ _. file.after.faults ≡ file.before.faults) → file.after.faults ≡ file.before.faults
+  steady_of (Ok answer) ok same = same
+  steady_of (Err fault) ok same = absurd (cc)
 
   -- a status of a fault is that of this fault
   of_disk : (fault : Fault) → (printed_fault fault).status ≡ 4 → IsCaused command input file bytes o fault → Rose file.before.faults file.after.faults
@@ -197,6 +201,10 @@ module _ (command : Option Command) (input : Input) (file : File) (read : List �
       durable_by (inl e) last = acts.durable (subst (λ (n : ℕ). IsTrue (lasts command n)) e last)
       durable_by (inr cut) last = acts.durable (subst (λ (n : ℕ). IsTrue (lasts command n)) (sym cut.0) refl)
 
+      trimmed_by : Ends (printed result) status out → IsTrue (trims command status) → IsTrimmed command file
+      trimmed_by (inl e) last = acts.trimmed (subst (λ (n : ℕ). IsTrue (trims command n)) e last)
+      trimmed_by (inr cut) last = acts.trimmed (subst (λ (n : ℕ). IsTrue (trims command n)) (sym cut.0) refl)
+
       spared_by : Ends (printed result) status out → IsSpared command file status
       spared_by (inl e) nine = acts.spared (sym e ∙ nine)
       spared_by (inr cut) nine = absurd (let six = cut.1 in cc)
@@ -218,6 +226,9 @@ module _ (command : Option Command) (input : Input) (file : File) (read : List �
       undamaged_by (inr cut) modelled twelve = let six = cut.1 in cc
 
       -- a status of no fault is one of an answer
+      steady_by : Ends (printed result) status out → IsTrue (is_answered status) → file.after.faults ≡ file.before.faults
+      steady_by e answered = steady_of result (no_fault result status out acts e answered) acts.steady
+
       timed_by : Ends (printed result) status out → IsTimed command clock (is_answered status) read moment bytes
       timed_by e = answered_timed command clock result status read moment bytes (no_fault result status out acts e) (plain_timed command input clock result read moment bytes timed)
 
@@ -245,8 +256,10 @@ module _ (command : Option Command) (input : Input) (file : File) (read : List �
             kept = acts.touches.kept;
             any_moment = acts.touches.any_moment;
             durable = durable_by end;
+            trimmed = trimmed_by end;
             spared = spared_by end;
             keeps = acts.touches.keeps;
+            steady = steady_by end;
             disk_fault = disk_by end;
             input_fault = input_by end;
             output_fault = output_by end;

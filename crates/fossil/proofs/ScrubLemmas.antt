@@ -16,7 +16,7 @@ use Rattle.fsl_journal.proofs.Unique.{one_file}
 use Rattle.fsl_blobs.specs.Fold.{contents}
 use Rattle.fsl_repo.specs.Machine.{State}
 use Rattle.fsl_repo.specs.Replies.{IsSpoilt}
-use Rattle.fsl_repo.specs.Whole.{Whole, IsWholeOn, is_modelled}
+use Rattle.fsl_repo.specs.Whole.{Whole, IsWholeOn, log_of, is_modelled}
 use Rattle.fsl_repo.proofs.Steps.{same_kind}
 use Rattle.fsl_query.specs.Answers.{IsSpoiltIn}
 use Rattle.fsl_scrub.specs.declared.scrubbing.Scrubbed.{Scrubbed}
@@ -46,7 +46,7 @@ use Rattle.fossil.proofs.InputLemmas.{some_bytes}
 use Rattle.fossil.proofs.InitLemmas.{of_length, no_zero}
 use Rattle.fossil.proofs.FileLemmas.{both, agrees, quiet_none, readable}
 use Rattle.fossil.proofs.LoadLemmas.{images_quiet}
-use Rattle.fossil.proofs.CommitLemmas.{idle_durable}
+use Rattle.fossil.proofs.CommitLemmas.{idle_just, idle_durable}
 use Rattle.fossil.proofs.SyncedLemmas.{untouched, said_one, IsNoScrub}
 use Rattle.fossil.proofs.UvFileLemmas.{idle_left}
 use Rattle.fossil.proofs.ScrubOutcomes.{no_scrub, some_scrub}
@@ -158,7 +158,7 @@ module _ (honest : Bool) (peer left : DiskState) (quiet : Quiet peer left) (no_o
 
 -- ---- the file of the repository isn't opened
 
-module _ (file left : DiskState) (fault : LoadFault) (un : IsUnopened file left fault) (harmless : IsModelled file → LeavesOnly file left (HeldOrSame file)) (counts_stay : (fault ≡ load_fault.Disk → ⊥) → left.faults ≡ file.faults)
+module _ (file left : DiskState) (fault : LoadFault) (un : IsUnopened file left fault) (harmless : IsModelled file → LeavesOnly file left (HeldOrSame file))
     (peer : DiskState) (no_other : IsNow peer) (d : Due) where
   abbrev theirs : (b : List ℕ) × Agrees peer.contents b
   theirs = some_bytes peer.contents
@@ -181,6 +181,7 @@ module _ (file left : DiskState) (fault : LoadFault) (un : IsUnopened file left 
       answer = answer;
       bare = inl refl;
       here_left = unopened_left file left fault un harmless bytes;
+      trimmed = λ e. absurd (no_aside_kept e);
       peer_left = peer_left;
       peer_keeps = record { tells = refl; model = refl };
       unasked = λ e. untouched peer;
@@ -196,18 +197,18 @@ module _ (file left : DiskState) (fault : LoadFault) (un : IsUnopened file left 
       first_by own.0 own.1 s.0 false s.1 (answer own.0 s.0) (quiet_scrub (is_modelled file) peer peer (quiet_none peer) no_other own.0 theirs.0 s.0 s.1)
 
 module _ (file left : DiskState) (harmless : IsModelled file → LeavesOnly file left (HeldOrSame file)) (peer : DiskState) (no_other : IsNow peer) (d : Due) where
-  pub unopened_scrubs : (fault : LoadFault) → IsUnopened file left fault → ((fault ≡ load_fault.Disk → ⊥) → left.faults ≡ file.faults) → IsNotLoadedDue fault d
+  pub unopened_scrubs : (fault : LoadFault) → IsUnopened file left fault → IsNotLoadedDue fault d
       → HasScrubbed (both file left) (both peer peer) (λ o. printed d ≡ o)
-  unopened_scrubs load_fault.Disk un stay due =
-      first_fault file left load_fault.Disk un harmless stay peer no_other d (λ bytes s. inr (inl (inl (un.cause, refl, inl refl), ap printed due)))
-  unopened_scrubs (load_fault.NotRepository at) un stay (inl due) =
+  unopened_scrubs load_fault.Disk un due =
+      first_fault file left load_fault.Disk un harmless peer no_other d (λ bytes s. inr (inl (inl (un.cause, refl, inl refl), ap printed due)))
+  unopened_scrubs (load_fault.NotRepository at) un (inl due) =
       let own = un.cause in
-      first_by file left (load_fault.NotRepository at) un harmless stay peer no_other d own.0 (agrees file.contents own.0 own.1) (no_scrub at) true (inl (at, own.2, refl))
-      (inl (refl, stay (λ e. cc), refl, ap printed due)) (quiet_none peer)
-  unopened_scrubs (load_fault.NotRepository at) un stay (inr due) =
-      first_fault file left (load_fault.NotRepository at) un harmless stay peer no_other d (λ bytes s. inr (inr (inr (stay (λ e. cc), refl, ap printed due))))
-  unopened_scrubs load_fault.Memory un stay due =
-      first_fault file left load_fault.Memory un harmless stay peer no_other d (λ bytes s. inr (inr (inr (stay (λ e. cc), refl, ap printed due))))
+      first_by file left (load_fault.NotRepository at) un harmless peer no_other d own.0 (agrees file.contents own.0 own.1) (no_scrub at) true (inl (at, own.2, refl))
+      (inl (refl, un.faults (λ e. cc), refl, ap printed due)) (quiet_none peer)
+  unopened_scrubs (load_fault.NotRepository at) un (inr due) =
+      first_fault file left (load_fault.NotRepository at) un harmless peer no_other d (λ bytes s. inr (inr (inr (un.faults (λ e. cc), refl, ap printed due))))
+  unopened_scrubs load_fault.Memory un due =
+      first_fault file left load_fault.Memory un harmless peer no_other d (λ bytes s. inr (inr (inr (un.faults (λ e. cc), refl, ap printed due))))
 
 -- ---- it is opened
 
@@ -257,6 +258,7 @@ module _ {D : Type 0} (state : D → DiskState) (file : DiskState) (old new : Wh
       answer = answer;
       bare = inr refl;
       here_left = read_left file (state old.disk) (state new.disk) (loaded_of old) opened quiet no_other bytes;
+      trimmed = λ e held told. (records, idle_just (log_of old) (state old.disk) opened.belongs opened.is_open.runs opened.is_open.stable held (sym quiet.contents ∙ told));
       peer_left = peer_left;
       peer_keeps = keeps;
       unasked = λ e. absurd (no_kept_aside e);
@@ -363,6 +365,7 @@ scrubbed_printed file peer d out status (bytes, others, s, here, done, h) writte
         answer = answered_as s file peer bytes others here done (λ o. printed d ≡ o) (λ o. IsWritten o out status) turn h.answer;
         bare = h.bare;
         here_left = h.here_left;
+        trimmed = h.trimmed;
         peer_left = h.peer_left;
         peer_keeps = h.peer_keeps;
         unasked = h.unasked;
@@ -388,6 +391,7 @@ idle_scrubbed file peer out status no_other no_other_peer written =
         answer = inr (inr (inr (refl, refl, written)));
         bare = inl refl;
         here_left = idle_left file no_other own.0;
+        trimmed = λ e. absurd (no_aside_kept e);
         peer_left = quiet_scrub (is_modelled file) peer peer (quiet_none peer) no_other_peer own.0 others.0 s.0 s.1;
         peer_keeps = record { tells = refl; model = refl };
         unasked = λ e. untouched peer;

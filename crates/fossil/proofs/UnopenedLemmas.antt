@@ -59,7 +59,7 @@ module _ (command : Command) (no_repository : (r : Read) (at : ℕ) → FailsAt 
   same_records bytes told records old of are held is =
       subst (λ (rs : List Record). IsFileOf held rs) (one_file bytes records old (subst (λ (b : List ℕ). IsFileOf b records) (of.1 bytes told) of.2) are) is
 
-  module _ (fault : LoadFault) (un : IsUnopened file left fault) (counts : (fault ≡ load_fault.Disk → ⊥) → left.faults ≡ file.faults) where
+  module _ (fault : LoadFault) (un : IsUnopened file left fault) where
     by_text : (bytes : List ℕ) (o : Printed) → Agrees file.contents bytes → printed d ≡ o → IsAnswer command (read bytes) [] [] x (λ p. o ≡ p) → IsFileLeft (both file left) bytes o.status (made_all [])
         → IsDurable (both file left) bytes o.status (made_all []) → (o.status ≢ 4 → left.faults ≡ file.faults) → Comes
     by_text bytes o told is answer contents durable steady = (
@@ -117,7 +117,7 @@ module _ (command : Command) (no_repository : (r : Read) (at : ℕ) → FailsAt 
     memory : (fault ≡ load_fault.Disk → ⊥) → printed d ≡ no_memory → Comes
     memory other told =
         let bytes = some_bytes file.contents in
-        by_text bytes.0 no_memory bytes.1 told (inr (inr (inr (inl (inl refl, refl))))) (contents_by other bytes.0 9) (images_by bytes.0 9 (inl refl)) (λ status. counts other)
+        by_text bytes.0 no_memory bytes.1 told (inr (inr (inr (inl (inl refl, refl))))) (contents_by other bytes.0 9) (images_by bytes.0 9 (inl refl)) (λ status. un.faults other)
 
     disk : Rose file.faults left.faults → printed d ≡ disk_fault → Comes
     disk rose told =
@@ -128,15 +128,15 @@ module _ (command : Command) (no_repository : (r : Read) (at : ℕ) → FailsAt 
     nowhere : (fault ≡ load_fault.Disk → ⊥) → (bytes : List ℕ) (at : ℕ) → Agrees file.contents bytes → FailsAt bytes at → printed d ≡ printed_of (not_repository at) → Comes
     nowhere other bytes at agree fails told =
         by_text bytes (printed_of (not_repository at)) agree told (inl (not_repository at, refl, no_repository (read bytes) at fails refl, refl, refl)) (contents_by other bytes 2)
-        (λ modelled file_told old are c image. absurd (no_file bytes at old fails are)) (λ status. counts other)
+        (λ modelled file_told old are c image. absurd (no_file bytes at old fails are)) (λ status. un.faults other)
 
   -- it wasn't loaded
-  pub unopened_comes : (fault : LoadFault) → IsUnopened file left fault → ((fault ≡ load_fault.Disk → ⊥) → left.faults ≡ file.faults) → IsNotLoadedDue fault d → Comes
-  unopened_comes load_fault.Disk un counts due = disk load_fault.Disk un counts un.cause (ap printed due)
-  unopened_comes (load_fault.NotRepository at) un counts (inl due) =
-      nowhere (load_fault.NotRepository at) un counts (λ e. cc) un.cause.0 at (agrees file.contents un.cause.0 un.cause.1) un.cause.2 (ap printed due)
-  unopened_comes (load_fault.NotRepository at) un counts (inr due) = memory (load_fault.NotRepository at) un counts (λ e. cc) (ap printed due)
-  unopened_comes load_fault.Memory un counts due = memory load_fault.Memory un counts (λ e. cc) (ap printed due)
+  pub unopened_comes : (fault : LoadFault) → IsUnopened file left fault → IsNotLoadedDue fault d → Comes
+  unopened_comes load_fault.Disk un due = disk load_fault.Disk un un.cause (ap printed due)
+  unopened_comes (load_fault.NotRepository at) un (inl due) =
+      nowhere (load_fault.NotRepository at) un (λ e. cc) un.cause.0 at (agrees file.contents un.cause.0 un.cause.1) un.cause.2 (ap printed due)
+  unopened_comes (load_fault.NotRepository at) un (inr due) = memory (load_fault.NotRepository at) un (λ e. cc) (ap printed due)
+  unopened_comes load_fault.Memory un due = memory load_fault.Memory un (λ e. cc) (ap printed due)
 
 pull_unopened : (address : List ℕ) (login : Option (List ℕ × List ℕ)) (r : Read) (at : ℕ) → FailsAt r.file at → r.rounds ≡ [] → IsSyncOutcome (command_of.Pull address login) r (not_repository at)
 pull_unopened address login r at fails none = inl (at, fails, none, refl)
@@ -179,7 +179,7 @@ module _ {D : Type 0} (path : List ℕ) (file mid : DiskState) (old : Whole D) (
   same_keeps : Keeps mid mid
   same_keeps = record { tells = refl; model = refl }
 
-  module _ (fault : LoadFault) (un : IsUnopened peer peer_left fault) (counts : (fault ≡ load_fault.Disk → ⊥) → peer_left.faults ≡ peer.faults) where
+  module _ (fault : LoadFault) (un : IsUnopened peer peer_left fault) where
     peer_by : (bytes : List ℕ) (o : Printed) → Agrees peer.contents bytes → printed d ≡ o → IsAnswer local (record { file = ready.loaded.stands.0; peer = bytes; honest = is_modelled file; peer_honest = is_modelled peer; rounds = [] }) [] [] (objects_of (file, mid) (peer, peer_left) (dial, dial)) (λ p. o ≡ p)
         → Rose peer.faults peer_left.faults ⊎ KeepsContents peer peer_left → (o.status ≢ 4 → peer_left.faults ≡ peer.faults) → Locals
     peer_by bytes o told is answer contents steady = (
@@ -199,7 +199,7 @@ module _ {D : Type 0} (path : List ℕ) (file mid : DiskState) (old : Whole D) (
     )
 
     peer_memory : (fault ≡ load_fault.Disk → ⊥) → printed d ≡ no_memory → Locals
-    peer_memory other told = let bytes = some_bytes peer.contents in peer_by bytes.0 no_memory bytes.1 told (inr (inr (inr (inl (inl refl, refl))))) (inr (un.contents other)) (λ status. counts other)
+    peer_memory other told = let bytes = some_bytes peer.contents in peer_by bytes.0 no_memory bytes.1 told (inr (inr (inr (inl (inl refl, refl))))) (inr (un.contents other)) (λ status. un.faults other)
 
     peer_disk : Rose peer.faults peer_left.faults → printed d ≡ disk_fault → Locals
     peer_disk rose told =
@@ -209,15 +209,15 @@ module _ {D : Type 0} (path : List ℕ) (file mid : DiskState) (old : Whole D) (
     peer_nowhere : (fault ≡ load_fault.Disk → ⊥) → (bytes : List ℕ) (at : ℕ) → Agrees peer.contents bytes → FailsAt bytes at → printed d ≡ no_peer at → Locals
     peer_nowhere other bytes at agree fails told =
         peer_by bytes (no_peer at) agree told
-        (inl (with_commits (no_peer at) [], refl, (refl, inr (old.seen.state.records, ready.loaded.stands.2, inl (at, fails, refl))), refl, refl)) (inr (un.contents other)) (λ status. counts other)
+        (inl (with_commits (no_peer at) [], refl, (refl, inr (old.seen.state.records, ready.loaded.stands.2, inl (at, fails, refl))), refl, refl)) (inr (un.contents other)) (λ status. un.faults other)
 
   -- it wasn't loaded
-  pub no_peer_comes : (fault : LoadFault) → IsUnopened peer peer_left fault → ((fault ≡ load_fault.Disk → ⊥) → peer_left.faults ≡ peer.faults) → IsNotLoadedAs no_peer fault d → Locals
-  no_peer_comes load_fault.Disk un counts due = peer_disk load_fault.Disk un counts un.cause (ap printed due)
-  no_peer_comes (load_fault.NotRepository at) un counts (inl due) =
-      peer_nowhere (load_fault.NotRepository at) un counts (λ e. cc) un.cause.0 at (agrees peer.contents un.cause.0 un.cause.1) un.cause.2 (ap printed due)
-  no_peer_comes (load_fault.NotRepository at) un counts (inr due) = peer_memory (load_fault.NotRepository at) un counts (λ e. cc) (ap printed due)
-  no_peer_comes load_fault.Memory un counts due = peer_memory load_fault.Memory un counts (λ e. cc) (ap printed due)
+  pub no_peer_comes : (fault : LoadFault) → IsUnopened peer peer_left fault → IsNotLoadedAs no_peer fault d → Locals
+  no_peer_comes load_fault.Disk un due = peer_disk load_fault.Disk un un.cause (ap printed due)
+  no_peer_comes (load_fault.NotRepository at) un (inl due) =
+      peer_nowhere (load_fault.NotRepository at) un (λ e. cc) un.cause.0 at (agrees peer.contents un.cause.0 un.cause.1) un.cause.2 (ap printed due)
+  no_peer_comes (load_fault.NotRepository at) un (inr due) = peer_memory (load_fault.NotRepository at) un (λ e. cc) (ap printed due)
+  no_peer_comes load_fault.Memory un due = peer_memory load_fault.Memory un (λ e. cc) (ap printed due)
 
 -- ---- words for which there was no memory
 

@@ -26,7 +26,7 @@ use Rattle.fsl_query.specs.declared.QueryFault.{QueryFault}
 use Rattle.fsl_query.specs.Answers.{content_asked, IsRead, IsReported, IsSpoiltIn}
 use Rattle.fossil.specs.Unversioned.{IsUvObeyable}
 use Rattle.fossil.specs.Outcome.{Outcome, without_commit, printed_of, IsAnswered, IsSaidOutcome}
-use Rattle.fossil.specs.Run.{Input, Clock, Output, File, Agrees, reads, TakesNone, IsTimed, IsCutTimed, IsDiskFault, IsInputFault, IsDamaged, IsFileLeft, IsRefusedKept, IsWholeAtAnyMoment, lasts, IsDurable, IsSpared}
+use Rattle.fossil.specs.Run.{Input, Clock, Output, File, Agrees, reads, TakesNone, IsTimed, IsCutTimed, IsDiskFault, IsInputFault, IsDamaged, IsFileLeft, IsRefusedKept, IsWholeAtAnyMoment, lasts, IsDurable, IsSpared, trims, IsTrimmed}
 
 -- ---- objects before and after
 
@@ -112,6 +112,7 @@ IsNotLoaded load_fault.Memory file left = ⊤
 pub record IsUnopened (file left : DiskState) (fault : LoadFault) : Type 0 where
   pub cause : IsNotLoaded fault file left
   pub contents : fault ≢ load_fault.Disk → KeepsContents file left
+  pub faults : fault ≢ load_fault.Disk → left.faults ≡ file.faults
   -- even where the disk failed
   pub modelled : IsModelled file → KeepsContents file left
   pub unreadable : KeepsUnreadable file left
@@ -139,7 +140,9 @@ pub record ActsBy (command : Option Command) (input : Input) (file : File) (resu
   pub contents : IsFileLeft command file (printed result).status bytes o
   pub touches : Touches command file bytes o
   pub durable : IsTrue (lasts command (printed result).status) → IsDurable command file bytes o
+  pub trimmed : IsTrue (trims command (printed result).status) → IsTrimmed command file
   pub spared : IsSpared command file (printed result).status
+  pub steady : IfOk result (λ _. file.after.faults ≡ file.before.faults)
 
 -- the moment by what is answered: where no fault ended the command, or the disk failed in its commit, one was taken where the command takes one, and else none;
 -- where the file wasn't loaded or made, or the input failed, none; and behind another fault one that the command takes may be taken

@@ -8,7 +8,7 @@ use Rattle.fsl_date.specs.Moment.{IsMoment}
 use Rattle.fsl_outside.specs.Clocks.{Asks}
 use Rattle.fsl_outside.specs.Streams.{SourceState, SinkState}
 use Rattle.fsl_record.specs.declared.Record.{Record}
-use Rattle.fsl_disk.specs.Disk.{DiskState, IsModelled, Keeps, Quiet, LeavesOnly}
+use Rattle.fsl_disk.specs.Disk.{DiskState, IsModelled, Told, Keeps, Quiet, LeavesOnly}
 use Rattle.fsl_journal.specs.File.{IsFileOf, FailsAt}
 use Rattle.fsl_blobs.specs.Fold.{contents}
 use Rattle.fsl_repo.specs.Whole.{is_modelled}
@@ -97,7 +97,7 @@ pub data IsWritten (p : Printed) (out : Output) (status : ℕ) : Type 0 where
   front : status ≡ cut_off_status p.status → IsCutOff out p.text → IsWritten p out status
 
 -- the count of the file's disk rose, and a call of it was due: the input wasn't read, so that the file was to be loaded or made; or there is something to
--- commit. A command that reads no input never reads it, so of that this says only that the count rose
+-- commit. A command that reads no input never reads it, and an empty input is the same once it was read, so of these this says only that the count rose
 pub record IsDiskFault (command : Option Command) (input : Input) (file : File) (o : Outcome) : Type 0 where
   pub opened : IsTrue (opens command)
   pub rose : Rose file.before.faults file.after.faults
@@ -169,7 +169,8 @@ IsTimed command clock answered read moment bytes =
     (TakesMoment command read bytes × TakesOne clock moment) ⊎ ((IsTrue answered → ¬ (TakesMoment command read bytes)) × TakesNone clock)
 
 -- behind a disk that failed: nothing was read and no moment taken, so that the file was to be loaded or made; or a moment was taken where the command takes one,
--- and else none
+-- and else none. A source without bytes is the same before and after it is read to its end: of an empty input the first alternative says only that no moment was
+-- taken, and the commit may have failed
 abbrev pub IsCutTimed : Option Command → Input → Clock → List ℕ → ℕ → List ℕ → Type 0
 IsCutTimed command input clock read moment bytes = ((input.after ≡ input.before) × TakesNone clock) ⊎ IsTimed command clock true read moment bytes
 
@@ -268,6 +269,29 @@ IsDurable command file bytes o =
     IsTrue (opens command) → IsModelled file.before → file.before.contents ≡ Some bytes → (old : List Record) → AreOld command old bytes →
     (c : List ℕ) → file.after.images c → StandsForAll old o.commits c
 
+-- bytes that stand for these records, and nothing more: the closed gate is their last byte
+abbrev pub IsJust : List ℕ → List Record → Type 0
+IsJust bytes records = (file : IsFileOf bytes records) × (file.rest ≡ [])
+
+-- the contents, where they are told, are such bytes
+abbrev pub HoldsJust : DiskState → Type 0
+HoldsJust disk = Told disk (λ held. (records : List Record) × IsJust held records)
+
+-- whether a refusal comes behind a load that cut off what stood behind the closed gate. A file that `init` refuses isn't loaded; and one that is refused
+-- for a Blob that is no entry may be left as it was
+abbrev pub command_trims : Command → Bool
+command_trims (Init project server fields) = false
+command_trims (Unversioned asked) = false
+command_trims command = true
+
+-- after which status nothing stands behind the closed gate: the command is done, or is refused behind such a load
+abbrev pub trims : Option Command → ℕ → Bool
+trims command status = is_done status || ((status == 3) && option_map_or command_trims command false)
+
+-- a file that was loaded holds the bytes of its records alone, whatever stood behind them
+abbrev pub IsTrimmed : Option Command → File → Type 0
+IsTrimmed command file = IsTrue (opens command) → begins command ≡ false → HoldsJust file.after
+
 -- want of memory leaves a file that a command would begin as it is, at each moment
 abbrev pub IsSpared : Option Command → File → ℕ → Type 0
 IsSpared command file status = status ≡ 9 → IsTrue (begins command) → Quiet file.before file.after
@@ -294,8 +318,11 @@ pub record RunsBy (command : Option Command) (input : Input) (clock : Clock) (ou
   pub kept : IsRefusedKept command file bytes
   pub any_moment : IsWholeAtAnyMoment command file o
   pub durable : IsTrue (lasts command status) → IsDurable command file bytes o
+  pub trimmed : IsTrue (trims command status) → IsTrimmed command file
   pub spared : IsSpared command file status
   pub keeps : Keeps file.before file.after
+  -- no call of the disk failed where no fault ended the run
+  pub steady : IsTrue (is_answered status) → file.after.faults ≡ file.before.faults
   pub disk_fault : status ≡ 4 → Rose file.before.faults file.after.faults
   pub input_fault : status ≡ 5 → Rose input.before.faults input.after.faults
   pub output_fault : status ≡ 6 → Rose out.before.faults out.after.faults

@@ -15,7 +15,7 @@ use Rattle.fsl_words.specs.declared.Command.{Command}
 use Rattle.fsl_words.specs.declared.Command.TheVariants as command_of
 use Rattle.fossil.specs.Printed.{Printed, refused, damaged, disk_fault, line_of, with_text, no_memory}
 use Rattle.fossil.specs.Outcome.{printed_of, not_repository}
-use Rattle.fossil.specs.Run.{File, Agrees, IsWritten}
+use Rattle.fossil.specs.Run.{File, Agrees, IsWritten, HoldsJust}
 use Rattle.fossil.specs.Acts.{file_of, output_of}
 use Rattle.fossil.specs.Synced.{IsUntouched}
 use Rattle.fossil.specs.UvSyncs.{Part, aside, kept, IsBare, IsLeftAs, IsSteady}
@@ -116,6 +116,8 @@ pub record ScrubsBy (file peer : File) (Tells : Printed → Type 0) (bytes other
   -- nothing is appended to the file of the repository: it stands for what it stood for, at each moment
   pub bare : IsBare here
   pub here_left : IsLeftAs here file bytes
+  -- and where it was opened, it holds the bytes of its records alone
+  pub trimmed : here ≡ kept → HoldsJust file.after
   pub peer_left : IsPeerLeft (is_modelled file.before) s.of peer done
   pub peer_keeps : Keeps peer.before peer.after
   -- the peer's file isn't looked at unless this one was opened, which is one of a repository

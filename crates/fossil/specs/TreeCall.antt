@@ -30,10 +30,12 @@ pub record Reading (X : Type 0) : Type 1 where
   pub print : List ℕ → X → Printed
   pub Asks : Bool → HeldSet → List Item → List ℕ → List ℕ → Type 0
 
--- what is answered of a name, by a repository before it was read and after it; want of memory has no cause
+-- what is answered of a name, by a repository before it was read and after it: an answer, and no call of its disk failed; or why there is none. Want of memory
+-- has no cause
 abbrev pub IsNamedAnswer : {X D : Type 0} → Reading X → List ℕ → (D → DiskState) × Whole D × Whole D → Due → Type 0
 IsNamedAnswer {X} way name repo (Ok a) =
     (answer : X) × way.Reads (is_modelled (repo.0 repo.1.disk)) (now repo.1.seen.state).held repo.1.seen.items name answer × (a ≡ way.print name answer)
+    × ((repo.0 repo.2.disk).faults ≡ (repo.0 repo.1.disk).faults)
 IsNamedAnswer way name repo (Err fault_is.Disk) = Rose (repo.0 repo.1.disk).faults (repo.0 repo.2.disk).faults
 IsNamedAnswer way name repo (Err (fault_is.Damaged damaged found)) =
     way.Asks (is_modelled (repo.0 repo.1.disk)) (now repo.1.seen.state).held repo.1.seen.items name damaged

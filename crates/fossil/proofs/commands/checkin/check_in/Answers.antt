@@ -9,7 +9,7 @@ use Rattle.fossil.specs.CheckinCall.{AreArriving, asked_for}
 use Rattle.fossil.specs.Taking.{HaveArrived}
 use Rattle.fossil.proofs.AppendLemmas.{memory_timed, failed_acted, appended_acted, idle_acted}
 use Rattle.fossil.proofs.CheckinLemmas.{checkin_loads, checkin_timed, checked_appended, arrival_appended}
-use Rattle.fossil.proofs.ShunLemmas.{was_due, commit_rose, commit_contents}
+use Rattle.fossil.proofs.ShunLemmas.{was_due, commit_rose, commit_settles}
 use Rattle.fossil.proofs.commands.checkin.check_in.Goals as goal
 
 pub returns-in_err-made : goal.returns-in_err-made
@@ -91,5 +91,5 @@ returns-in-Ok g c = λ text clock tree parent taken disk input is opened.
     (clock_of clock) (loaded_of mid) (record { status = 0; text = c.add_line.new.text }) appended
     (g.D.Disk.state left.disk) c.commit-committed.ensures.keeps c.commit-committed.ensures.any_moment
     (λ held model told. g.met.D.Disk.reads_as_image disk held model told)
-    (commit_contents mid left (g.D.Disk.state mid.disk) (g.D.Disk.state left.disk) c.is_whole-2.ensures c.is_whole-3.ensures arrived.runs _ c.in-Ok.ensures.step)
+    (commit_settles mid left (g.D.Disk.state mid.disk) (g.D.Disk.state left.disk) c.is_whole-2.ensures c.is_whole-3.ensures arrived.runs _ c.in-Ok.ensures.step)
     c.in-Ok.ensures.durable
