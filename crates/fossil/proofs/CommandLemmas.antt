@@ -10,7 +10,7 @@ use Rattle.fsl_words.specs.declared.Command.TheVariants as command_of
 use Rattle.fossil.specs.Due.{Due, printed_fault}
 use Rattle.fossil.specs.declared.answers.fault.Fault.{Fault}
 use Rattle.fossil.specs.declared.answers.fault.Fault.TheVariants as fault_is
-use Rattle.fossil.specs.declared.reading.message.Sent.{Sent}
+use Rattle.fossil.specs.declared.reading.message.MessageFile.{MessageFile}
 use Rattle.fossil.specs.Arrivals.{Taken, none_taken, Arrive}
 use Rattle.fossil.proofs.ArrivalLemmas.{refused_files}
 use Rattle.fossil.specs.Printed.{Printed}
@@ -119,7 +119,7 @@ serve_run address users workers requests = usage_of (Some (command_of.Serve addr
 
 -- ---- ingest
 
-small_printed : (files : List Sent) (result : Result Taken Printed) (answer : Printed) → Arrive None (none_taken ingest.fresh) files result → ingest.IsPrintedBy result answer → answer.status ≤ 3
+small_printed : (files : List MessageFile) (result : Result Taken Printed) (answer : Printed) → Arrive None (none_taken ingest.fresh) files result → ingest.IsPrintedBy result answer → answer.status ≤ 3
 small_printed files (Ok t) answer arrive is = let z = ap (λ (a : Printed). a.status) is.2 in omega (arith, z)
 small_printed files (Err refusal) answer arrive is = let e = refused_files None files (none_taken ingest.fresh) refusal arrive in let same = ap (λ (a : Printed). a.status) is in omega (arith, e, same)
 

@@ -15,7 +15,7 @@ use Rattle.fsl_repo.specs.Whole.{is_modelled}
 use Rattle.fsl_query.specs.Answers.{content_asked, IsSpoiltIn}
 use Rattle.fsl_words.specs.declared.Command.{Command}
 use Rattle.fsl_words.specs.declared.Command.TheVariants.{Init, Ingest, Put, Shun, Unshun, Ask, Serve, Gen, Pull, Push, Clone, PullLocal, Checkin, Export, Verify, Scrub, Unversioned}
-use Rattle.fossil.specs.declared.reading.message.Sent.{Sent}
+use Rattle.fossil.specs.declared.reading.message.MessageFile.{MessageFile}
 use Rattle.fossil.specs.Printed.{Printed, disk_fault, input_fault, no_memory}
 use Rattle.fossil.specs.Printed as printing
 use Rattle.fossil.specs.Messages.{IsFileList}
@@ -140,7 +140,7 @@ IsFaulted command input out file status bytes o =
 
 -- a message of files that isn't too long, of which each line reads and each card is of files
 abbrev pub HasForm : List ℕ → Type 0
-HasForm message = (nat_lt most_of_message (length message) ≡ false) × ((files : List Sent) × IsFileList message files)
+HasForm message = (nat_lt most_of_message (length message) ≡ false) × ((files : List MessageFile) × IsFileList message files)
 
 -- `put` takes a moment where its file stands for records and its message has its form, and `checkin` where its file does and its tree and parent aren't
 -- refused; two commands of unversioned files take one; no other command does

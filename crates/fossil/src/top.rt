@@ -17,14 +17,14 @@ ghost use Rattle.fossil.specs.RunCall.{texts, RunsCommand, RunsFor, SyncsFor, Cl
 
 use crate::answers::due::{answered, print_due};
 use crate::answers::fault::Fault;
-use crate::commands::ask::ask;
-use crate::commands::checkin::{Asked, checkin};
+use crate::commands::checkin::{NewCheckin, checkin};
 use crate::commands::clone::clone_onto;
 use crate::commands::generating::generate;
 use crate::commands::ingest::ingest;
 use crate::commands::init::init;
 use crate::commands::pull_local::pull_local;
 use crate::commands::put::put;
+use crate::commands::question::answer_question;
 use crate::commands::scrub::scrub;
 use crate::commands::shun::shun;
 use crate::commands::sync::{Way, sync};
@@ -89,13 +89,13 @@ fn obey<S: Source, C: Clock, K: Sink, D: Disk>(
             let status = print_due(out, answer);
             Done { status, repo }
         }
-        Command::Ask(question) => ask(alloc, &question, out, repo),
+        Command::Ask(question) => answer_question(alloc, &question, out, repo),
         Command::Checkin {
             parent,
             user,
             comment,
         } => {
-            let asked = Asked {
+            let asked = NewCheckin {
                 parent,
                 user,
                 comment,

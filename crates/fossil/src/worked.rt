@@ -3,7 +3,7 @@ ghost use Rattle.std.specs.Prelude.{◌≡◌, ◌≤◌, ◌++◌, length, deci
 ghost use Rattle.std.specs.List.{list_any};
 ghost use Rattle.fsl_repo.specs.Whole.{IsWholeOn};
 ghost use Rattle.fsl_serve.specs.Crews.{sessions_of};
-ghost use Rattle.fossil.specs.declared.commands.serving.State.TheVariants as state_is;
+ghost use Rattle.fossil.specs.declared.commands.serve.State.TheVariants as state_is;
 ghost use Rattle.fossil.specs.Acts.{output_of};
 ghost use Rattle.fossil.specs.Printed.{line_of, with_text};
 ghost use Rattle.fossil.specs.Served.{served_text, worked};
@@ -14,7 +14,7 @@ use crate::answers::answer::Answer;
 use crate::answers::due::{Due, answered, print_due};
 use crate::answers::fault::Fault;
 use crate::answers::status::DONE;
-use crate::commands::serving::{Served, State};
+use crate::commands::serve::{Served, State};
 use fsl_disk::Disk;
 use fsl_outside::Sink;
 use fsl_serve::{Served as Worked, Work};

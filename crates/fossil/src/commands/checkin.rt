@@ -20,7 +20,7 @@ use crate::commands::trees::found_one;
 use crate::reading::arrivals::{Arrivals, arrive};
 use crate::reading::input::read_input;
 use crate::reading::load::not_loaded;
-use crate::reading::message::Sent;
+use crate::reading::message::MessageFile;
 use fsl_checkin::{TreeFault, TreeItem, manifest, read_tree};
 use fsl_date::Moment;
 use fsl_disk::Disk;
@@ -33,9 +33,9 @@ use fsl_repo::Repo;
 use fsl_text::{List, Memory, Text};
 use std::alloc::Global;
 
-/// What a check-in is asked for with: the prefix of its parent's name, where it has a parent, its user and its comment.
+/// A check-in that is asked for: the prefix of its parent's name, where it has a parent, its user and its comment.
 #[derive(Drop)]
-pub(crate) struct Asked {
+pub(crate) struct NewCheckin {
     pub parent: Option<Text>,
     pub user: Text,
     pub comment: Text,
@@ -45,7 +45,7 @@ pub(crate) struct Asked {
 #[derive(Drop)]
 struct Arriving {
     name: Name,
-    files: List<Sent>,
+    files: List<MessageFile>,
 }
 
 /// The files of a name.
@@ -114,10 +114,10 @@ fn parent_of<D: Disk>(
 }
 
 /// A content as it arrives: public, and under its own name.
-fn sent(alloc: Global, bytes: &[u8]) -> Result<Sent, Memory>
+fn sent(alloc: Global, bytes: &[u8]) -> Result<MessageFile, Memory>
     ensures { IfOk result (λ f. f ≡ sent_of bytes.now) }
 {
-    Ok(Sent {
+    Ok(MessageFile {
         name: Name::of(bytes),
         bytes: Text::of(alloc, bytes)?,
         private: false,
@@ -125,7 +125,7 @@ fn sent(alloc: Global, bytes: &[u8]) -> Result<Sent, Memory>
 }
 
 /// The contents of a tree as they arrive.
-fn contents(alloc: Global, items: &[TreeItem]) -> Result<Vec<Sent>, Memory>
+fn contents(alloc: Global, items: &[TreeItem]) -> Result<Vec<MessageFile>, Memory>
     ensures { IfOk result (λ files. files.items ≡ map (λ item. sent_of item.bytes) items.now) }
 {
     let mut files = Vec::new(alloc);
@@ -138,7 +138,7 @@ fn contents(alloc: Global, items: &[TreeItem]) -> Result<Vec<Sent>, Memory>
 /// What arrives of a tree that is checked in over this parent at this moment.
 fn to_arrive(
     alloc: Global,
-    asked: &Asked,
+    asked: &NewCheckin,
     items: &List<TreeItem>,
     parent: Option<Name>,
     moment: Moment,
@@ -156,7 +156,7 @@ fn to_arrive(
     )?;
     let name = Name::of(text.bytes());
     let mut files = List::from_vec(contents(alloc, items.items())?);
-    files.append(Sent {
+    files.append(MessageFile {
         name,
         bytes: text,
         private: false,
@@ -168,7 +168,7 @@ fn to_arrive(
 /// refused, or there is no memory, nothing is committed.
 fn check_in<D: Disk>(
     alloc: Global,
-    asked: &Asked,
+    asked: &NewCheckin,
     items: &List<TreeItem>,
     parent: Option<Name>,
     receipt: &Receipt,
@@ -199,7 +199,7 @@ fn check_in<D: Disk>(
 /// Checks a tree in over a parent, in a repository that was opened, behind one moment of the clock.
 fn check_over<C: Clock, D: Disk>(
     alloc: Global,
-    asked: &Asked,
+    asked: &NewCheckin,
     items: &List<TreeItem>,
     parent: Option<Name>,
     clock: &mut C,
@@ -218,7 +218,7 @@ fn check_over<C: Clock, D: Disk>(
 /// Checks a tree in, in a repository that was opened: its parent is refused, or else it is checked in over it.
 fn check_tree<C: Clock, D: Disk>(
     alloc: Global,
-    asked: &Asked,
+    asked: &NewCheckin,
     items: &List<TreeItem>,
     clock: &mut C,
     repo: &mut Repo<D>,
@@ -237,7 +237,7 @@ fn check_tree<C: Clock, D: Disk>(
 /// Checks the tree in that a text is, in a repository that was opened, or refuses an item.
 fn check_text<C: Clock, D: Disk>(
     alloc: Global,
-    asked: &Asked,
+    asked: &NewCheckin,
     text: &[u8],
     clock: &mut C,
     repo: &mut Repo<D>,
@@ -262,7 +262,7 @@ fn check_text<C: Clock, D: Disk>(
 /// Reads the input, and checks the tree in that it is, in a repository that was opened.
 fn check_input<S: Source, C: Clock, D: Disk>(
     alloc: Global,
-    asked: &Asked,
+    asked: &NewCheckin,
     input: &mut S,
     clock: &mut C,
     repo: &mut Repo<D>,
@@ -284,7 +284,7 @@ fn check_input<S: Source, C: Clock, D: Disk>(
 /// that is stored.
 pub(crate) fn checkin<S: Source, C: Clock, D: Disk>(
     alloc: Global,
-    asked: &Asked,
+    asked: &NewCheckin,
     input: &mut S,
     clock: &mut C,
     disk: D,

@@ -9,13 +9,13 @@ use crate::answers::status::DONE;
 use crate::reading::checking::{Checked, check_message};
 use crate::reading::gathering::{Gathered, gather, print_set};
 use crate::reading::input::read_input;
-use crate::reading::message::Sent;
+use crate::reading::message::MessageFile;
 use fsl_outside::Source;
 use fsl_text::{List, Memory, Text};
 use std::alloc::Global;
 
 /// The report on the set that files make, or the refusal of one.
-fn report_on(alloc: Global, files: List<Sent>) -> Result<Answer, Memory>
+fn report_on(alloc: Global, files: List<MessageFile>) -> Result<Answer, Memory>
     ensures { IfOk result (λ a. ingest.IsReported files a) }
 {
     let mut set = Gathered::empty(alloc);

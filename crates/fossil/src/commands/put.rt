@@ -12,7 +12,7 @@ use crate::reading::arrivals::{Arrivals, arrive};
 use crate::reading::checking::{Checked, check_message};
 use crate::reading::input::read_input;
 use crate::reading::load::not_loaded;
-use crate::reading::message::Sent;
+use crate::reading::message::MessageFile;
 use fsl_disk::Disk;
 use fsl_outside::{Clock, Source};
 use fsl_record::Receipt;
@@ -31,7 +31,7 @@ pub(crate) fn put_receipt<C: Clock>(alloc: Global, clock: &mut C) -> Receipt
 /// no memory, nothing is committed.
 fn take_with<D: Disk>(
     alloc: Global,
-    files: List<Sent>,
+    files: List<MessageFile>,
     receipt: &Receipt,
     repo: &mut Repo<D>,
 ) -> Due
@@ -55,7 +55,7 @@ fn take_with<D: Disk>(
 /// Takes the files of a message into a repository that was opened, behind one moment of the clock.
 fn take_files<C: Clock, D: Disk>(
     alloc: Global,
-    files: List<Sent>,
+    files: List<MessageFile>,
     clock: &mut C,
     repo: &mut Repo<D>,
 ) -> Due

@@ -27,7 +27,7 @@ fn counts(alloc: Global, made: Scrubbed) -> Result<Answer, Memory>
 }
 
 /// What is due of a scrub that wasn't made.
-fn fault_due(alloc: Global, fault: ScrubFault) -> Due
+fn unscrubbed_due(alloc: Global, fault: ScrubFault) -> Due
     ensures { IsUnscrubbedDue fault result }
 {
     match fault {
@@ -44,7 +44,7 @@ fn scrub_due(alloc: Global, made: Result<Scrubbed, ScrubFault>) -> Due
 {
     match made {
         Ok(made) => answered(counts(alloc, made)),
-        Err(fault) => fault_due(alloc, fault),
+        Err(fault) => unscrubbed_due(alloc, fault),
     }
 }
 

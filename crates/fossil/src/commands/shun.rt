@@ -29,7 +29,7 @@ fn word(done: Shunning) -> &'static [u8]
 }
 
 /// The line of what became of a name that was shunned.
-fn told(alloc: Global, name: Name, done: Shunning) -> Result<Answer, Memory>
+fn shun_answer(alloc: Global, name: Name, done: Shunning) -> Result<Answer, Memory>
     ensures { IfOk result (λ a. a ≡ record { status = 0; text = name_line (word_of done) name }) }
 {
     let mut text = Text::empty(alloc);
@@ -47,7 +47,7 @@ fn take_out<D: Disk>(alloc: Global, name: Name, repo: &mut Repo<D>) -> Due
         Ok(done) => done,
         Err(_) => return Err(Fault::Memory),
     };
-    let answer = told(alloc, name, done)?;
+    let answer = shun_answer(alloc, name, done)?;
     repo.is_whole();
     let committed = repo.commit();
     repo.is_whole();

@@ -67,7 +67,7 @@ fn lacking(alloc: Global, missing: &Ref) -> Result<Text, Memory>
 }
 
 /// A line with these bytes.
-fn line(alloc: Global, bytes: &[u8]) -> Result<Answer, Memory>
+fn done_line(alloc: Global, bytes: &[u8]) -> Result<Answer, Memory>
     ensures { IfOk result (λ a. a ≡ line_of bytes.now) }
 {
     let mut text = Text::of(alloc, bytes)?;
@@ -92,7 +92,7 @@ fn wrong_line(alloc: Global, kept: [u8; 16], found: [u8; 16]) -> Result<Answer, 
     append_sum(&mut text, &kept)?;
     text.append(b" ")?;
     append_sum(&mut text, &found)?;
-    line(alloc, text.bytes())
+    done_line(alloc, text.bytes())
 }
 
 /// What an export of this name came to.
@@ -122,13 +122,13 @@ fn verdict_answer(alloc: Global, name: Name, found: Verdict) -> Result<Answer, M
 {
     match found {
         Verdict::NotCheckin => question_refusal(alloc, Refused::NotCheckin { name }),
-        Verdict::NoSum => line(alloc, b"no sum"),
+        Verdict::NoSum => done_line(alloc, b"no sum"),
         Verdict::Incomplete { missing } => {
             let text = lacking(alloc, &missing)?;
-            line(alloc, text.bytes())
+            done_line(alloc, text.bytes())
         }
         Verdict::Wrong { kept, found } => wrong_line(alloc, kept, found),
-        Verdict::Right => line(alloc, b"right"),
+        Verdict::Right => done_line(alloc, b"right"),
     }
 }
 

@@ -28,7 +28,7 @@ fn word(done: Unshunning) -> &'static [u8]
 }
 
 /// The line of what became of a name that was to be taken off the list.
-fn told(alloc: Global, name: Name, done: Unshunning) -> Result<Answer, Memory>
+fn unshun_answer(alloc: Global, name: Name, done: Unshunning) -> Result<Answer, Memory>
     ensures { IfOk result (λ a. a ≡ record { status = 0; text = name_line (word_of done) name }) }
 {
     let mut text = Text::empty(alloc);
@@ -47,7 +47,7 @@ fn unlist<D: Disk>(alloc: Global, name: Name, repo: &mut Repo<D>) -> Due
         Err(UnshunFault::Full { .. }) => return Ok(full(alloc, name)?),
         Err(_) => return Err(Fault::Memory),
     };
-    let answer = told(alloc, name, done)?;
+    let answer = unshun_answer(alloc, name, done)?;
     repo.is_whole();
     let committed = repo.commit();
     repo.is_whole();

@@ -42,7 +42,7 @@ fn path_answer(alloc: Global, word: &[u8], path: &Text) -> Result<Answer, Memory
 }
 
 /// The refusal of a content of so many bytes, by its path.
-fn too_large(alloc: Global, path: &Text, size: u64) -> Result<Answer, Memory>
+fn content_too_large(alloc: Global, path: &Text, size: u64) -> Result<Answer, Memory>
     ensures { IfOk result (λ a. a ≡ printing.refused (codes "too large " ++ escape path.now ++ 32 ∷ decimal size)) }
 {
     let mut reason = Text::of(alloc, b"too large ")?;
@@ -86,7 +86,7 @@ fn put_answer(alloc: Global, path: &Text, put: Result<Put, UvFault>) -> Result<A
     match put {
         Ok(Put::Stored) => path_answer(alloc, b"stored ", path),
         Ok(Put::Kept) => path_answer(alloc, b"kept ", path),
-        Err(UvFault::TooLarge { size }) => too_large(alloc, path, size),
+        Err(UvFault::TooLarge { size }) => content_too_large(alloc, path, size),
         Err(UvFault::Full { .. }) => refusal(alloc, b"full"),
         // The store runs, so memory was wanting.
         Err(_) => Err(Memory),

@@ -31,7 +31,7 @@ fn counts(alloc: Global, received: u64, sent: u64) -> Result<Answer, Memory>
 }
 
 /// What is due of a sync that was made.
-fn sync_due(alloc: Global, made: Result<(u64, u64), SyncFault>) -> Due
+fn uv_sync_due(alloc: Global, made: Result<(u64, u64), SyncFault>) -> Due
     ensures { IsUvSyncDue made result }
 {
     match made {
@@ -43,7 +43,7 @@ fn sync_due(alloc: Global, made: Result<(u64, u64), SyncFault>) -> Due
 }
 
 /// What is due of a peer's file that isn't opened as a store.
-fn unopened_peer(alloc: Global, fault: UvLoadFault) -> Due
+fn no_peer_store(alloc: Global, fault: UvLoadFault) -> Due
     ensures { IsNoStoreAs no_peer fault result }
 {
     match fault {
@@ -65,7 +65,7 @@ fn talk<D: Disk, P: Disk>(alloc: Global, here: &mut Store<D>, there: &mut Store<
     let found = there.config().project;
     let same = found == here.config().project;
     let due = if same {
-        sync_due(alloc, fsl_uv::sync(here, there))
+        uv_sync_due(alloc, fsl_uv::sync(here, there))
     } else {
         answered(other_project(alloc, found))
     };
@@ -85,7 +85,7 @@ fn sync_with<D: Disk, P: Disk>(alloc: Global, here: &mut Store<D>, peer: P) -> (
             let due = talk(alloc, here, &mut there);
             (due, there.close())
         }
-        Err((peer, fault)) => (unopened_peer(alloc, fault), peer),
+        Err((peer, fault)) => (no_peer_store(alloc, fault), peer),
     }
 }
 

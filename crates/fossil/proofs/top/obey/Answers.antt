@@ -66,9 +66,9 @@ pub returns-in-Ask-clause-runs : goal.returns-in-Ask-clause-runs
 returns-in-Ask-clause-runs g c =
     let input : SourceState × SourceState = (g.S.Source.state c.args.input.now, g.S.Source.state c.args.input.now) in
     let clock : Moments × Moments = (g.C.Clock.told c.args.clock.now, g.C.Clock.told c.args.clock.now) in
-    let out : SinkState × SinkState = (g.K.Sink.state c.args.out.now, g.K.Sink.state c.ask.new.out) in
-    let file : DiskState × DiskState = (g.D.Disk.state c.args.repo, g.D.Disk.state c.ask.result.repo) in
-    subst (λ (x : Command). HasRun (Some x) (input_of input) (clock_of clock) (output_of out) (file_of file) c.ask.result.status) (sym c.in-Ask.is) (c.ask.ensures (g.S.Source.state c.args.input.now) clock.0)
+    let out : SinkState × SinkState = (g.K.Sink.state c.args.out.now, g.K.Sink.state c.answer_question.new.out) in
+    let file : DiskState × DiskState = (g.D.Disk.state c.args.repo, g.D.Disk.state c.answer_question.result.repo) in
+    subst (λ (x : Command). HasRun (Some x) (input_of input) (clock_of clock) (output_of out) (file_of file) c.answer_question.result.status) (sym c.in-Ask.is) (c.answer_question.ensures (g.S.Source.state c.args.input.now) clock.0)
 
 pub returns-in-Serve-clause-runs : goal.returns-in-Serve-clause-runs
 returns-in-Serve-clause-runs g c =

@@ -79,7 +79,7 @@ fn requests_of(command: &Command) -> Option<u64>
 }
 
 /// How many connections each worker is to take, by the words.
-fn asked(alloc: Global, words: &[String]) -> Result<u64, Fault>
+fn connections_asked(alloc: Global, words: &[String]) -> Result<u64, Fault>
     ensures asked { IfOk result (IsAsked (texts words.now)) }
     ensures few { IfOk result (λ requests. requests ≤ 65536) }
     ensures none { IfErr result (λ fault. IsUnasked (texts words.now) (Err fault)) }
@@ -229,7 +229,7 @@ pub fn serve<
     ensures said { IsServe words.now (S.state, users.old, users.new) (K.state, out.old, out.new) (D.state, repo) ((A.state, G.passed, C.told), crews.items) result }
     ensures unread { serving_in (texts words.now) ≡ None → users.new ≡ users.old }
 {
-    match asked(alloc, words) {
+    match connections_asked(alloc, words) {
         Ok(requests) => serve_file(rt, alloc, users, repo, crews, requests, out),
         Err(fault) => ended(out, Err(fault), State::Unloaded(repo), crews),
     }

@@ -2,7 +2,7 @@ use Rattle.std.proofs.Common.{Some}
 use Rattle.fsl_words.specs.declared.Command.TheVariants as command_of
 use Rattle.fossil.specs.Acts.{input_of, clock_of, output_of, file_of}
 use Rattle.fossil.proofs.PrintedLemmas.{written}
-use Rattle.fossil.proofs.commands.ask.ask.Goals as goal
+use Rattle.fossil.proofs.commands.question.answer_question.Goals as goal
 
 pub returns : goal.returns
 returns g c = λ input clock.

@@ -1,4 +1,4 @@
-//! The commands that ask the repository.
+//! The commands that ask the repository a question.
 ghost use Rattle.fossil.specs.RunCall.{RunsQuestion};
 
 use crate::answers::due::print_due;
@@ -10,7 +10,7 @@ use fsl_words::Question;
 use std::alloc::Global;
 
 /// Prints the report on a question, and gives the status and the disk.
-pub(crate) fn ask<K: Sink, D: Disk>(
+pub(crate) fn answer_question<K: Sink, D: Disk>(
     alloc: Global,
     question: &Question,
     out: &mut K,

@@ -3,7 +3,7 @@ use Rattle.std.specs.Prelude.{string_bytes}
 use Rattle.fossil.specs.Acts.{input_of}
 use Rattle.fossil.specs.ServeCall.{left_of}
 use Rattle.fossil.proofs.ServeLemmas.{unasked, asked_served}
-use Rattle.fossil.proofs.commands.serving.serve.Goals as goal
+use Rattle.fossil.proofs.commands.serve.serve.Goals as goal
 
 pub returns-in-Ok-clause-said : goal.returns-in-Ok-clause-said
 returns-in-Ok-clause-said g c = asked_served _ _ _ _ _ _ _ (map string_bytes c.args.words.now) _ c.args.repo c.in-Ok.requests c.in-Ok.ensures.asked c.serve_file.ensures
