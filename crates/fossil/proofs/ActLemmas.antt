@@ -1,5 +1,5 @@
 -- What the commands did that load the file.
-use Rattle.std.proofs.Common.{◌≡◌, ◌⊎◌, inl, inr, ℕ, Bool, true, false, List, [], Some, Result, Ok, Err, IsTrue, refl, sym, ap, subst, arith}
+use Rattle.std.proofs.Common.{◌≡◌, ◌⊎◌, inl, inr, ℕ, Bool, true, false, List, [], Some, Ok, Err, IsTrue, refl, sym, ap, subst, arith}
 use Rattle.fsl_order.specs.Causes.{Rose}
 use Rattle.fsl_record.specs.declared.Record.{Record}
 use Rattle.fsl_disk.specs.Disk.{DiskState, IsModelled}
@@ -13,12 +13,12 @@ use Rattle.fsl_words.specs.declared.Command.{Command}
 use Rattle.fsl_words.specs.declared.Command.TheVariants as command_of
 use Rattle.fsl_words.specs.declared.Question.{Question}
 use Rattle.std.specs.Prelude.{Option, is_some}
+use Rattle.fossil.specs.Due.{Due, IsNotLoadedDue}
 use Rattle.fossil.specs.declared.answers.fault.Fault.{Fault}
 use Rattle.fossil.specs.declared.answers.fault.Fault.TheVariants as fault_is
-use Rattle.fossil.specs.Printed.{Printed}
 use Rattle.fossil.specs.Outcome.{Outcome, printed_of, not_repository, IsSaidOutcome}
 use Rattle.fossil.specs.Run.{Input, Clock, Agrees, reads, TakesMoment, IsTimed, IsInputFault, IsDamaged, IsFileLeft}
-use Rattle.fossil.specs.Acts.{ActsBy, HasActed, IsTimedBy, Touches, IsUnopened, IsNotLoadedAnswer, IsUnread, KeepsContents, KeepsImages}
+use Rattle.fossil.specs.Acts.{ActsBy, HasActed, IsTimedBy, Touches, IsUnopened, IsUnread, KeepsContents, KeepsImages}
 use Rattle.fossil.proofs.InputLemmas.{some_bytes}
 use Rattle.fossil.proofs.FileLemmas.{both, Loads, stands, agrees, none_committed, loaded_left, loaded_touches}
 use Rattle.fossil.proofs.SomeOutcome.{some_said_outcome}
@@ -51,7 +51,9 @@ module _ (command : Option Command) (loads : Loads command) (input : Input) (fil
     contents = loaded_left command loads file left bytes o 9 (λ done. absurd (cc)) contents;
     touches = touches;
     durable = λ last. absurd (cc);
+    trimmed = λ last. absurd (cc);
     spared = λ nine begun. absurd (loads.begun begun);
+    steady = tt;
   }
 
   input_by : IsInputFault command input bytes → KeepsContents file left → ActsBy command input (both file left) (Err fault_is.Input) read moment bytes o
@@ -66,7 +68,9 @@ module _ (command : Option Command) (loads : Loads command) (input : Input) (fil
     contents = loaded_left command loads file left bytes o 5 (λ done. absurd (cc)) contents;
     touches = touches;
     durable = λ last. absurd (cc);
+    trimmed = λ last. absurd (cc);
     spared = λ nine begun. absurd (loads.begun begun);
+    steady = tt;
   }
 
   pub disk_by : Rose file.faults left.faults → (input.after ≡ input.before) ⊎ (o.commits ≡ [] → ⊥) → IsFileLeft command (both file left) 4 bytes o
@@ -82,7 +86,9 @@ module _ (command : Option Command) (loads : Loads command) (input : Input) (fil
     contents = contents;
     touches = touches;
     durable = λ last. absurd (cc);
+    trimmed = λ last. absurd (cc);
     spared = λ nine begun. absurd (loads.begun begun);
+    steady = tt;
   }
 
   -- a content is damaged
@@ -99,12 +105,14 @@ module _ (command : Option Command) (loads : Loads command) (input : Input) (fil
     contents = loaded_left command loads file left bytes o 12 (λ done. absurd (cc)) contents;
     touches = touches;
     durable = λ last. absurd (cc);
+    trimmed = λ last. absurd (cc);
     spared = λ nine begun. absurd (loads.begun begun);
+    steady = tt;
   }
 
   -- the place at which the file fails is told
-  nowhere_by : (at : ℕ) → o ≡ not_repository at → KeepsContents file left → KeepsImages file left → ActsBy command input (both file left) (Ok (printed_of (not_repository at))) read moment bytes o
-  nowhere_by at is contents images = record {
+  nowhere_by : (at : ℕ) → o ≡ not_repository at → KeepsContents file left → KeepsImages file left → left.faults ≡ file.faults → ActsBy command input (both file left) (Ok (printed_of (not_repository at))) read moment bytes o
+  nowhere_by at is contents images faults = record {
     input_told = input_told;
     file_told = file_told;
     outcome = outcome;
@@ -115,14 +123,18 @@ module _ (command : Option Command) (loads : Loads command) (input : Input) (fil
     contents = loaded_left command loads file left bytes o 2 (λ done. absurd (cc)) contents;
     touches = touches;
     durable = λ last. absurd (cc);
+    trimmed = λ last. absurd (cc);
     spared = λ nine begun. absurd (loads.begun begun);
+    steady = faults;
   }
 
   -- the input wasn't read
   pub unread_by : (fault : Fault) → IsUnread fault input → IsTrue (reads command) → (records : List Record) → IsFileOf bytes records → KeepsContents file left
       → ActsBy command input (both file left) (Err fault) read moment bytes o
+  unread_by fault_is.Usage un reads_it records is contents = absurd un
   unread_by fault_is.Disk un reads_it records is contents = absurd un
   unread_by fault_is.Input un reads_it records is contents = input_by (record { read = reads_it; rose = un; file = λ opened. (records, is) }) contents
+  unread_by fault_is.Link un reads_it records is contents = absurd un
   unread_by (fault_is.Damaged name found) un reads_it records is contents = absurd un
   unread_by fault_is.Memory un reads_it records is contents = memory_by contents
 
@@ -139,8 +151,10 @@ fault_still command told read moment bytes = inr ((λ answered. absurd (cc)), re
 -- whatever fault it is, unless the disk failed
 pub still_by : (command : Option Command) (input : Input) (told : Option (List ℕ)) (fault : Fault) → (fault ≡ fault_is.Disk → ⊥) → (read : List ℕ) (moment : ℕ) (bytes : List ℕ)
     → IsTimedBy command input (still told) (Err fault) read moment bytes
+still_by command input told fault_is.Usage other read moment bytes = fault_still command told read moment bytes
 still_by command input told fault_is.Disk other read moment bytes = absurd (other refl)
 still_by command input told fault_is.Input other read moment bytes = refl
+still_by command input told fault_is.Link other read moment bytes = fault_still command told read moment bytes
 still_by command input told (fault_is.Damaged name found) other read moment bytes = fault_still command told read moment bytes
 still_by command input told fault_is.Memory other read moment bytes = fault_still command told read moment bytes
 
@@ -159,7 +173,7 @@ module _ (command : Option Command) (loads : Loads command) (source : SourceStat
   abbrev input : Input
   input = record { before = source; after = source }
 
-  abbrev Acted : Result Printed Fault → Type 0
+  abbrev Acted : Due → Type 0
   Acted result = HasActed command input (still clock) (record { before = file; after = left }) result
 
   not_repository_acted : (at : ℕ) → IsUnopened file left (load_fault.NotRepository at) → Acted (Ok (printed_of (not_repository at)))
@@ -171,7 +185,7 @@ module _ (command : Option Command) (loads : Loads command) (source : SourceStat
         un.cause.0,
         o,
         nowhere_by command loads input file left read.0 0 un.cause.0 o read.1 (agrees file.contents un.cause.0 un.cause.1) (loads.fails (is_modelled file) read.0 0 un.cause.0 at un.cause.2)
-            (loaded_touches command loads file left un.cause.0 o un.unreadable un.any_moment un.keeps) at refl (un.contents (λ e. cc)) un.any_moment,
+            (loaded_touches command loads file left un.cause.0 o un.unreadable un.any_moment un.keeps) at refl (un.contents (λ e. cc)) un.any_moment (un.faults (λ e. cc)),
         none_due command clock true read.0 0 un.cause.0 (unread_none command loads read.0 un.cause.0 at un.cause.2),
       )
 
@@ -203,7 +217,7 @@ module _ (command : Option Command) (loads : Loads command) (source : SourceStat
     disk_acted : Rose file.faults left.faults → Acted (Err fault_is.Disk)
     disk_acted rose = (read.0, 0, held.0, outcome.0, disk_by command loads input file left read.0 0 held.0 outcome.0 read.1 held.1 outcome.1 touches rose (inl refl) contents, inl (refl, refl))
 
-  pub not_loaded_acted : (fault : LoadFault) (result : Result Printed Fault) → IsUnopened file left fault → IsNotLoadedAnswer fault result → Acted result
+  pub not_loaded_acted : (fault : LoadFault) (result : Due) → IsUnopened file left fault → IsNotLoadedDue fault result → Acted result
   not_loaded_acted load_fault.Disk result un is = subst Acted (sym is) (disk_acted load_fault.Disk un un.cause)
   not_loaded_acted (load_fault.NotRepository at) result un (inl is) = subst Acted (sym is) (not_repository_acted at un)
   not_loaded_acted (load_fault.NotRepository at) result un (inr is) = subst Acted (sym is) (memory_acted (load_fault.NotRepository at) un (λ e. cc))

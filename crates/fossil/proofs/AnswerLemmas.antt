@@ -2,7 +2,7 @@
 use Rattle.std.proofs.Common.{◌≡◌, ℕ, Bool, List, Option, Some, None, Ok, Err, sym, subst, refl}
 use Rattle.std.specs.Prelude.{MatchBool}
 use Rattle.fossil.specs.declared.reading.gathering.Gathered.{Gathered}
-use Rattle.fossil.specs.declared.reading.message.Sent.{Sent}
+use Rattle.fossil.specs.declared.reading.message.MessageFile.{MessageFile}
 use Rattle.fossil.specs.Printed.{Printed, too_long}
 use Rattle.fossil.specs.Ingest.{IsReported, IsSetPrinted, IsRead}
 use Rattle.fossil.specs.Taking.{IsGathered, HaveGathered}
@@ -12,10 +12,10 @@ use Rattle.fsl_repo.specs.Machine.{State}
 
 -- ---- the files
 
-pub refused_report : (files : List Sent) (g : Gathered) (o : Option Printed) (refusal : Printed) → HaveGathered files g o → o ≡ Some refusal → IsReported files refusal
+pub refused_report : (files : List MessageFile) (g : Gathered) (o : Option Printed) (refusal : Printed) → HaveGathered files g o → o ≡ Some refusal → IsReported files refusal
 refused_report files g o refusal have is = (Err refusal, subst (HaveGathered files g) is have, refl)
 
-pub set_report : (files : List Sent) (g : Gathered) (o : Option Printed) (text : List ℕ) → HaveGathered files g o → o ≡ None → ((s : State) → IsGathered s g → IsSetPrinted s (record { status = 0; text = text }))
+pub set_report : (files : List MessageFile) (g : Gathered) (o : Option Printed) (text : List ℕ) → HaveGathered files g o → o ≡ None → ((s : State) → IsGathered s g → IsSetPrinted s (record { status = 0; text = text }))
     → IsReported files (record { status = 0; text = text })
 set_report files g o text have is prints = let all = subst (HaveGathered files g) is have in (Ok all.0, all.1, prints all.0.state all.2)
 

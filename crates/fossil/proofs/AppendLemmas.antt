@@ -17,17 +17,21 @@ use Rattle.fossil.specs.declared.reading.load.Loaded.{Loaded}
 use Rattle.fossil.specs.Printed.{Printed}
 use Rattle.fsl_repo.specs.Whole.{is_modelled}
 use Rattle.fossil.specs.Outcome.{Outcome, with_commit, one_commit, IsSaidOutcome}
-use Rattle.fossil.specs.Run.{Input, Clock, Agrees, IsTimed, AreImages, StandsFor, StandsForAll, StandsForSome, IsLeft, IsWholeAtAnyMoment, reads}
+use Rattle.fossil.specs.Run.{Input, Clock, Agrees, IsTimed, AreImages, StandsFor, StandsForAll, StandsForSome, IsLeft, IsWholeAtAnyMoment, reads, IsJust}
 use Rattle.fossil.specs.Acts.{HasActed, Touches, IsOpened, IsUnread, KeepsUnreadable}
 use Rattle.fossil.proofs.InputLemmas.{some_bytes}
 use Rattle.fossil.proofs.FileLemmas.{both, Loads, stands, agrees, none_committed, all_committed, one_is_all, readable, loaded_touches}
 use Rattle.fossil.proofs.SomeOutcome.{some_said_outcome}
-use Rattle.fossil.proofs.CommitLemmas.{idle_contents, idle_durable}
+use Rattle.fossil.proofs.CommitLemmas.{idle_just, idle_durable}
 use Rattle.fossil.proofs.ActLemmas.{still, fault_still, still_by, unread_by, memory_by, disk_by}
 
 -- the status is 0, or 3 with nothing appended
 abbrev pub IsPlain : Printed → List Record → Type 0
 IsPlain answer appended = (answer.status ≡ 0) ⊎ ((answer.status ≡ 3) × (appended ≡ []))
+
+-- what is left holds the bytes of these records alone, and no call of the disk failed
+abbrev pub IsSettledOn : DiskState → DiskState → List Record → Type 0
+IsSettledOn mid left records = Told left (λ held. IsJust held records) × (left.faults ≡ mid.faults)
 
 no_commit : (records : List Record) → one_commit records ≡ [] → records ≡ []
 no_commit [] e = refl
@@ -159,7 +163,7 @@ module _ (command : Option Command) (loads : Loads command) (input : Input) (fil
         inr (run.timed opened.stands.2),
       )
 
-      module _ (contents : Told left (λ held. IsFileOf held after.journal.records)) (durable : IsModelled mid → (c : List ℕ) → left.images c → IsFileOf c after.journal.records) where
+      module _ (settled : IsSettledOn mid left after.journal.records) (durable : IsModelled mid → (c : List ℕ) → left.images c → IsFileOf c after.journal.records) where
         left_by : (status : ℕ) → (status ≡ 0) ⊎ ((status ≡ 3) × (run.appended ≡ [])) → (old : List Record) (held : List ℕ) → StandsForAll old outcome.commits held → IsLeft status old outcome.commits held
         left_by status (inl z) old held all = subst (λ (n : ℕ). IsLeft n old outcome.commits held) (sym z) all
         left_by status (inr three) old held all =
@@ -181,10 +185,12 @@ module _ (command : Option Command) (loads : Loads command) (input : Input) (fil
             plain = small;
             cause = tt;
             end = run.end;
-            contents = λ old held told left_told are known. left_by answer.status run.plain old held (all_stand old held (old_is bytes old told (loads.old old bytes are)) (contents held left_told));
+            contents = λ old held told left_told are known. left_by answer.status run.plain old held (all_stand old held (old_is bytes old told (loads.old old bytes are)) ((settled.0 held left_told).0));
             touches = touches;
             durable = λ last opens modelled told old are c image. all_stand old c (old_is bytes old told (loads.old old bytes are)) (durable (modelled_after file mid opened.keeps modelled) c image);
+            trimmed = λ last opens begun held told. (after.journal.records, settled.0 held told);
             spared = λ nine begun. absurd (loads.begun begun);
+            steady = settled.1 ∙ opened.faults;
           },
           run.timed opened.stands.2,
         )
@@ -196,4 +202,4 @@ pub idle_acted : (command : Option Command) (loads : Loads command) (input : Inp
     → HasActed command input clock (both file mid) (Ok answer)
 idle_acted command loads input clock file mid l opened_is answer run moments reads =
     appended_acted command loads input file mid l opened_is clock l answer run mid ((record { tells = refl; model = refl })) moments reads
-    (idle_contents l.journal mid opened_is.belongs opened_is.is_open.runs opened_is.is_open.stable) (idle_durable l.journal mid opened_is.belongs opened_is.is_open.runs opened_is.is_open.stable)
+    (idle_just l.journal mid opened_is.belongs opened_is.is_open.runs opened_is.is_open.stable, refl) (idle_durable l.journal mid opened_is.belongs opened_is.is_open.runs opened_is.is_open.stable)

@@ -16,7 +16,7 @@ use Rattle.fsl_repo.specs.declared.ArriveFault.{ArriveFault}
 use Rattle.fsl_repo.specs.declared.ArriveFault.TheVariants as arrive_fault
 use Rattle.fsl_repo.specs.Machine.{State, IsRoom, IsArrival, IsArrivalOf, again, arrived, ArriveStep}
 use Rattle.fsl_repo.specs.Whole.{opened}
-use Rattle.fossil.specs.declared.reading.message.Sent.{Sent}
+use Rattle.fossil.specs.declared.reading.message.MessageFile.{MessageFile}
 use Rattle.fossil.specs.Printed.{Printed, name_line, too_large, wrong, full}
 use Rattle.fossil.specs.Arrivals.{Taken, none_taken, arrival_word, refusal_of, and_taken, Arrive}
 use Rattle.fossil.specs.Taking.{AreAllTaken, HasCome}
@@ -72,7 +72,7 @@ never_stopped s name bytes private n runs is =
     (Err (arrive_fault.Stopped n)) refl (subst (λ (o : Option ℕ). ArrivalBy o s.records name bytes private (Err (arrive_fault.Stopped n))) runs is)
 
 -- of a repository that runs, no fault is that of one that is stopped
-pub not_stopped : (receipt : Option Brought) (s new : State) (f : Sent) (fault : ArriveFault) → s.stopped ≡ None → ArriveStep s f.name receipt f.bytes f.private (Err fault) new → (n : ℕ) → fault ≡ arrive_fault.Stopped n → ⊥
+pub not_stopped : (receipt : Option Brought) (s new : State) (f : MessageFile) (fault : ArriveFault) → s.stopped ≡ None → ArriveStep s f.name receipt f.bytes f.private (Err fault) new → (n : ℕ) → fault ≡ arrive_fault.Stopped n → ⊥
 not_stopped receipt s new f fault runs step n same =
     let stopped : ArriveStep s f.name receipt f.bytes f.private (Err (arrive_fault.Stopped n)) new = subst (λ (x : ArriveFault). ArriveStep s f.name receipt f.bytes f.private (Err x) new) same step in
     never_stopped s f.name f.bytes f.private n runs (is_arrival receipt s new f.name f.bytes f.private (Err (arrive_fault.Stopped n)) stopped (λ e. cc)).0
@@ -117,26 +117,26 @@ committed_same receipt s name bytes private (Err fault) = refl
 -- ---- the files that are left
 
 -- what the files that are left come to, behind those that were taken, all come to
-abbrev pub GoesOn : Option Brought → Taken → List Sent → Taken → List Sent → Type 0
+abbrev pub GoesOn : Option Brought → Taken → List MessageFile → Taken → List MessageFile → Type 0
 GoesOn receipt start all t left = (result : Result Taken Printed) → Arrive receipt t left result → Arrive receipt start all result
 
-pub one_more : (receipt : Option Brought) (start t : Taken) (all left rest : List Sent) (f : Sent) (a : Arrival) → GoesOn receipt start all t left → left ≡ f ∷ rest → IsArrival t.state f.name f.bytes f.private (Ok a) → GoesOn receipt start all (and_taken receipt t f (Ok a)) rest
-one_more receipt start t all left rest f a so_far split is = λ result h. so_far result (subst (λ (fs : List Sent). Arrive receipt t fs result) (sym split) (Ok a, is, h))
+pub one_more : (receipt : Option Brought) (start t : Taken) (all left rest : List MessageFile) (f : MessageFile) (a : Arrival) → GoesOn receipt start all t left → left ≡ f ∷ rest → IsArrival t.state f.name f.bytes f.private (Ok a) → GoesOn receipt start all (and_taken receipt t f (Ok a)) rest
+one_more receipt start t all left rest f a so_far split is = λ result h. so_far result (subst (λ (fs : List MessageFile). Arrive receipt t fs result) (sym split) (Ok a, is, h))
 
-pub refused_here : (receipt : Option Brought) (start t : Taken) (all left rest : List Sent) (f : Sent) (fault : ArriveFault) (refusal : Printed) → GoesOn receipt start all t left → left ≡ f ∷ rest → IsArrival t.state f.name f.bytes f.private (Err fault)
+pub refused_here : (receipt : Option Brought) (start t : Taken) (all left rest : List MessageFile) (f : MessageFile) (fault : ArriveFault) (refusal : Printed) → GoesOn receipt start all t left → left ≡ f ∷ rest → IsArrival t.state f.name f.bytes f.private (Err fault)
     → refusal_of f.name (Err fault) ≡ Some refusal → Arrive receipt start all (Err refusal)
 refused_here receipt start t all left rest f fault refusal so_far split is refuses =
     so_far (Err refusal)
-    (subst (λ (fs : List Sent). Arrive receipt t fs (Err refusal)) (sym split)
+    (subst (λ (fs : List MessageFile). Arrive receipt t fs (Err refusal)) (sym split)
     (Err fault, is, subst (λ (o : Option Printed). MatchOption o (Arrive receipt (and_taken receipt t f (Err fault)) rest (Err refusal)) (λ r. refused_with refusal ≡ Err r)) (sym refuses) refl))
 
-pub none_left : (receipt : Option Brought) (start t : Taken) (all left : List Sent) → GoesOn receipt start all t left → left ≡ [] → Arrive receipt start all (Ok t)
-none_left receipt start t all left so_far none = so_far (Ok t) (subst (λ (fs : List Sent). Arrive receipt t fs (Ok t)) (sym none) refl)
+pub none_left : (receipt : Option Brought) (start t : Taken) (all left : List MessageFile) → GoesOn receipt start all t left → left ≡ [] → Arrive receipt start all (Ok t)
+none_left receipt start t all left so_far none = so_far (Ok t) (subst (λ (fs : List MessageFile). Arrive receipt t fs (Ok t)) (sym none) refl)
 
 -- ---- in a repository
 
 -- files were taken, and these are left of all
-pub record AreTaken (receipt : Brought) (old : State) (all left : List Sent) (s : State) (lines : List ℕ) : Type 0 where
+pub record AreTaken (receipt : Brought) (old : State) (all left : List MessageFile) (s : State) (lines : List ℕ) : Type 0 where
   pub taken : Taken
   pub goes_on : GoesOn (Some receipt) (none_taken (opened old.records 0 true)) all taken left
   pub alike : AreAlike s taken.state
@@ -145,7 +145,7 @@ pub record AreTaken (receipt : Brought) (old : State) (all left : List Sent) (s 
   pub more : List Record
   pub records : s.records ≡ old.records ++ more
 
-pub before_all : (receipt : Brought) (old : State) (all : List Sent) (lines : List ℕ) → old.stopped ≡ None → lines ≡ [] → AreTaken receipt old all all old lines
+pub before_all : (receipt : Brought) (old : State) (all : List MessageFile) (lines : List ℕ) → old.stopped ≡ None → lines ≡ [] → AreTaken receipt old all all old lines
 before_all receipt old all lines runs none = record {
   taken = none_taken (opened old.records 0 true);
   goes_on = λ result h. h;
@@ -156,7 +156,7 @@ before_all receipt old all lines runs none = record {
   records = sym (append-nil old.records);
 }
 
-module _ (receipt : Brought) (old s new : State) (all left rest : List Sent) (lines : List ℕ) (f : Sent) (are : AreTaken receipt old all left s lines) (split : left ≡ f ∷ rest) where
+module _ (receipt : Brought) (old s new : State) (all left rest : List MessageFile) (lines : List ℕ) (f : MessageFile) (are : AreTaken receipt old all left s lines) (split : left ≡ f ∷ rest) where
   taken_more : (a : Arrival) (next : List ℕ) → ArriveStep s f.name (Some receipt) f.bytes f.private (Ok a) new → next ≡ lines ++ name_line (arrival_word a) f.name → AreTaken receipt old all rest new next
   taken_more a next step grown =
       let is = is_arrival (Some receipt) s new f.name f.bytes f.private (Ok a) step (λ e. cc) in
@@ -187,7 +187,7 @@ module _ (receipt : Brought) (old s new : State) (all left rest : List Sent) (li
     pub one_refused : (refusal : Printed) → r ≡ Some refusal → Arrive (Some receipt) (none_taken (opened old.records 0 true)) all (Err refusal)
     one_refused refusal some = let h : HasCome receipt f (s, new) (lines, next) (Some refusal) = subst (HasCome receipt f (s, new) (lines, next)) some come in taken_refused h.0 refusal h.1 h.2
 
-pub all_taken : (receipt : Brought) (old s : State) (all left : List Sent) (lines : List ℕ) → AreTaken receipt old all left s lines → left ≡ [] → AreAllTaken receipt all old s lines
+pub all_taken : (receipt : Brought) (old s : State) (all left : List MessageFile) (lines : List ℕ) → AreTaken receipt old all left s lines → left ≡ [] → AreAllTaken receipt all old s lines
 all_taken receipt old s all left lines are none = record {
   taken = are.taken;
   arrive = none_left (Some receipt) (none_taken (opened old.records 0 true)) are.taken all left are.goes_on none;
@@ -201,7 +201,7 @@ all_taken receipt old s all left lines are none = record {
 
 -- ---- laws
 
-pub one_arrive : (receipt : Option Brought) (files : List Sent) (t : Taken) (a b : Result Taken Printed) → Arrive receipt t files a → Arrive receipt t files b → a ≡ b
+pub one_arrive : (receipt : Option Brought) (files : List MessageFile) (t : Taken) (a b : Result Taken Printed) → Arrive receipt t files a → Arrive receipt t files b → a ≡ b
 one_arrive receipt [] t a b h k = h ∙ sym k
 one_arrive receipt (f ∷ files) t a b h k =
     by_refusal (refusal_of f.name k.0)
@@ -213,7 +213,7 @@ one_arrive receipt (f ∷ files) t a b h k =
     by_refusal None h k more = more h k
     by_refusal (Some r) h k more = h ∙ sym k
 
-pub some_arrive : (receipt : Option Brought) (files : List Sent) (t : Taken) → (result : Result Taken Printed) × Arrive receipt t files result
+pub some_arrive : (receipt : Option Brought) (files : List MessageFile) (t : Taken) → (result : Result Taken Printed) × Arrive receipt t files result
 some_arrive receipt [] t = (Ok t, refl)
 some_arrive receipt (f ∷ files) t =
     let r = some_arrival t.state f.name f.bytes f.private in
@@ -236,7 +236,7 @@ refusal_status name (Err (arrive_fault.NameWrong found)) refusal e = let same : 
 refusal_status name (Err (arrive_fault.Full b c w)) refusal e = let same : full name ≡ refusal = cc in ap (λ (p : Printed). p.status) (sym same)
 refusal_status name (Err arrive_fault.Memory) refusal e = absurd cc
 
-pub refused_files : (receipt : Option Brought) (files : List Sent) (t : Taken) (refusal : Printed) → Arrive receipt t files (Err refusal) → refusal.status ≡ 3
+pub refused_files : (receipt : Option Brought) (files : List MessageFile) (t : Taken) (refusal : Printed) → Arrive receipt t files (Err refusal) → refusal.status ≡ 3
 refused_files receipt [] t refusal h = absurd cc
 refused_files receipt (f ∷ files) t refusal h = by_refusal (refusal_of f.name h.0) refl h.2 (refused_files receipt files (and_taken receipt t f h.0) refusal)
   where

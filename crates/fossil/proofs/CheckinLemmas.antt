@@ -35,13 +35,13 @@ use Rattle.fsl_checkin.specs.Trees.{IsBadItem, IsItemText, IsTreeText, paths}
 use Rattle.fsl_checkin.specs.Exports.{checkin_at, checkins}
 use Rattle.fsl_checkin.proofs.FilesLemmas.{baseline_checkin, known_checkin, not_checkin}
 use Rattle.fsl_checkin.proofs.OneLemmas.{bad_is_no_tree}
-use Rattle.fossil.specs.declared.commands.checkin.Asked.{Asked}
+use Rattle.fossil.specs.declared.commands.checkin.NewCheckin.{NewCheckin}
 use Rattle.fossil.specs.declared.commands.checkin.Arriving.{Arriving}
 use Rattle.fossil.specs.declared.reading.load.Loaded.{Loaded}
 use Rattle.fossil.specs.Printed.{Printed, name_line}
 use Rattle.fossil.specs.Printed as printing
 use Rattle.fossil.specs.Arrivals.{Taken, none_taken, Arrive}
-use Rattle.fossil.specs.declared.reading.message.Sent.{Sent}
+use Rattle.fossil.specs.declared.reading.message.MessageFile.{MessageFile}
 use Rattle.fossil.specs.Put.{put_receipt}
 use Rattle.fossil.specs.Checkins.{IsCheckinRead, IsOver, arrivals_of, bad_item, checkin_text, parent_of}
 use Rattle.fossil.specs.CheckinCall.{AreArriving, IsParent, asked_for}
@@ -54,7 +54,7 @@ use Rattle.fossil.proofs.AppendLemmas.{IsPlain, IsAppended}
 use Rattle.fossil.proofs.FileLemmas.{Loads}
 use Rattle.fossil.proofs.OneCheckin.{short_of}
 
-pub checkin_loads : (a : Asked) → Loads (Some (asked_for a))
+pub checkin_loads : (a : NewCheckin) → Loads (Some (asked_for a))
 checkin_loads a = record { opened = refl; begun = λ begun. cc; old = λ old bytes are. are; refused = λ bytes refused. refused; fails = λ honest read moment bytes at fails. inl (at, fails, refl); alone = refl; due = λ read bytes due. (due.0, due.1) }
 
 -- ---- trees
@@ -98,7 +98,7 @@ by_none prefix f (found_as.One n) refused e = absurd cc
 
 -- ---- what is appended
 
-module _ (a : Asked) where
+module _ (a : NewCheckin) where
   -- the moment of a tree and a parent that aren't refused was taken
   pub checkin_timed : (clock : Clock) (receipt : Brought) (answered : Bool) (text bytes : List ℕ) (records : List Record) (t : List TreeItem) (items : List Item) (over : Option (List ℕ))
       → IsPutReceipt clock.before clock.after receipt → IsFileOf bytes records → nat_lt (2 ^ 27) (length text) ≡ false → IsTreeText text t
@@ -137,7 +137,7 @@ module _ (a : Asked) where
 
     arrived : (result : Result Taken Printed) → Arrive (Some receipt) (none_taken (opened old 0 true)) made.files result → Arrive (Some (put_receipt receipt.moment)) (none_taken (opened old 0 true)) (arrivals_of t due_text) result
     arrived result h =
-        subst (λ (fs : List Sent). Arrive (Some (put_receipt receipt.moment)) (none_taken (opened old 0 true)) fs result) are.files
+        subst (λ (fs : List MessageFile). Arrive (Some (put_receipt receipt.moment)) (none_taken (opened old 0 true)) fs result) are.files
         (subst (λ (r : Brought). Arrive (Some r) (none_taken (opened old 0 true)) made.files result) taken.put h)
 
     timed : IsFileOf bytes old → IsTimed (Some (asked_for a)) clock true text receipt.moment bytes

@@ -11,20 +11,14 @@ use Rattle.fsl_pull.specs.CloneCalls.{UnlessDisk, IsClonedOver}
 use Rattle.fsl_pull.proofs.CloneWhole.{unreplied, not_zero, has_bytes}
 use Rattle.fsl_words.specs.declared.Command.{Command}
 use Rattle.fsl_words.specs.declared.Command.TheVariants as command_of
-use Rattle.fossil.specs.declared.answers.due.Due.{Due}
-use Rattle.fossil.specs.declared.answers.fault.Fault.TheVariants as fault_is
-use Rattle.fossil.specs.Printed.{Printed}
+use Rattle.fossil.specs.Printed.{Printed, disk_fault, link_fault, no_memory}
 use Rattle.fossil.specs.Uses.{command_clones}
-use Rattle.fossil.specs.Outcome.{without_commit}
-use Rattle.fossil.specs.Run.{Output, IsTold, disk_fault}
-use Rattle.fossil.specs.Acts.{IsWritten}
-use Rattle.fossil.specs.Served.{IsWrittenAs, with_text, link_fault, no_memory}
-use Rattle.fossil.specs.Serving.{printed}
+use Rattle.fossil.specs.Run.{Output, IsWritten}
+use Rattle.fossil.specs.Due.{printed, Due}
 use Rattle.fossil.specs.Cloned.{result_printed, IsResultTold, ClonesBy, Clones, ClonesIf}
 use Rattle.fossil.specs.Syncing.{IsSyncDue}
 use Rattle.fossil.proofs.FileLemmas.{some_same, quiet_none}
-use Rattle.fossil.proofs.SyncedLemmas.{told_printed, said_one, IsNoClone}
-use Rattle.fossil.proofs.UnopenedLemmas.{told_memory}
+use Rattle.fossil.proofs.SyncedLemmas.{said_one, IsNoClone}
 
 -- what is due of a sync is its text, or want of memory in its place, but for a fault of a device
 pub due_text : (result : Result Pulled PullFault) (d : Due) → IsSyncDue result d → IsResultTold (λ o. printed d ≡ o) result
@@ -40,7 +34,7 @@ due_text (Err (fault.TooLarge name size)) d due = due
 due_text (Err (fault.Full name)) d due = due
 due_text (Err (fault.Missing name)) d due = due
 due_text (Err fault.Rounds) d due = due
-due_text (Err (fault.Damaged name found)) d due = due
+due_text (Err (fault.Damaged name found)) d due = inl due
 due_text (Err fault.Memory) d due = inl due
 
 module _ {D : Type 0} (disk : D → DiskState) (server : List ℕ) (fields : List (List ℕ)) (before after : D) (dial : LinkState × LinkState) where
@@ -51,8 +45,8 @@ module _ {D : Type 0} (disk : D → DiskState) (server : List ℕ) (fields : Lis
 
   told_so : (P Q : Printed → Type 0) → ((o : Printed) → P o → Q o) → (result : Result Pulled PullFault) → IsResultTold P result → IsResultTold Q result
   told_so P Q turn (Ok pulled) h = either P Q turn (result_printed (Ok pulled)) h
-  told_so P Q turn (Err fault.Link) h = turn (with_text 7 link_fault) h
-  told_so P Q turn (Err fault.Disk) h = turn (with_text 4 disk_fault) h
+  told_so P Q turn (Err fault.Link) h = turn link_fault h
+  told_so P Q turn (Err fault.Disk) h = turn disk_fault h
   told_so P Q turn (Err (fault.NotEmpty len)) h = either P Q turn (result_printed (Err (fault.NotEmpty len))) h
   told_so P Q turn (Err (fault.NotRepository at)) h = either P Q turn (result_printed (Err (fault.NotRepository at))) h
   told_so P Q turn (Err (fault.Project found)) h = either P Q turn (result_printed (Err (fault.Project found))) h
@@ -66,9 +60,9 @@ module _ {D : Type 0} (disk : D → DiskState) (server : List ℕ) (fields : Lis
   told_so P Q turn (Err fault.Memory) h = either P Q turn (result_printed (Err fault.Memory)) h
 
   -- what is due was printed
-  pub cloned_printed : (d : Due) (out : Output) (status : ℕ) → ClonesBy disk server fields before after dial (λ o. printed d ≡ o) → IsWrittenAs (printed d) out status → ClonesBy disk server fields before after dial (λ o. IsTold (without_commit o) status out)
+  pub cloned_printed : (d : Due) (out : Output) (status : ℕ) → ClonesBy disk server fields before after dial (λ o. printed d ≡ o) → IsWritten (printed d) out status → ClonesBy disk server fields before after dial (λ o. IsWritten o out status)
   cloned_printed d out status h written =
-      let turn : (o : Printed) → printed d ≡ o → IsTold (without_commit o) status out = λ o e. subst (λ (p : Printed). IsTold (without_commit p) status out) e (told_printed (printed d) out status written) in
+      let turn : (o : Printed) → printed d ≡ o → IsWritten o out status = λ o e. subst (λ (p : Printed). IsWritten p out status) e written in
       record {
         result = h.result;
         clones = h.clones;
@@ -76,7 +70,7 @@ module _ {D : Type 0} (disk : D → DiskState) (server : List ℕ) (fields : Lis
         steady = h.steady;
         untouched = h.untouched;
         keeps = h.keeps;
-        tells = told_so (λ o. printed d ≡ o) (λ o. IsTold (without_commit o) status out) turn h.result h.tells;
+        tells = told_so (λ o. printed d ≡ o) (λ o. IsWritten o out status) turn h.result h.tells;
       }
 
 -- ---- commands
@@ -137,7 +131,7 @@ module _ {D : Type 0} (disk : D → DiskState) (server : List ℕ) (fields : Lis
   idle_by (Some []) is = empty_idle (λ held told. some_same (sym told ∙ is))
   idle_by (Some (byte ∷ bytes)) is = long_idle byte bytes is
 
-  pub idle_cloned : (out : Output) (status : ℕ) → IsWritten (Err fault_is.Memory) status out → ClonesBy disk server fields at at (dial, dial) (λ o. IsTold (without_commit o) status out)
+  pub idle_cloned : (out : Output) (status : ℕ) → IsWritten no_memory out status → ClonesBy disk server fields at at (dial, dial) (λ o. IsWritten o out status)
   idle_cloned out status written =
       let i = idle_by (disk at).contents refl in
       record {
@@ -147,5 +141,5 @@ module _ {D : Type 0} (disk : D → DiskState) (server : List ℕ) (fields : Lis
         steady = i.steady;
         untouched = λ held told. inr (quiet_none (disk at));
         keeps = record { tells = refl; model = refl };
-        tells = i.memory (λ o. IsTold (without_commit o) status out) (told_memory out status written);
+        tells = i.memory (λ o. IsWritten o out status) written;
       }

@@ -32,14 +32,12 @@ use Rattle.fsl_pull.specs.Calls.{Ended, a_pull, a_push, IsLocalEnd, MayBegin, Is
 use Rattle.fsl_pull.proofs.RoundLemmas.{go_behind, end_behind}
 use Rattle.fsl_words.specs.declared.Command.{Command}
 use Rattle.fsl_words.specs.declared.Command.TheVariants as command_of
-use Rattle.fossil.specs.declared.answers.due.Due.{Due}
 use Rattle.fossil.specs.declared.commands.sync.Way.{Way}
 use Rattle.fossil.specs.declared.commands.sync.Way.TheVariants as way
-use Rattle.fossil.specs.Printed.{Printed, damaged}
+use Rattle.fossil.specs.Printed.{Printed, damaged, disk_fault, no_memory}
 use Rattle.fossil.specs.Outcome.{Outcome}
-use Rattle.fossil.specs.Run.{Agrees, disk_fault}
-use Rattle.fossil.specs.Served.{with_text, no_memory}
-use Rattle.fossil.specs.Serving.{printed, IsDue}
+use Rattle.fossil.specs.Run.{Agrees}
+use Rattle.fossil.specs.Due.{printed, IsDue, Due}
 use Rattle.fossil.specs.Syncs.{fault_printed, end_printed, with_commits, IsEndOutcome, login_of, LocalRoundsGoOn}
 use Rattle.fossil.specs.Uses.{command_asks_peer}
 use Rattle.fossil.specs.Synced.{Read, honesty, IsSyncOutcome, AreCommits, ReadsContent, IsAnswer, Far, AreMade, reached, IsPeerKept, SyncsBy, objects_of}
@@ -303,10 +301,10 @@ module _ {D P : Type 0} (path : List ℕ) (dial : LinkState) (file mid left : Di
 
   -- the commit of a round failed, behind which the pull goes on or is at its end
   lost : (done due : List (List Record)) → AreCommits command read due → HasOneMore done due → due ≢ done → IsFailedAt at_first new.seen.state done due → IsKept due → Rose s.faults new.seen.state.faults
-      → printed d ≡ with_text 4 disk_fault → t2 ≡ t → Came
+      → printed d ≡ disk_fault → t2 ≡ t → Came
   lost done due are one others stands kept_so rose told steady =
       let failed = rose_file command peer peer_left dial dial file mid left old new ready whole keeps file_reads left_reads peer_bytes peer_told d rose in
-      by_text due (record { done = done; due = due }) (with_text 4 disk_fault) told (inl are) (inr (inl (refl, inl (failed, peer_steady steady, inr (some_due done due one others)), refl))) (inr (refl, refl, (one, refl)))
+      by_text due (record { done = done; due = due }) disk_fault told (inl are) (inr (inl (refl, inl (failed, peer_steady steady, inr (some_due done due one others)), refl))) (inr (refl, refl, (one, refl)))
       (inr (refl, failed, holds_either left new at_first (record { done = done; due = due }) whole stands)) kept_so (λ other. absurd (other refl))
 
   led_step : MayBegin s t → (u w : Names) → AreUnclustered t u → AreWants s w → (first : Gives) (last : Round Names (List WireCard)) (p : Point Names) → GoOn (LocalRound t u) (pull_start s w) first p
@@ -316,7 +314,7 @@ module _ {D P : Type 0} (path : List ℕ) (dial : LinkState) (file mid left : Di
   led_step may u w are_u are_w first last p go (ends e) is =
       led_by (first ++ last ∷ []) e (local_pull s t (first ++ last ∷ []) e may (u, are_u, (w, are_w, end_behind (LocalRound t u) (pull_start s w) first p e last go is)))
 
-  failed : Rose s.faults new.seen.state.faults → IsLocalFailed s t new.seen.state IsKept → printed d ≡ with_text 4 disk_fault → t2 ≡ t → Came
+  failed : Rose s.faults new.seen.state.faults → IsLocalFailed s t new.seen.state IsKept → printed d ≡ disk_fault → t2 ≡ t → Came
   failed rose (may, (u, w, are_u, are_w, (rounds, (off, kept_so)))) told steady =
       let p = off.point in
       let stood = goes_at (LocalRound t u) (local_keeps t u) at_first (pull_start s w) off.front p start off.go in
@@ -345,23 +343,19 @@ module _ {D P : Type 0} (path : List ℕ) (dial : LinkState) (file mid left : Di
           (u, w, are_u, are_w, (rounds, (p, go, (stuck.name, subst (λ (ns : Names). IsTrue (has ns stuck.name)) (sym stuck.whole) (has_middle stuck.front stuck.name stuck.rest), stuck.public, (refl, says))))),
     )
 
-  unread : IsLocalUnread fault.Disk s t new.seen.state t2 IsKept → printed d ≡ with_text 4 disk_fault → Came
+  unread : IsLocalUnread fault.Disk s t new.seen.state t2 IsKept → printed d ≡ disk_fault → Came
   unread (may, (u, w, are_u, are_w, (rounds, (p, go, (stuck, kept_so))))) told =
       let at = stuck_at fault.Disk u w are_u are_w rounds p go stuck in
-      all_made p.commits (with_text 4 disk_fault) told (inl (stuck_led fault.Disk u w are_u are_w rounds p go stuck))
+      all_made p.commits disk_fault told (inl (stuck_led fault.Disk u w are_u are_w rounds p go stuck))
       (inr (inl (refl, inr (refl, peer_rose stuck.cant.0, file_steady at, inr (stuck_reads fault.Disk u w are_u are_w rounds p go stuck (λ name x. ⊤) tt)), refl))) at kept_so (λ other. absurd (other refl))
 
-  spoilt : (name found : List ℕ) → IsLocalUnread (fault.Damaged name found) s t new.seen.state t2 IsKept → IsDue (damaged name found) d → t2 ≡ t → Came
-  spoilt name found (may, (u, w, are_u, are_w, (rounds, (p, go, (stuck, kept_so))))) (inl told) steady =
+  spoilt : (name found : List ℕ) → IsLocalUnread (fault.Damaged name found) s t new.seen.state t2 IsKept → printed d ≡ damaged name found → t2 ≡ t → Came
+  spoilt name found (may, (u, w, are_u, are_w, (rounds, (p, go, (stuck, kept_so))))) told steady =
       let why = fault.Damaged name found in
       let named : name ≡ stuck.name = stuck.cant.0 in
       let says : (stuck.name ≡ name) × IsSpoilt t name found = (sym named, subst (λ (n : List ℕ). IsSpoilt t n found) (sym named) stuck.cant.1) in
       all_made p.commits (damaged name found) told (inl (stuck_led why u w are_u are_w rounds p go stuck))
       (inr (inr (inr (inr (name, found, refl, stuck_reads why u w are_u are_w rounds p go stuck (λ asked x. (asked ≡ name) × IsSpoilt x name found) says, refl)))))
-      (stuck_at why u w are_u are_w rounds p go stuck) kept_so (λ other. peer_steady steady)
-  spoilt name found (may, (u, w, are_u, are_w, (rounds, (p, go, (stuck, kept_so))))) (inr told) steady =
-      let why = fault.Damaged name found in
-      all_made p.commits no_memory told (inl (stuck_led why u w are_u are_w rounds p go stuck)) (inr (inr (inr (inl (inl refl, refl)))))
       (stuck_at why u w are_u are_w rounds p go stuck) kept_so (λ other. peer_steady steady)
 
   -- ---- whatever it answered

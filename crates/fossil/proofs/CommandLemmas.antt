@@ -1,5 +1,5 @@
 -- What the commands did that don't touch the file.
-use Rattle.std.proofs.Common.{◌≡◌, inl, inr, ℕ, ◌≤◌, Bool, true, false, List, [], length, Option, Some, None, Result, Ok, Err, IfOk, IfErr, IsTrue, refl, sym, ap, subst, ◌∙◌, arith}
+use Rattle.std.proofs.Common.{◌≡◌, inl, inr, ℕ, ◌≤◌, Bool, true, false, List, [], length, Option, Some, None, Result, Ok, Err, IfOk, IfErr, IsTrue, refl, sym, ap, subst, arith}
 use Rattle.std.specs.Prelude.{◌^◌, nat_lt, MatchBool}
 use Rattle.std.specs.Io.KnownBytes.{IsAtEnd}
 use Rattle.fsl_text.specs.declared.memory.Memory.{Memory}
@@ -7,9 +7,10 @@ use Rattle.fsl_disk.specs.Disk.{DiskState}
 use Rattle.fsl_repo.specs.Whole.{is_modelled}
 use Rattle.fsl_words.specs.declared.Command.{Command}
 use Rattle.fsl_words.specs.declared.Command.TheVariants as command_of
+use Rattle.fossil.specs.Due.{Due, printed_fault}
 use Rattle.fossil.specs.declared.answers.fault.Fault.{Fault}
 use Rattle.fossil.specs.declared.answers.fault.Fault.TheVariants as fault_is
-use Rattle.fossil.specs.declared.reading.message.Sent.{Sent}
+use Rattle.fossil.specs.declared.reading.message.MessageFile.{MessageFile}
 use Rattle.fossil.specs.Arrivals.{Taken, none_taken, Arrive}
 use Rattle.fossil.proofs.ArrivalLemmas.{refused_files}
 use Rattle.fossil.specs.Printed.{Printed}
@@ -17,28 +18,17 @@ use Rattle.fossil.specs.Printed as printing
 use Rattle.fossil.specs.Gen.{IsGenPrinted}
 use Rattle.fossil.specs.Ingest as ingest
 use Rattle.fossil.specs.Outcome.{Outcome, without_commit, printed_of, usage, meets, IsSaidOutcome}
-use Rattle.fossil.specs.Run.{Input, Output, Agrees, reads, opens, TakesMoment, IsSaid, IsTold, cut_off_status, HasRun}
-use Rattle.fossil.specs.Acts.{HasActed, IsCaused, IsUnread, IsIngestRun, fault_status}
+use Rattle.fossil.specs.Run.{Input, Output, Agrees, reads, opens, TakesMoment, IsWritten, HasRun}
+use Rattle.fossil.specs.Acts.{HasActed, IsCaused, IsUnread, IsIngestRun}
 use Rattle.fossil.proofs.InputLemmas.{some_bytes}
 use Rattle.fossil.proofs.MessageLemmas.{refused_status}
-use Rattle.fossil.proofs.FileLemmas.{both, quiet_none, idle_left, idle_touches, fault_undone, fault_fades}
+use Rattle.fossil.proofs.FileLemmas.{both, quiet_none, idle_left, idle_touches, fault_undone, fault_fades, fault_left}
 use Rattle.fossil.proofs.SomeOutcome.{some_said_outcome}
 use Rattle.fossil.proofs.ActLemmas.{still, still_by, none_due}
-use Rattle.fossil.proofs.PrintedLemmas.{written}
-
-no_zero : (fault : Fault) → fault_status fault ≡ 0 → ⊥
-no_zero fault_is.Disk z = cc
-no_zero fault_is.Input z = cc
-no_zero (fault_is.Damaged name found) z = cc
-no_zero fault_is.Memory z = cc
-
--- a line whose status stays
-said_told : (o : Printed) (status : ℕ) (out : Output) → status ≡ o.status → cut_off_status o.status ≡ o.status → IsSaid out o.text → IsTold (without_commit o) status out
-said_told o status out e stays (inl whole) = inl (e, whole)
-said_told o status out e stays (inr cut) = inr (e ∙ sym stays, cut)
+use Rattle.fossil.proofs.PrintedLemmas.{no_zero, written}
 
 module _ (command : Option Command) (input : Input) (clock : Option (List ℕ)) (file : DiskState) (no_other : IsTrue file.is_model → (c : List ℕ) → file.since file.moment c → file.images c) where
-  abbrev Acted : Result Printed Fault → Type 0
+  abbrev Acted : Due → Type 0
   Acted result = HasActed command input (still clock) (both file file) result
 
   -- nothing was done but the outcome, which commits nothing
@@ -62,7 +52,9 @@ module _ (command : Option Command) (input : Input) (clock : Option (List ℕ)) 
           contents = idle_left command file no_other bytes.0 o o.status (λ done. none);
           touches = idle_touches command file no_other bytes.0 o;
           durable = λ last opened. absurd (closed opened);
+          trimmed = λ last opened. absurd (closed opened);
           spared = λ nine begun. quiet_none file;
+          steady = refl;
         },
         none_due command clock true read 0 bytes.0 (never read bytes.0),
       )
@@ -85,10 +77,12 @@ module _ (command : Option Command) (input : Input) (clock : Option (List ℕ)) 
           plain = tt;
           cause = cause bytes.0 o.0;
           end = λ z. absurd (no_zero fault z);
-          contents = idle_left command file no_other bytes.0 o.0 (fault_status fault) (λ done. absurd (fault_undone fault done));
+          contents = idle_left command file no_other bytes.0 o.0 (printed_fault fault).status (λ done. absurd (fault_undone fault done));
           touches = idle_touches command file no_other bytes.0 o.0;
           durable = λ last. absurd (fault_fades command fault last);
+          trimmed = λ last. absurd (fault_left command fault last);
           spared = λ nine begun. quiet_none file;
+          steady = tt;
         },
         still_by command input clock fault other read.0 0 bytes.0,
       )
@@ -97,34 +91,35 @@ module _ (command : Option Command) (input : Input) (clock : Option (List ℕ)) 
   idle_memory plain = idle_fault plain fault_is.Memory (λ e. cc) (λ bytes o. tt)
 
   pub idle_unread : meets command ≡ false → (fault : Fault) → IsUnread fault input → IsTrue (reads command) → (IsTrue (opens command) → ⊥) → Acted (Err fault)
+  idle_unread plain fault_is.Usage un reads_it closed = absurd un
   idle_unread plain fault_is.Disk un reads_it closed = absurd un
   idle_unread plain fault_is.Input un reads_it closed = idle_fault plain fault_is.Input (λ e. cc) (λ bytes o. record { read = reads_it; rose = un; file = λ opened. absurd (closed opened) })
+  idle_unread plain fault_is.Link un reads_it closed = absurd un
   idle_unread plain (fault_is.Damaged name found) un reads_it closed = absurd un
   idle_unread plain fault_is.Memory un reads_it closed = idle_memory plain
 
 -- what opens no file and comes to the usage
 usage_of : (command : Option Command) → (IsTrue (opens command) → ⊥) → ((read bytes : List ℕ) → TakesMoment command read bytes → ⊥) → ((honest : Bool) (read : List ℕ) (moment : ℕ) (bytes : List ℕ) → IsSaidOutcome honest command read moment bytes usage)
     → (input : Input) (clock : Option (List ℕ)) (file : DiskState)
-    → (IsTrue file.is_model → (c : List ℕ) → file.since file.moment c → file.images c) → (out : Output) (status : ℕ) → status ≡ 1 → IsSaid out usage.text → HasRun command input (still clock) out (both file file) status
-usage_of command closed never is input clock file no_other out status one said =
+    → (IsTrue file.is_model → (c : List ℕ) → file.since file.moment c → file.images c) → (out : Output) (status : ℕ) → IsWritten printing.usage out status → HasRun command input (still clock) out (both file file) status
+usage_of command closed never is input clock file no_other out status said =
     let read = some_bytes input.before.left in
     written command input (still clock) (both file file) (Ok (printed_of usage)) out status
-    (idle_acted command input clock file no_other closed never read.0 usage read.1 (is (is_modelled file) read.0 0 (some_bytes file.contents).0) (omega arith) (λ z. absurd (cc)) refl)
-    (said_told (printed_of usage) status out one refl said)
+    (idle_acted command input clock file no_other closed never read.0 usage read.1 (is (is_modelled file) read.0 0 (some_bytes file.contents).0) (omega arith) (λ z. absurd (cc)) refl) said
 
 -- words that are no command
-pub usage_run : (input : Input) (clock : Option (List ℕ)) (file : DiskState) → (IsTrue file.is_model → (c : List ℕ) → file.since file.moment c → file.images c) → (out : Output) (status : ℕ) → status ≡ 1 → IsSaid out usage.text
+pub usage_run : (input : Input) (clock : Option (List ℕ)) (file : DiskState) → (IsTrue file.is_model → (c : List ℕ) → file.since file.moment c → file.images c) → (out : Output) (status : ℕ) → IsWritten printing.usage out status
     → HasRun None input (still clock) out (both file file) status
 usage_run = usage_of None (λ opened. cc) (λ read bytes due. due) (λ honest read moment bytes. refl)
 
 -- a serve, which is no command of a run
 pub serve_run : (address users : List ℕ) (workers requests : ℕ) (input : Input) (clock : Option (List ℕ)) (file : DiskState) → (IsTrue file.is_model → (c : List ℕ) → file.since file.moment c → file.images c)
-    → (out : Output) (status : ℕ) → status ≡ 1 → IsSaid out usage.text → HasRun (Some (command_of.Serve address users workers requests)) input (still clock) out (both file file) status
+    → (out : Output) (status : ℕ) → IsWritten printing.usage out status → HasRun (Some (command_of.Serve address users workers requests)) input (still clock) out (both file file) status
 serve_run address users workers requests = usage_of (Some (command_of.Serve address users workers requests)) (λ opened. cc) (λ read bytes due. due) (λ honest read moment bytes. refl)
 
 -- ---- ingest
 
-small_printed : (files : List Sent) (result : Result Taken Printed) (answer : Printed) → Arrive None (none_taken ingest.fresh) files result → ingest.IsPrintedBy result answer → answer.status ≤ 3
+small_printed : (files : List MessageFile) (result : Result Taken Printed) (answer : Printed) → Arrive None (none_taken ingest.fresh) files result → ingest.IsPrintedBy result answer → answer.status ≤ 3
 small_printed files (Ok t) answer arrive is = let z = ap (λ (a : Printed). a.status) is.2 in omega (arith, z)
 small_printed files (Err refusal) answer arrive is = let e = refused_files None files (none_taken ingest.fresh) refusal arrive in let same = ap (λ (a : Printed). a.status) is in omega (arith, e, same)
 
@@ -136,7 +131,7 @@ small_ingest : (read : List ℕ) (t : Bool) (answer : Printed) → MatchBool t (
 small_ingest read true answer h = let e = ap (λ (a : Printed). a.status) h in omega (arith, e)
 small_ingest read false answer h = small_read read answer h
 
-pub ingest_acted : (input : Input) (clock : Option (List ℕ)) (file : DiskState) → (IsTrue file.is_model → (c : List ℕ) → file.since file.moment c → file.images c) → (result : Result Printed Fault)
+pub ingest_acted : (input : Input) (clock : Option (List ℕ)) (file : DiskState) → (IsTrue file.is_model → (c : List ℕ) → file.since file.moment c → file.images c) → (result : Due)
     → IfOk result (IsIngestRun input) → IfErr result (λ fault. IsUnread fault input) → HasActed (Some command_of.Ingest) input (still clock) (both file file) result
 ingest_acted input clock file no_other (Ok answer) run un =
     idle_acted (Some command_of.Ingest) input clock file no_other (λ opened. cc) (λ read bytes due. due) run.read (without_commit answer) run.told (answer, run.ingested, refl) (small_ingest run.read (nat_lt (2 ^ 27) (length run.read)) answer run.ingested) (λ z reads. run.end z) refl
@@ -144,13 +139,13 @@ ingest_acted input clock file no_other (Err fault) run un = idle_unread (Some co
 
 -- ---- gen
 
-pub gen_acted : (count : ℕ) (reversed : Bool) (input : Input) (clock : Option (List ℕ)) (file : DiskState) → (IsTrue file.is_model → (c : List ℕ) → file.since file.moment c → file.images c) → (made : Result Printed Memory) (result : Result Printed Fault)
-    → IfOk made (IsGenPrinted count reversed) → IfOk result (λ a. made ≡ Ok a) → IfErr result (λ fault. fault ≡ fault_is.Memory)
+pub gen_acted : (count : ℕ) (reversed : Bool) (input : Input) (clock : Option (List ℕ)) (file : DiskState) → (IsTrue file.is_model → (c : List ℕ) → file.since file.moment c → file.images c) → (made : Result Printed Memory) (result : Due)
+    → IfOk made (IsGenPrinted count reversed) → IfOk made (λ a. result ≡ Ok a) → IfErr made (λ _. result ≡ Err fault_is.Memory)
     → HasActed (Some (command_of.Gen count reversed)) input (still clock) (both file file) result
-gen_acted count reversed input clock file no_other made (Ok answer) is ok err =
+gen_acted count reversed input clock file no_other (Ok answer) result printed ok err =
     let read = some_bytes input.before.left in
-    let printed : IsGenPrinted count reversed answer = subst (λ (m : Result Printed Memory). IfOk m (IsGenPrinted count reversed)) ok is in
     let small : answer.status ≤ 3 = let z = ap (λ (a : Printed). a.status) printed.2 in omega (arith, z) in
-    idle_acted (Some (command_of.Gen count reversed)) input clock file no_other (λ opened. cc) (λ read bytes due. due) read.0 (without_commit answer) read.1 (answer, printed, refl) small (λ z reads. absurd (cc)) refl
-gen_acted count reversed input clock file no_other made (Err fault) is ok err =
-    subst (λ (f : Fault). HasActed (Some (command_of.Gen count reversed)) input (still clock) (both file file) (Err f)) (sym err) (idle_memory (Some (command_of.Gen count reversed)) input clock file no_other refl)
+    subst (λ (d : Due). HasActed (Some (command_of.Gen count reversed)) input (still clock) (both file file) d) (sym ok)
+    (idle_acted (Some (command_of.Gen count reversed)) input clock file no_other (λ opened. cc) (λ read bytes due. due) read.0 (without_commit answer) read.1 (answer, printed, refl) small (λ z reads. absurd (cc)) refl)
+gen_acted count reversed input clock file no_other (Err memory) result printed ok err =
+    subst (λ (d : Due). HasActed (Some (command_of.Gen count reversed)) input (still clock) (both file file) d) (sym err) (idle_memory (Some (command_of.Gen count reversed)) input clock file no_other refl)

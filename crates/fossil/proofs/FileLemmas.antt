@@ -1,6 +1,7 @@
 -- What a file stands for after a command.
 use Rattle.std.proofs.Common.{◌≡◌, inl, inr, ℕ, Bool, true, false, List, [], ◌∷◌, ◌++◌, length, Option, Some, None, is_some, IsTrue, refl, sym, ap, subst, ◌∙◌, arith}
-use Rattle.std.specs.Prelude.{◌==◌, MatchBool}
+use Rattle.std.specs.Prelude.{◌==◌, ◌||◌, ◌&&◌, not, MatchBool}
+use Rattle.std.specs.Option.{option_map_or}
 use Rattle.std.proofs.lemmas.List.{append-nil}
 use Rattle.fsl_record.specs.declared.Record.{Record}
 use Rattle.fsl_disk.specs.Disk.{DiskState, IsModelled, Keeps, Quiet, LeavesOnly}
@@ -10,11 +11,12 @@ use Rattle.fsl_journal.specs.Journal.{OfBytes}
 use Rattle.fsl_journal.proofs.Failing.{no_file}
 use Rattle.fsl_journal.proofs.Unique.{one_file}
 use Rattle.fsl_words.specs.declared.Command.{Command}
+use Rattle.fossil.specs.Due.{printed_fault}
 use Rattle.fossil.specs.declared.answers.fault.Fault.{Fault}
 use Rattle.fossil.specs.declared.answers.fault.Fault.TheVariants as fault_is
 use Rattle.fossil.specs.Outcome.{Outcome, one_commit, not_repository, meets, IsSaidOutcome}
-use Rattle.fossil.specs.Run.{File, Agrees, opens, begins, StandsFor, StandsForAll, StandsForSome, AreOldBy, AreOld, AreImages, is_done, IsLeft, IsFileLeft, IsNoRepository, IsRefused, IsWholeAtAnyMoment, lasts, IsDurable, TakesMoment, after_commits}
-use Rattle.fossil.specs.Acts.{KeepsContents, KeepsImages, KeepsUnreadable, Touches, fault_status}
+use Rattle.fossil.specs.Run.{File, Agrees, opens, begins, StandsFor, StandsForAll, StandsForSome, AreOldBy, AreOld, AreImages, is_done, IsLeft, IsFileLeft, IsNoRepository, IsRefused, IsWholeAtAnyMoment, lasts, IsDurable, TakesMoment, after_commits, command_trims, trims}
+use Rattle.fossil.specs.Acts.{KeepsContents, KeepsImages, KeepsUnreadable, Touches}
 
 -- a file stands for some records
 pub stands : (old : List Record) (bytes : List ℕ) → IsFileOf bytes old → StandsFor old bytes
@@ -64,18 +66,28 @@ pub left_old : (status : ℕ) (old : List Record) (commits : List (List Record))
 left_old status old commits bytes none h =
     left_by (is_done status) (status == 4) old commits bytes (λ done. none_is_all old commits bytes (none done) h) h
 
--- after a fault the command isn't done, and nothing need last
-pub fault_undone : (fault : Fault) → IsTrue (is_done (fault_status fault)) → ⊥
-fault_undone fault_is.Disk done = cc
-fault_undone fault_is.Input done = cc
-fault_undone (fault_is.Damaged name found) done = cc
-fault_undone fault_is.Memory done = cc
+-- after a fault the command isn't done, nothing need last, and bytes may stand behind the closed gate
+fault_plain : (fault : Fault) → (is_done (printed_fault fault).status ≡ false) × (((printed_fault fault).status == 3) ≡ false)
+fault_plain fault_is.Usage = (refl, refl)
+fault_plain fault_is.Disk = (refl, refl)
+fault_plain fault_is.Input = (refl, refl)
+fault_plain fault_is.Link = (refl, refl)
+fault_plain (fault_is.Damaged name found) = (refl, refl)
+fault_plain fault_is.Memory = (refl, refl)
 
-pub fault_fades : (command : Option Command) (fault : Fault) → IsTrue (lasts command (fault_status fault)) → ⊥
-fault_fades command fault_is.Disk last = cc
-fault_fades command fault_is.Input last = cc
-fault_fades command (fault_is.Damaged name found) last = cc
-fault_fades command fault_is.Memory last = cc
+neither : (a b other : Bool) → a ≡ false → b ≡ false → IsTrue (a || (b && other)) → ⊥
+neither true b other e f h = cc
+neither false true other e f h = cc
+neither false false other e f h = cc
+
+pub fault_undone : (fault : Fault) → IsTrue (is_done (printed_fault fault).status) → ⊥
+fault_undone fault done = let e = sym done ∙ (fault_plain fault).0 in cc
+
+pub fault_fades : (command : Option Command) (fault : Fault) → IsTrue (lasts command (printed_fault fault).status) → ⊥
+fault_fades command fault last = neither _ _ (not (begins command)) (fault_plain fault).0 (fault_plain fault).1 last
+
+pub fault_left : (command : Option Command) (fault : Fault) → IsTrue (trims command (printed_fault fault).status) → ⊥
+fault_left command fault last = neither _ _ (option_map_or command_trims command false) (fault_plain fault).0 (fault_plain fault).1 last
 
 -- ---- what is told
 

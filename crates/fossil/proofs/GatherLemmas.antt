@@ -43,7 +43,7 @@ use Rattle.fsl_repo.proofs.HeldMore.{absent_is, blob_after, contents_more}
 use Rattle.fsl_repo.proofs.OneList.{are_one_list}
 use Rattle.fsl_repo.proofs.Arrivals as steps
 use Rattle.fossil.specs.declared.reading.gathering.Gathered.{Gathered}
-use Rattle.fossil.specs.declared.reading.message.Sent.{Sent}
+use Rattle.fossil.specs.declared.reading.message.MessageFile.{MessageFile}
 use Rattle.fossil.specs.Printed.{Printed, name_line}
 use Rattle.fossil.specs.Arrivals.{Taken, none_taken, refusal_of, and_taken, Arrive}
 use Rattle.fossil.specs.Ingest.{fresh, IsSetPrinted}
@@ -270,21 +270,21 @@ module _ (s : State) (g : Gathered) (is : IsGathered s g) where
 -- ---- answers
 
 -- a fault but want of memory is that of the arrival
-pub fault_in : (f : Sent) (g new : Gathered) (fault : ArriveFault) → ((s : State) → IsGathered s g → IsArrival s f.name f.bytes f.private (Err fault)) → IsGatheredBy f g new (Err fault)
+pub fault_in : (f : MessageFile) (g new : Gathered) (fault : ArriveFault) → ((s : State) → IsGathered s g → IsArrival s f.name f.bytes f.private (Err fault)) → IsGatheredBy f g new (Err fault)
 fault_in f g new (arrive_fault.Stopped n) is = is
 fault_in f g new (arrive_fault.TooLarge n) is = is
 fault_in f g new (arrive_fault.NameWrong found) is = is
 fault_in f g new (arrive_fault.Full b n w) is = is
 fault_in f g new arrive_fault.Memory is = tt
 
-fault_of : (f : Sent) (g new : Gathered) (fault : ArriveFault) → IsGatheredBy f g new (Err fault) → (fault ≡ arrive_fault.Memory → ⊥) → (s : State) → IsGathered s g → IsArrival s f.name f.bytes f.private (Err fault)
+fault_of : (f : MessageFile) (g new : Gathered) (fault : ArriveFault) → IsGatheredBy f g new (Err fault) → (fault ≡ arrive_fault.Memory → ⊥) → (s : State) → IsGathered s g → IsArrival s f.name f.bytes f.private (Err fault)
 fault_of f g new (arrive_fault.Stopped n) by other s is = by s is
 fault_of f g new (arrive_fault.TooLarge n) by other s is = by s is
 fault_of f g new (arrive_fault.NameWrong found) by other s is = by s is
 fault_of f g new (arrive_fault.Full b n w) by other s is = by s is
 fault_of f g new arrive_fault.Memory by other s is = absurd (other refl)
 
-module _ (f : Sent) (g : Gathered) where
+module _ (f : MessageFile) (g : Gathered) where
   pub large_in : (new : Gathered) → nat_lt (2 ^ 24) (length f.bytes) ≡ true → IsGatheredBy f g new (Err (arrive_fault.TooLarge (length f.bytes)))
   large_in new large s is = (is_arrival None s s f.name f.bytes f.private (Err (arrive_fault.TooLarge (length f.bytes))) (steps.large_step s f.name None f.bytes f.private is.runs large) (λ e. cc)).0
 
@@ -347,12 +347,12 @@ module _ (f : Sent) (g : Gathered) where
 -- ---- files one after another
 
 -- files were taken, and these are left of all
-pub record AreGathered (all left : List Sent) (g : Gathered) : Type 0 where
+pub record AreGathered (all left : List MessageFile) (g : Gathered) : Type 0 where
   pub taken : Taken
   pub goes_on : GoesOn None (none_taken fresh) all taken left
   pub state : IsGathered taken.state g
 
-module _ (all left rest : List Sent) (f : Sent) (g new : Gathered) (are : AreGathered all left g) (split : left ≡ f ∷ rest) where
+module _ (all left rest : List MessageFile) (f : MessageFile) (g new : Gathered) (are : AreGathered all left g) (split : left ≡ f ∷ rest) where
   pub gathered_more : (a : Arrival) → IsGatheredBy f g new (Ok a) → AreGathered all rest new
   gathered_more a by = let one = by are.taken.state are.state in
       record { taken = and_taken None are.taken f (Ok a); goes_on = one_more None (none_taken fresh) are.taken all left rest f a are.goes_on split one.0; state = one.1 }
@@ -367,7 +367,7 @@ module _ (all left rest : List Sent) (f : Sent) (g new : Gathered) (are : AreGat
         let other : fault ≡ arrive_fault.Memory → ⊥ = (λ e. let same : refusal_of f.name (Err arrive_fault.Memory) ≡ Some refusal = subst (λ (x : ArriveFault). refusal_of f.name (Err x) ≡ Some refusal) e refuses in cc) in
         refused_here None (none_taken fresh) are.taken all left rest f fault refusal are.goes_on split (fault_of f g new fault by other are.taken.state are.state) refuses
 
-pub all_gathered : (all left : List Sent) (g : Gathered) → AreGathered all left g → left ≡ [] → (taken : Taken) × Arrive None (none_taken fresh) all (Ok taken) × IsGathered taken.state g
+pub all_gathered : (all left : List MessageFile) (g : Gathered) → AreGathered all left g → left ≡ [] → (taken : Taken) × Arrive None (none_taken fresh) all (Ok taken) × IsGathered taken.state g
 all_gathered all left g are none = (are.taken, none_left None (none_taken fresh) are.taken all left are.goes_on none, are.state)
 
 -- ---- what is printed

@@ -1,5 +1,5 @@
 -- What `init` did.
-use Rattle.std.proofs.Common.{◌≡◌, ◌≢◌, ◌⊎◌, inl, inr, ⊎_elim, ℕ, ◌<◌, Bool, true, false, cond, List, [], ◌∷◌, ◌++◌, length, Option, Some, None, Result, Ok, Err, IsTrue, refl, sym, ap, subst, ◌∙◌, arith}
+use Rattle.std.proofs.Common.{◌≡◌, ◌≢◌, ◌⊎◌, inl, inr, ⊎_elim, ℕ, ◌<◌, Bool, true, false, cond, List, [], ◌∷◌, ◌++◌, length, Option, Some, None, Ok, Err, IsTrue, refl, sym, ap, subst, ◌∙◌, arith}
 use Rattle.std.specs.Prelude.{◌==◌, codes, decimal, replicate}
 use Rattle.std.proofs.lemmas.List.{length-replicate}
 use Rattle.fsl_order.specs.Causes.{Rose}
@@ -10,16 +10,17 @@ use Rattle.fsl_record.specs.declared.Record.TheVariants as record_of
 use Rattle.fsl_disk.specs.Disk.{DiskState, IsModelled, Told, Keeps, Quiet, LeavesOnly}
 use Rattle.fsl_disk.proofs.Moments.{weaker, quiet_moments, told_contents}
 use Rattle.fsl_journal.specs.File.{IsFileOf}
-use Rattle.fsl_journal.specs.Journal.{NothingOr, IsMade}
+use Rattle.fsl_journal.specs.Journal.{NothingOr, IsLeft, IsMade}
 use Rattle.fsl_words.specs.declared.Command.{Command}
 use Rattle.fsl_words.specs.declared.Command.TheVariants as command_of
+use Rattle.fossil.specs.Due.{Due, printed}
 use Rattle.fossil.specs.declared.answers.fault.Fault.{Fault}
 use Rattle.fossil.specs.declared.answers.fault.Fault.TheVariants as fault_is
 use Rattle.fossil.specs.Printed.{Printed}
 use Rattle.fossil.specs.Printed as printing
 use Rattle.fossil.specs.Outcome.{Outcome, init_outcome, without_commit, one_commit, printed_of}
 use Rattle.fossil.specs.Run.{Input, Agrees, IsTimed, StandsFor, StandsForAll, StandsForSome, AreOldBy, AreImages, is_done, lasts, IsFileLeft, IsWholeAtAnyMoment, IsSpared}
-use Rattle.fossil.specs.Acts.{ActsBy, HasActed, IsCaused, Touches, result_status}
+use Rattle.fossil.specs.Acts.{ActsBy, HasActed, IsCaused, Touches}
 use Rattle.fossil.proofs.InputLemmas.{some_bytes}
 use Rattle.fossil.proofs.ActLemmas.{still, none_due}
 use Rattle.fossil.proofs.FileLemmas.{both, some_same, agrees, agreed, empty_file, old_stands, none_committed, all_committed, one_is_all, left_same, left_failed, fault_fades}
@@ -101,8 +102,8 @@ module _ (config : Config) (source : SourceState) (clock : Option (List ℕ)) (f
     touches = record { kept = quiet_file; any_moment = whole_by (is_empty bytes); keeps = keeps }
 
     -- a fault after which the contents are as they were, or the disk failed
-    pub fault_acted : (fault : Fault) → (fault ≡ fault_is.Input → ⊥) → IsCaused command input (both file left) bytes (outcome bytes) fault → IsFileLeft command (both file left) (result_status (Err fault)) bytes (outcome bytes)
-        → IsSpared command (both file left) (result_status (Err fault)) → ActsBy command input (both file left) (Err fault) (some_bytes source.left).0 0 bytes (outcome bytes)
+    pub fault_acted : (fault : Fault) → (fault ≡ fault_is.Input → ⊥) → IsCaused command input (both file left) bytes (outcome bytes) fault → IsFileLeft command (both file left) ((printed (Err fault)).status) bytes (outcome bytes)
+        → IsSpared command (both file left) ((printed (Err fault)).status) → ActsBy command input (both file left) (Err fault) (some_bytes source.left).0 0 bytes (outcome bytes)
     fault_acted fault other cause contents spared = record {
       input_told = (some_bytes source.left).1;
       file_told = file_told;
@@ -114,10 +115,12 @@ module _ (config : Config) (source : SourceState) (clock : Option (List ℕ)) (f
       contents = contents;
       touches = touches;
       durable = λ last. absurd (fault_fades command fault last);
+      trimmed = λ last opened begun. absurd (cc);
       spared = spared;
+      steady = tt;
     }
 
-  abbrev Acted : Result Printed Fault → Type 0
+  abbrev Acted : Due → Type 0
   Acted result = HasActed command input (still clock) (both file left) result
 
   unasked : (answered : Bool) (read bytes : List ℕ) → IsTimed command (still clock) answered read 0 bytes
@@ -146,7 +149,9 @@ module _ (config : Config) (source : SourceState) (clock : Option (List ℕ)) (f
               all_stand old (outcome []).commits held (old_none old [] refl are) refl (subst (λ (b : List ℕ). IsFileOf b first) (some_same (sym stands.1 ∙ left_told)) stands.2);
           touches = touches [] told;
           durable = λ last opened modelled file_told old are c image. all_stand old (outcome []).commits c (old_none old [] refl are) refl (durable modelled c image);
+          trimmed = λ last opened begun. absurd (cc);
           spared = λ nine begun. absurd (cc);
+          steady = made.faults;
         },
         unasked true read.0 [],
       )
@@ -159,7 +164,7 @@ module _ (config : Config) (source : SourceState) (clock : Option (List ℕ)) (f
   begun_refused n h =
       ap (λ (b : Bool). cond b (record { status = 0; text = []; commits = first ∷ [] }) (without_commit (printing.refused (codes "file not empty " ++ decimal n)))) (no_zero n h)
 
-  pub refused_acted : (len : ℕ) (answer : Printed) → 0 < len → Told file (λ held. len ≡ length held) → left.contents ≡ file.contents → answer ≡ printing.refused (codes "file not empty " ++ decimal len) → Acted (Ok answer)
+  pub refused_acted : (len : ℕ) (answer : Printed) → 0 < len → Told file (λ held. len ≡ length held) → IsLeft file left → answer ≡ printing.refused (codes "file not empty " ++ decimal len) → Acted (Ok answer)
   refused_acted len answer some is same refusal =
       let read = some_bytes source.left in
       let bytes = of_length file.contents len is in
@@ -176,10 +181,12 @@ module _ (config : Config) (source : SourceState) (clock : Option (List ℕ)) (f
           plain = omega (arith, three);
           cause = tt;
           end = λ z reads. absurd (cc);
-          contents = left_same command file left bytes.0 (outcome bytes.0) answer.status (λ done. absurd (let none = subst (λ (n : ℕ). IsTrue (is_done n)) three done in cc)) same;
+          contents = left_same command file left bytes.0 (outcome bytes.0) answer.status (λ done. absurd (let none = subst (λ (n : ℕ). IsTrue (is_done n)) three done in cc)) same.contents;
           touches = touches bytes.0 bytes.1;
           durable = λ last. absurd (let none = subst (λ (n : ℕ). IsTrue (lasts command n)) three last in cc);
+          trimmed = λ last opened begun. absurd (cc);
           spared = λ nine begun. absurd (omega (arith, three, nine));
+          steady = same.faults;
         },
         unasked true read.0 bytes.0,
       )

@@ -86,13 +86,14 @@ spared_contents file left (inr kept) model = λ bytes told old are held left_tol
     let same : kept.0 ≡ old = one_file bytes kept.0 old (subst (λ (b : List ℕ). IsFileOf b kept.0) (kept.1.1 bytes told) kept.1.2) are in
     subst (λ (rs : List Record). IsFileOf held rs) same (kept.2 model held left_told)
 
--- why it wasn't, and the contents where no call of the disk failed
-is_why : (file left : DiskState) (fault : LoadFault) → LoadFailed fault file left → IsNotLoaded fault file left × (fault ≢ load_fault.Disk → KeepsContents file left)
-is_why file left load_fault.Disk failed = (failed, λ other. absurd (other refl))
-is_why file left (load_fault.NotRepository at) failed = (failed.2, λ other. same_contents file left failed.0.contents)
-is_why file left load_fault.Memory failed = (tt, λ other. same_contents file left failed.0.contents)
+-- why it wasn't, and the contents and the count where no call of the disk failed
+is_why : (file left : DiskState) (fault : LoadFault) → LoadFailed fault file left
+    → IsNotLoaded fault file left × (fault ≢ load_fault.Disk → KeepsContents file left) × (fault ≢ load_fault.Disk → left.faults ≡ file.faults)
+is_why file left load_fault.Disk failed = (failed, (λ other. absurd (other refl)), λ other. absurd (other refl))
+is_why file left (load_fault.NotRepository at) failed = (failed.2, (λ other. same_contents file left failed.0.contents), λ other. failed.0.faults)
+is_why file left load_fault.Memory failed = (tt, (λ other. same_contents file left failed.0.contents), λ other. failed.0.faults)
 
 pub unopened : (file left : DiskState) (fault : LoadFault) → LoadFailed fault file left → IsSpared file left → KeepsUnreadable file left → KeepsBetween file left → Keeps file left → IsUnopened file left fault
 unopened file left fault failed spared unreadable between keeps =
     let why = is_why file left fault failed in
-    record { cause = why.0; contents = why.1; modelled = spared_contents file left spared; unreadable = unreadable; any_moment = images_kept file left between; keeps = keeps }
+    record { cause = why.0; contents = why.1; faults = why.2; modelled = spared_contents file left spared; unreadable = unreadable; any_moment = images_kept file left between; keeps = keeps }

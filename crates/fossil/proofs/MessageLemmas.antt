@@ -12,7 +12,7 @@ use Rattle.fsl_wire.specs.Messages.{IsNumberedMessage, IsMessage, IsLineOf, IsFi
 use Rattle.fsl_wire.specs.Drafts.{bare, IsBareMessage}
 use Rattle.fsl_wire.proofs.OneWay.{reads_one_way}
 use Rattle.fsl_wire.proofs.BareLemmas.{position_bare}
-use Rattle.fossil.specs.declared.reading.message.Sent.{Sent}
+use Rattle.fossil.specs.declared.reading.message.MessageFile.{MessageFile}
 use Rattle.fossil.specs.declared.reading.message.MessageFault.TheVariants as fault_is
 use Rattle.fossil.specs.Printed.{Printed, bad_line, not_a_file}
 use Rattle.fossil.specs.Messages.{fault_line, is_other, other_line, files_of, IsFileList, IsMessageRefused, IsFaultOf, unread_as}
@@ -23,7 +23,7 @@ Lines = List (ℕ × WireCard)
 abbrev cards_in : Lines → List WireCard
 cards_in lines = map (λ l. l.1) lines
 
-abbrev files_in : Lines → List Sent
+abbrev files_in : Lines → List MessageFile
 files_in lines = files_of false (cards_in lines)
 
 some_is : {X : Type 0} (a b : X) → Some a ≡ Some b → a ≡ b
@@ -31,7 +31,7 @@ some_is a b e = cc
 
 -- ---- one message
 
-pub one_files : (message : List ℕ) (a b : List Sent) → IsFileList message a → IsFileList message b → a ≡ b
+pub one_files : (message : List ℕ) (a b : List MessageFile) → IsFileList message a → IsFileList message b → a ≡ b
 one_files message a b h k = h.3 ∙ ap files_in (reads_one_way.one_numbering message h.0 k.0 h.1 k.1) ∙ sym k.3
 
 no_fault : (message : List ℕ) (lines : Lines) (fault : WireFault) → IsNumberedMessage message lines → IsFirstFault message fault → ⊥
@@ -49,14 +49,14 @@ one_refused message a b (inl h) (inr k) = absurd (no_fault message k.0 h.0 k.2 h
 one_refused message a b (inr h) (inl k) = absurd (no_fault message h.0 k.0 h.2 k.1)
 one_refused message a b (inr h) (inr k) = h.4 ∙ ap not_a_file (some_is h.1 k.1 (sym h.3 ∙ one_other message h.0 k.0 h.2 k.2 ∙ k.3)) ∙ sym k.4
 
-pub not_both : (message : List ℕ) (files : List Sent) (refusal : Printed) → IsFileList message files → IsMessageRefused message refusal → ⊥
+pub not_both : (message : List ℕ) (files : List MessageFile) (refusal : Printed) → IsFileList message files → IsMessageRefused message refusal → ⊥
 not_both message files refusal h (inl k) = no_fault message h.0 k.0 h.1 k.1
 not_both message files refusal h (inr k) = all_files message k.0 h.0 k.1 k.2 h.1 k.3 h.2
 
 -- ---- some message
 
 abbrev pub IsSomeMessage : List ℕ → Type 0
-IsSomeMessage message = ((files : List Sent) × IsFileList message files) ⊎ ((refusal : Printed) × IsMessageRefused message refusal)
+IsSomeMessage message = ((files : List MessageFile) × IsFileList message files) ⊎ ((refusal : Printed) × IsMessageRefused message refusal)
 
 by_cards : (message : List ℕ) (lines : Lines) → IsNumberedMessage message lines → (o : Option ℕ) → other_line lines ≡ o → IsSomeMessage message
 by_cards message lines is None e = inl (files_in lines, (lines, is, e, refl))
@@ -118,7 +118,7 @@ whole_other message cards place n is found (lines, numbered, here) =
     let at : place ≡ first_of lines = some_at _ _ place (sym (ap (position is_other) of_lines) ∙ found) in
     (lines, numbered, at_first lines n (ap (slice_get (map (λ l. l.0) lines)) (sym at) ∙ here))
 
-whole_files : (message : List ℕ) (cards : List WireCard) (files : List Sent) → IsMessage message cards → position is_other cards ≡ None → files ≡ files_of false cards → IsFileList message files
+whole_files : (message : List ℕ) (cards : List WireCard) (files : List MessageFile) → IsMessage message cards → position is_other cards ≡ None → files ≡ files_of false cards → IsFileList message files
 whole_files message cards files is none e =
     let past = none_past (first_of is.0) (length (cards_in is.0)) (sym (ap (position is_other) is.2) ∙ none) in
     (is.0, is.1, past_all is.0 past, e ∙ ap (files_of false) is.2)
@@ -145,7 +145,7 @@ files_bare marked (wire_card.Push s p ∷ cards) = files_bare marked cards
 files_bare marked (wire_card.Pull s p ∷ cards) = files_bare marked cards
 files_bare marked (wire_card.Clone f ∷ cards) = files_bare marked cards
 files_bare marked (wire_card.CloneSeqno n ∷ cards) = files_bare marked cards
-files_bare marked (wire_card.File n b ∷ cards) = ap (λ (fs : List Sent). record { name = n; bytes = b; private = marked } ∷ fs) (files_bare false cards)
+files_bare marked (wire_card.File n b ∷ cards) = ap (λ (fs : List MessageFile). record { name = n; bytes = b; private = marked } ∷ fs) (files_bare false cards)
 files_bare marked (wire_card.Private ∷ cards) = files_bare true cards
 files_bare marked (wire_card.Igot n p ∷ cards) = files_bare marked cards
 files_bare marked (wire_card.Gimme n ∷ cards) = files_bare marked cards
@@ -160,7 +160,7 @@ other_in cards whole place e at = sym (position_bare is_other other_bare whole) 
 pub other_fault : (message : List ℕ) (cards : List WireCard) (place n : ℕ) → IsBareMessage message cards → position is_other cards ≡ Some place → IsLineOf message place n → IsFaultOf message (fault_is.NotFile n)
 other_fault message cards place n (whole, is, e) found line = whole_other message whole place n is (other_in cards whole (Some place) e found) line
 
-pub files_read : (message : List ℕ) (cards : List WireCard) (files : List Sent) → IsBareMessage message cards → position is_other cards ≡ None → files ≡ files_of false cards → IsFileList message files
+pub files_read : (message : List ℕ) (cards : List WireCard) (files : List MessageFile) → IsBareMessage message cards → position is_other cards ≡ None → files ≡ files_of false cards → IsFileList message files
 files_read message cards files (whole, is, e) none f = whole_files message whole files is (other_in cards whole None e none) (f ∙ ap (files_of false) e ∙ files_bare false whole)
 
 pub read_fault : (message : List ℕ) (fault : WireFault) → IsReadFault message fault → IsFaultOf message (unread_as fault)
@@ -173,10 +173,10 @@ read_fault message faults.Memory is = tt
 
 -- ---- the files of cards
 
-pub first_card : (file : Sent) (files new : List Sent) (name bytes : List ℕ) (marked : Bool) (rest : List WireCard) → file ≡ record { name = name; bytes = bytes; private = marked } → new ≡ files ++ file ∷ []
+pub first_card : (file : MessageFile) (files new : List MessageFile) (name bytes : List ℕ) (marked : Bool) (rest : List WireCard) → file ≡ record { name = name; bytes = bytes; private = marked } → new ≡ files ++ file ∷ []
     → new ++ files_of false rest ≡ files ++ files_of marked (wire_card.File name bytes ∷ rest)
 first_card file files new name bytes marked rest is grown =
-    ap (λ (fs : List Sent). fs ++ files_of false rest) grown ∙ append_assoc files (file ∷ []) (files_of false rest) ∙ ap (λ (f : Sent). files ++ f ∷ files_of false rest) is
+    ap (λ (fs : List MessageFile). fs ++ files_of false rest) grown ∙ append_assoc files (file ∷ []) (files_of false rest) ∙ ap (λ (f : MessageFile). files ++ f ∷ files_of false rest) is
 
 pub other_card : (marked : Bool) (card : WireCard) (rest : List WireCard) → ((name bytes : List ℕ) → card ≡ wire_card.File name bytes → ⊥) → (card ≡ wire_card.Private → ⊥) → files_of marked rest ≡ files_of marked (card ∷ rest)
 other_card marked (wire_card.Login user nonce signature tail line) rest file private = refl
@@ -193,10 +193,10 @@ other_card marked (wire_card.Message text) rest file private = refl
 other_card marked wire_card.SendPrivate rest file private = refl
 
 -- one card more
-pub card_read : (cards rest new : List WireCard) (files more : List Sent) (card : WireCard) (marked next : Bool) → files ++ files_of marked rest ≡ files_of false cards → rest ≡ card ∷ new
+pub card_read : (cards rest new : List WireCard) (files more : List MessageFile) (card : WireCard) (marked next : Bool) → files ++ files_of marked rest ≡ files_of false cards → rest ≡ card ∷ new
     → ((after : List WireCard) → more ++ files_of next after ≡ files ++ files_of marked (card ∷ after)) → more ++ files_of next new ≡ files_of false cards
 card_read cards rest new files more card marked next so_far split add =
     add new ∙ ap (λ (cs : List WireCard). files ++ files_of marked cs) (sym split) ∙ so_far
 
-pub all_read : (cards rest : List WireCard) (files : List Sent) (marked : Bool) → files ++ files_of marked rest ≡ files_of false cards → rest ≡ [] → files ≡ files_of false cards
+pub all_read : (cards rest : List WireCard) (files : List MessageFile) (marked : Bool) → files ++ files_of marked rest ≡ files_of false cards → rest ≡ [] → files ≡ files_of false cards
 all_read cards rest files marked so_far none = sym (append-nil files) ∙ ap (λ (cs : List WireCard). files ++ files_of marked cs) (sym none) ∙ so_far

@@ -1,21 +1,19 @@
 -- A check-in has one outcome.
-use Rattle.std.proofs.Common.{◌≡◌, inl, inr, ℕ, ◌^◌, ◌<◌, Bool, true, false, List, [], ◌∷◌, length, Option, Some, None, Result, Ok, Err, refl, sym, ap, subst, ◌∙◌, arith}
-use Rattle.std.specs.Prelude.{nat_lt, MatchBool, MatchResult}
+use Rattle.std.proofs.Common.{◌≡◌, inl, inr, ℕ, ◌^◌, ◌<◌, Bool, true, false, List, [], length, Option, Some, Result, Ok, Err, refl, sym, ap, subst, ◌∙◌, arith}
+use Rattle.std.specs.Prelude.{nat_lt, MatchBool}
 use Rattle.std.proofs.lemmas.Bool.Decides.{nat_tests}
 use Rattle.fsl_record.specs.declared.Record.{Record}
 use Rattle.fsl_blobs.specs.Fold.{contents}
 use Rattle.fsl_cross.specs.declared.Item.{Item}
-use Rattle.fsl_repo.specs.Machine.{AreItems}
 use Rattle.fsl_repo.specs.Whole.{opened}
 use Rattle.fsl_repo.proofs.OneList.{are_one_list}
 use Rattle.fsl_repo.proofs.SomeArrival.{some_items}
 use Rattle.fsl_query.specs.declared.Refused.{Refused}
 use Rattle.fsl_query.specs.Refusals.{refusal_text}
 use Rattle.fsl_checkin.specs.declared.types.TreeItem.{TreeItem}
-use Rattle.fsl_checkin.specs.Trees.{IsBadItem, IsTreeText}
 use Rattle.fsl_checkin.proofs.LawLemmas.{one_tree}
 use Rattle.fsl_checkin.proofs.OneLemmas.{bad_is_no_tree, bad_is_one}
-use Rattle.fossil.specs.Arrivals.{Taken, none_taken}
+use Rattle.fossil.specs.Arrivals.{none_taken}
 use Rattle.fossil.specs.Printed.{Printed}
 use Rattle.fossil.specs.Printed as printing
 use Rattle.fossil.specs.Put.{appended_by, put_receipt}

@@ -14,7 +14,7 @@ use Rattle.fsl_repo.proofs.OneList.{are_one_list}
 use Rattle.fsl_words.specs.declared.Question.{Question}
 use Rattle.fsl_words.specs.declared.Command.{Command}
 use Rattle.fsl_words.specs.declared.Command.TheVariants as command_of
-use Rattle.fossil.specs.declared.reading.message.Sent.{Sent}
+use Rattle.fossil.specs.declared.reading.message.MessageFile.{MessageFile}
 use Rattle.fossil.specs.Arrivals.{Taken, none_taken}
 use Rattle.fossil.specs.Printed.{Printed}
 use Rattle.fossil.specs.Printed as printing
@@ -45,7 +45,7 @@ one_printed : (result : Result Taken Printed) (a b : Printed) → ingest.IsPrint
 one_printed (Ok t) a b h k = one_set t.state a b h k
 one_printed (Err refusal) a b h k = h ∙ sym k
 
-one_report : (files : List Sent) (a b : Printed) → ingest.IsReported files a → ingest.IsReported files b → a ≡ b
+one_report : (files : List MessageFile) (a b : Printed) → ingest.IsReported files a → ingest.IsReported files b → a ≡ b
 one_report files a b h k =
     one_printed k.0 a b (subst (λ (r : Result Taken Printed). ingest.IsPrintedBy r a) (one_arrive None files (none_taken ingest.fresh) h.0 k.0 h.1 k.1) h.2) k.2
 
@@ -53,7 +53,7 @@ one_read : (input : List ℕ) (a b : Printed) → ingest.IsRead input a → inge
 one_read input a b (inl h) (inl k) = one_refused input a b h k
 one_read input a b (inl h) (inr k) = absurd (not_both input k.0 a k.1 h)
 one_read input a b (inr h) (inl k) = absurd (not_both input h.0 b h.1 k)
-one_read input a b (inr h) (inr k) = one_report k.0 a b (subst (λ (files : List Sent). ingest.IsReported files a) (one_files input h.0 k.0 h.1 k.1) h.2) k.2
+one_read input a b (inr h) (inr k) = one_report k.0 a b (subst (λ (files : List MessageFile). ingest.IsReported files a) (one_files input h.0 k.0 h.1 k.1) h.2) k.2
 
 by_length : (input : List ℕ) (t : Bool) (a b : Printed) → MatchBool t (a ≡ printing.too_long) (ingest.IsRead input a) → MatchBool t (b ≡ printing.too_long) (ingest.IsRead input b) → a ≡ b
 by_length input true a b h k = h ∙ sym k
@@ -80,7 +80,7 @@ module _ (moment : ℕ) (old : List Record) (a b : Printed) (xs ys : List Record
   same_read input (inl h) (inr k) = absurd (not_both input k.0 a k.1 h.0)
   same_read input (inr h) (inl k) = absurd (not_both input h.0 b h.1 k.0)
   same_read input (inr h) (inr k) =
-      let f = subst (λ (files : List Sent). IsPutFiles files moment old a xs) (one_files input h.0 k.0 h.1 k.1) h.2 in
+      let f = subst (λ (files : List MessageFile). IsPutFiles files moment old a xs) (one_files input h.0 k.0 h.1 k.1) h.2 in
       let same = one_arrive (Some (put_receipt moment)) k.0 (none_taken (opened old 0 true)) f.0 k.2.0 f.1 k.2.1 in
       (f.2 ∙ ap printed_by same ∙ sym k.2.2, f.3 ∙ ap (appended_by old) same ∙ sym k.2.3)
 

@@ -1,13 +1,12 @@
 -- An export and a test of a checksum are printed in one way at most over an honest disk, and end alike over every other.
-use Rattle.std.proofs.Common.{◌≡◌, inl, inr, ℕ, Bool, true, false, List, Option, Some, None, Result, Ok, Err, IsTrue, refl, sym, ap, subst, ◌∙◌}
-use Rattle.std.specs.Prelude.{◌||◌, MatchResult, option_and_then}
+use Rattle.std.proofs.Common.{◌≡◌, ℕ, Bool, true, List, Option, Some, None, Result, Ok, Err, refl, sym, ap, subst, ◌∙◌}
+use Rattle.std.specs.Prelude.{MatchResult, option_and_then}
 use Rattle.fsl_blobs.specs.Fold.{Contents, HeldSet, contents}
 use Rattle.fsl_record.specs.declared.Record.{Record}
 use Rattle.fsl_record.specs.Records.{AreRecords}
 use Rattle.fsl_files.specs.declared.FileRow.{FileRow}
 use Rattle.fsl_files.specs.declared.Listing.{Listing}
-use Rattle.fsl_files.specs.declared.Listing.TheVariants as listing
-use Rattle.fsl_files.specs.Files.{files, known}
+use Rattle.fsl_files.specs.Files.{known}
 use Rattle.fsl_cross.specs.declared.Item.{Item}
 use Rattle.fsl_repo.specs.Machine.{AreItems}
 use Rattle.fsl_repo.proofs.OneList.{are_one_list}
@@ -22,14 +21,14 @@ use Rattle.fsl_checkin.specs.declared.answers.Export.{Export}
 use Rattle.fsl_checkin.specs.declared.answers.Export.TheVariants as export
 use Rattle.fsl_checkin.specs.declared.answers.Verdict.{Verdict}
 use Rattle.fsl_checkin.specs.declared.answers.Verdict.TheVariants as verdict
-use Rattle.fsl_checkin.specs.Exports.{checkin_at, checkins, items_at, tree}
+use Rattle.fsl_checkin.specs.Exports.{checkin_at, items_at, tree}
 use Rattle.fsl_checkin.specs.Reads.{IsExportRead, IsLacking, IsMissingIn, IsReadTree, IsVerdictRead}
 use Rattle.fsl_checkin.proofs.FilesLemmas.{export_due, no_files, verdict_due}
 use Rattle.fsl_checkin.proofs.HavingLemmas.{all_read}
 use Rattle.fsl_checkin.proofs.OneLemmas.{export_is_one, verdict_is_one}
 use Rattle.fossil.specs.Printed.{Printed}
 use Rattle.fossil.specs.Printed as printing
-use Rattle.fossil.specs.Trees.{export_printed, verdict_printed, IsOfPrefix, IsExported, IsVerified}
+use Rattle.fossil.specs.Trees.{export_printed, verdict_printed, IsExported, IsVerified}
 use Rattle.fossil.proofs.SomeTree.{some_export, some_verdict}
 
 -- what is printed by what was found

@@ -8,12 +8,12 @@ use Rattle.fsl_journal.specs.File.{IsFileOf}
 use Rattle.fsl_repo.specs.Whole.{Whole, opened}
 use Rattle.fsl_words.specs.declared.Command.TheVariants as command_of
 use Rattle.fossil.specs.declared.reading.load.Loaded.{Loaded}
-use Rattle.fossil.specs.declared.reading.message.Sent.{Sent}
+use Rattle.fossil.specs.declared.reading.message.MessageFile.{MessageFile}
 use Rattle.fossil.specs.Messages.{IsMessageRefused, IsFileList}
 use Rattle.fossil.specs.Printed.{Printed}
 use Rattle.fossil.specs.Printed as printing
 use Rattle.fossil.specs.Arrivals.{none_taken, Arrive}
-use Rattle.fossil.specs.Put.{put_receipt, IsPutRead}
+use Rattle.fossil.specs.Put.{IsPutRead}
 use Rattle.fossil.specs.Run.{Input, Clock, IsTimed}
 use Rattle.fossil.specs.Acts.{loaded_of, IsInput}
 use Rattle.fossil.specs.Taking.{AreAllTaken, IsPutReceipt}
@@ -23,7 +23,7 @@ use Rattle.fossil.proofs.ActLemmas.{still, none_due}
 use Rattle.fossil.proofs.AppendLemmas.{IsPlain, IsAppended}
 
 -- the moment of a message that has its form was taken
-pub form_timed : (clock : Clock) (receipt : Brought) (answered : Bool) (message : List ℕ) (bytes : List ℕ) (records : List Record) (files : List Sent) → IsPutReceipt clock.before clock.after receipt → IsFileOf bytes records
+pub form_timed : (clock : Clock) (receipt : Brought) (answered : Bool) (message : List ℕ) (bytes : List ℕ) (records : List Record) (files : List MessageFile) → IsPutReceipt clock.before clock.after receipt → IsFileOf bytes records
     → nat_lt (2 ^ 27) (length message) ≡ false → IsFileList message files → IsTimed (Some command_of.Put) clock answered message receipt.moment bytes
 form_timed clock receipt answered message bytes records files taken is short list = inl (((records, is), (short, (files, list))), (taken.is_moment, taken.answered))
 
@@ -50,7 +50,7 @@ module _ (input : Input) (clock : Clock) (moment : ℕ) (bytes : List ℕ) (befo
   }
 
 -- all files were taken
-pub files_appended : {D : Type 0} (input : Input) (clock : Clock) (receipt : Brought) (bytes message : List ℕ) (before after : Whole D) (files : List Sent) (lines : List ℕ) → IsPutReceipt clock.before clock.after receipt
+pub files_appended : {D : Type 0} (input : Input) (clock : Clock) (receipt : Brought) (bytes message : List ℕ) (before after : Whole D) (files : List MessageFile) (lines : List ℕ) → IsPutReceipt clock.before clock.after receipt
     → IsInput input (Some message) → IsFileList message files → AreAllTaken receipt files before.seen.state after.seen.state lines
     → IsAppended (Some command_of.Put) input clock bytes (loaded_of before) (loaded_of after) (record { status = 0; text = lines })
 files_appended input clock receipt bytes message before after files lines taken is list are =
@@ -61,7 +61,7 @@ files_appended input clock receipt bytes message before after files lines taken 
     (λ file. form_timed clock receipt true message bytes old files taken file is.2 list)
 
 -- a file is refused, behind the moment
-pub refused_file_appended : (input : Input) (clock : Clock) (receipt : Brought) (bytes : List ℕ) (before : Loaded) (answer : Printed) (message : List ℕ) (files : List Sent) → IsPutReceipt clock.before clock.after receipt
+pub refused_file_appended : (input : Input) (clock : Clock) (receipt : Brought) (bytes : List ℕ) (before : Loaded) (answer : Printed) (message : List ℕ) (files : List MessageFile) → IsPutReceipt clock.before clock.after receipt
     → IsInput input (Some message) → IsFileList message files → Arrive (Some receipt) (none_taken (opened before.journal.records 0 true)) files (Err answer)
     → IsAppended (Some command_of.Put) input clock bytes before before answer
 refused_file_appended input clock receipt bytes before answer message files taken is list refused =

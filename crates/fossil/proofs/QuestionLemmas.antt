@@ -17,7 +17,7 @@ use Rattle.fsl_query.specs.declared.QueryFault.TheVariants as query_fault
 use Rattle.fsl_query.specs.Refusals.{refusal_text}
 use Rattle.fsl_query.specs.Reports.{IsReport}
 use Rattle.fsl_query.specs.Answers.{content_asked, IsReported, IsReportedOn, IsSpoiltIn}
-use Rattle.fossil.specs.declared.answers.fault.Fault.{Fault}
+use Rattle.fossil.specs.Due.{Due}
 use Rattle.fossil.specs.declared.answers.fault.Fault.TheVariants as fault_is
 use Rattle.fossil.specs.declared.reading.load.Loaded.{Loaded}
 use Rattle.fossil.specs.Printed.{Printed}
@@ -29,7 +29,7 @@ use Rattle.fossil.proofs.InputLemmas.{some_bytes}
 use Rattle.fossil.proofs.FileLemmas.{both, agrees, stands, none_committed, readable, loaded_left, loaded_touches, loaded_durable}
 use Rattle.fossil.proofs.SomeOutcome.{some_said_outcome}
 use Rattle.fossil.proofs.ActLemmas.{still, none_due, ask_loads, memory_by, disk_by, damaged_by}
-use Rattle.fossil.proofs.CommitLemmas.{idle_durable}
+use Rattle.fossil.proofs.CommitLemmas.{idle_just, idle_durable}
 use Rattle.fossil.proofs.LoadLemmas.{images_quiet}
 
 answered_small : (r : Result (List ℕ) Refused) → (report_outcome r).status ≤ 3
@@ -47,7 +47,7 @@ module _ (question : Question) (source : SourceState) (clock : Option (List ℕ)
   abbrev input : Input
   input = record { before = source; after = source }
 
-  abbrev Acted : Result Printed Fault → Type 0
+  abbrev Acted : Due → Type 0
   Acted result = HasActed command input (still clock) (both file left) result
 
   unasked : (answered : Bool) (read bytes : List ℕ) → IsTimed command (still clock) answered read 0 bytes
@@ -78,8 +78,8 @@ module _ (question : Question) (source : SourceState) (clock : Option (List ℕ)
         let o = some_said_outcome (is_modelled file) command read.0 0 bytes refl in
         (read.0, 0, bytes, o.0, memory_by command (ask_loads question) input file left read.0 0 bytes o.0 read.1 file_told o.1 (touches o.0) kept, unasked false read.0 bytes)
 
-    result_acted : (result : Result (List ℕ) Refused) → IsReport (is_modelled file) (contents l.journal.records) question result → Acted (Ok (printed_of (report_outcome result)))
-    result_acted result is =
+    result_acted : (result : Result (List ℕ) Refused) → left.faults ≡ mid.faults → IsReport (is_modelled file) (contents l.journal.records) question result → Acted (Ok (printed_of (report_outcome result)))
+    result_acted result same is =
         let read = some_bytes source.left in
         let o = report_outcome result in (
           read.0,
@@ -100,13 +100,15 @@ module _ (question : Question) (source : SourceState) (clock : Option (List ℕ)
                 loaded_durable command (ask_loads question) file left bytes o (answered_none result) l.journal.records opened.stands.2
                 (λ modelled c image. idle_durable l.journal mid opened.belongs opened.is_open.runs opened.is_open.stable (modelled_after file mid opened.keeps modelled) c
                 (quiet.images (opened.keeps.model ∙ modelled.model) c image));
+            trimmed = λ last opens begun held told. (l.journal.records, idle_just l.journal mid opened.belongs opened.is_open.runs opened.is_open.stable held (sym quiet.contents ∙ told));
             spared = λ nine begun. absurd (cc);
+            steady = same ∙ opened.faults;
           },
           unasked true read.0 bytes,
         )
 
-    answer_acted : (a : Printed) → IsAnswered (is_modelled file) question l.journal.records (without_commit a) → Acted (Ok a)
-    answer_acted a is = subst (λ (x : Printed). Acted (Ok x)) (sym (ap printed_of is.2)) (result_acted is.0 is.1)
+    answer_acted : (a : Printed) → left.faults ≡ mid.faults → IsAnswered (is_modelled file) question l.journal.records (without_commit a) → Acted (Ok a)
+    answer_acted a same is = subst (λ (x : Printed). Acted (Ok x)) (sym (ap printed_of is.2)) (result_acted is.0 same is.1)
 
     disk_acted : Rose mid.faults left.faults → Acted (Err fault_is.Disk)
     disk_acted rose =
@@ -135,15 +137,17 @@ module _ (question : Question) (source : SourceState) (clock : Option (List ℕ)
           unasked false read.0 bytes,
         )
 
-    by_answer : (made : Result Printed Fault) → IsAnsweredBy (is_modelled file) l.journal.records question mid.faults left.faults made → Acted made
-    by_answer (Ok a) is = answer_acted a is.0
+    by_answer : (made : Due) → IsAnsweredBy (is_modelled file) l.journal.records question mid.faults left.faults made → Acted made
+    by_answer (Ok a) is = answer_acted a is.1 is.0
     by_answer (Err fault_is.Disk) is = disk_acted is
+    by_answer (Err fault_is.Usage) is = absurd is
     by_answer (Err fault_is.Input) is = absurd is
+    by_answer (Err fault_is.Link) is = absurd is
     by_answer (Err (fault_is.Damaged name found)) is = damaged_acted name found is.0 is.1 is.2
     by_answer (Err fault_is.Memory) is = no_memory
 
     -- what was found of the loaded records is answered
-    pub found_acted : (found : Result (List ℕ) QueryFault) (made : Result Printed Fault) → IsReportedOn mid l.records question left found → IsAnswerOf found made → Acted made
+    pub found_acted : (found : Result (List ℕ) QueryFault) (made : Due) → IsReportedOn mid l.records question left found → IsAnswerOf found made → Acted made
     found_acted found made is answers =
         by_answer made
         (answers (is_modelled file) l.journal.records question mid.faults left.faults

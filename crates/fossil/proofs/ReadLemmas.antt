@@ -1,12 +1,12 @@
 -- What a command did that loads the file and only reads it.
-use Rattle.std.proofs.Common.{◌≡◌, inl, ℕ, ◌≤◌, Bool, true, false, List, Option, Result, Ok, Err, IsTrue, refl, sym, subst, ◌∙◌}
+use Rattle.std.proofs.Common.{◌≡◌, inl, ℕ, ◌≤◌, Bool, true, false, List, Option, Ok, Err, IsTrue, refl, sym, subst, ◌∙◌}
 use Rattle.fsl_order.specs.Causes.{Rose}
 use Rattle.fsl_outside.specs.Streams.{SourceState}
 use Rattle.fsl_disk.specs.Disk.{DiskState, Quiet}
 use Rattle.fsl_disk.proofs.Moments.{keeps_on, modelled_after}
 use Rattle.fsl_repo.specs.Whole.{is_modelled}
 use Rattle.fsl_words.specs.declared.Command.{Command}
-use Rattle.fossil.specs.declared.answers.fault.Fault.{Fault}
+use Rattle.fossil.specs.Due.{Due}
 use Rattle.fossil.specs.declared.answers.fault.Fault.TheVariants as fault_is
 use Rattle.fossil.specs.declared.reading.load.Loaded.{Loaded}
 use Rattle.fossil.specs.Printed.{Printed}
@@ -17,7 +17,7 @@ use Rattle.fossil.proofs.InputLemmas.{some_bytes}
 use Rattle.fossil.proofs.FileLemmas.{both, Loads, agrees, stands, none_committed, readable, loaded_left, loaded_touches, loaded_durable}
 use Rattle.fossil.proofs.SomeOutcome.{some_said_outcome}
 use Rattle.fossil.proofs.ActLemmas.{still, none_due, memory_by, disk_by, damaged_by}
-use Rattle.fossil.proofs.CommitLemmas.{idle_durable}
+use Rattle.fossil.proofs.CommitLemmas.{idle_just, idle_durable}
 use Rattle.fossil.proofs.LoadLemmas.{images_quiet}
 
 -- it loads the file, reads no input and takes no moment
@@ -30,7 +30,7 @@ module _ (command : Option Command) (only : OnlyReads command) (source : SourceS
   abbrev input : Input
   input = record { before = source; after = source }
 
-  abbrev Acted : Result Printed Fault → Type 0
+  abbrev Acted : Due → Type 0
   Acted result = HasActed command input (still clock) (both file left) result
 
   unasked : (answered : Bool) (read bytes : List ℕ) → IsTimed command (still clock) answered read 0 bytes
@@ -60,8 +60,8 @@ module _ (command : Option Command) (only : OnlyReads command) (source : SourceS
         let o = some_said_outcome (is_modelled file) command read.0 0 bytes only.loads.alone in
         (read.0, 0, bytes, o.0, memory_by command only.loads input file left read.0 0 bytes o.0 read.1 file_told o.1 (touches o.0) kept, unasked false read.0 bytes)
 
-    pub read_answer : (a : Printed) → a.status ≤ 3 → ((read : List ℕ) → IsSaidOutcome (is_modelled file) command read 0 bytes (without_commit a)) → Acted (Ok a)
-    read_answer a small is =
+    pub read_answer : (a : Printed) → a.status ≤ 3 → left.faults ≡ mid.faults → ((read : List ℕ) → IsSaidOutcome (is_modelled file) command read 0 bytes (without_commit a)) → Acted (Ok a)
+    read_answer a small same is =
         let read = some_bytes source.left in
         let o = without_commit a in (
           read.0,
@@ -82,7 +82,9 @@ module _ (command : Option Command) (only : OnlyReads command) (source : SourceS
                 loaded_durable command only.loads file left bytes o refl l.journal.records opened.stands.2
                 (λ modelled c image. idle_durable l.journal mid opened.belongs opened.is_open.runs opened.is_open.stable (modelled_after file mid opened.keeps modelled) c
                 (quiet.images (opened.keeps.model ∙ modelled.model) c image));
+            trimmed = λ last opens begun held told. (l.journal.records, idle_just l.journal mid opened.belongs opened.is_open.runs opened.is_open.stable held (sym quiet.contents ∙ told));
             spared = λ nine begun. absurd (only.loads.begun begun);
+            steady = same ∙ opened.faults;
           },
           unasked true read.0 bytes,
         )

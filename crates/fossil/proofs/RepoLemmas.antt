@@ -36,13 +36,13 @@ why file left load_fault.Disk failed = (failed, λ other. absurd (other refl))
 why file left (load_fault.NotRepository at) failed = (failed.2, λ other. same_contents file left failed.0.contents)
 why file left load_fault.Memory failed = (tt, λ other. cut_contents file left failed.contents)
 
+-- no call of its disk failed, but for that with which the opening ended
+counts : (file left : DiskState) (fault : LoadFault) → opening.OpenFailed fault file left → (fault ≡ load_fault.Disk → ⊥) → left.faults ≡ file.faults
+counts file left load_fault.Disk failed other = absurd (other refl)
+counts file left (load_fault.NotRepository at) failed other = failed.0.faults
+counts file left load_fault.Memory failed other = failed.faults
+
 pub repo_unopened : (file left : DiskState) (fault : LoadFault) → opening.OpenFailed fault file left → IsSpared file left → KeepsUnreadable file left → KeepsBetween file left → Keeps file left → IsUnopened file left fault
 repo_unopened file left fault failed spared unreadable between keeps =
     let is = why file left fault failed in
-    record { cause = is.0; contents = is.1; modelled = spared_contents file left spared; unreadable = unreadable; any_moment = images_kept file left between; keeps = keeps }
-
--- no call of its disk failed, but for that with which the opening ended
-pub unopened_counts : (file left : DiskState) (fault : LoadFault) → opening.OpenFailed fault file left → (fault ≡ load_fault.Disk → ⊥) → left.faults ≡ file.faults
-unopened_counts file left load_fault.Disk failed other = absurd (other refl)
-unopened_counts file left (load_fault.NotRepository at) failed other = failed.0.faults
-unopened_counts file left load_fault.Memory failed other = failed.faults
+    record { cause = is.0; contents = is.1; faults = counts file left fault failed; modelled = spared_contents file left spared; unreadable = unreadable; any_moment = images_kept file left between; keeps = keeps }

@@ -25,7 +25,7 @@ use Rattle.fsl_repo.specs.declared.ArriveFault.TheVariants as arrive_fault
 use Rattle.fsl_repo.specs.Machine.{State, IsRoom, IsArrival, IsArrivalOf, again, arrived, now}
 use Rattle.fsl_repo.proofs.HeldMore.{contents_more}
 use Rattle.fsl_checkin.specs.Exports.{held_at}
-use Rattle.fossil.specs.declared.reading.message.Sent.{Sent}
+use Rattle.fossil.specs.declared.reading.message.MessageFile.{MessageFile}
 use Rattle.fossil.specs.Printed.{Printed}
 use Rattle.fossil.specs.Arrivals.{Taken, refusal_of, and_taken, Arrive}
 
@@ -182,12 +182,12 @@ module _ (Is : List ℕ → Type 0) (apart : (a b : List ℕ) → Is a → Is b 
   -- ---- one file after another
 
   -- a file under the name of its text, which isn't shunned
-  pub record IsWelcome (f : Sent) : Type 0 where
+  pub record IsWelcome (f : MessageFile) : Type 0 where
     pub named : f.name ≡ name_of f.bytes
     pub is : Is f.bytes
     pub out : set.contains shunned f.name ≡ false
 
-  pub record HaveArrived (s new : State) (files : List Sent) : Type 0 where
+  pub record HaveArrived (s new : State) (files : List MessageFile) : Type 0 where
     pub goes : Goes s new
     pub here : AllByRecursion (λ f. held_at (now new).held f.name ≡ Some f.bytes) files
 
@@ -199,7 +199,7 @@ module _ (Is : List ℕ → Type 0) (apart : (a b : List ℕ) → Is a → Is b 
     records = y.records ∙ ap (λ (rs : List Record). rs ++ y.more) x.records ∙ append_assoc a.records x.more y.more;
   }
 
-  pub all_arrived : (receipt : Option Brought) (files : List Sent) (t done : Taken) → Stands t.state → AllByRecursion IsWelcome files → Arrive receipt t files (Ok done) → HaveArrived t.state done.state files
+  pub all_arrived : (receipt : Option Brought) (files : List MessageFile) (t done : Taken) → Stands t.state → AllByRecursion IsWelcome files → Arrive receipt t files (Ok done) → HaveArrived t.state done.state files
   all_arrived receipt [] t done stands welcome h =
       let same : done ≡ t = cc in
       subst (λ (x : Taken). HaveArrived t.state x.state []) (sym same) (record { goes = record { stands = stands; stay = λ q x k. k; more = []; records = sym (append-nil t.state.records) }; here = tt })

@@ -32,8 +32,8 @@ use Rattle.fsl_checkin.specs.Trees.{IsTreeText, paths, tree_text}
 use Rattle.fsl_checkin.specs.Exports.{held_at}
 use Rattle.fsl_checkin.specs.Laws.{AreHeld}
 use Rattle.fsl_checkin.proofs.LawLemmas.{one_tree, written_reads_back}
-use Rattle.fossil.specs.declared.reading.message.Sent.{Sent}
-use Rattle.fossil.specs.declared.commands.checkin.Asked.{Asked}
+use Rattle.fossil.specs.declared.reading.message.MessageFile.{MessageFile}
+use Rattle.fossil.specs.declared.commands.checkin.NewCheckin.{NewCheckin}
 use Rattle.fossil.specs.Printed.{Printed}
 use Rattle.fossil.specs.Printed as printing
 use Rattle.fossil.specs.Arrivals.{Taken, none_taken, Arrive}
@@ -92,7 +92,7 @@ all_held held [] text h = (tt, h.0)
 all_held held (item ∷ t) text h = let rest = all_held held t text h.1 in ((h.0, rest.0), rest.1)
 
 module _ (Is : List ℕ → Type 0) (apart : (a b : List ℕ) → Is a → Is b → name_of a ≡ name_of b → a ≡ b) (shunned : FinSet bytes_cmp) where
-  welcome : (files : List Sent) → AllByRecursion (λ f. f.name ≡ name_of f.bytes) files → ((b : List ℕ) → has (map (λ f. f.bytes) files) b ≡ true → Is b) → AllByRecursion (λ f. set.contains shunned f.name ≡ false) files
+  welcome : (files : List MessageFile) → AllByRecursion (λ f. f.name ≡ name_of f.bytes) files → ((b : List ℕ) → has (map (λ f. f.bytes) files) b ≡ true → Is b) → AllByRecursion (λ f. set.contains shunned f.name ≡ false) files
       → AllByRecursion (IsWelcome Is apart shunned) files
   welcome [] named is out = tt
   welcome (f ∷ files) named is out = (
@@ -110,7 +110,7 @@ module _ (call : Call) (are : AreRecords call.old) (user : call.asked.user ≢ [
   abbrev text : List ℕ
   text = text_over call t over
 
-  abbrev files : List Sent
+  abbrev files : List MessageFile
   files = arrivals_of t text
 
   named : AreNamed c.held
@@ -227,7 +227,7 @@ module _ (call : Call) (are : AreRecords call.old) (user : call.asked.user ≢ [
   by_length false e h = by_read (short_of (length call.input) e) h
 
 -- the words say a user and a comment
-said_some : (words : List (List ℕ)) (a : Asked) → said words ≡ Some (asked_for a) → (a.user ≢ []) × (a.comment ≢ [])
+said_some : (words : List (List ℕ)) (a : NewCheckin) → said words ≡ Some (asked_for a) → (a.user ≢ []) × (a.comment ≢ [])
 said_some words a is = by (words_in words) refl is
   where
     by : (o : Option Words) → words_in words ≡ o → option_map (λ (w : Words). w.command) o ≡ Some (asked_for a) → (a.user ≢ []) × (a.comment ≢ [])

@@ -16,7 +16,7 @@ use Rattle.fsl_journal.proofs.Unique.{one_file}
 use Rattle.fsl_blobs.specs.Fold.{contents}
 use Rattle.fsl_repo.specs.Machine.{State}
 use Rattle.fsl_repo.specs.Replies.{IsSpoilt}
-use Rattle.fsl_repo.specs.Whole.{Whole, IsWholeOn, is_modelled}
+use Rattle.fsl_repo.specs.Whole.{Whole, IsWholeOn, log_of, is_modelled}
 use Rattle.fsl_repo.proofs.Steps.{same_kind}
 use Rattle.fsl_query.specs.Answers.{IsSpoiltIn}
 use Rattle.fsl_scrub.specs.declared.scrubbing.Scrubbed.{Scrubbed}
@@ -34,16 +34,11 @@ use Rattle.fsl_words.specs.declared.Command.{Command}
 use Rattle.fsl_words.specs.declared.Command.TheVariants as command_of
 use Rattle.fsl_words.specs.declared.Unversioned.{Unversioned}
 use Rattle.fossil.specs.Uses.{command_syncs, command_scrubs}
-use Rattle.fossil.specs.declared.answers.due.Due.{Due}
-use Rattle.fossil.specs.declared.answers.fault.Fault.TheVariants as fault_is
 use Rattle.fossil.specs.declared.reading.load.Loaded.{Loaded}
-use Rattle.fossil.specs.Printed.{Printed, refused, damaged}
-use Rattle.fossil.specs.Outcome.{without_commit}
-use Rattle.fossil.specs.Run.{File, Output, Agrees, IsTold, disk_fault}
-use Rattle.fossil.specs.Acts.{KeepsContents, IsOpened, IsUnopened, IsWritten, loaded_of}
-use Rattle.fossil.specs.Served.{with_text, no_memory, IsWrittenAs}
-use Rattle.fossil.specs.Serving.{printed, IsDue}
-use Rattle.fossil.specs.Syncing.{IsUnopenedDue}
+use Rattle.fossil.specs.Printed.{Printed, refused, damaged, disk_fault, no_memory}
+use Rattle.fossil.specs.Run.{File, Output, Agrees, IsWritten}
+use Rattle.fossil.specs.Acts.{KeepsContents, IsOpened, IsUnopened, loaded_of}
+use Rattle.fossil.specs.Due.{printed, IsDue, Due, IsNotLoadedDue}
 use Rattle.fossil.specs.UvSyncs.{Part, aside, kept, IsLeftAs, IsSteady}
 use Rattle.fossil.specs.Scrubs.{NewFile, counts, counted, scrub_of, IsScrub, IsNewFile, IsPeerLeft, IsAnswer, HasScrubbed, ScrubsIf}
 use Rattle.fossil.specs.ScrubCall.{IsScrubDue}
@@ -51,9 +46,8 @@ use Rattle.fossil.proofs.InputLemmas.{some_bytes}
 use Rattle.fossil.proofs.InitLemmas.{of_length, no_zero}
 use Rattle.fossil.proofs.FileLemmas.{both, agrees, quiet_none, readable}
 use Rattle.fossil.proofs.LoadLemmas.{images_quiet}
-use Rattle.fossil.proofs.CommitLemmas.{idle_durable}
-use Rattle.fossil.proofs.SyncedLemmas.{told_printed, untouched, said_one, IsNoScrub}
-use Rattle.fossil.proofs.UnopenedLemmas.{told_memory}
+use Rattle.fossil.proofs.CommitLemmas.{idle_just, idle_durable}
+use Rattle.fossil.proofs.SyncedLemmas.{untouched, said_one, IsNoScrub}
 use Rattle.fossil.proofs.UvFileLemmas.{idle_left}
 use Rattle.fossil.proofs.ScrubOutcomes.{no_scrub, some_scrub}
 
@@ -164,7 +158,7 @@ module _ (honest : Bool) (peer left : DiskState) (quiet : Quiet peer left) (no_o
 
 -- ---- the file of the repository isn't opened
 
-module _ (file left : DiskState) (fault : LoadFault) (un : IsUnopened file left fault) (harmless : IsModelled file → LeavesOnly file left (HeldOrSame file)) (counts_stay : (fault ≡ load_fault.Disk → ⊥) → left.faults ≡ file.faults)
+module _ (file left : DiskState) (fault : LoadFault) (un : IsUnopened file left fault) (harmless : IsModelled file → LeavesOnly file left (HeldOrSame file))
     (peer : DiskState) (no_other : IsNow peer) (d : Due) where
   abbrev theirs : (b : List ℕ) × Agrees peer.contents b
   theirs = some_bytes peer.contents
@@ -187,6 +181,7 @@ module _ (file left : DiskState) (fault : LoadFault) (un : IsUnopened file left 
       answer = answer;
       bare = inl refl;
       here_left = unopened_left file left fault un harmless bytes;
+      trimmed = λ e. absurd (no_aside_kept e);
       peer_left = peer_left;
       peer_keeps = record { tells = refl; model = refl };
       unasked = λ e. untouched peer;
@@ -202,18 +197,18 @@ module _ (file left : DiskState) (fault : LoadFault) (un : IsUnopened file left 
       first_by own.0 own.1 s.0 false s.1 (answer own.0 s.0) (quiet_scrub (is_modelled file) peer peer (quiet_none peer) no_other own.0 theirs.0 s.0 s.1)
 
 module _ (file left : DiskState) (harmless : IsModelled file → LeavesOnly file left (HeldOrSame file)) (peer : DiskState) (no_other : IsNow peer) (d : Due) where
-  pub unopened_scrubs : (fault : LoadFault) → IsUnopened file left fault → ((fault ≡ load_fault.Disk → ⊥) → left.faults ≡ file.faults) → IsUnopenedDue fault d
+  pub unopened_scrubs : (fault : LoadFault) → IsUnopened file left fault → IsNotLoadedDue fault d
       → HasScrubbed (both file left) (both peer peer) (λ o. printed d ≡ o)
-  unopened_scrubs load_fault.Disk un stay due =
-      first_fault file left load_fault.Disk un harmless stay peer no_other d (λ bytes s. inr (inl (inl (un.cause, refl, inl refl), due)))
-  unopened_scrubs (load_fault.NotRepository at) un stay (inl due) =
+  unopened_scrubs load_fault.Disk un due =
+      first_fault file left load_fault.Disk un harmless peer no_other d (λ bytes s. inr (inl (inl (un.cause, refl, inl refl), ap printed due)))
+  unopened_scrubs (load_fault.NotRepository at) un (inl due) =
       let own = un.cause in
-      first_by file left (load_fault.NotRepository at) un harmless stay peer no_other d own.0 (agrees file.contents own.0 own.1) (no_scrub at) true (inl (at, own.2, refl))
-      (inl (refl, stay (λ e. cc), refl, due)) (quiet_none peer)
-  unopened_scrubs (load_fault.NotRepository at) un stay (inr due) =
-      first_fault file left (load_fault.NotRepository at) un harmless stay peer no_other d (λ bytes s. inr (inr (inr (stay (λ e. cc), refl, due))))
-  unopened_scrubs load_fault.Memory un stay due =
-      first_fault file left load_fault.Memory un harmless stay peer no_other d (λ bytes s. inr (inr (inr (stay (λ e. cc), refl, due))))
+      first_by file left (load_fault.NotRepository at) un harmless peer no_other d own.0 (agrees file.contents own.0 own.1) (no_scrub at) true (inl (at, own.2, refl))
+      (inl (refl, un.faults (λ e. cc), refl, ap printed due)) (quiet_none peer)
+  unopened_scrubs (load_fault.NotRepository at) un (inr due) =
+      first_fault file left (load_fault.NotRepository at) un harmless peer no_other d (λ bytes s. inr (inr (inr (un.faults (λ e. cc), refl, ap printed due))))
+  unopened_scrubs load_fault.Memory un due =
+      first_fault file left load_fault.Memory un harmless peer no_other d (λ bytes s. inr (inr (inr (un.faults (λ e. cc), refl, ap printed due))))
 
 -- ---- it is opened
 
@@ -263,6 +258,7 @@ module _ {D : Type 0} (state : D → DiskState) (file : DiskState) (old new : Wh
       answer = answer;
       bare = inr refl;
       here_left = read_left file (state old.disk) (state new.disk) (loaded_of old) opened quiet no_other bytes;
+      trimmed = λ e held told. (records, idle_just (log_of old) (state old.disk) opened.belongs opened.is_open.runs opened.is_open.stable held (sym quiet.contents ∙ told));
       peer_left = peer_left;
       peer_keeps = keeps;
       unasked = λ e. absurd (no_kept_aside e);
@@ -322,15 +318,14 @@ module _ {D : Type 0} (state : D → DiskState) (file : DiskState) (old new : Wh
         record { artifact = h.artifact; held = h.held; bytes = h.bytes; sized = h.sized; named = h.named; other = h.other; never = sym same_honest ∙ h.never }
 
     disk_by : AsWritten old.seen.state (scrubbed records) (closing.IsNewFile {A = Scrubbed} peer left (Err scrub_fault.Disk)) → OneFailed old.seen.state new.seen.state peer left
-        → printed d ≡ with_text 4 disk_fault → Came
+        → printed d ≡ disk_fault → Came
     disk_by other (inl (rose, same)) due = fault_by scrub_fault.Disk other (inr (inl (inl (own_rose rose, same, inr refl), due)))
     disk_by other (inr (rose, same)) due = fault_by scrub_fault.Disk other (inr (inl (inr (rose, steady same, refl, inr refl), due)))
 
     damaged_by : (name found : List ℕ) → AsWritten old.seen.state (scrubbed records) (closing.IsNewFile {A = Scrubbed} peer left (Err (scrub_fault.Damaged name found)))
-        → ScrubFailed (scrub_fault.Damaged name found) old.seen.state new.seen.state peer left → IsDue (damaged name found) d → Came
-    damaged_by name found other (is, (own, same)) (inl due) =
+        → ScrubFailed (scrub_fault.Damaged name found) old.seen.state new.seen.state peer left → printed d ≡ damaged name found → Came
+    damaged_by name found other (is, (own, same)) due =
         fault_by (scrub_fault.Damaged name found) other (inr (inr (inl (name, found, ((records, is_file, spoilt name found is), refl), steady own, same, due))))
-    damaged_by name found other (is, (own, same)) (inr due) = fault_by (scrub_fault.Damaged name found) other (inr (inr (inr (steady own, same, due))))
 
     begun_by : (made : Result Scrubbed ScrubFault) → IfErr made closing.IsOfWriting → IfOk made (IsScrubbed records) → AsWritten old.seen.state (scrubbed records) (closing.IsNewFile peer left made)
         → IfErr made (λ f. ScrubFailed f old.seen.state new.seen.state peer left) → OnOk made (left.faults ≡ peer.faults) → OnOk made (new.seen.state ≡ old.seen.state) → IsScrubDue made d → Came
@@ -350,14 +345,14 @@ module _ {D : Type 0} (state : D → DiskState) (file : DiskState) (old new : Wh
 
 answered_as : (s : NewFile) (file peer : File) (own others : List ℕ) (here : Part) (done : Bool) (P Q : Printed → Type 0) → ((o : Printed) → P o → Q o) → IsAnswer s file peer own others here done P → IsAnswer s file peer own others here done Q
 answered_as s file peer own others here done P Q turn (inl (is, steady, peer_steady, told)) = inl (is, steady, peer_steady, turn s.printed told)
-answered_as s file peer own others here done P Q turn (inr (inl (failed, told))) = inr (inl (failed, turn (with_text 4 disk_fault) told))
+answered_as s file peer own others here done P Q turn (inr (inl (failed, told))) = inr (inl (failed, turn disk_fault told))
 answered_as s file peer own others here done P Q turn (inr (inr (inl (name, found, is, steady, peer_steady, told)))) = inr (inr (inl (name, found, is, steady, peer_steady, turn (damaged name found) told)))
 answered_as s file peer own others here done P Q turn (inr (inr (inr (steady, peer_steady, told)))) = inr (inr (inr (steady, peer_steady, turn no_memory told)))
 
 -- what is due was printed
-pub scrubbed_printed : (file peer : File) (d : Due) (out : Output) (status : ℕ) → HasScrubbed file peer (λ o. printed d ≡ o) → IsWrittenAs (printed d) out status → HasScrubbed file peer (λ o. IsTold (without_commit o) status out)
+pub scrubbed_printed : (file peer : File) (d : Due) (out : Output) (status : ℕ) → HasScrubbed file peer (λ o. printed d ≡ o) → IsWritten (printed d) out status → HasScrubbed file peer (λ o. IsWritten o out status)
 scrubbed_printed file peer d out status (bytes, others, s, here, done, h) written =
-    let turn : (o : Printed) → printed d ≡ o → IsTold (without_commit o) status out = λ o e. subst (λ (p : Printed). IsTold (without_commit p) status out) e (told_printed (printed d) out status written) in (
+    let turn : (o : Printed) → printed d ≡ o → IsWritten o out status = λ o e. subst (λ (p : Printed). IsWritten p out status) e written in (
       bytes,
       others,
       s,
@@ -367,9 +362,10 @@ scrubbed_printed file peer d out status (bytes, others, s, here, done, h) writte
         file_told = h.file_told;
         peer_told = h.peer_told;
         outcome = h.outcome;
-        answer = answered_as s file peer bytes others here done (λ o. printed d ≡ o) (λ o. IsTold (without_commit o) status out) turn h.answer;
+        answer = answered_as s file peer bytes others here done (λ o. printed d ≡ o) (λ o. IsWritten o out status) turn h.answer;
         bare = h.bare;
         here_left = h.here_left;
+        trimmed = h.trimmed;
         peer_left = h.peer_left;
         peer_keeps = h.peer_keeps;
         unasked = h.unasked;
@@ -378,7 +374,7 @@ scrubbed_printed file peer d out status (bytes, others, s, here, done, h) writte
     )
 
 -- words for which there was no memory
-pub idle_scrubbed : (file peer : DiskState) (out : Output) (status : ℕ) → IsNow file → IsNow peer → IsWritten (Err fault_is.Memory) status out → HasScrubbed (both file file) (both peer peer) (λ o. IsTold (without_commit o) status out)
+pub idle_scrubbed : (file peer : DiskState) (out : Output) (status : ℕ) → IsNow file → IsNow peer → IsWritten no_memory out status → HasScrubbed (both file file) (both peer peer) (λ o. IsWritten o out status)
 idle_scrubbed file peer out status no_other no_other_peer written =
     let own = some_bytes file.contents in
     let others = some_bytes peer.contents in
@@ -392,9 +388,10 @@ idle_scrubbed file peer out status no_other no_other_peer written =
         file_told = own.1;
         peer_told = others.1;
         outcome = s.1;
-        answer = inr (inr (inr (refl, refl, told_memory out status written)));
+        answer = inr (inr (inr (refl, refl, written)));
         bare = inl refl;
         here_left = idle_left file no_other own.0;
+        trimmed = λ e. absurd (no_aside_kept e);
         peer_left = quiet_scrub (is_modelled file) peer peer (quiet_none peer) no_other_peer own.0 others.0 s.0 s.1;
         peer_keeps = record { tells = refl; model = refl };
         unasked = λ e. untouched peer;

@@ -11,6 +11,7 @@ use Rattle.fsl_journal.specs.File.{FailsAt}
 use Rattle.fsl_journal.specs.Journal.{HeldOrSame}
 use Rattle.fsl_journal.specs.Log.{StandsBetween}
 use Rattle.fsl_journal.specs.declared.LoadFault.{LoadFault}
+use Rattle.fsl_journal.specs.declared.LoadFault.TheVariants as load_fault
 use Rattle.fsl_blobs.specs.Fold.{contents}
 use Rattle.fsl_repo.specs.Whole.{Whole, IsWholeOn, stored}
 use Rattle.fsl_repo.specs.Onward.{IsLaterOn}
@@ -18,24 +19,31 @@ use Rattle.fsl_repo.specs.Opening.{IsOpened, OpenFailed}
 use Rattle.fsl_login.specs.declared.User.{User}
 use Rattle.fsl_serve.specs.declared.work.Work.{Work}
 use Rattle.fsl_serve.specs.Crews.{AllWorked, AreAllCommitted}
-use Rattle.fossil.specs.declared.answers.due.Due.{Due}
-use Rattle.fossil.specs.Printed.{Printed}
+use Rattle.fossil.specs.Printed.{Printed, no_memory}
 use Rattle.fossil.specs.Printed as printing
-use Rattle.fossil.specs.Run.{Input, Output}
-use Rattle.fossil.specs.Served.{Left, Loaded, Unloaded, Workers, Serving, serving_in, IsSafe, IsUsers, AreNoUsers, unread, project_of, no_memory, not_loaded, worked, HasServed, ServesLoaded, unstaffed, served, ServesDisk, unloaded, loaded, Serves, no_users, to_users, Ends, no_serve, serve, IsWrittenAs, Says}
-use Rattle.fossil.specs.Serving.{printed, IsDue, IsSaidOf, IsAsked, IsUnasked, AreWithin}
+use Rattle.fossil.specs.Run.{Input, Output, IsWritten}
+use Rattle.fossil.specs.Served.{Left, Loaded, Unloaded, Workers, Serving, serving_in, IsSafe, IsUsers, AreNoUsers, unread, project_of, not_loaded, worked, HasServed, ServesLoaded, unstaffed, served, ServesDisk, unloaded, loaded, Serves, no_users, to_users, Ends, no_serve, serve, Says}
+use Rattle.fossil.specs.Due.{printed, IsDue, Due, IsNotLoadedDue}
+use Rattle.fossil.specs.Serving.{IsSaidOf, IsAsked, IsUnasked, AreWithin}
+use Rattle.fossil.proofs.PrintedLemmas.{due_of}
 
 -- ---- what is said
 
-pub said_of : (o : Printed) (d : Due) (out : Output) (status : ℕ) → IsDue o d → IsWrittenAs (printed d) out status → IsSaidOf o out status
-said_of o d out status (inl e) p = inl (subst (λ (x : Printed). IsWrittenAs x out status) e p)
-said_of o d out status (inr e) p = inr (subst (λ (x : Printed). IsWrittenAs x out status) e p)
+pub said_of : (o : Printed) (d : Due) (out : Output) (status : ℕ) → IsDue o d → IsWritten (printed d) out status → IsSaidOf o out status
+said_of o d out status (inl e) p = inl (subst (λ (x : Printed). IsWritten x out status) e p)
+said_of o d out status (inr e) p = inr (subst (λ (x : Printed). IsWritten x out status) e p)
+
+-- a file that isn't loaded
+not_loaded_due : (fault : LoadFault) (d : Due) → IsNotLoadedDue fault d → IsDue (not_loaded fault) d
+not_loaded_due load_fault.Disk d e = inl (ap printed e)
+not_loaded_due (load_fault.NotRepository at) d e = due_of (not_loaded (load_fault.NotRepository at)) d e
+not_loaded_due load_fault.Memory d e = inl (ap printed e)
 
 -- ---- the stages
 
 module _ {D X : Type 0} (tells : D → DiskState) (Worked : Workers D) (left : Left D) (crews crews_left : List X) (out : Output) (status : ℕ) where
   -- there was no memory for the workers
-  pub nobody_works : (first : Whole D) (users : List User) (requests : ℕ) → left ≡ Loaded first → crews_left ≡ crews → IsWrittenAs no_memory out status
+  pub nobody_works : (first : Whole D) (users : List User) (requests : ℕ) → left ≡ Loaded first → crews_left ≡ crews → IsWritten no_memory out status
       → Says (λ o. ServesLoaded tells Worked first left crews crews_left users requests o) out status
   nobody_works first users requests l c p = (no_memory, unstaffed l c refl, inl p)
 
@@ -45,15 +53,15 @@ module _ {D X : Type 0} (tells : D → DiskState) (Worked : Workers D) (left : L
 
   -- the file wasn't loaded
   pub not_served : (disk rest : D) (fault : LoadFault) (d : Due) (users : List User) (requests : ℕ) → left ≡ Unloaded rest → crews_left ≡ crews → OpenFailed fault (tells disk) (tells rest) → IsSafe (tells disk) (tells rest)
-      → IsDue (not_loaded fault) d → IsWrittenAs (printed d) out status → Says (λ o. ServesDisk tells Worked disk left crews crews_left users requests o) out status
-  not_served disk rest fault d users requests l c failed safe due p = (not_loaded fault, unloaded rest fault l c failed safe refl, said_of (not_loaded fault) d out status due p)
+      → IsNotLoadedDue fault d → IsWritten (printed d) out status → Says (λ o. ServesDisk tells Worked disk left crews crews_left users requests o) out status
+  not_served disk rest fault d users requests l c failed safe due p = (not_loaded fault, unloaded rest fault l c failed safe refl, said_of (not_loaded fault) d out status (not_loaded_due fault d due) p)
 
   pub loaded_served : (disk : D) (first : Whole D) (users : List User) (requests : ℕ) → IsOpened (tells disk) (tells first.disk) first → IsSafe (tells disk) (tells first.disk)
       → Says (λ o. ServesLoaded tells Worked first left crews crews_left users requests o) out status → Says (λ o. ServesDisk tells Worked disk left crews crews_left users requests o) out status
   loaded_served disk first users requests opened safe s = (s.0, loaded first opened safe s.1, s.2)
 
   -- there are no users
-  pub nobody_served : (disk : D) (users : Input) (d : Due) (requests : ℕ) → left ≡ Unloaded disk → crews_left ≡ crews → AreNoUsers users (printed d) → IsWrittenAs (printed d) out status
+  pub nobody_served : (disk : D) (users : Input) (d : Due) (requests : ℕ) → left ≡ Unloaded disk → crews_left ≡ crews → AreNoUsers users (printed d) → IsWritten (printed d) out status
       → Says (λ o. Serves tells Worked users disk left crews crews_left requests o) out status
   nobody_served disk users d requests l c none p = (printed d, no_users none l c, inl p)
 
@@ -67,12 +75,12 @@ module _ {D X : Type 0} (tells : D → DiskState) (Worked : Workers D) (left : L
   unasked_by words users disk (Some asked) is same l c = (no_memory, serve asked is (no_users (unread (ap (λ (s : SourceState). s.faults) same) refl) l c))
 
   -- the words are no serve, or there was no memory to read them
-  pub unasked : (words : List (List ℕ)) (users : Input) (disk : D) (d : Due) → IsUnasked words d → users.after ≡ users.before → left ≡ Unloaded disk → crews_left ≡ crews → IsWrittenAs (printed d) out status
+  pub unasked : (words : List (List ℕ)) (users : Input) (disk : D) (d : Due) → IsUnasked words d → users.after ≡ users.before → left ≡ Unloaded disk → crews_left ≡ crews → IsWritten (printed d) out status
       → Says (λ o. Ends tells Worked words users disk left crews crews_left o) out status
-  unasked words users disk d (inl why) same l c p = (printing.usage, no_serve why.0 same l c refl, inl (subst (λ (x : Printed). IsWrittenAs x out status) why.1 p))
+  unasked words users disk d (inl why) same l c p = (printing.usage, no_serve why.0 same l c refl, inl (subst (λ (x : Printed). IsWritten x out status) why.1 p))
   unasked words users disk d (inr e) same l c p =
       let o = unasked_by words users disk (serving_in words) refl same l c in
-      (o.0, o.1, inr (subst (λ (x : Printed). IsWrittenAs x out status) e p))
+      (o.0, o.1, inr (subst (λ (x : Printed). IsWritten x out status) e p))
 
   pub asked_served : (words : List (List ℕ)) (users : Input) (disk : D) (requests : ℕ) → IsAsked words requests → Says (λ o. Serves tells Worked users disk left crews crews_left requests o) out status
       → Says (λ o. Ends tells Worked words users disk left crews crews_left o) out status

@@ -19,14 +19,15 @@ use Rattle.fsl_repo.specs.declared.ShunFault.{ShunFault}
 use Rattle.fsl_repo.specs.declared.ShunFault.TheVariants as shun_fault
 use Rattle.fsl_repo.specs.Machine.{State, now, shun, shunned, ShunStep, IsCommit}
 use Rattle.fsl_repo.specs.Whole.{Whole, log_of, IsWholeOn}
+use Rattle.fossil.specs.Run.{IsJust}
 use Rattle.fossil.specs.Printed.{Printed, name_line}
 use Rattle.fossil.specs.Outcome.{with_commit}
 use Rattle.fossil.specs.Shun.{TextAndRecords, shunning, word_of}
 use Rattle.fossil.specs.Acts.{loaded_of}
 use Rattle.fossil.proofs.InputLemmas.{some_bytes}
-use Rattle.fossil.proofs.CommitLemmas.{idle_contents}
+use Rattle.fossil.proofs.CommitLemmas.{idle_just}
 use Rattle.fossil.proofs.ActLemmas.{still, none_due}
-use Rattle.fossil.proofs.AppendLemmas.{IsAppended}
+use Rattle.fossil.proofs.AppendLemmas.{IsAppended, IsSettledOn}
 
 -- ---- what is appended
 
@@ -139,9 +140,11 @@ module _ {D : Type 0} (before after : Whole D) (mid left : DiskState) (was : IsW
       let rose = failed before.seen.state after.seen.state fault (runs_on before.seen.state after.seen.state (Err fault) runs step) in
       subst (λ (n : ℕ). Rose n left.faults) was.faults (subst (λ (n : ℕ). Rose before.seen.state.faults n) is.faults rose)
 
-  pub commit_contents : (count : ℕ) → IsCommit before.seen.state.stopped before.seen.state (Ok count) after.seen.state → Told left (λ held. IsFileOf held before.seen.state.records)
-  commit_contents count step =
+  pub commit_settles : (count : ℕ) → IsCommit before.seen.state.stopped before.seen.state (Ok count) after.seen.state → IsSettledOn mid left before.seen.state.records
+  commit_settles count step =
       let all = done_all before.seen.state after.seen.state count (runs_on before.seen.state after.seen.state (Ok count) runs step) in
-      let records : after.seen.state.records ≡ before.seen.state.records = ap (λ (s : State). s.records) all in
-      subst (λ (rs : List Record). Told left (λ held. IsFileOf held rs)) records
-      (idle_contents (log_of after) left is.belongs (ap (λ (s : State). s.stopped) all ∙ runs) (ap (λ (s : State). s.committed) all ∙ ap length (sym records)))
+      let records : after.seen.state.records ≡ before.seen.state.records = ap (λ (s : State). s.records) all in (
+        subst (λ (rs : List Record). Told left (λ held. IsJust held rs)) records
+            (idle_just (log_of after) left is.belongs (ap (λ (s : State). s.stopped) all ∙ runs) (ap (λ (s : State). s.committed) all ∙ ap length (sym records))),
+        sym is.faults ∙ ap (λ (s : State). s.faults) all ∙ was.faults,
+      )

@@ -22,12 +22,10 @@ use Rattle.fsl_pull.specs.Kept.{IsKeptAtAnyMoment}
 use Rattle.fsl_pull.specs.Asking.{IsDialCounted}
 use Rattle.fsl_pull.specs.Calls.{Kind, Ended, IsWhole, IsSynced, AreCommitsOf}
 use Rattle.fsl_words.specs.declared.Command.{Command}
-use Rattle.fossil.specs.declared.answers.due.Due.{Due}
-use Rattle.fossil.specs.Printed.{Printed, damaged}
+use Rattle.fossil.specs.Printed.{Printed, damaged, disk_fault, link_fault, no_memory}
 use Rattle.fossil.specs.Outcome.{Outcome, printed_of}
-use Rattle.fossil.specs.Run.{Agrees, disk_fault}
-use Rattle.fossil.specs.Served.{with_text, link_fault, no_memory}
-use Rattle.fossil.specs.Serving.{printed, IsDue}
+use Rattle.fossil.specs.Run.{Agrees}
+use Rattle.fossil.specs.Due.{printed, IsDue, Due}
 use Rattle.fossil.specs.Syncs.{synced, fault_printed, end_printed, with_commits, IsEndOutcome}
 use Rattle.fossil.specs.Uses.{command_asks_peer}
 use Rattle.fossil.specs.Synced.{Read, Objects, IsSyncOutcome, AreCommitsSoFar, AreCommits, IsDue as IsAsked, AreCommitsBefore, ReadsContent, IsFileDue, IsAnswer, Far, AreCutOff, AreMade, reached, IsWholeAtAnyMoment, IsPeerKept, SyncsBy, objects_of}
@@ -225,50 +223,45 @@ module _ {D : Type 0} (command : Command) (peer peer_left : DiskState) (dial dia
       refused_by : (why : PullFault) → IsWhole k.Is new.seen.state (Some why) None rounds broken → IfSome (fault_printed why) (λ o. IsDue o d) → dial_left.faults ≡ dial.faults → Came
       refused_by why is due same_count = whole_by (Some why) None is (λ e p ended text. due_err (length rounds) new.seen.state e d p text why ended due) same_count
 
-      lost : Rose dial.faults dial_left.faults → k.IsLeftOff IsBrokenOff broken 1 rounds new.seen.state → printed d ≡ with_text 7 link_fault → Came
+      lost : Rose dial.faults dial_left.faults → k.IsLeftOff IsBrokenOff broken 1 rounds new.seen.state → printed d ≡ link_fault → Came
       lost rose off told =
           let l = sound.left_off IsBrokenOff broken 1 rounds new.seen.state off in (
             l.commits,
-            at_by rounds broken l.commits (with_text 7 link_fault) told (led_by l.commits (inr l.so_far))
+            at_by rounds broken l.commits link_fault told (led_by l.commits (inr l.so_far))
                 (inr (inr (inl (rose, record { due = (l.due.0, asked rounds l.due.0 l.due.1); few = l.few; sent = sent_as IsBrokenOff broken (IsDueK rounds) (IsAsked command (read rounds)) (asked rounds) l.sent }, refl))))
                 l.stands (kept l.commits (inr l.so_far)) (λ other. absurd (other refl)),
           )
 
       failed_by : IsUncommittedAt k at_start rounds new.seen.state ⊎ IsUnreadAt k Reads at_start rounds new.seen.state (λ name s. ⊤) → Rose old.seen.state.faults new.seen.state.faults → broken ≡ []
-          → printed d ≡ with_text 4 disk_fault → dial_left.faults ≡ dial.faults → Came
+          → printed d ≡ disk_fault → dial_left.faults ≡ dial.faults → Came
       failed_by (inr c) rose none told same_count = (
         c.commits,
-        synced_by rounds broken c.commits (made_all c.commits) (with_text 4 disk_fault) told (inl (led_by c.commits (inr c.so_far)))
+        synced_by rounds broken c.commits (made_all c.commits) disk_fault told (inl (led_by c.commits (inr c.so_far)))
             (inr (inl (none, inl (rose_file rose, peer_steady, file_due rounds c.commits (inr (reads rounds c.commits (λ name s. ⊤) c.reads))), refl))) (inl (refl, refl))
             (inl (holds left new (record at_start { faults = new.seen.state.faults }) c.commits whole c.stands)) (moments_all 4 c.commits (kept c.commits (inr c.so_far))) peer_kept
             (λ other. absurd (other refl)) (λ other. same_count),
       )
       failed_by (inl c) rose none told same_count = (
         c.commits,
-        synced_by rounds broken c.commits (all_but c.done c.commits) (with_text 4 disk_fault) told (inl (led_by c.commits c.are))
+        synced_by rounds broken c.commits (all_but c.done c.commits) disk_fault told (inl (led_by c.commits c.are))
             (inr (inl (none, inl (rose_file rose, peer_steady, file_due rounds c.commits (inl (c.done, before_by c.done c.before, c.others))), refl))) (inr (refl, none, cut_by c.done c.commits c.before))
             (inr (refl, rose_file rose, holds_either left new at_start (all_but c.done c.commits) whole c.stands)) (moments_by c.commits (kept c.commits c.are)) peer_kept (λ other. absurd (other refl)) (λ other. same_count),
       )
 
-      failed : Rose old.seen.state.faults new.seen.state.faults → broken ≡ [] → k.IsFailed rounds new.seen.state → printed d ≡ with_text 4 disk_fault → dial_left.faults ≡ dial.faults → Came
+      failed : Rose old.seen.state.faults new.seen.state.faults → broken ≡ [] → k.IsFailed rounds new.seen.state → printed d ≡ disk_fault → dial_left.faults ≡ dial.faults → Came
       failed rose none is told same_count = failed_by (sound.failed rounds new.seen.state is) rose none told same_count
 
       -- a content is damaged, and no call of the disks failed
-      damaged_by : (name found : List ℕ) → broken ≡ [] → k.IsDamaged name found rounds new.seen.state → IsDue (damaged name found) d → dial_left.faults ≡ dial.faults → Came
-      damaged_by name found none is due same_count = by_due (sound.damaged name found rounds new.seen.state is) due
+      damaged_by : (name found : List ℕ) → broken ≡ [] → k.IsDamaged name found rounds new.seen.state → printed d ≡ damaged name found → dial_left.faults ≡ dial.faults → Came
+      damaged_by name found none is told same_count = by_read (sound.damaged name found rounds new.seen.state is)
         where
-          by_due : IsUnreadAt k Reads at_start rounds new.seen.state (λ asked s. (asked ≡ name) × IsSpoilt s name found) × (new.seen.state.faults ≡ at_start.faults) → IsDue (damaged name found) d → Came
-          by_due (c, steady) (inl told) =
+          by_read : IsUnreadAt k Reads at_start rounds new.seen.state (λ asked s. (asked ≡ name) × IsSpoilt s name found) × (new.seen.state.faults ≡ at_start.faults) → Came
+          by_read (c, steady) =
               let at = subst (λ (n : ℕ). IsAt (record at_start { faults = n }) new.seen.state c.commits) steady c.stands in (
                 c.commits,
                 at_by rounds broken c.commits (damaged name found) told (led_by c.commits (inr c.so_far))
                     (inr (inr (inr (inr (name, found, none, reads rounds c.commits (λ asked s. (asked ≡ name) × IsSpoilt s name found) c.reads, refl)))))
                     at (kept c.commits (inr c.so_far)) (λ other. same_count),
-              )
-          by_due (c, steady) (inr told) =
-              let at = subst (λ (n : ℕ). IsAt (record at_start { faults = n }) new.seen.state c.commits) steady c.stands in (
-                c.commits,
-                at_by rounds broken c.commits no_memory told (led_by c.commits (inr c.so_far)) (inr (inr (inr (inl (inl none, refl))))) at (kept c.commits (inr c.so_far)) (λ other. same_count),
               )
 
       -- no memory before the first round, behind some rounds, or in the midst of a reply

@@ -1,6 +1,6 @@
 -- What a run of a command that syncs says of its files, and of what it prints.
-use Rattle.std.proofs.Common.{◌≡◌, ◌⊎◌, inl, inr, ⊎_elim, ℕ, Bool, true, false, List, [], ◌++◌, length, Option, Some, None, is_some, IsTrue, refl, sym, ap, subst, ◌∙◌, arith}
-use Rattle.std.specs.Prelude.{◌==◌, ◌||◌, if◌then◌else◌, cond}
+use Rattle.std.proofs.Common.{◌≡◌, ◌⊎◌, inl, inr, ⊎_elim, ℕ, Bool, true, false, List, [], ◌++◌, length, Option, Some, None, is_some, IsTrue, refl, sym, ap, subst, ◌∙◌}
+use Rattle.std.specs.Prelude.{◌==◌, ◌||◌, if◌then◌else◌}
 use Rattle.std.proofs.lemmas.List.{append-nil}
 use Rattle.fsl_order.specs.Causes.{Rose}
 use Rattle.fsl_record.specs.declared.Record.{Record}
@@ -19,20 +19,19 @@ use Rattle.fsl_pull.proofs.KeptLemmas.{none_of_them}
 use Rattle.fsl_words.specs.declared.Command.{Command}
 use Rattle.fsl_words.specs.declared.Command.TheVariants as command_of
 use Rattle.fsl_words.specs.declared.Unversioned.TheVariants as uv
-use Rattle.fossil.specs.declared.answers.due.Due.{Due}
 use Rattle.fossil.specs.declared.commands.sync.Way.{Way}
 use Rattle.fossil.specs.declared.commands.sync.Way.TheVariants as way
 use Rattle.fossil.specs.Printed.{Printed}
 use Rattle.fossil.specs.Uses.{command_syncs, command_clones, command_merges, command_scrubs, command_meets, command_asks_peer}
-use Rattle.fossil.specs.Outcome.{Outcome, without_commit, printed_of}
-use Rattle.fossil.specs.Run.{File, Output, Agrees, IsTold}
+use Rattle.fossil.specs.Outcome.{Outcome, printed_of}
+use Rattle.fossil.specs.Run.{File, Output, Agrees, IsWritten}
 use Rattle.fossil.specs.Acts.{file_of, KeepsImages}
-use Rattle.fossil.specs.Served.{IsWrittenAs, all, front}
-use Rattle.fossil.specs.Serving.{printed}
+use Rattle.fossil.specs.Due.{printed, Due}
 use Rattle.fossil.specs.Synced.{Read, Objects, IsSyncOutcome, AreCommitsSoFar, AreCommits, IsDue, IsCutOff, IsFileDue, HasFailed, objects_of, IsAnswer, IsDamaged, IsFaulted, Far, AreCutOff, AreMade, reached, StandsForAll, StandsAsFar, StandsOrWasLeft, IsFileLeft, IsWholeAtAnyMoment, IsDurable, IsPeerKept, IsUntouched, SyncsBy, HasSynced}
 use Rattle.fossil.specs.Syncing.{command_by}
 use Rattle.fossil.proofs.InputLemmas.{some_bytes}
 use Rattle.fossil.proofs.FileLemmas.{both, some_same, agreed, quiet_none}
+use Rattle.fossil.proofs.PrintedLemmas.{ends}
 use Rattle.fossil.proofs.TakenLemmas.{Start, IsAt, IsFailedAt}
 use Rattle.fossil.proofs.SoundLemmas.{sent_as}
 
@@ -141,19 +140,6 @@ peer_idle peer no_other = record {
 
 -- ---- the printing
 
-pub told_printed : (o : Printed) (out : Output) (status : ℕ) → IsWrittenAs o out status → IsTold (without_commit o) status out
-told_printed o out status (all e appended quiet) = inl (e, appended)
-told_printed o out status (front e cut) = inr (e, cut)
-
--- the status stays, or a report is cut off
-zero_or : (n : ℕ) (zero : Bool) → (n == 0) ≡ zero → (status : ℕ) → status ≡ cond zero 6 n → (status ≡ n) ⊎ ((n ≡ 0) × (status ≡ 6))
-zero_or n true z status e = let is : n ≡ 0 = grind (arith) in inr (is, e)
-zero_or n false z status e = inl e
-
-ends : (o : Printed) (out : Output) (status : ℕ) → IsWrittenAs o out status → (status ≡ o.status) ⊎ ((o.status ≡ 0) × (status ≡ 6))
-ends o out status (all e appended quiet) = inl e
-ends o out status (front e cut) = zero_or o.status (o.status == 0) refl status e
-
 module _ (command : Command) (x : Objects) (broken : List Connection) (r : Read) (commits : List (List Record)) (P Q : Printed → Type 0) (turn : (o : Printed) → P o → Q o) where
   faulted_as : IsFaulted command r broken commits x P → IsFaulted command r broken commits x Q
   faulted_as (inl (none, failed, tells)) = inl (none, failed, turn _ tells)
@@ -227,18 +213,18 @@ module _ (command : Command) (x : Objects) (rounds : Rounds) (broken : List Conn
       })
 
 -- what is due was printed
-pub synced_printed : (command : Command) (x : Objects) (d : Due) (out : Output) (status : ℕ) → HasSynced command x (λ o. printed d ≡ o) (printed d).status → IsWrittenAs (printed d) out status
-    → HasSynced command x (λ o. IsTold (without_commit o) status out) status
+pub synced_printed : (command : Command) (x : Objects) (d : Due) (out : Output) (status : ℕ) → HasSynced command x (λ o. printed d ≡ o) (printed d).status → IsWritten (printed d) out status
+    → HasSynced command x (λ o. IsWritten o out status) status
 synced_printed command x d out status (rounds, broken, grows, (r, commits, s)) written =
-    let turn : (o : Printed) → printed d ≡ o → IsTold (without_commit o) status out = λ o e. subst (λ (p : Printed). IsTold (without_commit p) status out) e (told_printed (printed d) out status written) in (
+    let turn : (o : Printed) → printed d ≡ o → IsWritten o out status = λ o e. subst (λ (p : Printed). IsWritten p out status) e written in (
       rounds,
       broken,
       grows,
       (
         r,
         commits,
-        ⊎_elim (λ e. same_status command x rounds broken r commits (λ o. printed d ≡ o) (λ o. IsTold (without_commit o) status out) turn (printed d).status status e s)
-            (λ p. cut_status command x rounds broken r commits (λ o. printed d ≡ o) (λ o. IsTold (without_commit o) status out) turn (printed d).status status p.0 p.1 s) (ends (printed d) out status written),
+        ⊎_elim (λ e. same_status command x rounds broken r commits (λ o. printed d ≡ o) (λ o. IsWritten o out status) turn (printed d).status status e s)
+            (λ p. cut_status command x rounds broken r commits (λ o. printed d ≡ o) (λ o. IsWritten o out status) turn (printed d).status status p.0 p.1 s) (ends (printed d) status out written),
       ),
     )
 

@@ -1,5 +1,5 @@
 -- What `export` and `verify` did.
-use Rattle.std.proofs.Common.{◌≡◌, inl, inr, ℕ, ◌≤◌, Bool, true, false, List, [], Option, Some, None, Result, Ok, Err, IsTrue, refl, sym, ap, subst, ◌∙◌, arith}
+use Rattle.std.proofs.Common.{◌≡◌, inl, inr, ℕ, ◌≤◌, Bool, List, [], Option, Some, Result, Ok, Err, IsTrue, refl, sym, ap, subst, ◌∙◌, arith}
 use Rattle.std.specs.Prelude.{MatchResult}
 use Rattle.fsl_order.specs.Causes.{Rose}
 use Rattle.fsl_outside.specs.Streams.{SourceState}
@@ -8,7 +8,7 @@ use Rattle.fsl_disk.specs.Disk.{DiskState}
 use Rattle.fsl_journal.specs.File.{IsFileOf}
 use Rattle.fsl_blobs.specs.Fold.{contents}
 use Rattle.fsl_cross.specs.declared.Item.{Item}
-use Rattle.fsl_repo.specs.Machine.{AreItems, now}
+use Rattle.fsl_repo.specs.Machine.{State, AreItems, now}
 use Rattle.fsl_repo.specs.Replies.{IsSpoilt}
 use Rattle.fsl_repo.specs.Whole.{Whole, IsWholeOn, is_modelled}
 use Rattle.fsl_repo.proofs.Steps.{same_kind}
@@ -25,6 +25,7 @@ use Rattle.fsl_checkin.specs.declared.answers.Verdict.TheVariants as verdict
 use Rattle.fsl_checkin.specs.declared.answers.ExportFault.{ExportFault}
 use Rattle.fsl_checkin.specs.declared.answers.ExportFault.TheVariants as unread
 use Rattle.fsl_checkin.specs.Reads.{AskFails, IsOnlyRead}
+use Rattle.fossil.specs.Due.{Due}
 use Rattle.fossil.specs.declared.answers.fault.Fault.{Fault}
 use Rattle.fossil.specs.declared.answers.fault.Fault.TheVariants as fault_is
 use Rattle.fossil.specs.Printed.{Printed}
@@ -44,9 +45,10 @@ spoilt_in : {D : Type 0} (disk : D → DiskState) (r : Whole D) (name found : Li
 spoilt_in disk r name found whole h = record { artifact = h.artifact; held = h.held; bytes = h.bytes; sized = h.sized; named = h.named; other = h.other; never = sym whole.honest ∙ h.never }
 
 module _ {X D : Type 0} (way : Reading X) (name : List ℕ) (disk : D → DiskState) (before after : Whole D) (whole : IsWholeOn (disk before.disk) before) where
-  pub named_ok : (answer : X) (a : Printed) → way.Reads before.seen.state.honest (now before.seen.state).held before.seen.items name answer → a ≡ way.print name answer
+  pub named_ok : IsWholeOn (disk after.disk) after → after.seen.state ≡ before.seen.state → (answer : X) (a : Printed) → way.Reads before.seen.state.honest (now before.seen.state).held before.seen.items name answer → a ≡ way.print name answer
       → IsNamedAnswer way name (disk, before, after) (Ok a)
-  named_ok answer a is same = (answer, subst (λ (b : Bool). way.Reads b (now before.seen.state).held before.seen.items name answer) whole.honest is, same)
+  named_ok left stays answer a is same =
+      (answer, subst (λ (b : Bool). way.Reads b (now before.seen.state).held before.seen.items name answer) whole.honest is, same, sym left.faults ∙ ap (λ (s : State). s.faults) stays ∙ whole.faults)
 
   named_fault : IsWholeOn (disk after.disk) after → (why : ExportFault) → AskFails (way.Asks before.seen.state.honest (now before.seen.state).held before.seen.items name) why before.seen.state after.seen.state → IsNamedAnswer way name (disk, before, after) (Err (fault_as why))
   named_fault left unread.Disk h = subst (λ (n : ℕ). Rose n (disk after.disk).faults) whole.faults (subst (λ (n : ℕ). Rose before.seen.state.faults n) left.faults h.2)
@@ -70,7 +72,7 @@ pub record IsWay {X : Type 0} (way : Reading X) (prefix : List ℕ) (command : C
 
 module _ {X D : Type 0} (way : Reading X) (prefix : List ℕ) (command : Command) (is_way : IsWay way prefix command) (disk : D → DiskState) (of : D) (before after : Whole D) (source : SourceState) (clock : Option (List ℕ))
     (no_other : IsTrue (disk before.disk).is_model → (c : List ℕ) → (disk before.disk).since (disk before.disk).moment c → (disk before.disk).images c) (opened : IsOpened (disk of) (disk before.disk) (loaded_of before)) where
-  abbrev Acted : D → Result Printed Fault → Type 0
+  abbrev Acted : D → Due → Type 0
   Acted left result = Acts command (source, source) (clock, clock) (disk of, disk left) result
 
   abbrev OfPrefix : Printed → Type 0
@@ -80,7 +82,7 @@ module _ {X D : Type 0} (way : Reading X) (prefix : List ℕ) (command : Command
   pub refused_acted : (refused : Refused) (a : Printed) → Err refused ≡ name_found (now before.seen.state) prefix → a ≡ printing.refused (refusal_text refused) → Acted before.disk (Ok a)
   refused_acted refused a found same =
       read_answer (Some command) is_way.only source clock (disk of) (disk before.disk) (disk before.disk) no_other (loaded_of before) opened (quiet_none (disk before.disk)) a
-      (let three = ap (λ (x : Printed). x.status) same in omega (arith, three))
+      (let three = ap (λ (x : Printed). x.status) same in omega (arith, three)) refl
       (is_way.outcome (is_modelled (disk of)) opened.stands.0 before.seen.state.records opened.stands.2 a
       (subst (λ (r : Result (List ℕ) Refused).
       MatchResult r (λ name. (items : List Item) × AreItems (now before.seen.state).held items × (answer : X) × way.Reads (is_modelled (disk of)) (now before.seen.state).held items name answer × (a ≡ way.print name answer))
@@ -98,13 +100,15 @@ module _ {X D : Type 0} (way : Reading X) (prefix : List ℕ) (command : Command
         (λ refused. a ≡ printing.refused (refusal_text refused))) found
         (before.seen.items, each, answer, subst (λ (b : Bool). way.Reads b (now before.seen.state).held before.seen.items name answer) (same_kind (disk of) (disk before.disk) opened.keeps) is, same)
 
-    pub named_acted : (result : Result Printed Fault) → IsNamedAnswer way name (disk, before, after) result → Acted after.disk result
+    pub named_acted : (result : Due) → IsNamedAnswer way name (disk, before, after) result → Acted after.disk result
     named_acted (Ok a) is =
         read_answer (Some command) is_way.only source clock (disk of) (disk before.disk) (disk after.disk) no_other (loaded_of before) opened read.quiet a
-        (let same = ap (λ (x : Printed). x.status) is.2 in let few = is_way.small name is.0 in omega (arith, same, few))
+        (let same = ap (λ (x : Printed). x.status) is.2 in let few = is_way.small name is.0 in omega (arith, same, few)) is.3
         (is_way.outcome (is_modelled (disk of)) opened.stands.0 before.seen.state.records opened.stands.2 a (told a is.0 is.1 is.2))
     named_acted (Err fault_is.Disk) is = read_disk (Some command) is_way.only source clock (disk of) (disk before.disk) (disk after.disk) no_other (loaded_of before) opened read.quiet is
+    named_acted (Err fault_is.Usage) is = absurd is
     named_acted (Err fault_is.Input) is = absurd is
+    named_acted (Err fault_is.Link) is = absurd is
     named_acted (Err (fault_is.Damaged damaged wrong)) is =
         read_damaged (Some command) is_way.only source clock (disk of) (disk before.disk) (disk after.disk) no_other (loaded_of before) opened read.quiet damaged wrong
         (is_way.damaged (is_modelled (disk of)) opened.stands.0 before.seen.state.records opened.stands.2 damaged wrong

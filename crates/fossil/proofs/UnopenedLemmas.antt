@@ -1,5 +1,5 @@
 -- What the commands that sync come to where a file isn't loaded, or words can't be read for want of memory.
-use Rattle.std.proofs.Common.{◌≡◌, ◌≢◌, ◌⊎◌, inl, inr, ℕ, List, [], Option, Some, is_some, Err, IsTrue, refl, sym, ap, subst, ◌∙◌}
+use Rattle.std.proofs.Common.{◌≡◌, ◌≢◌, ◌⊎◌, inl, inr, ℕ, List, [], Option, Some, is_some, IsTrue, refl, sym, ap, subst, ◌∙◌}
 use Rattle.fsl_order.specs.Causes.{Rose}
 use Rattle.fsl_outside.specs.Connections.{LinkState}
 use Rattle.fsl_record.specs.declared.Record.{Record}
@@ -17,20 +17,17 @@ use Rattle.fsl_pull.specs.Kept.{StandsForSome}
 use Rattle.fsl_pull.proofs.KeptLemmas.{none_of_them}
 use Rattle.fsl_words.specs.declared.Command.{Command}
 use Rattle.fsl_words.specs.declared.Command.TheVariants as command_of
-use Rattle.fossil.specs.declared.answers.due.Due.{Due}
 use Rattle.fossil.specs.declared.commands.sync.Way.{Way}
 use Rattle.fossil.specs.declared.commands.sync.Way.TheVariants as way
-use Rattle.fossil.specs.declared.answers.fault.Fault.TheVariants as fault_is
-use Rattle.fossil.specs.Printed.{Printed}
-use Rattle.fossil.specs.Outcome.{without_commit, printed_of, not_repository}
-use Rattle.fossil.specs.Run.{Agrees, Output, IsTold, disk_fault}
-use Rattle.fossil.specs.Acts.{KeepsContents, IsUnopened, IsWritten}
-use Rattle.fossil.specs.Served.{with_text, no_memory}
-use Rattle.fossil.specs.Serving.{printed}
+use Rattle.fossil.specs.Printed.{Printed, disk_fault, no_memory}
+use Rattle.fossil.specs.Outcome.{printed_of, not_repository}
+use Rattle.fossil.specs.Run.{Agrees, Output, IsWritten, all, front}
+use Rattle.fossil.specs.Acts.{KeepsContents, IsUnopened}
+use Rattle.fossil.specs.Due.{printed, Due, IsNotLoadedDue, IsNotLoadedAs}
 use Rattle.fossil.specs.Syncs.{with_commits, no_peer}
 use Rattle.fossil.specs.Uses.{command_asks_peer}
 use Rattle.fossil.specs.Synced.{Read, Objects, IsSyncOutcome, IsFileDue, IsAnswer, reached, StandsAsFar, MayBeUnloaded, StandsOrWasLeft, IsFileLeft, IsDurable, IsPeerKept, SyncsBy, HasSynced, objects_of}
-use Rattle.fossil.specs.Syncing.{IsUnopenedDue, IsNoPeerDue, ComesTo, IsReady, command_by}
+use Rattle.fossil.specs.Syncing.{ComesTo, IsReady, command_by}
 use Rattle.fossil.proofs.InputLemmas.{some_bytes}
 use Rattle.fossil.proofs.FileLemmas.{both, agrees, some_same, quiet_none}
 use Rattle.fossil.proofs.LoadLemmas.{KeepsBetween}
@@ -62,7 +59,7 @@ module _ (command : Command) (no_repository : (r : Read) (at : ℕ) → FailsAt 
   same_records bytes told records old of are held is =
       subst (λ (rs : List Record). IsFileOf held rs) (one_file bytes records old (subst (λ (b : List ℕ). IsFileOf b records) (of.1 bytes told) of.2) are) is
 
-  module _ (fault : LoadFault) (un : IsUnopened file left fault) (counts : (fault ≡ load_fault.Disk → ⊥) → left.faults ≡ file.faults) where
+  module _ (fault : LoadFault) (un : IsUnopened file left fault) where
     by_text : (bytes : List ℕ) (o : Printed) → Agrees file.contents bytes → printed d ≡ o → IsAnswer command (read bytes) [] [] x (λ p. o ≡ p) → IsFileLeft (both file left) bytes o.status (made_all [])
         → IsDurable (both file left) bytes o.status (made_all []) → (o.status ≢ 4 → left.faults ≡ file.faults) → Comes
     by_text bytes o told is answer contents durable steady = (
@@ -120,26 +117,26 @@ module _ (command : Command) (no_repository : (r : Read) (at : ℕ) → FailsAt 
     memory : (fault ≡ load_fault.Disk → ⊥) → printed d ≡ no_memory → Comes
     memory other told =
         let bytes = some_bytes file.contents in
-        by_text bytes.0 no_memory bytes.1 told (inr (inr (inr (inl (inl refl, refl))))) (contents_by other bytes.0 9) (images_by bytes.0 9 (inl refl)) (λ status. counts other)
+        by_text bytes.0 no_memory bytes.1 told (inr (inr (inr (inl (inl refl, refl))))) (contents_by other bytes.0 9) (images_by bytes.0 9 (inl refl)) (λ status. un.faults other)
 
-    disk : Rose file.faults left.faults → printed d ≡ with_text 4 disk_fault → Comes
+    disk : Rose file.faults left.faults → printed d ≡ disk_fault → Comes
     disk rose told =
         let bytes = some_bytes file.contents in
-        by_text bytes.0 (with_text 4 disk_fault) bytes.1 told (inr (inl (refl, inl (rose, (λ asks. refl), due_first (read bytes.0) refl), refl)))
+        by_text bytes.0 disk_fault bytes.1 told (inr (inl (refl, inl (rose, (λ asks. refl), due_first (read bytes.0) refl), refl)))
         (λ old held file_told left_told are known. spared_by bytes.0 4 spared file_told old are (known refl rose) held left_told) (images_by bytes.0 4 (inr (refl, rose))) (λ other. absurd (other refl))
 
     nowhere : (fault ≡ load_fault.Disk → ⊥) → (bytes : List ℕ) (at : ℕ) → Agrees file.contents bytes → FailsAt bytes at → printed d ≡ printed_of (not_repository at) → Comes
     nowhere other bytes at agree fails told =
         by_text bytes (printed_of (not_repository at)) agree told (inl (not_repository at, refl, no_repository (read bytes) at fails refl, refl, refl)) (contents_by other bytes 2)
-        (λ modelled file_told old are c image. absurd (no_file bytes at old fails are)) (λ status. counts other)
+        (λ modelled file_told old are c image. absurd (no_file bytes at old fails are)) (λ status. un.faults other)
 
   -- it wasn't loaded
-  pub unopened_comes : (fault : LoadFault) → IsUnopened file left fault → ((fault ≡ load_fault.Disk → ⊥) → left.faults ≡ file.faults) → IsUnopenedDue fault d → Comes
-  unopened_comes load_fault.Disk un counts due = disk load_fault.Disk un counts un.cause due
-  unopened_comes (load_fault.NotRepository at) un counts (inl due) =
-      nowhere (load_fault.NotRepository at) un counts (λ e. cc) un.cause.0 at (agrees file.contents un.cause.0 un.cause.1) un.cause.2 due
-  unopened_comes (load_fault.NotRepository at) un counts (inr due) = memory (load_fault.NotRepository at) un counts (λ e. cc) due
-  unopened_comes load_fault.Memory un counts due = memory load_fault.Memory un counts (λ e. cc) due
+  pub unopened_comes : (fault : LoadFault) → IsUnopened file left fault → IsNotLoadedDue fault d → Comes
+  unopened_comes load_fault.Disk un due = disk load_fault.Disk un un.cause (ap printed due)
+  unopened_comes (load_fault.NotRepository at) un (inl due) =
+      nowhere (load_fault.NotRepository at) un (λ e. cc) un.cause.0 at (agrees file.contents un.cause.0 un.cause.1) un.cause.2 (ap printed due)
+  unopened_comes (load_fault.NotRepository at) un (inr due) = memory (load_fault.NotRepository at) un (λ e. cc) (ap printed due)
+  unopened_comes load_fault.Memory un due = memory load_fault.Memory un (λ e. cc) (ap printed due)
 
 pull_unopened : (address : List ℕ) (login : Option (List ℕ × List ℕ)) (r : Read) (at : ℕ) → FailsAt r.file at → r.rounds ≡ [] → IsSyncOutcome (command_of.Pull address login) r (not_repository at)
 pull_unopened address login r at fails none = inl (at, fails, none, refl)
@@ -182,7 +179,7 @@ module _ {D : Type 0} (path : List ℕ) (file mid : DiskState) (old : Whole D) (
   same_keeps : Keeps mid mid
   same_keeps = record { tells = refl; model = refl }
 
-  module _ (fault : LoadFault) (un : IsUnopened peer peer_left fault) (counts : (fault ≡ load_fault.Disk → ⊥) → peer_left.faults ≡ peer.faults) where
+  module _ (fault : LoadFault) (un : IsUnopened peer peer_left fault) where
     peer_by : (bytes : List ℕ) (o : Printed) → Agrees peer.contents bytes → printed d ≡ o → IsAnswer local (record { file = ready.loaded.stands.0; peer = bytes; honest = is_modelled file; peer_honest = is_modelled peer; rounds = [] }) [] [] (objects_of (file, mid) (peer, peer_left) (dial, dial)) (λ p. o ≡ p)
         → Rose peer.faults peer_left.faults ⊎ KeepsContents peer peer_left → (o.status ≢ 4 → peer_left.faults ≡ peer.faults) → Locals
     peer_by bytes o told is answer contents steady = (
@@ -202,39 +199,40 @@ module _ {D : Type 0} (path : List ℕ) (file mid : DiskState) (old : Whole D) (
     )
 
     peer_memory : (fault ≡ load_fault.Disk → ⊥) → printed d ≡ no_memory → Locals
-    peer_memory other told = let bytes = some_bytes peer.contents in peer_by bytes.0 no_memory bytes.1 told (inr (inr (inr (inl (inl refl, refl))))) (inr (un.contents other)) (λ status. counts other)
+    peer_memory other told = let bytes = some_bytes peer.contents in peer_by bytes.0 no_memory bytes.1 told (inr (inr (inr (inl (inl refl, refl))))) (inr (un.contents other)) (λ status. un.faults other)
 
-    peer_disk : Rose peer.faults peer_left.faults → printed d ≡ with_text 4 disk_fault → Locals
+    peer_disk : Rose peer.faults peer_left.faults → printed d ≡ disk_fault → Locals
     peer_disk rose told =
         let bytes = some_bytes peer.contents in
-        peer_by bytes.0 (with_text 4 disk_fault) bytes.1 told (inr (inl (refl, inr (refl, rose, ready.loaded.faults, inl refl), refl))) (inl rose) (λ other. absurd (other refl))
+        peer_by bytes.0 disk_fault bytes.1 told (inr (inl (refl, inr (refl, rose, ready.loaded.faults, inl refl), refl))) (inl rose) (λ other. absurd (other refl))
 
     peer_nowhere : (fault ≡ load_fault.Disk → ⊥) → (bytes : List ℕ) (at : ℕ) → Agrees peer.contents bytes → FailsAt bytes at → printed d ≡ no_peer at → Locals
     peer_nowhere other bytes at agree fails told =
         peer_by bytes (no_peer at) agree told
-        (inl (with_commits (no_peer at) [], refl, (refl, inr (old.seen.state.records, ready.loaded.stands.2, inl (at, fails, refl))), refl, refl)) (inr (un.contents other)) (λ status. counts other)
+        (inl (with_commits (no_peer at) [], refl, (refl, inr (old.seen.state.records, ready.loaded.stands.2, inl (at, fails, refl))), refl, refl)) (inr (un.contents other)) (λ status. un.faults other)
 
   -- it wasn't loaded
-  pub no_peer_comes : (fault : LoadFault) → IsUnopened peer peer_left fault → ((fault ≡ load_fault.Disk → ⊥) → peer_left.faults ≡ peer.faults) → IsNoPeerDue fault d → Locals
-  no_peer_comes load_fault.Disk un counts due = peer_disk load_fault.Disk un counts un.cause due
-  no_peer_comes (load_fault.NotRepository at) un counts (inl due) =
-      peer_nowhere (load_fault.NotRepository at) un counts (λ e. cc) un.cause.0 at (agrees peer.contents un.cause.0 un.cause.1) un.cause.2 due
-  no_peer_comes (load_fault.NotRepository at) un counts (inr due) = peer_memory (load_fault.NotRepository at) un counts (λ e. cc) due
-  no_peer_comes load_fault.Memory un counts due = peer_memory load_fault.Memory un counts (λ e. cc) due
+  pub no_peer_comes : (fault : LoadFault) → IsUnopened peer peer_left fault → IsNotLoadedAs no_peer fault d → Locals
+  no_peer_comes load_fault.Disk un due = peer_disk load_fault.Disk un un.cause (ap printed due)
+  no_peer_comes (load_fault.NotRepository at) un (inl due) =
+      peer_nowhere (load_fault.NotRepository at) un (λ e. cc) un.cause.0 at (agrees peer.contents un.cause.0 un.cause.1) un.cause.2 (ap printed due)
+  no_peer_comes (load_fault.NotRepository at) un (inr due) = peer_memory (load_fault.NotRepository at) un (λ e. cc) (ap printed due)
+  no_peer_comes load_fault.Memory un due = peer_memory load_fault.Memory un (λ e. cc) (ap printed due)
 
 -- ---- words for which there was no memory
 
-pub told_memory : (out : Output) (status : ℕ) → IsWritten (Err fault_is.Memory) status out → IsTold (without_commit no_memory) status out
-told_memory out status (e, inl appended) = inl (e, appended)
-told_memory out status (e, inr cut) = inr (e, cut)
+-- its status stays
+ended : (status : ℕ) (out : Output) → IsWritten no_memory out status → status ≡ 9
+ended status out (all e appended quiet) = e
+ended status out (front e cut) = e
 
 pub idle_synced : (command : Command) (file peer : DiskState) (dial : LinkState) (out : Output) (status : ℕ) → (IsTrue file.is_model → (c : List ℕ) → file.since file.moment c → file.images c)
-    → (IsTrue peer.is_model → (c : List ℕ) → peer.since peer.moment c → peer.images c) → IsWritten (Err fault_is.Memory) status out
-    → HasSynced command (objects_of (file, file) (peer, peer) (dial, dial)) (λ o. IsTold (without_commit o) status out) status
+    → (IsTrue peer.is_model → (c : List ℕ) → peer.since peer.moment c → peer.images c) → IsWritten no_memory out status
+    → HasSynced command (objects_of (file, file) (peer, peer) (dial, dial)) (λ o. IsWritten o out status) status
 idle_synced command file peer dial out status no_other no_other_peer written =
     let bytes = some_bytes file.contents in
     let there = some_bytes peer.contents in
-    let nine : status ≡ 9 = written.0 in (
+    let nine : status ≡ 9 = ended status out written in (
       [],
       [],
       none_grown _,
@@ -248,7 +246,7 @@ idle_synced command file peer dial out status no_other no_other_peer written =
           honest = refl;
           peer_honest = refl;
           led = inr (refl, refl);
-          answer = inr (inr (inr (inl (inl refl, told_memory out status written))));
+          answer = inr (inr (inr (inl (inl refl, written))));
           far = made_all [];
           are_made = inl (refl, refl);
           contents = λ old held file_told left_told are known. as_old_so_far status old held (subst (λ (b : List ℕ). IsFileOf b old) (some_same (sym file_told ∙ left_told)) are);

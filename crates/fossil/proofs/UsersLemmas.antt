@@ -5,10 +5,10 @@ use Rattle.fsl_login.specs.declared.User.{User}
 use Rattle.fsl_login.specs.UserFiles.{IsUsersFile}
 use Rattle.fsl_login.proofs.Fronts.{fronts_tell}
 use Rattle.fsl_login.proofs.OneReading.{users_read_one_way}
-use Rattle.fossil.specs.declared.answers.due.Due.{Due}
 use Rattle.fossil.specs.Run.{Input}
 use Rattle.fossil.specs.Served.{IsUsers, IsQuiet, AreNoUsers, unread, bad}
-use Rattle.fossil.specs.Serving.{printed, IsNoUserFile}
+use Rattle.fossil.specs.Due.{printed, Due}
+use Rattle.fossil.specs.Serving.{IsNoUserFile}
 
 -- bytes that are users are no more than 2^20
 at_end : (users : Input) (bytes : List ℕ) (these : List User) → IsUsersFile bytes these → IsAtEnd users.after.left ⊎ (2 ^ 20 < length bytes) → IsAtEnd users.after.left

@@ -40,22 +40,23 @@ use Rattle.fsl_words.specs.declared.Command.TheVariants as command_of
 use Rattle.fsl_words.specs.declared.Unversioned.{Unversioned}
 use Rattle.fsl_words.specs.declared.Unversioned.TheVariants as uv
 use Rattle.fsl_repo.specs.Whole.{is_modelled}
+use Rattle.fossil.specs.Due.{Due, IsNotLoadedDue}
 use Rattle.fossil.specs.declared.answers.fault.Fault.{Fault}
 use Rattle.fossil.specs.declared.answers.fault.Fault.TheVariants as fault_is
 use Rattle.fossil.specs.Printed.{Printed, refused, too_long}
 use Rattle.fossil.specs.Unversioned.{said_printed}
 use Rattle.fossil.specs.UvUses.{uv_use}
 use Rattle.fossil.specs.Uses.{command_opens, command_meets}
-use Rattle.fossil.specs.UvCalls.{loaded_store, IsNoStoreAnswer, IsPutAnswer, IsPutDone, HasPut, putting, IsPutDue, IsToldAs}
+use Rattle.fossil.specs.UvCalls.{loaded_store, IsNoStoreDue, IsPutAnswer, IsPutDone, HasPut, putting, IsPutDue, IsToldAs}
 use Rattle.fossil.specs.Outcome.{Outcome, with_commit, uv_outcome, IsUvOf, IsUvOutcome, IsLoaded, IsSaidOutcome}
-use Rattle.fossil.specs.Run.{Input, Clock, File, Agrees, reads, TakesMoment, TakesOne, IsTimed}
-use Rattle.fossil.specs.Acts.{ActsBy, HasActed, IsTimedBy, IsCaused, IsOpened, IsUnopened, IsNotLoaded, IsNotLoadedAnswer, IsInput, KeepsContents, KeepsUnreadable}
+use Rattle.fossil.specs.Run.{Input, Clock, File, Agrees, reads, TakesMoment, TakesOne, IsTimed, IsJust}
+use Rattle.fossil.specs.Acts.{ActsBy, HasActed, IsTimedBy, IsCaused, IsOpened, IsUnopened, IsNotLoaded, IsInput, KeepsContents, KeepsUnreadable}
 use Rattle.fossil.proofs.InputLemmas.{some_bytes}
 use Rattle.fossil.proofs.FileLemmas.{both, Loads, stands, agrees, loaded_left, loaded_touches, loaded_durable}
 use Rattle.fossil.proofs.LoadLemmas.{KeepsBetween, opened, images_kept, same_contents, spared_contents}
-use Rattle.fossil.proofs.CommitLemmas.{idle_contents}
+use Rattle.fossil.proofs.CommitLemmas.{idle_just}
 use Rattle.fossil.proofs.ActLemmas.{still, none_due, not_loaded_acted}
-use Rattle.fossil.proofs.AppendLemmas.{IsPlain, IsAppended, memory_acted, idle_acted}
+use Rattle.fossil.proofs.AppendLemmas.{IsPlain, IsAppended, memory_acted, idle_acted, IsSettledOn}
 
 abbrev Map : Type 0
 Map = List (List ℕ × Version)
@@ -106,17 +107,17 @@ module _ (asked : Unversioned) (loads : Loads (asks asked)) (entry : (honest : B
   abbrev input : Input
   input = record { before = source; after = source }
 
-  abbrev Acted : Result Printed Fault → Type 0
+  abbrev Acted : Due → Type 0
   Acted result = HasActed (asks asked) input (still clock) (both file left) result
 
-  unopened : (fault : LoadFault) → IsNotLoaded fault file left → (fault ≢ load_fault.Disk → KeepsContents file left) → IsUnopened file left fault
-  unopened fault cause contents = record { cause = cause; contents = contents; modelled = spared_contents file left spared; unreadable = unreadable; any_moment = images_kept file left between; keeps = keeps }
+  unopened : (fault : LoadFault) → IsNotLoaded fault file left → (fault ≢ load_fault.Disk → KeepsContents file left) → (fault ≢ load_fault.Disk → left.faults ≡ file.faults) → IsUnopened file left fault
+  unopened fault cause contents faults = record { cause = cause; contents = contents; faults = faults; modelled = spared_contents file left spared; unreadable = unreadable; any_moment = images_kept file left between; keeps = keeps }
 
-  loaded_acted : (fault : LoadFault) (result : Result Printed Fault) → IsUnopened file left fault → IsNotLoadedAnswer fault result → Acted result
+  loaded_acted : (fault : LoadFault) (result : Due) → IsUnopened file left fault → IsNotLoadedDue fault result → Acted result
   loaded_acted fault result un is = not_loaded_acted (asks asked) loads source clock file left file_reads fault result un is
 
-  memory : (result : Result Printed Fault) → IsCutAtMost file left → result ≡ Err fault_is.Memory → Acted result
-  memory result cut is = loaded_acted load_fault.Memory result (unopened load_fault.Memory tt (λ other. cut_contents file left cut)) is
+  memory : (result : Due) → IsCutAtMost file left → result ≡ Err fault_is.Memory → Acted result
+  memory result cut is = loaded_acted load_fault.Memory result (unopened load_fault.Memory tt (λ other. cut_contents file left cut) (λ other. cut.faults)) is
 
   no_entry : (name : List ℕ) → OpenFailed (uv_load_fault.NotEntry name) file left → Acted (Ok (said_printed (not_unversioned name)))
   no_entry name failed =
@@ -138,15 +139,17 @@ module _ (asked : Unversioned) (loads : Loads (asks asked)) (entry : (honest : B
           contents = loaded_left (asks asked) loads file left bytes o 3 (λ done. absurd (cc)) (cut_contents file left failed.0);
           touches = loaded_touches (asks asked) loads file left bytes o unreadable (images_kept file left between) keeps;
           durable = λ last. loaded_durable (asks asked) loads file left bytes o refl failed.1 failed.2.2 failed.4;
+          trimmed = λ last. absurd (cc);
           spared = λ nine begun. absurd (loads.begun begun);
+          steady = failed.0.faults;
         },
         none_due (asks asked) clock true read.0 0 bytes (unasked read.0 bytes failed.1 name failed.2.2 failed.3),
       )
 
-  pub no_store_acted : (fault : UvLoadFault) (result : Result Printed Fault) → OpenFailed fault file left → IsNoStoreAnswer fault result → Acted result
-  no_store_acted uv_load_fault.Disk result failed is = loaded_acted load_fault.Disk result (unopened load_fault.Disk failed (λ other. absurd (other refl))) is
+  pub no_store_acted : (fault : UvLoadFault) (result : Due) → OpenFailed fault file left → IsNoStoreDue fault result → Acted result
+  no_store_acted uv_load_fault.Disk result failed is = loaded_acted load_fault.Disk result (unopened load_fault.Disk failed (λ other. absurd (other refl)) (λ other. absurd (other refl))) is
   no_store_acted (uv_load_fault.NotRepository at) result failed is =
-      loaded_acted (load_fault.NotRepository at) result (unopened (load_fault.NotRepository at) failed.2 (λ other. same_contents file left failed.0.contents)) is
+      loaded_acted (load_fault.NotRepository at) result (unopened (load_fault.NotRepository at) failed.2 (λ other. same_contents file left failed.0.contents) (λ other. failed.0.faults)) is
   no_store_acted (uv_load_fault.NotEntry name) result failed (inl is) = subst Acted (sym is) (no_entry name failed)
   no_store_acted (uv_load_fault.NotEntry name) result failed (inr is) = memory result failed.0 is
   no_store_acted uv_load_fault.Memory result failed is = memory result failed is
@@ -330,9 +333,9 @@ pub commit_rose : (fault : CommitFault) (old new : Log) (before after : DiskStat
 commit_rose (commit_fault.Stopped faults) old new before after runs failed = absurd (let e = failed.0 in cc)
 commit_rose commit_fault.Disk old new before after runs failed = failed.2
 
-pub commit_contents : (count : ℕ) (old new : Log) (before after : DiskState) → Committed count old new before after → Belongs new after → Told after (λ held. IsFileOf held old.records)
-commit_contents count old new before after made belongs =
-    subst (λ (rs : List Record). Told after (λ held. IsFileOf held rs)) made.records (idle_contents new after belongs made.goes_on (made.stable ∙ ap length (sym made.records)))
+pub commit_settles : (count : ℕ) (old new : Log) (before after : DiskState) → Committed count old new before after → Belongs new after → IsSettledOn before after old.records
+commit_settles count old new before after made belongs =
+    (subst (λ (rs : List Record). Told after (λ held. IsJust held rs)) made.records (idle_just new after belongs made.goes_on (made.stable ∙ ap length (sym made.records))), made.faults)
 
 -- ---- what `uv-init` did
 
@@ -342,11 +345,13 @@ module _ (project server : List ℕ) (input : Input) (file : File) (bytes : List
 
   begun_cause : (fault : Fault) → IsCaused plain_init input file bytes o fault → IsCaused (asks (uv.Init project server)) input file bytes o fault
   begun_cause fault_is.Disk h = record { opened = refl; rose = h.rose; moment = h.moment }
+  begun_cause fault_is.Usage h = h
   begun_cause fault_is.Input h = absurd (let r = h.read in cc)
+  begun_cause fault_is.Link h = h
   begun_cause (fault_is.Damaged name found) h = h
   begun_cause fault_is.Memory h = tt
 
-  begun_by : (result : Result Printed Fault) (read : List ℕ) (moment : ℕ) → ActsBy plain_init input file result read moment bytes o → ActsBy (asks (uv.Init project server)) input file result read moment bytes o
+  begun_by : (result : Due) (read : List ℕ) (moment : ℕ) → ActsBy plain_init input file result read moment bytes o → ActsBy (asks (uv.Init project server)) input file result read moment bytes o
   begun_by (Ok answer) read moment h = record {
     input_told = h.input_told;
     file_told = h.file_told;
@@ -358,7 +363,9 @@ module _ (project server : List ℕ) (input : Input) (file : File) (bytes : List
     contents = h.contents;
     touches = record { kept = h.touches.kept; any_moment = h.touches.any_moment; keeps = h.touches.keeps };
     durable = h.durable;
+    trimmed = λ last opened begun. absurd (cc);
     spared = h.spared;
+    steady = h.steady;
   }
   begun_by (Err fault) read moment h = record {
     input_told = h.input_told;
@@ -371,23 +378,27 @@ module _ (project server : List ℕ) (input : Input) (file : File) (bytes : List
     contents = h.contents;
     touches = record { kept = h.touches.kept; any_moment = h.touches.any_moment; keeps = h.touches.keeps };
     durable = h.durable;
+    trimmed = λ last opened begun. absurd (cc);
     spared = h.spared;
+    steady = h.steady;
   }
 
 timed_as : (project server : List ℕ) (clock : Clock) (answered : Bool) (read : List ℕ) (moment : ℕ) (bytes : List ℕ) → IsTimed (Some (command_of.Init project server [])) clock answered read moment bytes → IsTimed (asks (uv.Init project server)) clock answered read moment bytes
 timed_as project server clock answered read moment bytes (inl taken) = absurd taken.0
 timed_as project server clock answered read moment bytes (inr none) = inr none
 
-answered_as : (project server : List ℕ) (source : Input) (clock : Clock) (result : Result Printed Fault) (read : List ℕ) (moment : ℕ) (bytes : List ℕ)
+answered_as : (project server : List ℕ) (source : Input) (clock : Clock) (result : Due) (read : List ℕ) (moment : ℕ) (bytes : List ℕ)
     → IsTimedBy (Some (command_of.Init project server [])) source clock result read moment bytes → IsTimedBy (asks (uv.Init project server)) source clock result read moment bytes
 answered_as project server source clock (Ok answer) read moment bytes timed = timed_as project server clock true read moment bytes timed
 answered_as project server source clock (Err fault_is.Disk) read moment bytes (inl none) = inl none
 answered_as project server source clock (Err fault_is.Disk) read moment bytes (inr timed) = inr (timed_as project server clock true read moment bytes timed)
+answered_as project server source clock (Err fault_is.Usage) read moment bytes timed = timed_as project server clock false read moment bytes timed
 answered_as project server source clock (Err fault_is.Input) read moment bytes none = none
+answered_as project server source clock (Err fault_is.Link) read moment bytes timed = timed_as project server clock false read moment bytes timed
 answered_as project server source clock (Err (fault_is.Damaged name found)) read moment bytes timed = timed_as project server clock false read moment bytes timed
 answered_as project server source clock (Err fault_is.Memory) read moment bytes timed = timed_as project server clock false read moment bytes timed
 
-pub begun_acted : (project server : List ℕ) (input : Input) (clock : Clock) (file : File) (result : Result Printed Fault) → HasActed (Some (command_of.Init project server [])) input clock file result → HasActed (asks (uv.Init project server)) input clock file result
+pub begun_acted : (project server : List ℕ) (input : Input) (clock : Clock) (file : File) (result : Due) → HasActed (Some (command_of.Init project server [])) input clock file result → HasActed (asks (uv.Init project server)) input clock file result
 begun_acted project server input clock file result h =
     (h.0, h.1, h.2, h.3, begun_by project server input file h.2 h.3 result h.0 h.1 h.4, answered_as project server input clock result h.0 h.1 h.2 h.5)
 
@@ -454,7 +465,7 @@ module _ {D : Type 0} (asked : Unversioned) (loads : Loads (asks asked)) (does :
       (λ file honest. is_outcome read.0 0 bytes (uv_outcome (says (does s.seen.map).said)) (done_of does bytes s.seen.log.records s.seen.map (says (does s.seen.map).said) (stores_none s.seen.map) file map_is))
       (λ file. none_due (asks asked) clock true read.0 0 bytes (unasked read.0 bytes)) (λ z reads_it. absurd (no_both _ reads_it unread))
 
-  pub shown_acted : (result : Result Printed Fault) → IsToldAs (does s.seen.map) result → HasActed (asks asked) shown_input (still clock) (both file left) result
+  pub shown_acted : (result : Due) → IsToldAs (does s.seen.map) result → HasActed (asks asked) shown_input (still clock) (both file left) result
   shown_acted (Ok answer) is = idle_acted (asks asked) loads shown_input (still clock) file left (loaded_store s) opened_is answer (shown_appended answer is) moments file_reads
   shown_acted (Err fault) is = subst (λ (f : Fault). HasActed (asks asked) shown_input (still clock) (both file left) (Err f)) (sym is) (memory_acted (asks asked) loads shown_input file left (loaded_store s) opened_is clock)
 

@@ -27,24 +27,23 @@ use Rattle.fsl_words.specs.declared.Command.{Command}
 use Rattle.fsl_words.specs.declared.Command.TheVariants as command_of
 use Rattle.fsl_words.specs.declared.Unversioned.{Unversioned}
 use Rattle.fsl_words.specs.declared.Unversioned.TheVariants as uv
+use Rattle.fossil.proofs.PrintedLemmas.{due_of}
+use Rattle.fossil.specs.UvCalls.{IsNoStoreAs, IsNoStoreDue}
 use Rattle.fossil.specs.Uses.{command_syncs, command_clones, command_merges, command_meets}
-use Rattle.fossil.specs.declared.answers.due.Due.{Due}
-use Rattle.fossil.specs.declared.answers.fault.Fault.TheVariants as fault_is
-use Rattle.fossil.specs.Printed.{Printed, refused}
-use Rattle.fossil.specs.Outcome.{without_commit, printed_of, not_repository}
-use Rattle.fossil.specs.Run.{File, Output, Agrees, IsTold, disk_fault}
-use Rattle.fossil.specs.Acts.{KeepsUnreadable, IsWritten}
-use Rattle.fossil.specs.Served.{with_text, no_memory, IsWrittenAs}
-use Rattle.fossil.specs.Serving.{printed, IsDue}
+use Rattle.fossil.specs.Printed.{Printed, refused, disk_fault, no_memory}
+use Rattle.fossil.specs.Outcome.{printed_of, not_repository}
+use Rattle.fossil.specs.Run.{File, Output, Agrees, IsWritten}
+use Rattle.fossil.specs.Acts.{KeepsUnreadable}
+use Rattle.fossil.specs.Due.{printed, IsDue, Due}
 use Rattle.fossil.specs.Syncs.{no_peer}
 use Rattle.fossil.specs.Synced.{IsUntouched}
-use Rattle.fossil.specs.UvSyncs.{Part, aside, kept, takes, cut, UvSync, said_printed, synced_by, unsynced, IsSyncOfStores, IsSyncWithFile, IsUvSync, IsLeftAs, IsSteady, IsAnswer, AreMerged, HasMerged, MergesIf}
-use Rattle.fossil.specs.UvMerging.{counted, IsUvSyncDue, IsNoStoreDue, IsNoPeerDue, IsReady, Talks}
+use Rattle.fossil.specs.Unversioned.{said_printed}
+use Rattle.fossil.specs.UvSyncs.{Part, aside, kept, takes, cut, UvSync, synced_by, unsynced, IsSyncOfStores, IsSyncWithFile, IsUvSync, IsLeftAs, IsSteady, IsAnswer, AreMerged, HasMerged, MergesIf}
+use Rattle.fossil.specs.UvMerging.{counted, IsUvSyncDue, IsReady, Talks}
 use Rattle.fossil.proofs.InputLemmas.{some_bytes}
 use Rattle.fossil.proofs.FileLemmas.{both, agrees}
 use Rattle.fossil.proofs.LoadLemmas.{KeepsBetween}
-use Rattle.fossil.proofs.SyncedLemmas.{told_printed, untouched, said_one, IsNoMerge}
-use Rattle.fossil.proofs.UnopenedLemmas.{told_memory}
+use Rattle.fossil.proofs.SyncedLemmas.{untouched, said_one, IsNoMerge}
 use Rattle.fossil.proofs.UvSyncOutcomes.{some_uv_sync}
 use Rattle.fossil.proofs.UvFileLemmas.{idle_left, takes_none, kept_left, takes_left, took_faults, lost_faults, cut_left, aside_left, no_entry_left}
 
@@ -292,14 +291,14 @@ module _ {D P : Type 0} (state : D → DiskState) (other : P → DiskState) (fil
         (told_or_short x y d bytes others file_told peer_told s (subst (λ (p : Printed). IsDue p d) (counts_said u v counts e f) due) (here_faults took) (there_faults peer_took)) (here_took took)
         (there_took peer_took) (no_aside_takes more) (λ zero a b. merges took peer_took a b)
 
-    lost_first : Lost state here (gets here there) after → left ≡ there → printed d ≡ with_text 4 disk_fault → Came
+    lost_first : Lost state here (gets here there) after → left ≡ there → printed d ≡ disk_fault → Came
     lost_first lost peer_same told =
         let s = synced_by (sync_done u v) in
         by_parts s (cut more) kept (by_done (sync_done u v) refl)
         (inr (inl (inr ((more, here_stored u v lost.commits.fits, some_blobs (received u v) lost.due, refl), refl), lost_faults state file here after (gets here there) ready store file_reads after_reads bytes lost, there_steady peer_same, told)))
         (cut_left state file here after (gets here there) ready store file_reads after_reads bytes lost) (there_kept peer_same) (no_aside_cut more) (λ zero a b e f. absurd (no_takes_cut more a e))
 
-    lost_then : TookHere → Lost other there (gives here there) left → printed d ≡ with_text 4 disk_fault → Came
+    lost_then : TookHere → Lost other there (gives here there) left → printed d ≡ disk_fault → Came
     lost_then took lost told =
         let s = synced_by (done_both u v) in
         by_parts s s.here (cut back) (by_done (done_both u v) (both_done u v took.commits.fits lost.commits.fits))
@@ -352,17 +351,17 @@ module _ (file mid : DiskState) (s : Seen) (ready : IsReady file mid s) (peer pe
   alone_by others told t b is answer left =
       by_answer (both file mid) (both peer peer_left) d held others held_told told t kept b is answer (kept_left file mid s ready held) left (λ e. absurd (no_kept_aside e)) (λ there. (s.log.records, ready.opened.stands.2)) (λ zero a c e f. absurd (no_takes_kept a e))
 
-  pub no_peer_comes : (fault : UvLoadFault) → OpenFailed fault peer peer_left → IsNoPeerDue fault d → Alone
+  pub no_peer_comes : (fault : UvLoadFault) → OpenFailed fault peer peer_left → IsNoStoreAs no_peer fault d → Alone
   no_peer_comes load_fault.Disk failed due =
       let others = some_bytes peer.contents in
       let t = some_uv_sync held others.0 in
-      alone_by others.0 others.1 t.0 aside t.1 (inr (inr (inl (inl (refl, refl), ready.opened.faults, failed, due)))) (aside_left peer peer_left load_fault.Disk failed spared between unreadable harmless keeps others.0)
+      alone_by others.0 others.1 t.0 aside t.1 (inr (inr (inl (inl (refl, refl), ready.opened.faults, failed, ap printed due)))) (aside_left peer peer_left load_fault.Disk failed spared between unreadable harmless keeps others.0)
   no_peer_comes (load_fault.NotRepository at) failed due =
       let others = failed.2.0 in
       let told = agrees peer.contents others failed.2.1 in
       let t = unsynced (no_peer at) kept aside in
       alone_by others told t aside (of_file others t (inl (at, failed.2.2, refl)))
-      (bare_or_short (both file mid) (both peer peer_left) d held others held_told told (no_peer at) kept aside (inr refl) (inl refl) due ready.opened.faults failed.0.faults)
+      (bare_or_short (both file mid) (both peer peer_left) d held others held_told told (no_peer at) kept aside (inr refl) (inl refl) (due_of (no_peer at) d due) ready.opened.faults failed.0.faults)
       (aside_left peer peer_left (load_fault.NotRepository at) failed spared between unreadable harmless keeps others)
   no_peer_comes (load_fault.NotEntry name) failed due =
       let others = failed.2.0 in
@@ -370,12 +369,12 @@ module _ (file mid : DiskState) (s : Seen) (ready : IsReady file mid s) (peer pe
       let text = said_printed (not_unversioned name) in
       let t = unsynced text kept kept in
       alone_by others told t kept (of_file others t (inr (failed.1, failed.2.2, inl (name, failed.3, refl))))
-      (bare_or_short (both file mid) (both peer peer_left) d held others held_told told text kept kept (inr refl) (inr refl) due ready.opened.faults failed.0.faults)
+      (bare_or_short (both file mid) (both peer peer_left) d held others held_told told text kept kept (inr refl) (inr refl) (due_of text d due) ready.opened.faults failed.0.faults)
       (no_entry_left peer peer_left (load_fault.NotEntry name) failed spared between unreadable harmless keeps others name refl)
   no_peer_comes load_fault.Memory failed due =
       let others = some_bytes peer.contents in
       let t = some_uv_sync held others.0 in
-      alone_by others.0 others.1 t.0 aside t.1 (inr (inr (inr (inl (inr refl, inl refl), ready.opened.faults, failed.faults, due)))) (aside_left peer peer_left load_fault.Memory failed spared between unreadable harmless keeps others.0)
+      alone_by others.0 others.1 t.0 aside t.1 (inr (inr (inr (inl (inr refl, inl refl), ready.opened.faults, failed.faults, ap printed due)))) (aside_left peer peer_left load_fault.Memory failed spared between unreadable harmless keeps others.0)
 
 -- ---- the file here isn't opened
 
@@ -397,38 +396,38 @@ module _ (file file_left : DiskState) (spared : IsSpared file file_left) (betwee
   no_file_comes load_fault.Disk failed due =
       let own = some_bytes file.contents in
       let t = some_uv_sync own.0 theirs.0 in
-      first_by own.0 own.1 t.0 aside t.1 (inr (inl (inl (refl, refl), failed, refl, due))) (aside_left file file_left load_fault.Disk failed spared between unreadable harmless keeps own.0) (λ there. absurd (there refl))
+      first_by own.0 own.1 t.0 aside t.1 (inr (inl (inl (refl, refl), failed, refl, ap printed due))) (aside_left file file_left load_fault.Disk failed spared between unreadable harmless keeps own.0) (λ there. absurd (there refl))
   no_file_comes (load_fault.NotRepository at) failed due =
       let own = failed.2.0 in
       let told = agrees file.contents own failed.2.1 in
       let text = printed_of (not_repository at) in
       first_by own told (unsynced text aside aside) aside (inl (at, failed.2.2, refl))
-      (bare_or_short (both file file_left) (both peer peer) d own theirs.0 told theirs.1 text aside aside (inl refl) (inl refl) due failed.0.faults refl)
+      (bare_or_short (both file file_left) (both peer peer) d own theirs.0 told theirs.1 text aside aside (inl refl) (inl refl) (due_of text d due) failed.0.faults refl)
       (aside_left file file_left (load_fault.NotRepository at) failed spared between unreadable harmless keeps own) (λ there. absurd (there refl))
   no_file_comes (load_fault.NotEntry name) failed due =
       let own = failed.2.0 in
       let told = agrees file.contents own failed.2.1 in
       let text = said_printed (not_unversioned name) in
       first_by own told (unsynced text kept aside) kept (inr (failed.1, failed.2.2, inl (name, failed.3, refl)))
-      (bare_or_short (both file file_left) (both peer peer) d own theirs.0 told theirs.1 text kept aside (inr refl) (inl refl) due failed.0.faults refl)
+      (bare_or_short (both file file_left) (both peer peer) d own theirs.0 told theirs.1 text kept aside (inr refl) (inl refl) (due_of text d due) failed.0.faults refl)
       (no_entry_left file file_left (load_fault.NotEntry name) failed spared between unreadable harmless keeps own name refl) (λ there. (failed.1, failed.2.2))
   no_file_comes load_fault.Memory failed due =
       let own = some_bytes file.contents in
       let t = some_uv_sync own.0 theirs.0 in
-      first_by own.0 own.1 t.0 aside t.1 (inr (inr (inr (inl (inl refl, inl refl), failed.faults, refl, due)))) (aside_left file file_left load_fault.Memory failed spared between unreadable harmless keeps own.0) (λ there. absurd (there refl))
+      first_by own.0 own.1 t.0 aside t.1 (inr (inr (inr (inl (inl refl, inl refl), failed.faults, refl, ap printed due)))) (aside_left file file_left load_fault.Memory failed spared between unreadable harmless keeps own.0) (λ there. absurd (there refl))
 
 -- ---- the printing
 
 answered_as : (s : UvSync) (file peer : File) (here there : Part) (P Q : Printed → Type 0) → ((o : Printed) → P o → Q o) → IsAnswer s file peer here there P → IsAnswer s file peer here there Q
 answered_as s file peer here there P Q turn (inl (e, f, steady, peer_steady, told)) = inl (e, f, steady, peer_steady, turn s.printed told)
-answered_as s file peer here there P Q turn (inr (inl (why, rose, steady, told))) = inr (inl (why, rose, steady, turn (with_text 4 disk_fault) told))
-answered_as s file peer here there P Q turn (inr (inr (inl (why, steady, rose, told)))) = inr (inr (inl (why, steady, rose, turn (with_text 4 disk_fault) told)))
+answered_as s file peer here there P Q turn (inr (inl (why, rose, steady, told))) = inr (inl (why, rose, steady, turn disk_fault told))
+answered_as s file peer here there P Q turn (inr (inr (inl (why, steady, rose, told)))) = inr (inr (inl (why, steady, rose, turn disk_fault told)))
 answered_as s file peer here there P Q turn (inr (inr (inr (why, steady, peer_steady, told)))) = inr (inr (inr (why, steady, peer_steady, turn no_memory told)))
 
 -- what is due was printed
-pub merged_printed : (file peer : File) (d : Due) (out : Output) (status : ℕ) → HasMerged file peer (λ o. printed d ≡ o) → IsWrittenAs (printed d) out status → HasMerged file peer (λ o. IsTold (without_commit o) status out)
+pub merged_printed : (file peer : File) (d : Due) (out : Output) (status : ℕ) → HasMerged file peer (λ o. printed d ≡ o) → IsWritten (printed d) out status → HasMerged file peer (λ o. IsWritten o out status)
 merged_printed file peer d out status (bytes, others, s, here, there, m) written =
-    let turn : (o : Printed) → printed d ≡ o → IsTold (without_commit o) status out = λ o e. subst (λ (p : Printed). IsTold (without_commit p) status out) e (told_printed (printed d) out status written) in (
+    let turn : (o : Printed) → printed d ≡ o → IsWritten o out status = λ o e. subst (λ (p : Printed). IsWritten p out status) e written in (
       bytes,
       others,
       s,
@@ -438,7 +437,7 @@ merged_printed file peer d out status (bytes, others, s, here, there, m) written
         file_told = m.file_told;
         peer_told = m.peer_told;
         outcome = m.outcome;
-        answer = answered_as s file peer here there (λ o. printed d ≡ o) (λ o. IsTold (without_commit o) status out) turn m.answer;
+        answer = answered_as s file peer here there (λ o. printed d ≡ o) (λ o. IsWritten o out status) turn m.answer;
         here_left = m.here_left;
         there_left = m.there_left;
         unasked = m.unasked;
@@ -449,8 +448,8 @@ merged_printed file peer d out status (bytes, others, s, here, there, m) written
 
 -- words for which there was no memory
 pub idle_merged : (file peer : DiskState) (out : Output) (status : ℕ) → (IsTrue file.is_model → (c : List ℕ) → file.since file.moment c → file.images c)
-    → (IsTrue peer.is_model → (c : List ℕ) → peer.since peer.moment c → peer.images c) → IsWritten (Err fault_is.Memory) status out
-    → HasMerged (both file file) (both peer peer) (λ o. IsTold (without_commit o) status out)
+    → (IsTrue peer.is_model → (c : List ℕ) → peer.since peer.moment c → peer.images c) → IsWritten no_memory out status
+    → HasMerged (both file file) (both peer peer) (λ o. IsWritten o out status)
 idle_merged file peer out status no_other no_other_peer written =
     let own = some_bytes file.contents in
     let others = some_bytes peer.contents in
@@ -464,7 +463,7 @@ idle_merged file peer out status no_other no_other_peer written =
         file_told = own.1;
         peer_told = others.1;
         outcome = t.1;
-        answer = inr (inr (inr (inl (inl refl, inl refl), refl, refl, told_memory out status written)));
+        answer = inr (inr (inr (inl (inl refl, inl refl), refl, refl, written)));
         here_left = idle_left file no_other own.0;
         there_left = idle_left peer no_other_peer others.0;
         unasked = λ e. untouched peer;

@@ -17,7 +17,8 @@ use Rattle.fsl_uv.proofs.OneMap.{records_read_one_way}
 use Rattle.fsl_uv.proofs.SomeMap.{records_read_some_way}
 use Rattle.fossil.specs.Outcome.{printed_of, not_repository}
 use Rattle.fossil.specs.Syncs.{no_peer}
-use Rattle.fossil.specs.UvSyncs.{aside, kept, UvSync, said_printed, synced_by, unsynced, AreStore, IsSyncOfStores, IsSyncWithRecords, IsSyncWithFile, IsSyncOfRecords, IsUvSync, HasOneUvSync, HasSomeUvSync}
+use Rattle.fossil.specs.Unversioned.{said_printed}
+use Rattle.fossil.specs.UvSyncs.{aside, kept, UvSync, synced_by, unsynced, AreStore, IsSyncOfStores, IsSyncWithRecords, IsSyncWithFile, IsSyncOfRecords, IsUvSync, HasOneUvSync, HasSomeUvSync}
 
 -- ---- one at most
 

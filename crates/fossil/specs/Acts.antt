@@ -1,5 +1,5 @@
 -- What the parts of a run say of what they did.
-use Rattle.std.specs.Prelude.{◌≡◌, ◌≢◌, ◌⊎◌, ◌<◌, ◌≤◌, ℕ, false, List, [], length, nat_lt, true, Bool, Option, Some, None, Result, Ok, Err, IfOk, IfErr, IsTrue, ⊤}
+use Rattle.std.specs.Prelude.{[], ◌≡◌, ◌≢◌, ◌<◌, ◌≤◌, ℕ, false, List, length, nat_lt, true, Bool, Option, Some, None, Result, Ok, Err, IfOk, IfErr, IsTrue, ⊤}
 use Rattle.std.specs.Io.KnownBytes.{IsAtEnd}
 use Rattle.fsl_order.specs.Causes.{Rose}
 use Rattle.fsl_text.specs.Limits.{most_of_message}
@@ -19,13 +19,14 @@ use Rattle.fsl_words.specs.declared.Command.TheVariants.{Init, Ingest, Put, Shun
 use Rattle.fossil.specs.declared.answers.fault.Fault.{Fault}
 use Rattle.fossil.specs.declared.answers.fault.Fault.TheVariants as fault_is
 use Rattle.fossil.specs.declared.reading.load.Loaded.{Loaded}
-use Rattle.fossil.specs.Printed.{Printed, damaged}
+use Rattle.fossil.specs.Due.{Due, printed}
+use Rattle.fossil.specs.Printed.{Printed}
 use Rattle.fossil.specs.Ingest.{IsIngested}
 use Rattle.fsl_query.specs.declared.QueryFault.{QueryFault}
 use Rattle.fsl_query.specs.Answers.{content_asked, IsRead, IsReported, IsSpoiltIn}
 use Rattle.fossil.specs.Unversioned.{IsUvObeyable}
-use Rattle.fossil.specs.Outcome.{Outcome, without_commit, printed_of, not_repository, IsAnswered, IsSaidOutcome}
-use Rattle.fossil.specs.Run.{Input, Clock, Output, File, Agrees, reads, TakesNone, IsTimed, IsCutTimed, IsSaid, IsTold, IsDiskFault, IsInputFault, IsDamaged, IsFileLeft, IsRefusedKept, IsWholeAtAnyMoment, lasts, IsDurable, IsSpared, disk_fault, input_fault, out_of_memory}
+use Rattle.fossil.specs.Outcome.{Outcome, without_commit, printed_of, IsAnswered, IsSaidOutcome}
+use Rattle.fossil.specs.Run.{Input, Clock, Output, File, Agrees, reads, TakesNone, IsTimed, IsCutTimed, IsDiskFault, IsInputFault, IsDamaged, IsFileLeft, IsRefusedKept, IsWholeAtAnyMoment, lasts, IsDurable, IsSpared, trims, IsTrimmed}
 
 -- ---- objects before and after
 
@@ -43,25 +44,14 @@ file_of s = record { before = s.0; after = s.1 }
 
 -- ---- faults
 
-abbrev pub fault_status : Fault → ℕ
-fault_status fault_is.Disk = 4
-fault_status fault_is.Input = 5
-fault_status (fault_is.Damaged name found) = 12
-fault_status fault_is.Memory = 9
-
-abbrev pub fault_line : Fault → List ℕ
-fault_line fault_is.Disk = disk_fault
-fault_line fault_is.Input = input_fault
-fault_line (fault_is.Damaged name found) = (damaged name found).text
-fault_line fault_is.Memory = out_of_memory
-
--- a fault of a command, with its cause
+-- a fault of a command, with its cause; one that meets no peer has words and uses no dial
 abbrev pub IsCaused : Option Command → Input → File → List ℕ → Outcome → Fault → Type 0
 IsCaused command input file bytes o fault_is.Disk = IsDiskFault command input file o
 IsCaused command input file bytes o fault_is.Input = IsInputFault command input bytes
 IsCaused command input file bytes o (fault_is.Damaged name found) =
     IsDamaged (is_modelled file.before) command bytes name found × (file.after.faults ≡ file.before.faults)
 IsCaused command input file bytes o fault_is.Memory = ⊤
+IsCaused command input file bytes o fault = ⊥
 
 -- ---- the input
 
@@ -72,10 +62,9 @@ IsInput input (Some text) = Agrees input.before.left text × IsAtEnd input.after
 
 -- the input wasn't read
 abbrev pub IsUnread : Fault → Input → Type 0
-IsUnread fault_is.Disk input = ⊥
 IsUnread fault_is.Input input = Rose input.before.faults input.after.faults
-IsUnread (fault_is.Damaged name found) input = ⊥
 IsUnread fault_is.Memory input = ⊤
+IsUnread fault input = ⊥
 
 -- ---- the file
 
@@ -123,24 +112,14 @@ IsNotLoaded load_fault.Memory file left = ⊤
 pub record IsUnopened (file left : DiskState) (fault : LoadFault) : Type 0 where
   pub cause : IsNotLoaded fault file left
   pub contents : fault ≢ load_fault.Disk → KeepsContents file left
+  pub faults : fault ≢ load_fault.Disk → left.faults ≡ file.faults
   -- even where the disk failed
   pub modelled : IsModelled file → KeepsContents file left
   pub unreadable : KeepsUnreadable file left
   pub any_moment : KeepsImages file left
   pub keeps : Keeps file left
 
--- what is answered of a file that isn't loaded
-abbrev pub IsNotLoadedAnswer : LoadFault → Result Printed Fault → Type 0
-IsNotLoadedAnswer load_fault.Disk result = result ≡ Err fault_is.Disk
-IsNotLoadedAnswer (load_fault.NotRepository at) result = (result ≡ Ok (printed_of (not_repository at))) ⊎ (result ≡ Err fault_is.Memory)
-IsNotLoadedAnswer load_fault.Memory result = result ≡ Err fault_is.Memory
-
 -- ---- before the text is printed
-
--- what a command answers has this status
-abbrev pub result_status : Result Printed Fault → ℕ
-result_status (Ok answer) = answer.status
-result_status (Err fault) = fault_status fault
 
 -- what stays of the file whatever the answer
 pub record Touches (command : Option Command) (file : File) (bytes : List ℕ) (o : Outcome) : Type 0 where
@@ -149,7 +128,7 @@ pub record Touches (command : Option Command) (file : File) (bytes : List ℕ) (
   pub keeps : Keeps file.before file.after
 
 -- what a command did, by what was read of the input and of the file, by a moment, and by their outcome
-pub record ActsBy (command : Option Command) (input : Input) (file : File) (result : Result Printed Fault) (read : List ℕ) (moment : ℕ) (bytes : List ℕ)
+pub record ActsBy (command : Option Command) (input : Input) (file : File) (result : Due) (read : List ℕ) (moment : ℕ) (bytes : List ℕ)
     (o : Outcome) : Type 0 where
   pub input_told : Agrees input.before.left read
   pub file_told : Agrees file.before.contents bytes
@@ -157,37 +136,33 @@ pub record ActsBy (command : Option Command) (input : Input) (file : File) (resu
   pub answer : IfOk result (λ answer. answer ≡ printed_of o)
   pub plain : IfOk result (λ answer. answer.status ≤ 3)
   pub cause : IfErr result (IsCaused command input file bytes o)
-  pub end : result_status result ≡ 0 → IsTrue (reads command) → IsAtEnd input.after.left
-  pub contents : IsFileLeft command file (result_status result) bytes o
+  pub end : (printed result).status ≡ 0 → IsTrue (reads command) → IsAtEnd input.after.left
+  pub contents : IsFileLeft command file (printed result).status bytes o
   pub touches : Touches command file bytes o
-  pub durable : IsTrue (lasts command (result_status result)) → IsDurable command file bytes o
-  pub spared : IsSpared command file (result_status result)
+  pub durable : IsTrue (lasts command (printed result).status) → IsDurable command file bytes o
+  pub trimmed : IsTrue (trims command (printed result).status) → IsTrimmed command file
+  pub spared : IsSpared command file (printed result).status
+  pub steady : IfOk result (λ _. file.after.faults ≡ file.before.faults)
 
 -- the moment by what is answered: where no fault ended the command, or the disk failed in its commit, one was taken where the command takes one, and else none;
 -- where the file wasn't loaded or made, or the input failed, none; and behind another fault one that the command takes may be taken
-abbrev pub IsTimedBy : Option Command → Input → Clock → Result Printed Fault → List ℕ → ℕ → List ℕ → Type 0
+abbrev pub IsTimedBy : Option Command → Input → Clock → Due → List ℕ → ℕ → List ℕ → Type 0
 IsTimedBy command input clock (Ok answer) read moment bytes = IsTimed command clock true read moment bytes
 IsTimedBy command input clock (Err fault_is.Disk) read moment bytes = IsCutTimed command input clock read moment bytes
 IsTimedBy command input clock (Err fault_is.Input) read moment bytes = TakesNone clock
-IsTimedBy command input clock (Err (fault_is.Damaged name found)) read moment bytes = IsTimed command clock false read moment bytes
-IsTimedBy command input clock (Err fault_is.Memory) read moment bytes = IsTimed command clock false read moment bytes
+IsTimedBy command input clock (Err fault) read moment bytes = IsTimed command clock false read moment bytes
 
 -- and the moment is the one that the clock answered
-abbrev pub HasActed : Option Command → Input → Clock → File → Result Printed Fault → Type 0
+abbrev pub HasActed : Option Command → Input → Clock → File → Due → Type 0
 HasActed command input clock file result =
     (read : List ℕ) × (moment : ℕ) × (bytes : List ℕ) × (o : Outcome) × ActsBy command input file result read moment bytes o
     × IsTimedBy command input clock result read moment bytes
 
 -- the same of a command, by each object before and after
-abbrev pub Acts : Command → SourceState × SourceState → Option (List ℕ) × Option (List ℕ) → DiskState × DiskState → Result Printed Fault → Type 0
+abbrev pub Acts : Command → SourceState × SourceState → Option (List ℕ) × Option (List ℕ) → DiskState × DiskState → Due → Type 0
 Acts command input clock file result = HasActed (Some command) (input_of input) (clock_of clock) (file_of file) result
 
--- ---- the printing
-
--- the text of the answer, or the line of the fault, is written
-abbrev pub IsWritten : Result Printed Fault → ℕ → Output → Type 0
-IsWritten (Ok answer) status out = IsTold (without_commit answer) status out
-IsWritten (Err fault) status out = (status ≡ fault_status fault) × IsSaid out (fault_line fault)
+-- ---- commands
 
 -- the fields of a new repository are in their form, user and comment of a check-in have a byte, a path of unversioned files is one that may be put in, workers and
 -- their connections are within their bounds, and so is the number of artifacts
@@ -214,16 +189,16 @@ IsObeyable (Unversioned asked) = IsUvObeyable asked
 
 -- what is answered to a question, by the records, and by the disk's count of faults before and after: the report or its refusal, and no call failed; or why
 -- there is none. Want of memory has no cause
-abbrev pub IsAnsweredBy : Bool → List Record → Question → ℕ → ℕ → Result Printed Fault → Type 0
+abbrev pub IsAnsweredBy : Bool → List Record → Question → ℕ → ℕ → Due → Type 0
 IsAnsweredBy honest records question before after (Ok a) = IsAnswered honest question records (without_commit a) × (after ≡ before)
 IsAnsweredBy honest records question before after (Err fault_is.Disk) = Rose before after
-IsAnsweredBy honest records question before after (Err fault_is.Input) = ⊥
 IsAnsweredBy honest records question before after (Err (fault_is.Damaged name found)) =
     (content_asked (contents records) question ≡ Some name) × IsSpoiltIn honest (contents records) name found × (after ≡ before)
 IsAnsweredBy honest records question before after (Err fault_is.Memory) = ⊤
+IsAnsweredBy honest records question before after (Err fault) = ⊥
 
 -- each question that found this is answered so
-abbrev pub IsAnswerOf : Result (List ℕ) QueryFault → Result Printed Fault → Type 0
+abbrev pub IsAnswerOf : Result (List ℕ) QueryFault → Due → Type 0
 IsAnswerOf found result =
     (honest : Bool) (records : List Record) (question : Question) (before after : ℕ) →
     IsReported honest (contents records) question before after found → IsAnsweredBy honest records question before after result

@@ -6,7 +6,7 @@ use Rattle.fsl_repo.specs.declared.Arrival.TheVariants as arrival
 use Rattle.fsl_repo.specs.declared.ArriveFault.{ArriveFault}
 use Rattle.fsl_repo.specs.declared.ArriveFault.TheVariants as arrive_fault
 use Rattle.fsl_repo.specs.Machine.{State, IsArrival, arrived}
-use Rattle.fossil.specs.declared.reading.message.Sent.{Sent}
+use Rattle.fossil.specs.declared.reading.message.MessageFile.{MessageFile}
 use Rattle.fossil.specs.Printed.{Printed, too_large, wrong, full, name_line}
 
 -- what files leave that were taken: the state, and a line for each
@@ -38,12 +38,12 @@ refusal_of name (Err (arrive_fault.Full bytes count wants)) = Some (full name)
 refusal_of name _ = None
 
 -- what was taken, and one file more, by the answer of its arrival; it is stored with this receipt, or without one
-abbrev pub and_taken : Option Brought → Taken → Sent → Result Arrival ArriveFault → Taken
+abbrev pub and_taken : Option Brought → Taken → MessageFile → Result Arrival ArriveFault → Taken
 and_taken receipt t f answer =
     record { state = arrived t.state f.name receipt f.bytes f.private answer; text = t.text ++ arrival_line f.name answer }
 
 -- the files arrive one after another: the first that is refused refuses all, and without one all are taken
-abbrev pub Arrive : Option Brought → Taken → List Sent → Result Taken Printed → Type 0
+abbrev pub Arrive : Option Brought → Taken → List MessageFile → Result Taken Printed → Type 0
 Arrive receipt t [] result = result ≡ Ok t
 Arrive receipt t (f ∷ files) result =
     (answer : Result Arrival ArriveFault) × IsArrival t.state f.name f.bytes f.private answer

@@ -17,7 +17,7 @@ use Rattle.fsl_checkin.specs.declared.types.TreeItem.{TreeItem}
 use Rattle.fsl_checkin.specs.Trees.{IsBadItem, IsTreeText}
 use Rattle.fsl_checkin.specs.Checkins.{checkin_of}
 use Rattle.fsl_checkin.specs.Exports.{checkin_at}
-use Rattle.fossil.specs.declared.reading.message.Sent.{Sent}
+use Rattle.fossil.specs.declared.reading.message.MessageFile.{MessageFile}
 use Rattle.fossil.specs.Printed.{Printed, name_line}
 use Rattle.fossil.specs.Printed as printing
 use Rattle.fossil.specs.Arrivals.{Taken, none_taken, Arrive}
@@ -30,11 +30,11 @@ abbrev pub checkin_text : List TreeItem → Option (List ℕ) → List ℕ → L
 checkin_text t parent user comment moment = sealed_text (manifest_cards (checkin_of t parent user comment moment))
 
 -- a public file under the name of its bytes
-abbrev pub sent_of : List ℕ → Sent
+abbrev pub sent_of : List ℕ → MessageFile
 sent_of bytes = record { name = name_of bytes; bytes = bytes; private = false }
 
 -- the contents of the tree in order, and then the text of the check-in
-abbrev pub arrivals_of : List TreeItem → List ℕ → List Sent
+abbrev pub arrivals_of : List TreeItem → List ℕ → List MessageFile
 arrivals_of t text = map (λ item. sent_of item.bytes) t ++ sent_of text ∷ []
 
 -- ---- refusals

@@ -1,5 +1,5 @@
 -- What a run of a clone says of its status, its output, its file and its dial.
-use Rattle.std.specs.Prelude.{◌≡◌, ℕ, ◌⊎◌, List, [], ◌++◌, Option, Some, None, Result, Ok, Err, codes, decimal}
+use Rattle.std.specs.Prelude.{[], ◌≡◌, ℕ, ◌⊎◌, List, ◌++◌, Option, Some, None, Result, Ok, Err, codes, decimal}
 use Rattle.fsl_outside.specs.Connections.{LinkState}
 use Rattle.fsl_outside.specs.Streams.{SinkState}
 use Rattle.fsl_disk.specs.Disk.{DiskState, Keeps, Quiet, Told}
@@ -10,11 +10,10 @@ use Rattle.fsl_pull.specs.Asking.{IsDialCounted}
 use Rattle.fsl_pull.specs.CloneCalls.{UnlessDisk, IsClonedOver}
 use Rattle.fsl_words.specs.declared.Command.{Command}
 use Rattle.fsl_words.specs.declared.Command.TheVariants.{Clone}
-use Rattle.fossil.specs.Printed.{Printed, refused, full, too_large, damaged}
-use Rattle.fossil.specs.Outcome.{without_commit, printed_of, not_repository}
-use Rattle.fossil.specs.Run.{IsTold, disk_fault}
+use Rattle.fossil.specs.Printed.{Printed, refused, full, too_large, damaged, disk_fault, link_fault, no_memory}
+use Rattle.fossil.specs.Outcome.{printed_of, not_repository}
+use Rattle.fossil.specs.Run.{IsWritten}
 use Rattle.fossil.specs.Acts.{output_of}
-use Rattle.fossil.specs.Served.{with_text, link_fault, no_memory}
 use Rattle.fossil.specs.Syncs.{synced, wrong_reply, missing, too_many_rounds, other_project}
 
 -- ---- the text
@@ -24,9 +23,9 @@ abbrev pub fault_text : PullFault → Printed
 fault_text (fault.NotEmpty len) = refused (codes "file not empty " ++ decimal len)
 fault_text (fault.NotRepository at) = printed_of (not_repository at)
 fault_text (fault.Project found) = other_project found
-fault_text (fault.Stopped faults) = with_text 4 disk_fault
-fault_text fault.Link = with_text 7 link_fault
-fault_text fault.Disk = with_text 4 disk_fault
+fault_text (fault.Stopped faults) = disk_fault
+fault_text fault.Link = link_fault
+fault_text fault.Disk = disk_fault
 fault_text (fault.Peer why) = wrong_reply why
 fault_text (fault.TooLarge name size) = too_large name size
 fault_text (fault.Full name) = full name
@@ -42,8 +41,8 @@ result_printed (Err why) = fault_text why
 
 -- a fault of a device is told; else the text of the result is, or want of memory in its place
 abbrev pub IsResultTold : (Printed → Type 0) → Result Pulled PullFault → Type 0
-IsResultTold Tells (Err fault.Link) = Tells (with_text 7 link_fault)
-IsResultTold Tells (Err fault.Disk) = Tells (with_text 4 disk_fault)
+IsResultTold Tells (Err fault.Link) = Tells link_fault
+IsResultTold Tells (Err fault.Disk) = Tells disk_fault
 IsResultTold Tells result = Tells (result_printed result) ⊎ Tells no_memory
 
 -- ---- a run
@@ -64,7 +63,7 @@ pub record ClonesBy {D : Type 0} (disk : D → DiskState) (server : List ℕ) (f
 -- what is told was written
 abbrev pub Clones : {D : Type 0} → (D → DiskState) → List ℕ → List (List ℕ) → D → D → LinkState × LinkState → SinkState × SinkState → ℕ → Type 0
 Clones disk server fields before after dial out status =
-    ClonesBy disk server fields before after dial (λ o. IsTold (without_commit o) status (output_of out))
+    ClonesBy disk server fields before after dial (λ o. IsWritten o (output_of out) status)
 
 -- what a command came to if it is a clone, at whatever address
 abbrev pub ClonesIf : {D : Type 0} → Option Command → (D → DiskState) → D → D → LinkState × LinkState → SinkState × SinkState → ℕ → Type 0

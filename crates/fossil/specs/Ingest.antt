@@ -5,7 +5,7 @@ use Rattle.fsl_blobs.specs.Fold.{Contents}
 use Rattle.fsl_cross.specs.declared.Item.{Item}
 use Rattle.fsl_repo.specs.Machine.{State, now, AreItems, unclustered_names, wants}
 use Rattle.fsl_repo.specs.Whole.{opened}
-use Rattle.fossil.specs.declared.reading.message.Sent.{Sent}
+use Rattle.fossil.specs.declared.reading.message.MessageFile.{MessageFile}
 use Rattle.fossil.specs.Printed.{Printed, too_long, name_line}
 use Rattle.fossil.specs.Messages.{IsMessageRefused, IsFileList}
 use Rattle.fossil.specs.Arrivals.{Taken, none_taken, Arrive}
@@ -28,12 +28,12 @@ IsPrintedBy (Ok t) printed = IsSetPrinted t.state printed
 IsPrintedBy (Err refusal) printed = printed ≡ refusal
 
 -- the files arrive in a set of their own, without receipts
-abbrev pub IsReported : List Sent → Printed → Type 0
+abbrev pub IsReported : List MessageFile → Printed → Type 0
 IsReported files printed = (result : Result Taken Printed) × Arrive None (none_taken fresh) files result × IsPrintedBy result printed
 
 -- a message is refused, or its files are reported
 abbrev pub IsRead : List ℕ → Printed → Type 0
-IsRead input printed = IsMessageRefused input printed ⊎ ((files : List Sent) × IsFileList input files × IsReported files printed)
+IsRead input printed = IsMessageRefused input printed ⊎ ((files : List MessageFile) × IsFileList input files × IsReported files printed)
 
 -- what `ingest` prints: the length of the input first, and then what its message comes to
 abbrev pub IsIngested : List ℕ → Printed → Type 0

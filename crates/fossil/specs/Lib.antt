@@ -13,6 +13,7 @@ pub mod Gen
 pub mod Trees
 pub mod Checkins
 pub mod Outcome
+pub mod Due
 pub mod Run
 pub mod Returning
 pub mod Acts

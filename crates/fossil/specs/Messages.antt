@@ -6,7 +6,7 @@ use Rattle.fsl_wire.specs.declared.WireCard.TheVariants.{File, Private, SendPriv
 use Rattle.fsl_wire.specs.declared.WireFault.{WireFault}
 use Rattle.fsl_wire.specs.declared.WireFault.TheVariants.{Unknown, Args, Delta, Size, Short, Memory}
 use Rattle.fsl_wire.specs.Messages.{IsNumberedMessage, IsFirstFault}
-use Rattle.fossil.specs.declared.reading.message.Sent.{Sent}
+use Rattle.fossil.specs.declared.reading.message.MessageFile.{MessageFile}
 use Rattle.fossil.specs.declared.reading.message.MessageFault.{MessageFault}
 use Rattle.fossil.specs.declared.reading.message.MessageFault.TheVariants as fault_is
 use Rattle.fossil.specs.Printed.{Printed, bad_line, not_a_file}
@@ -32,7 +32,7 @@ abbrev pub other_line : List (ℕ × WireCard) → Option ℕ
 other_line cards = option_map (λ l. l.0) (find (λ l. is_other (l.1)) cards)
 
 -- the files of cards; a private card marks the next file
-abbrev pub files_of : Bool → List WireCard → List Sent
+abbrev pub files_of : Bool → List WireCard → List MessageFile
 files_of marked [] = []
 files_of marked (File name bytes ∷ cards) = record { name = name; bytes = bytes; private = marked } ∷ files_of false cards
 files_of marked (Private ∷ cards) = files_of true cards
@@ -50,7 +50,7 @@ IsCardRefused message refusal =
     (cards : List (ℕ × WireCard)) × (n : ℕ) × IsNumberedMessage message cards × (other_line cards ≡ Some n) × (refusal ≡ not_a_file n)
 
 -- each line reads, and each card is of files, which are these
-abbrev pub IsFileList : List ℕ → List Sent → Type 0
+abbrev pub IsFileList : List ℕ → List MessageFile → Type 0
 IsFileList message files =
     (cards : List (ℕ × WireCard)) × IsNumberedMessage message cards × (other_line cards ≡ None) × (files ≡ files_of false (map (λ l. l.1) cards))
 

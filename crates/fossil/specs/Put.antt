@@ -4,7 +4,7 @@ use Rattle.fsl_text.specs.Limits.{most_of_message}
 use Rattle.fsl_record.specs.Receipts.{Brought}
 use Rattle.fsl_record.specs.declared.Record.{Record}
 use Rattle.fsl_repo.specs.Whole.{opened}
-use Rattle.fossil.specs.declared.reading.message.Sent.{Sent}
+use Rattle.fossil.specs.declared.reading.message.MessageFile.{MessageFile}
 use Rattle.fossil.specs.Printed.{Printed}
 use Rattle.fossil.specs.Printed as printing
 use Rattle.fossil.specs.Messages.{IsMessageRefused, IsFileList}
@@ -25,7 +25,7 @@ abbrev pub put_receipt : ℕ → Brought
 put_receipt moment = record { login = []; moment = moment }
 
 -- the files arrive behind the old records, each with this receipt
-abbrev pub IsPutFiles : List Sent → ℕ → List Record → Printed → List Record → Type 0
+abbrev pub IsPutFiles : List MessageFile → ℕ → List Record → Printed → List Record → Type 0
 IsPutFiles files moment old printed appended =
     (result : Result Taken Printed) × Arrive (Some (put_receipt moment)) (none_taken (opened old 0 true)) files result
     × (printed ≡ printed_by result) × (appended ≡ appended_by old result)
@@ -34,7 +34,7 @@ IsPutFiles files moment old printed appended =
 abbrev pub IsPutRead : List ℕ → ℕ → List Record → Printed → List Record → Type 0
 IsPutRead input moment old printed appended =
     (IsMessageRefused input printed × (appended ≡ []))
-    ⊎ ((files : List Sent) × IsFileList input files × IsPutFiles files moment old printed appended)
+    ⊎ ((files : List MessageFile) × IsFileList input files × IsPutFiles files moment old printed appended)
 
 -- the length of the input first, and then what its message comes to
 abbrev pub IsPut : List ℕ → ℕ → List Record → Printed → List Record → Type 0

@@ -14,8 +14,8 @@ use Rattle.fsl_words.specs.Grammar.{is_word}
 use Rattle.fsl_checkin.specs.declared.types.TreeItem.{TreeItem}
 use Rattle.fsl_checkin.specs.Trees.{IsTreeText, tree_text}
 use Rattle.fsl_checkin.specs.Exports.{held_at}
-use Rattle.fossil.specs.declared.reading.message.Sent.{Sent}
-use Rattle.fossil.specs.declared.commands.checkin.Asked.{Asked}
+use Rattle.fossil.specs.declared.reading.message.MessageFile.{MessageFile}
+use Rattle.fossil.specs.declared.commands.checkin.NewCheckin.{NewCheckin}
 use Rattle.fossil.specs.Printed.{Printed, name_line}
 use Rattle.fossil.specs.Trees.{IsExported, IsVerified, line_of}
 use Rattle.fossil.specs.Checkins.{arrivals_of, checkin_text, parent_of}
@@ -27,7 +27,7 @@ use Rattle.fossil.specs.Run.{StandsForAll, after_commits}
 
 -- what its words ask for, its input, its moment, and the records of the file
 pub record Call : Type 0 where
-  pub asked : Asked
+  pub asked : NewCheckin
   pub input : List ℕ
   pub moment : ℕ
   pub old : List Record
@@ -44,15 +44,15 @@ abbrev pub text_over : Call → List TreeItem → Option (List ℕ) → List ℕ
 text_over call t over = checkin_text t over call.asked.user call.asked.comment call.moment
 
 -- none of what arrives has a shunned name
-abbrev pub AreWelcome : Contents → List Sent → Type 0
+abbrev pub AreWelcome : Contents → List MessageFile → Type 0
 AreWelcome c files = AllByRecursion (λ f. set.contains c.shunned f.name ≡ false) files
 
 -- a text is held, or it arrives
-abbrev pub IsThere : Contents → List Sent → List ℕ → Type 0
+abbrev pub IsThere : Contents → List MessageFile → List ℕ → Type 0
 IsThere c files text = ((name : List ℕ) × (held_at c.held name ≡ Some text)) ⊎ IsTrue (has (map (λ f. f.bytes) files) text)
 
 -- of all texts that are held or arrive, two with one name are equal
-abbrev pub HaveOwnNames : Contents → List Sent → Type 0
+abbrev pub HaveOwnNames : Contents → List MessageFile → Type 0
 HaveOwnNames c files = (a b : List ℕ) → IsThere c files a → IsThere c files b → name_of a ≡ name_of b → a ≡ b
 
 -- ---- what comes back

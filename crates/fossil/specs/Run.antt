@@ -1,5 +1,5 @@
 -- What a run says of its status, its output, its input, its clock and its file, by one reading of what it was handed and one outcome.
-use Rattle.std.specs.Prelude.{◌≡◌, ◌≢◌, ℕ, ◌≤◌, ◌⊎◌, ◌==◌, ◌||◌, ◌&&◌, nat_le, nat_lt, not, Bool, true, false, List, [], ◌∷◌, ◌++◌, length, take, flat_map, Option, Some, None, IsTrue, MatchBool, ⊤, if◌then◌else◌, codes}
+use Rattle.std.specs.Prelude.{[], ◌≡◌, ◌≢◌, ℕ, ◌≤◌, ◌⊎◌, ◌==◌, ◌||◌, ◌&&◌, nat_le, nat_lt, not, Bool, true, false, List, ◌∷◌, ◌++◌, length, take, flat_map, Option, Some, None, IsTrue, MatchBool, ⊤, if◌then◌else◌}
 use Rattle.std.specs.Option.{option_map_or}
 use Rattle.std.specs.Io.KnownBytes.{Appends, IsAtEnd}
 use Rattle.fsl_order.specs.Causes.{Rose}
@@ -8,21 +8,22 @@ use Rattle.fsl_date.specs.Moment.{IsMoment}
 use Rattle.fsl_outside.specs.Clocks.{Asks}
 use Rattle.fsl_outside.specs.Streams.{SourceState, SinkState}
 use Rattle.fsl_record.specs.declared.Record.{Record}
-use Rattle.fsl_disk.specs.Disk.{DiskState, IsModelled, Keeps, Quiet, LeavesOnly}
+use Rattle.fsl_disk.specs.Disk.{DiskState, IsModelled, Told, Keeps, Quiet, LeavesOnly}
 use Rattle.fsl_journal.specs.File.{IsFileOf, FailsAt}
 use Rattle.fsl_blobs.specs.Fold.{contents}
 use Rattle.fsl_repo.specs.Whole.{is_modelled}
 use Rattle.fsl_query.specs.Answers.{content_asked, IsSpoiltIn}
 use Rattle.fsl_words.specs.declared.Command.{Command}
 use Rattle.fsl_words.specs.declared.Command.TheVariants.{Init, Ingest, Put, Shun, Unshun, Ask, Serve, Gen, Pull, Push, Clone, PullLocal, Checkin, Export, Verify, Scrub, Unversioned}
-use Rattle.fossil.specs.declared.reading.message.Sent.{Sent}
+use Rattle.fossil.specs.declared.reading.message.MessageFile.{MessageFile}
+use Rattle.fossil.specs.Printed.{Printed, disk_fault, input_fault, no_memory}
 use Rattle.fossil.specs.Printed as printing
 use Rattle.fossil.specs.Messages.{IsFileList}
 use Rattle.fossil.specs.Unversioned.{TakesUvMoment, IsUvRefused}
 use Rattle.fossil.specs.Checkins.{IsToCheckIn}
 use Rattle.fossil.specs.Trees.{IsExportSpoilt, IsVerifySpoilt}
 use Rattle.fossil.specs.Uses.{command_reads, command_opens, command_begins, command_ticks}
-use Rattle.fossil.specs.Outcome.{Outcome, said, IsSaidOutcome}
+use Rattle.fossil.specs.Outcome.{Outcome, printed_of, said, IsSaidOutcome}
 
 -- ---- what a run is handed and leaves
 
@@ -86,31 +87,17 @@ abbrev pub IsCutOff : Output → List ℕ → Type 0
 IsCutOff out text =
     (front : List ℕ) × (rest : List ℕ) × (text ≡ front ++ rest) × Appends out.before.taken out.after.taken front × Rose out.before.faults out.after.faults
 
--- the output took the text, or is cut off
-abbrev pub IsSaid : Output → List ℕ → Type 0
-IsSaid out text = Appends out.before.taken out.after.taken text ⊎ IsCutOff out text
-
 -- the status of an outcome whose text can't be written: 6, but that of a refusal stays
 abbrev pub cut_off_status : ℕ → ℕ
 cut_off_status status = if status == 0 then 6 else status
 
--- status and text are those of the outcome
-abbrev pub IsTold : Outcome → ℕ → Output → Type 0
-IsTold o status out =
-    ((status ≡ o.status) × Appends out.before.taken out.after.taken o.text) ⊎ ((status ≡ cut_off_status o.status) × IsCutOff out o.text)
-
--- the lines of faults
-abbrev pub disk_fault : List ℕ
-disk_fault = codes "disk fault" ++ 10 ∷ []
-
-abbrev pub input_fault : List ℕ
-input_fault = codes "input fault" ++ 10 ∷ []
-
-abbrev pub out_of_memory : List ℕ
-out_of_memory = codes "out of memory" ++ 10 ∷ []
+-- what is due was written and no write failed; or a front of it, where the sink's count rose, with 6 in place of 0
+pub data IsWritten (p : Printed) (out : Output) (status : ℕ) : Type 0 where
+  all : status ≡ p.status → Appends out.before.taken out.after.taken p.text → out.after.faults ≡ out.before.faults → IsWritten p out status
+  front : status ≡ cut_off_status p.status → IsCutOff out p.text → IsWritten p out status
 
 -- the count of the file's disk rose, and a call of it was due: the input wasn't read, so that the file was to be loaded or made; or there is something to
--- commit. A command that reads no input never reads it, so of that this says only that the count rose
+-- commit. A command that reads no input never reads it, and an empty input is the same once it was read, so of these this says only that the count rose
 pub record IsDiskFault (command : Option Command) (input : Input) (file : File) (o : Outcome) : Type 0 where
   pub opened : IsTrue (opens command)
   pub rose : Rose file.before.faults file.after.faults
@@ -135,26 +122,25 @@ IsDamaged honest (Some (Verify prefix)) bytes name found =
 IsDamaged honest command bytes name found = ⊥
 
 -- such bytes were read, no call of the disk failed, and both names are said
-pub record IsDamagedFault (command : Option Command) (out : Output) (file : File) (bytes : List ℕ) : Type 0 where
+pub record IsDamagedFault (command : Option Command) (out : Output) (status : ℕ) (file : File) (bytes : List ℕ) : Type 0 where
   pub name : List ℕ
   pub found : List ℕ
   pub damaged : IsDamaged (is_modelled file.before) command bytes name found
   pub faults : file.after.faults ≡ file.before.faults
-  pub said : IsSaid out (printing.damaged name found).text
+  pub said : IsWritten (printing.damaged name found) out status
 
 -- a fault has its status and its line; want of memory has no cause
 abbrev pub IsFaulted : Option Command → Input → Output → File → ℕ → List ℕ → Outcome → Type 0
 IsFaulted command input out file status bytes o =
-    ((status ≡ 4) × IsDiskFault command input file o × IsSaid out disk_fault)
-    ⊎ ((status ≡ 5) × IsInputFault command input bytes × IsSaid out input_fault)
-    ⊎ ((status ≡ 9) × IsSaid out out_of_memory)
-    ⊎ ((status ≡ 12) × IsDamagedFault command out file bytes)
+    (IsDiskFault command input file o × IsWritten disk_fault out status)
+    ⊎ ((IsInputFault command input bytes × IsWritten input_fault out status)
+    ⊎ (IsWritten no_memory out status ⊎ IsDamagedFault command out status file bytes))
 
 -- ---- the clock
 
 -- a message of files that isn't too long, of which each line reads and each card is of files
 abbrev pub HasForm : List ℕ → Type 0
-HasForm message = (nat_lt most_of_message (length message) ≡ false) × ((files : List Sent) × IsFileList message files)
+HasForm message = (nat_lt most_of_message (length message) ≡ false) × ((files : List MessageFile) × IsFileList message files)
 
 -- `put` takes a moment where its file stands for records and its message has its form, and `checkin` where its file does and its tree and parent aren't
 -- refused; two commands of unversioned files take one; no other command does
@@ -183,7 +169,8 @@ IsTimed command clock answered read moment bytes =
     (TakesMoment command read bytes × TakesOne clock moment) ⊎ ((IsTrue answered → ¬ (TakesMoment command read bytes)) × TakesNone clock)
 
 -- behind a disk that failed: nothing was read and no moment taken, so that the file was to be loaded or made; or a moment was taken where the command takes one,
--- and else none
+-- and else none. A source without bytes is the same before and after it is read to its end: of an empty input the first alternative says only that no moment was
+-- taken, and the commit may have failed
 abbrev pub IsCutTimed : Option Command → Input → Clock → List ℕ → ℕ → List ℕ → Type 0
 IsCutTimed command input clock read moment bytes = ((input.after ≡ input.before) × TakesNone clock) ⊎ IsTimed command clock true read moment bytes
 
@@ -282,6 +269,29 @@ IsDurable command file bytes o =
     IsTrue (opens command) → IsModelled file.before → file.before.contents ≡ Some bytes → (old : List Record) → AreOld command old bytes →
     (c : List ℕ) → file.after.images c → StandsForAll old o.commits c
 
+-- bytes that stand for these records, and nothing more: the closed gate is their last byte
+abbrev pub IsJust : List ℕ → List Record → Type 0
+IsJust bytes records = (file : IsFileOf bytes records) × (file.rest ≡ [])
+
+-- the contents, where they are told, are such bytes
+abbrev pub HoldsJust : DiskState → Type 0
+HoldsJust disk = Told disk (λ held. (records : List Record) × IsJust held records)
+
+-- whether a refusal comes behind a load that cut off what stood behind the closed gate. A file that `init` refuses isn't loaded; and one that is refused
+-- for a Blob that is no entry may be left as it was
+abbrev pub command_trims : Command → Bool
+command_trims (Init project server fields) = false
+command_trims (Unversioned asked) = false
+command_trims command = true
+
+-- after which status nothing stands behind the closed gate: the command is done, or is refused behind such a load
+abbrev pub trims : Option Command → ℕ → Bool
+trims command status = is_done status || ((status == 3) && option_map_or command_trims command false)
+
+-- a file that was loaded holds the bytes of its records alone, whatever stood behind them
+abbrev pub IsTrimmed : Option Command → File → Type 0
+IsTrimmed command file = IsTrue (opens command) → begins command ≡ false → HoldsJust file.after
+
 -- want of memory leaves a file that a command would begin as it is, at each moment
 abbrev pub IsSpared : Option Command → File → ℕ → Type 0
 IsSpared command file status = status ≡ 9 → IsTrue (begins command) → Quiet file.before file.after
@@ -301,15 +311,18 @@ pub record RunsBy (command : Option Command) (input : Input) (clock : Clock) (ou
   pub asked : status ≡ 4 → IsCutTimed command input clock read moment bytes
   pub unasked : status ≡ 5 → TakesNone clock
   -- the text is that of the outcome, or the line of a fault
-  pub answer : IsTold o status out ⊎ IsFaulted command input out file status bytes o
+  pub answer : IsWritten (printed_of o) out status ⊎ IsFaulted command input out file status bytes o
   -- after status 0 an input that the command reads was read to its end
   pub end : status ≡ 0 → IsTrue (reads command) → IsAtEnd input.after.left
   pub contents : IsFileLeft command file status bytes o
   pub kept : IsRefusedKept command file bytes
   pub any_moment : IsWholeAtAnyMoment command file o
   pub durable : IsTrue (lasts command status) → IsDurable command file bytes o
+  pub trimmed : IsTrue (trims command status) → IsTrimmed command file
   pub spared : IsSpared command file status
   pub keeps : Keeps file.before file.after
+  -- no call of the disk failed where no fault ended the run
+  pub steady : IsTrue (is_answered status) → file.after.faults ≡ file.before.faults
   pub disk_fault : status ≡ 4 → Rose file.before.faults file.after.faults
   pub input_fault : status ≡ 5 → Rose input.before.faults input.after.faults
   pub output_fault : status ≡ 6 → Rose out.before.faults out.after.faults

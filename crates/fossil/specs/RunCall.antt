@@ -1,6 +1,6 @@
 -- The clauses of a run, and those of its parts, by what their objects tell. An object stands behind what tells its state, before and after; where the
 -- whole answer of a run or of a serve is handed on, which has the object as it came back, it stands as it was before.
-use Rattle.std.specs.Prelude.{◌≡◌, ℕ, false, map, List, Some, Result, Option, String, string_bytes, IsTrue}
+use Rattle.std.specs.Prelude.{◌≡◌, ℕ, false, map, List, Some, Option, String, string_bytes, IsTrue}
 use Rattle.fsl_outside.specs.Connections.{LinkState}
 use Rattle.fsl_outside.specs.Streams.{SourceState, SinkState}
 use Rattle.fsl_disk.specs.Disk.{DiskState}
@@ -8,11 +8,10 @@ use Rattle.fsl_repo.specs.Whole.{Whole}
 use Rattle.fsl_words.specs.declared.Question.{Question}
 use Rattle.fsl_words.specs.declared.Command.{Command}
 use Rattle.fsl_words.specs.declared.Command.TheVariants.{Ask}
-use Rattle.fossil.specs.declared.answers.fault.Fault.{Fault}
 use Rattle.fossil.specs.declared.ran.Done.{Done}
 use Rattle.fossil.specs.declared.ran.Ran.{Ran}
 use Rattle.fossil.specs.declared.reading.load.Loaded.{Loaded}
-use Rattle.fossil.specs.Printed.{Printed}
+use Rattle.fossil.specs.Due.{Due}
 use Rattle.fossil.specs.Uses.{command_meets, command_syncs}
 use Rattle.fossil.specs.Outcome.{said, meets}
 use Rattle.fossil.specs.Run.{HasRun}
@@ -40,21 +39,21 @@ Moments = Option (List ℕ)
 
 -- what a command did that reads the input and asks the clock
 abbrev pub ActsReading : {S C D : Type 0} → Command → (S → SourceState) × S × S → (C → Moments) × C × C → (D → DiskState) × D × D →
-    Result Printed Fault → Type 0
+    Due → Type 0
 ActsReading command input clock file result = Acts command (states input) (states clock) (states file) result
 
 -- what one did that does neither, whatever the input and the clock are
-abbrev pub ActsUnread : {D : Type 0} → Command → (D → DiskState) × D × D → Result Printed Fault → Type 0
+abbrev pub ActsUnread : {D : Type 0} → Command → (D → DiskState) × D × D → Due → Type 0
 ActsUnread command file result = (input : SourceState) (clock : Moments) → Acts command (input, input) (clock, clock) (states file) result
 
 -- what such a command did over a repository that was opened from whatever file
-abbrev pub ActsOpened : {D : Type 0} → Command → (D → DiskState) × Whole D × Whole D → Result Printed Fault → Type 0
+abbrev pub ActsOpened : {D : Type 0} → Command → (D → DiskState) × Whole D × Whole D → Due → Type 0
 ActsOpened command repo result =
     (disk : _) (input : SourceState) (clock : Moments) → IsOpened (repo.0 disk) (repo.0 repo.1.disk) (loaded_of repo.1)
     → Acts command (input, input) (clock, clock) (repo.0 disk, repo.0 repo.2.disk) result
 
 -- what a question about a file that was loaded came to, from whatever file, under whatever input and clock
-abbrev pub AnswersQuestion : {D : Type 0} → Question → Loaded → (D → DiskState) × D × D → Result Printed Fault → Type 0
+abbrev pub AnswersQuestion : {D : Type 0} → Question → Loaded → (D → DiskState) × D × D → Due → Type 0
 AnswersQuestion question loaded file result =
     (disk : _) (input : SourceState) (clock : Moments) → IsOpened (file.0 disk) (file.0 file.1) loaded
     → Acts (Ask question) (input, input) (clock, clock) (file.0 disk, file.0 file.2) result

@@ -7,22 +7,19 @@ use Rattle.fsl_scrub.specs.declared.scrubbing.Scrubbed.{Scrubbed}
 use Rattle.fsl_scrub.specs.declared.faults.ScrubFault.{ScrubFault}
 use Rattle.fsl_scrub.specs.declared.faults.ScrubFault.TheVariants as fault
 use Rattle.fsl_words.specs.declared.Command.{Command}
-use Rattle.fossil.specs.declared.answers.due.Due.{Due}
 use Rattle.fossil.specs.declared.ran.Ran.{Ran}
-use Rattle.fossil.specs.Printed.{refused, damaged}
+use Rattle.fossil.specs.Printed.{refused, damaged, disk_fault, no_memory}
 use Rattle.fossil.specs.Outcome.{said}
-use Rattle.fossil.specs.Run.{disk_fault}
 use Rattle.fossil.specs.Acts.{file_of, loaded_of, IsOpened}
-use Rattle.fossil.specs.Served.{with_text, no_memory}
-use Rattle.fossil.specs.Serving.{printed, IsDue}
+use Rattle.fossil.specs.Due.{printed, IsDue, Due}
 use Rattle.fossil.specs.RunCall.{states, back}
 use Rattle.fossil.specs.Scrubs.{counts, HasScrubbed, ScrubsIf}
 
 -- what is due of a scrub that wasn't made
 abbrev pub IsUnscrubbedDue : ScrubFault → Due → Type 0
 IsUnscrubbedDue (fault.NotEmpty len) d = IsDue (refused (codes "file not empty " ++ decimal len)) d
-IsUnscrubbedDue fault.Disk d = printed d ≡ with_text 4 disk_fault
-IsUnscrubbedDue (fault.Damaged name found) d = IsDue (damaged name found) d
+IsUnscrubbedDue fault.Disk d = printed d ≡ disk_fault
+IsUnscrubbedDue (fault.Damaged name found) d = printed d ≡ damaged name found
 IsUnscrubbedDue fault.Memory d = printed d ≡ no_memory
 
 -- and of a scrub

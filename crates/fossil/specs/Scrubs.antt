@@ -1,5 +1,5 @@
 -- The outcome of a scrub, the new file of a repository without what is shunned, and what a run of it leaves.
-use Rattle.std.specs.Prelude.{◌≡◌, ◌⊎◌, ℕ, ◌==◌, if◌then◌else◌, Bool, true, List, [], ◌++◌, length, Option, Some, None, IsTrue, codes, decimal}
+use Rattle.std.specs.Prelude.{[], ◌≡◌, ◌⊎◌, ℕ, ◌==◌, if◌then◌else◌, Bool, true, List, ◌++◌, length, Option, Some, None, IsTrue, codes, decimal}
 use Rattle.fsl_order.specs.Causes.{Rose}
 use Rattle.fsl_outside.specs.Streams.{SinkState}
 use Rattle.fsl_disk.specs.Disk.{DiskState, IsModelled, Told, Keeps, Quiet, LeavesOnly, Only}
@@ -13,11 +13,10 @@ use Rattle.fsl_scrub.specs.Scrubbed.{AreContentsAs, AreWrittenAs, blobs_of, file
 use Rattle.fsl_scrub.specs.Closing.{UnopenedOr}
 use Rattle.fsl_words.specs.declared.Command.{Command}
 use Rattle.fsl_words.specs.declared.Command.TheVariants as command_of
-use Rattle.fossil.specs.Printed.{Printed, refused, damaged}
-use Rattle.fossil.specs.Outcome.{without_commit, printed_of, not_repository}
-use Rattle.fossil.specs.Run.{File, Agrees, IsTold, disk_fault}
+use Rattle.fossil.specs.Printed.{Printed, refused, damaged, disk_fault, line_of, with_text, no_memory}
+use Rattle.fossil.specs.Outcome.{printed_of, not_repository}
+use Rattle.fossil.specs.Run.{File, Agrees, IsWritten, HoldsJust}
 use Rattle.fossil.specs.Acts.{file_of, output_of}
-use Rattle.fossil.specs.Served.{line_of, with_text, no_memory}
 use Rattle.fossil.specs.Synced.{IsUntouched}
 use Rattle.fossil.specs.UvSyncs.{Part, aside, kept, IsBare, IsLeftAs, IsSteady}
 
@@ -101,7 +100,7 @@ IsDamaged file bytes others name found =
 abbrev pub IsAnswer : NewFile → File → File → List ℕ → List ℕ → Part → Bool → (Printed → Type 0) → Type 0
 IsAnswer s file peer bytes others here done Tells =
     (IsTrue done × IsSteady file × IsSteady peer × Tells s.printed)
-    ⊎ ((HasFailed file peer others here × Tells (with_text 4 disk_fault))
+    ⊎ ((HasFailed file peer others here × Tells disk_fault)
     ⊎ (((name found : List ℕ) × IsDamaged file bytes others name found × IsSteady file × IsSteady peer × Tells (damaged name found))
     ⊎ (IsSteady file × IsSteady peer × Tells no_memory)))
 
@@ -117,6 +116,8 @@ pub record ScrubsBy (file peer : File) (Tells : Printed → Type 0) (bytes other
   -- nothing is appended to the file of the repository: it stands for what it stood for, at each moment
   pub bare : IsBare here
   pub here_left : IsLeftAs here file bytes
+  -- and where it was opened, it holds the bytes of its records alone
+  pub trimmed : here ≡ kept → HoldsJust file.after
   pub peer_left : IsPeerLeft (is_modelled file.before) s.of peer done
   pub peer_keeps : Keeps peer.before peer.after
   -- the peer's file isn't looked at unless this one was opened, which is one of a repository
@@ -129,7 +130,7 @@ HasScrubbed file peer Tells =
 
 -- what is told was written
 abbrev pub Scrubs : DiskState × DiskState → DiskState × DiskState → SinkState × SinkState → ℕ → Type 0
-Scrubs file peer out status = HasScrubbed (file_of file) (file_of peer) (λ o. IsTold (without_commit o) status (output_of out))
+Scrubs file peer out status = HasScrubbed (file_of file) (file_of peer) (λ o. IsWritten o (output_of out) status)
 
 -- what a command came to if it is a scrub, into whatever peer
 abbrev pub ScrubsIf : Option Command → DiskState × DiskState → DiskState × DiskState → SinkState × SinkState → ℕ → Type 0

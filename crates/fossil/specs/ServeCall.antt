@@ -10,9 +10,9 @@ use Rattle.fsl_serve.specs.Points.{Points}
 use Rattle.fsl_serve.specs.declared.work.Work.{Work}
 use Rattle.fsl_serve.specs.Crews.{AreWorked, AreGated}
 use Rattle.fsl_serve.specs.Ordered.{HasOneHistory}
-use Rattle.fossil.specs.declared.commands.serving.State.{State}
-use Rattle.fossil.specs.declared.commands.serving.State.TheVariants as state
-use Rattle.fossil.specs.declared.commands.serving.Served.{Served}
+use Rattle.fossil.specs.declared.commands.serve.State.{State}
+use Rattle.fossil.specs.declared.commands.serve.State.TheVariants as state
+use Rattle.fossil.specs.declared.commands.serve.Served.{Served}
 use Rattle.fossil.specs.Acts.{input_of, output_of}
 use Rattle.fossil.specs.RunCall.{Moments, texts, states}
 use Rattle.fossil.specs.Served.{Left, Loaded, Unloaded, ServesLoaded, ServesDisk, Serves, Ends, Says}

@@ -1,8 +1,8 @@
 -- What a serve answers: the first of its cases that holds, its line, and what it leaves.
-use Rattle.std.specs.Prelude.{◌≡◌, ℕ, ◌+◌, ◌<◌, ◌≤◌, ◌⊎◌, List, [], ◌∷◌, ◌++◌, length, Option, Some, None, IfSome, is_some, option_and_then, if◌then◌else◌, codes, decimal}
+use Rattle.std.specs.Prelude.{[], ◌≡◌, ℕ, ◌+◌, ◌<◌, ◌≤◌, ◌⊎◌, List, ◌++◌, length, Option, Some, None, IfSome, is_some, option_and_then, if◌then◌else◌, codes, decimal}
 use Rattle.std.specs.List.{list_any}
 use Rattle.std.specs.Option.{option_map_or}
-use Rattle.std.specs.Io.KnownBytes.{Appends, Consumes, IsAtEnd}
+use Rattle.std.specs.Io.KnownBytes.{Consumes, IsAtEnd}
 use Rattle.fsl_order.specs.Causes.{Rose}
 use Rattle.fsl_disk.specs.Disk.{DiskState, IsModelled, Told, Keeps, Quiet, LeavesOnly}
 use Rattle.fsl_record.specs.declared.Record.{Record}
@@ -22,10 +22,10 @@ use Rattle.fsl_login.specs.declared.User.{User}
 use Rattle.fsl_login.specs.UserFiles.{IsUsersFile, IsFirstBadLine}
 use Rattle.fsl_serve.specs.declared.work.Work.{Work}
 use Rattle.fsl_serve.specs.Crews.{sessions_of, AreAllCommitted}
-use Rattle.fossil.specs.Printed.{Printed}
+use Rattle.fossil.specs.Printed.{Printed, with_text, line_of, disk_fault, input_fault, link_fault, no_memory}
 use Rattle.fossil.specs.Printed as printing
 use Rattle.fossil.specs.Outcome.{said, printed_of, not_repository}
-use Rattle.fossil.specs.Run.{Input, Output, IsCutOff, cut_off_status, disk_fault, input_fault, out_of_memory}
+use Rattle.fossil.specs.Run.{Input, Output, IsWritten}
 
 -- ---- the words
 
@@ -87,27 +87,15 @@ project_of records = option_map_or (λ c. c.project) (contents records).config [
 
 -- ---- what is due to be said
 
-abbrev pub with_text : ℕ → List ℕ → Printed
-with_text status text = record { status = status; text = text }
-
-abbrev pub link_fault : List ℕ
-link_fault = codes "link fault" ++ 10 ∷ []
-
 -- a users file with a bad line
 abbrev pub bad_users : ℕ → Printed
 bad_users n = printing.refused (codes "users line " ++ decimal n)
 
-abbrev pub no_memory : Printed
-no_memory = with_text 9 out_of_memory
-
 -- a file that wasn't loaded
 abbrev pub not_loaded : LoadFault → Printed
 not_loaded (load_fault.NotRepository at) = printed_of (not_repository at)
-not_loaded load_fault.Disk = with_text 4 disk_fault
+not_loaded load_fault.Disk = disk_fault
 not_loaded load_fault.Memory = no_memory
-
-abbrev pub line_of : List ℕ → List ℕ
-line_of text = text ++ 10 ∷ []
 
 -- the two lines of a serve
 abbrev pub served_text : ℕ → ℕ → List ℕ
@@ -116,8 +104,8 @@ served_text sessions stored = line_of (codes "sessions " ++ decimal sessions) ++
 -- after the workers: a stopped repository first, then a failed accept, then the report
 abbrev pub worked : Option ℕ → List Work → ℕ → Printed
 worked stopped works stored =
-    if is_some stopped then with_text 4 disk_fault
-    else if list_any (λ w. w.failed) works then with_text 7 link_fault
+    if is_some stopped then disk_fault
+    else if list_any (λ w. w.failed) works then link_fault
     else with_text 0 (served_text (sessions_of works) stored)
 
 -- ---- the cases
@@ -128,7 +116,7 @@ Workers D = List User → List ℕ → ℕ → List Work → Whole D → Whole D
 
 -- why there are no users, and what is due then: a read failed, there was no memory, or the file has a bad line
 pub data AreNoUsers (users : Input) (o : Printed) : Type 0 where
-  failed : Rose users.before.faults users.after.faults → o ≡ with_text 5 input_fault → AreNoUsers users o
+  failed : Rose users.before.faults users.after.faults → o ≡ input_fault → AreNoUsers users o
   unread : IsQuiet users → o ≡ no_memory → AreNoUsers users o
   bad : (bytes : List ℕ) (n : ℕ) → IsUsersRead users bytes → IsFirstBadLine bytes n → o ≡ bad_users n → AreNoUsers users o
 
@@ -174,11 +162,6 @@ pub data Ends {D X : Type 0} (tells : D → DiskState) (Worked : Workers D) (wor
   serve : (asked : Serving) → serving_in words ≡ Some asked → Serves tells Worked users disk left crews crews_left asked.requests o →
       Ends tells Worked words users disk left crews crews_left o
 
--- what is due was written and no write failed; or a front of it, where the sink's count rose, with 6 in place of 0
-pub data IsWrittenAs (o : Printed) (out : Output) (status : ℕ) : Type 0 where
-  all : status ≡ o.status → Appends out.before.taken out.after.taken o.text → out.after.faults ≡ out.before.faults → IsWrittenAs o out status
-  front : status ≡ cut_off_status o.status → IsCutOff out o.text → IsWrittenAs o out status
-
 -- what is due is said, or want of memory in its place
 abbrev pub Says : (Printed → Type 0) → Output → ℕ → Type 0
-Says IsDue out status = (o : Printed) × IsDue o × (IsWrittenAs o out status ⊎ IsWrittenAs no_memory out status)
+Says IsDue out status = (o : Printed) × IsDue o × (IsWritten o out status ⊎ IsWritten no_memory out status)

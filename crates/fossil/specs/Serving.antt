@@ -2,29 +2,15 @@
 use Rattle.std.specs.Prelude.{◌≡◌, ◌<◌, ◌≤◌, ◌⊎◌, ℕ, List, length, slice_index_or, Some, None}
 use Rattle.fsl_serve.specs.declared.work.Work.{Work}
 use Rattle.fsl_login.specs.UserFiles.{IsFirstBadLine}
-use Rattle.fossil.specs.declared.answers.due.Due.{Due}
-use Rattle.fossil.specs.declared.answers.due.Due.TheVariants as due_is
-use Rattle.fossil.specs.Printed.{Printed}
+use Rattle.fossil.specs.Due.{Due, printed}
+use Rattle.fossil.specs.Printed.{Printed, no_memory}
 use Rattle.fossil.specs.Printed as printing
-use Rattle.fossil.specs.Run.{Output, disk_fault, input_fault}
-use Rattle.fossil.specs.Served.{with_text, link_fault, no_memory, bad_users, serving_in, IsWrittenAs}
-
--- what is printed
-abbrev pub printed : Due → Printed
-printed due_is.Usage = printing.usage
-printed due_is.Disk = with_text 4 disk_fault
-printed due_is.Input = with_text 5 input_fault
-printed due_is.Link = with_text 7 link_fault
-printed due_is.Memory = no_memory
-printed (due_is.Answer answer) = answer
+use Rattle.fossil.specs.Run.{Output, IsWritten}
+use Rattle.fossil.specs.Served.{bad_users, serving_in}
 
 -- bytes that aren't a users file, for the line that is bad; or there was no memory
 abbrev pub IsNoUserFile : List ℕ → Due → Type 0
 IsNoUserFile bytes d = ((n : ℕ) × IsFirstBadLine bytes n × (printed d ≡ bad_users n)) ⊎ (printed d ≡ no_memory)
-
--- this is due, or want of memory
-abbrev pub IsDue : Printed → Due → Type 0
-IsDue o d = (printed d ≡ o) ⊎ (printed d ≡ no_memory)
 
 -- why words are no serve: they are none, or there was no memory to read them
 abbrev pub IsUnasked : List (List ℕ) → Due → Type 0
@@ -40,4 +26,4 @@ AreWithin requests works = (i : ℕ) (w : Work) → i < length works → (slice_
 
 -- the text of an outcome is written, or want of memory in its place
 abbrev pub IsSaidOf : Printed → Output → ℕ → Type 0
-IsSaidOf o out status = IsWrittenAs o out status ⊎ IsWrittenAs no_memory out status
+IsSaidOf o out status = IsWritten o out status ⊎ IsWritten no_memory out status

@@ -1,5 +1,5 @@
 -- What a run of a command that syncs says of its status, its output, its files and its dial, by one reading of all that it read.
-use Rattle.std.specs.Prelude.{◌≡◌, ◌≢◌, ℕ, ◌+◌, ◌≤◌, ◌⊎◌, ◌==◌, ◌||◌, if◌then◌else◌, Bool, true, false, List, [], ◌∷◌, ◌++◌, length, Some, IsTrue, ⊤}
+use Rattle.std.specs.Prelude.{[], ◌≡◌, ◌≢◌, ℕ, ◌+◌, ◌≤◌, ◌⊎◌, ◌==◌, ◌||◌, if◌then◌else◌, Bool, false, List, ◌∷◌, ◌++◌, length, Some, IsTrue, ⊤}
 use Rattle.std.specs.Option.{option_map_or}
 use Rattle.fsl_order.specs.Causes.{Rose}
 use Rattle.fsl_outside.specs.Connections.{Connection, LinkState}
@@ -17,13 +17,12 @@ use Rattle.fsl_pull.specs.Dialled.{Rounds, HasRounds, HasSent, Breaks}
 use Rattle.fsl_pull.specs.Kept.{all_of_them, StandsForSome}
 use Rattle.fsl_pull.specs.Calls.{Dialled, dialled}
 use Rattle.fsl_words.specs.declared.Command.{Command}
-use Rattle.fsl_words.specs.declared.Command.TheVariants.{Pull, Push, Clone, PullLocal}
-use Rattle.fossil.specs.Printed.{Printed, damaged}
+use Rattle.fsl_words.specs.declared.Command.TheVariants.{Pull, Push, PullLocal}
+use Rattle.fossil.specs.Printed.{Printed, damaged, disk_fault, link_fault, no_memory}
 use Rattle.fossil.specs.Uses.{command_asks_peer, command_dials}
-use Rattle.fossil.specs.Outcome.{Outcome, without_commit, said, printed_of, not_repository}
-use Rattle.fossil.specs.Run.{File, Agrees, IsNoRepository, IsTold, disk_fault}
+use Rattle.fossil.specs.Outcome.{Outcome, said, printed_of, not_repository}
+use Rattle.fossil.specs.Run.{File, Agrees, IsNoRepository, IsWritten}
 use Rattle.fossil.specs.Acts.{file_of, output_of, KeepsContents, KeepsImages, KeepsUnreadable}
-use Rattle.fossil.specs.Served.{with_text, link_fault, no_memory}
 use Rattle.fossil.specs.Syncs.{Honesty, IsPullOutcome, PullCommits, PullDue, IsPushOutcome, PushCommits, PushDue, PushSends, IsLocalOutcome, LocalCommits, LocalTakes}
 
 -- ---- the outcome
@@ -140,8 +139,8 @@ IsDamaged command r commits name found = ReadsContent command r commits (λ aske
 -- a fault has its status and its line, its object's count rose, and a call of it was due; a damaged content is told with both names; want of memory has no cause
 abbrev pub IsFaulted : Command → Read → List Connection → List (List Record) → Objects → (Printed → Type 0) → Type 0
 IsFaulted command r broken commits x Tells =
-    ((broken ≡ []) × HasFailed command r commits x × Tells (with_text 4 disk_fault))
-    ⊎ ((Rose x.dial.faults_before x.dial.faults_after × IsCutOff command r IsBrokenOff broken 1 × Tells (with_text 7 link_fault))
+    ((broken ≡ []) × HasFailed command r commits x × Tells disk_fault)
+    ⊎ ((Rose x.dial.faults_before x.dial.faults_after × IsCutOff command r IsBrokenOff broken 1 × Tells link_fault)
     ⊎ ((((broken ≡ []) ⊎ IsCutOff command r IsLeft broken (length broken)) × Tells no_memory)
     ⊎ ((name found : List ℕ) × (broken ≡ []) × IsDamaged command r commits name found × Tells (damaged name found))))
 
@@ -273,4 +272,4 @@ objects_of file peer dial = record { file = file_of file; peer = file_of peer; d
 
 -- what is told was written
 abbrev pub Syncs : Command → DiskState × DiskState → DiskState × DiskState → LinkState × LinkState → SinkState × SinkState → ℕ → Type 0
-Syncs command file peer dial out status = HasSynced command (objects_of file peer dial) (λ o. IsTold (without_commit o) status (output_of out)) status
+Syncs command file peer dial out status = HasSynced command (objects_of file peer dial) (λ o. IsWritten o (output_of out) status) status

@@ -2,8 +2,6 @@
 use Rattle.std.specs.Prelude.{◌≡◌, ℕ, List, Option, Result, Ok, Err, IfSome}
 use Rattle.fsl_outside.specs.Connections.{LinkState}
 use Rattle.fsl_disk.specs.Disk.{DiskState}
-use Rattle.fsl_journal.specs.declared.LoadFault.{LoadFault}
-use Rattle.fsl_journal.specs.declared.LoadFault.TheVariants as load_fault
 use Rattle.fsl_repo.specs.Whole.{Seen, Whole, front, opened, is_modelled, IsWholeOn}
 use Rattle.fsl_pull.specs.declared.Login.{Login}
 use Rattle.fsl_pull.specs.declared.Pulled.{Pulled}
@@ -16,16 +14,13 @@ use Rattle.fsl_pull.specs.Kept.{IsKeptAtAnyMoment}
 use Rattle.fsl_pull.specs.LocalTurns.{IsPulledFrom}
 use Rattle.fsl_words.specs.declared.Command.{Command}
 use Rattle.fsl_words.specs.declared.Command.TheVariants as command_of
-use Rattle.fossil.specs.declared.answers.due.Due.{Due}
 use Rattle.fossil.specs.declared.commands.sync.Way.{Way}
 use Rattle.fossil.specs.declared.commands.sync.Way.TheVariants as way
-use Rattle.fossil.specs.Printed.{Printed, damaged}
+use Rattle.fossil.specs.Printed.{damaged, disk_fault, link_fault, no_memory}
 use Rattle.fossil.specs.Outcome.{printed_of, not_repository}
-use Rattle.fossil.specs.Run.{disk_fault}
 use Rattle.fossil.specs.Acts.{loaded_of, IsOpened}
-use Rattle.fossil.specs.Served.{with_text, link_fault, no_memory}
-use Rattle.fossil.specs.Serving.{printed, IsDue}
-use Rattle.fossil.specs.Syncs.{synced, fault_printed, no_peer}
+use Rattle.fossil.specs.Due.{printed, IsDue, Due}
+use Rattle.fossil.specs.Syncs.{synced, fault_printed}
 use Rattle.fossil.specs.Synced.{HasSynced, objects_of}
 use Rattle.fossil.specs.Cloned.{ClonesBy}
 use Rattle.fossil.specs.RunCall.{states}
@@ -34,31 +29,18 @@ use Rattle.fossil.specs.RunCall.{states}
 
 -- of a fault: its own line, or want of memory in its place
 abbrev pub IsFaultDue : PullFault → Due → Type 0
-IsFaultDue fault.Link d = printed d ≡ with_text 7 link_fault
-IsFaultDue fault.Disk d = printed d ≡ with_text 4 disk_fault
+IsFaultDue fault.Link d = printed d ≡ link_fault
+IsFaultDue fault.Disk d = printed d ≡ disk_fault
 IsFaultDue fault.Memory d = printed d ≡ no_memory
 IsFaultDue (fault.NotRepository at) d = IsDue (printed_of (not_repository at)) d
-IsFaultDue (fault.Damaged name found) d = IsDue (damaged name found) d
-IsFaultDue (fault.Stopped faults) d = printed d ≡ with_text 4 disk_fault
+IsFaultDue (fault.Damaged name found) d = printed d ≡ damaged name found
+IsFaultDue (fault.Stopped faults) d = printed d ≡ disk_fault
 IsFaultDue why d = IfSome (fault_printed why) (λ o. IsDue o d)
 
 -- of a sync that was made
 abbrev pub IsSyncDue : Result Pulled PullFault → Due → Type 0
 IsSyncDue (Ok pulled) d = IsDue (synced pulled.rounds pulled.stored) d
 IsSyncDue (Err why) d = IsFaultDue why d
-
--- of a file that isn't loaded, by what is printed of one that is no repository
-abbrev pub IsUnloadedDue : (ℕ → Printed) → LoadFault → Due → Type 0
-IsUnloadedDue place load_fault.Disk d = printed d ≡ with_text 4 disk_fault
-IsUnloadedDue place (load_fault.NotRepository at) d = IsDue (place at) d
-IsUnloadedDue place load_fault.Memory d = printed d ≡ no_memory
-
--- of the repository's file, and of the peer's
-abbrev pub IsUnopenedDue : LoadFault → Due → Type 0
-IsUnopenedDue why d = IsUnloadedDue (λ at. printed_of (not_repository at)) why d
-
-abbrev pub IsNoPeerDue : LoadFault → Due → Type 0
-IsNoPeerDue why d = IsUnloadedDue no_peer why d
 
 -- ---- what was done
 

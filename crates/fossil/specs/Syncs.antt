@@ -1,5 +1,5 @@
 -- The outcomes of the commands that sync: by the rounds that were read, and by the peer's file.
-use Rattle.std.specs.Prelude.{◌≡◌, ℕ, Bool, ◌+◌, ◌≤◌, ◌⊎◌, IsTrue, List, [], ◌∷◌, ◌++◌, length, Option, Some, None, option_map, codes, decimal}
+use Rattle.std.specs.Prelude.{[], ◌≡◌, ℕ, Bool, ◌+◌, ◌≤◌, ◌⊎◌, IsTrue, List, ◌++◌, length, Option, Some, None, option_map, codes, decimal}
 use Rattle.fsl_text.specs.Escapes.{escape}
 use Rattle.fsl_name.specs.Name.{name_text}
 use Rattle.fsl_record.specs.declared.Record.{Record}
@@ -20,19 +20,14 @@ use Rattle.fsl_pull.specs.Arrivals.{AreWants}
 use Rattle.fsl_pull.specs.Pulls.{IsPull, PullAsks, PullRound, PullSoFar, pull_start}
 use Rattle.fsl_pull.specs.Pushes.{Sending, IsPush, PushAsks, PushRound, PushSoFar, push_start, files_to_send, names_of, is_public}
 use Rattle.fsl_pull.specs.Locals.{IsLocalPull}
-use Rattle.fossil.specs.Printed.{Printed, refused, full, too_large}
+use Rattle.fossil.specs.Printed.{Printed, with_text, line_of, with_line, refused, wrong_name, full, too_large}
 use Rattle.fossil.specs.Outcome.{Outcome}
-use Rattle.fossil.specs.Served.{line_of, with_text}
 
 -- ---- texts
 
 -- how many rounds there were, and how many artifacts were stored, or files sent
 abbrev pub sync_text : ℕ → ℕ → List ℕ
 sync_text rounds stored = line_of (codes "rounds " ++ decimal rounds) ++ line_of (codes "stored " ++ decimal stored)
-
--- a file under a wrong name: the name that it was sent under, and that of its bytes
-abbrev pub wrong_name_text : List ℕ → List ℕ → List ℕ
-wrong_name_text name found = codes "wrong name " ++ name_text name ++ 32 ∷ name_text found
 
 -- the text of an error card, escaped
 abbrev pub error_text : List ℕ → List ℕ
@@ -46,15 +41,11 @@ peer_text (peer.Long n) = codes "long " ++ decimal n
 peer_text (peer.Short n) = codes "short " ++ decimal n
 peer_text (peer.Line n) = codes "line " ++ decimal n
 peer_text (peer.Error text) = error_text text
-peer_text (peer.WrongName name found) = wrong_name_text name found
+peer_text (peer.WrongName name found) = wrong_name name found
 peer_text peer.NoPush = codes "no push card"
 peer_text peer.NoSequence = codes "no sequence"
 peer_text (peer.Sequence n) = codes "sequence " ++ decimal n
 peer_text (peer.Again name) = codes "asked again " ++ name_text name
-
--- a status and a line
-abbrev pub with_line : ℕ → List ℕ → Printed
-with_line status text = with_text status (line_of text)
 
 -- a sync that ended well
 abbrev pub synced : ℕ → ℕ → Printed

@@ -1,5 +1,5 @@
 -- What the parts of `put` and `ingest` say of the files of a message.
-use Rattle.std.specs.Prelude.{◌≡◌, ◌≤◌, ◌+◌, ◌&&◌, ◌||◌, not, true, false, ℕ, Bool, List, [], ◌∷◌, ◌++◌, length, drop, map, flat_map, codes, Option, Some, None, is_some, if◌then◌else◌, Result, Ok, Err, ⊤}
+use Rattle.std.specs.Prelude.{[], ◌≡◌, ◌≤◌, ◌+◌, ◌&&◌, ◌||◌, not, true, false, ℕ, Bool, List, ◌∷◌, ◌++◌, length, drop, map, flat_map, codes, Option, Some, None, is_some, if◌then◌else◌, Result, Ok, Err, ⊤}
 use Rattle.std.specs.FinSet as set
 use Rattle.std.specs.FinMap as map_of
 use Rattle.std.specs.List.{AllZip}
@@ -24,14 +24,14 @@ use Rattle.fsl_repo.specs.declared.ArriveFault.TheVariants as arrive_fault
 use Rattle.fsl_repo.specs.Machine.{State, now, AreItems, IsItemOf, IsArrival, ArriveStep, arrived}
 use Rattle.fsl_repo.specs.Whole.{Whole, opened}
 use Rattle.fsl_words.specs.declared.Command.TheVariants as command_of
-use Rattle.fossil.specs.declared.answers.fault.Fault.{Fault}
-use Rattle.fossil.specs.declared.reading.message.Sent.{Sent}
+use Rattle.fossil.specs.declared.reading.message.MessageFile.{MessageFile}
 use Rattle.fossil.specs.declared.reading.checking.Checked.{Checked}
 use Rattle.fossil.specs.declared.reading.checking.Checked.TheVariants as checked
 use Rattle.fossil.specs.declared.reading.arrivals.Arrivals.{Arrivals}
 use Rattle.fossil.specs.declared.reading.arrivals.Arrivals.TheVariants as came
 use Rattle.fossil.specs.declared.reading.gathering.Gathered.{Gathered}
 use Rattle.fossil.specs.Messages.{IsMessageRefused, IsFileList}
+use Rattle.fossil.specs.Due.{Due}
 use Rattle.fossil.specs.Printed.{Printed, name_line}
 use Rattle.fossil.specs.Arrivals.{Taken, none_taken, arrival_word, refusal_of, Arrive}
 use Rattle.fossil.specs.Ingest.{fresh}
@@ -47,7 +47,7 @@ IsChecked message (checked.Refused refusal) = IsMessageRefused message refusal
 -- ---- put
 
 -- all files were taken behind the old records, each with this receipt, with these lines
-pub record AreAllTaken (receipt : Brought) (files : List Sent) (old new : State) (lines : List ℕ) : Type 0 where
+pub record AreAllTaken (receipt : Brought) (files : List MessageFile) (old new : State) (lines : List ℕ) : Type 0 where
   pub taken : Taken
   pub arrive : Arrive (Some receipt) (none_taken (opened old.records 0 true)) files (Ok taken)
   pub printed : lines ≡ taken.text
@@ -56,14 +56,14 @@ pub record AreAllTaken (receipt : Brought) (files : List Sent) (old new : State)
   pub runs : new.stopped ≡ None
 
 -- what a file came to that arrived in a repository: its line comes behind those of the files before it, or else it is refused
-abbrev pub HasCome : Brought → Sent → State × State → List ℕ × List ℕ → Option Printed → Type 0
+abbrev pub HasCome : Brought → MessageFile → State × State → List ℕ × List ℕ → Option Printed → Type 0
 HasCome receipt f repo lines None =
     (a : Arrival) × ArriveStep repo.0 f.name (Some receipt) f.bytes f.private (Ok a) repo.1 × (lines.1 ≡ lines.0 ++ name_line (arrival_word a) f.name)
 HasCome receipt f repo lines (Some refusal) =
     (fault : ArriveFault) × ArriveStep repo.0 f.name (Some receipt) f.bytes f.private (Err fault) repo.1 × (refusal_of f.name (Err fault) ≡ Some refusal)
 
 -- what files came to that arrived in a repository, each with this receipt
-abbrev pub HaveArrived : Brought → List Sent → State → State → Arrivals → Type 0
+abbrev pub HaveArrived : Brought → List MessageFile → State → State → Arrivals → Type 0
 HaveArrived receipt files old new (came.Taken lines) = AreAllTaken receipt files old new lines
 HaveArrived receipt files old new (came.Refused refusal) = Arrive (Some receipt) (none_taken (opened old.records 0 true)) files (Err refusal)
 
@@ -74,17 +74,17 @@ pub record IsPutReceipt (before after : Moments) (receipt : Brought) : Type 0 wh
   pub answered : Asks before after (receipt.moment ∷ [])
 
 -- what `put` did with a message over a repository that was opened, under this clock, of whatever input and file these are
-abbrev pub PutsMessage : {C D : Type 0} → List ℕ → (C → Moments) × C × C → (D → DiskState) × Whole D × Whole D → Result Printed Fault → Type 0
+abbrev pub PutsMessage : {C D : Type 0} → List ℕ → (C → Moments) × C × C → (D → DiskState) × Whole D × Whole D → Due → Type 0
 PutsMessage message clock repo result =
     (disk : _) (input : SourceState × SourceState) → IsInput (input_of input) (Some message)
     → IsOpened (repo.0 disk) (repo.0 repo.1.disk) (loaded_of repo.1) → Acts command_of.Put input (states clock) (repo.0 disk, repo.0 repo.2.disk) result
 
 -- the same of its files
-abbrev pub PutsFiles : {C D : Type 0} → List Sent → (C → Moments) × C × C → (D → DiskState) × Whole D × Whole D → Result Printed Fault → Type 0
+abbrev pub PutsFiles : {C D : Type 0} → List MessageFile → (C → Moments) × C × C → (D → DiskState) × Whole D × Whole D → Due → Type 0
 PutsFiles files clock repo result = (message : List ℕ) → IsFileList message files → PutsMessage message clock repo result
 
 -- the same of its files, behind the moment of this receipt
-abbrev pub PutsWith : {D : Type 0} → Brought → List Sent → (D → DiskState) × Whole D × Whole D → Result Printed Fault → Type 0
+abbrev pub PutsWith : {D : Type 0} → Brought → List MessageFile → (D → DiskState) × Whole D × Whole D → Due → Type 0
 PutsWith receipt files repo result =
     (message : List ℕ) (clock : Moments × Moments) → IsFileList message files → IsPutReceipt clock.0 clock.1 receipt →
     (disk : _) (input : SourceState × SourceState) → IsInput (input_of input) (Some message)
@@ -92,7 +92,7 @@ PutsWith receipt files repo result =
 
 -- the same of an input, which is read here
 abbrev pub PutsInput : {S C D : Type 0} → (S → SourceState) × S × S → (C → Moments) × C × C → (D → DiskState) × Whole D × Whole D →
-    Result Printed Fault → Type 0
+    Due → Type 0
 PutsInput input clock repo result =
     (disk : _) → IsOpened (repo.0 disk) (repo.0 repo.1.disk) (loaded_of repo.1)
     → Acts command_of.Put (states input) (states clock) (repo.0 disk, repo.0 repo.2.disk) result
@@ -128,14 +128,14 @@ pub record IsGathered (s : State) (g : Gathered) : Type 0 where
       contains bytes_cmp g.wanted name ≡ has (missing (map cluster_fact items)) name
 
 -- a file arrived in a set
-abbrev pub IsGatheredBy : Sent → Gathered → Gathered → Result Arrival ArriveFault → Type 0
+abbrev pub IsGatheredBy : MessageFile → Gathered → Gathered → Result Arrival ArriveFault → Type 0
 IsGatheredBy f old new (Ok a) = (s : State) → IsGathered s old → IsArrival s f.name f.bytes f.private (Ok a)
     × IsGathered (arrived s f.name None f.bytes f.private (Ok a)) new
 IsGatheredBy f old new (Err arrive_fault.Memory) = ⊤
 IsGatheredBy f old new (Err fault) = (s : State) → IsGathered s old → IsArrival s f.name f.bytes f.private (Err fault)
 
 -- what files came to that arrived in a set: all were taken, or a refusal
-abbrev pub HaveGathered : List Sent → Gathered → Option Printed → Type 0
+abbrev pub HaveGathered : List MessageFile → Gathered → Option Printed → Type 0
 HaveGathered files new None = (taken : Taken) × Arrive None (none_taken fresh) files (Ok taken) × IsGathered taken.state new
 HaveGathered files new (Some refusal) = Arrive None (none_taken fresh) files (Err refusal)
 

@@ -1,5 +1,5 @@
 -- What the parts of `export` and `verify` say of what they did.
-use Rattle.std.specs.Prelude.{◌≡◌, ℕ, Bool, List, Result, Ok, Err, ⊤}
+use Rattle.std.specs.Prelude.{◌≡◌, ℕ, Bool, List, Ok, Err, ⊤}
 use Rattle.fsl_order.specs.Causes.{Rose}
 use Rattle.fsl_disk.specs.Disk.{DiskState}
 use Rattle.fsl_blobs.specs.Fold.{HeldSet}
@@ -14,6 +14,7 @@ use Rattle.fsl_checkin.specs.declared.answers.ExportFault.{ExportFault}
 use Rattle.fsl_checkin.specs.declared.answers.ExportFault.TheVariants as unread
 use Rattle.fossil.specs.declared.answers.fault.Fault.{Fault}
 use Rattle.fossil.specs.declared.answers.fault.Fault.TheVariants as fault_is
+use Rattle.fossil.specs.Due.{Due}
 use Rattle.fossil.specs.Printed.{Printed}
 use Rattle.fossil.specs.Trees.{export_printed, verdict_printed, IsExportAsked}
 
@@ -29,17 +30,19 @@ pub record Reading (X : Type 0) : Type 1 where
   pub print : List ℕ → X → Printed
   pub Asks : Bool → HeldSet → List Item → List ℕ → List ℕ → Type 0
 
--- what is answered of a name, by a repository before it was read and after it; want of memory has no cause
-abbrev pub IsNamedAnswer : {X D : Type 0} → Reading X → List ℕ → (D → DiskState) × Whole D × Whole D → Result Printed Fault → Type 0
+-- what is answered of a name, by a repository before it was read and after it: an answer, and no call of its disk failed; or why there is none. Want of memory
+-- has no cause
+abbrev pub IsNamedAnswer : {X D : Type 0} → Reading X → List ℕ → (D → DiskState) × Whole D × Whole D → Due → Type 0
 IsNamedAnswer {X} way name repo (Ok a) =
     (answer : X) × way.Reads (is_modelled (repo.0 repo.1.disk)) (now repo.1.seen.state).held repo.1.seen.items name answer × (a ≡ way.print name answer)
+    × ((repo.0 repo.2.disk).faults ≡ (repo.0 repo.1.disk).faults)
 IsNamedAnswer way name repo (Err fault_is.Disk) = Rose (repo.0 repo.1.disk).faults (repo.0 repo.2.disk).faults
-IsNamedAnswer way name repo (Err fault_is.Input) = ⊥
 IsNamedAnswer way name repo (Err (fault_is.Damaged damaged found)) =
     way.Asks (is_modelled (repo.0 repo.1.disk)) (now repo.1.seen.state).held repo.1.seen.items name damaged
     × IsSpoiltIn (is_modelled (repo.0 repo.1.disk)) (now repo.1.seen.state) damaged found
     × ((repo.0 repo.2.disk).faults ≡ (repo.0 repo.1.disk).faults)
 IsNamedAnswer way name repo (Err fault_is.Memory) = ⊤
+IsNamedAnswer way name repo (Err fault) = ⊥
 
 -- of `export` and of `verify`
 abbrev pub exporting : Reading Export

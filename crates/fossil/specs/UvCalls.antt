@@ -1,5 +1,5 @@
 -- What the parts of the commands of unversioned files say.
-use Rattle.std.specs.Prelude.{◌≡◌, ◌⊎◌, ◌++◌, ◌∷◌, ℕ, List, [], map, codes, decimal, Option, Some, None, is_some, Result, Ok, Err, IsTrue}
+use Rattle.std.specs.Prelude.{[], ◌≡◌, ◌++◌, ◌∷◌, ℕ, List, map, codes, decimal, Option, Some, None, is_some, Result, Ok, Err, IsTrue}
 use Rattle.fsl_text.specs.Escapes.{escape}
 use Rattle.fsl_order.specs.Maps.{value_at}
 use Rattle.fsl_date.specs.Moment.{IsMoment}
@@ -19,9 +19,9 @@ use Rattle.fsl_uv.specs.Reports.{Done, file_in, put_done, not_unversioned}
 use Rattle.fsl_words.specs.declared.Unversioned.{Unversioned}
 use Rattle.fsl_words.specs.declared.Unversioned.TheVariants.{Add, Remove}
 use Rattle.fsl_words.specs.declared.Command.TheVariants as command_of
-use Rattle.fossil.specs.declared.answers.fault.Fault.{Fault}
 use Rattle.fossil.specs.declared.answers.fault.Fault.TheVariants as fault_is
 use Rattle.fossil.specs.declared.reading.load.Loaded.{Loaded}
+use Rattle.fossil.specs.Due.{Due, IsAnsweredWith}
 use Rattle.fossil.specs.Printed.{Printed, refused}
 use Rattle.fossil.specs.Unversioned.{said_printed}
 use Rattle.fossil.specs.Outcome.{printed_of, not_repository}
@@ -33,12 +33,15 @@ use Rattle.fossil.specs.RunCall.{Moments, states}
 abbrev pub loaded_store : {D : Type 0} → Whole D → Loaded
 loaded_store s = record { journal = s.seen.log; places = s.seen.log.places; records = s.seen.log.records }
 
--- what is answered of a file that isn't opened as a store
-abbrev pub IsNoStoreAnswer : UvLoadFault → Result Printed Fault → Type 0
-IsNoStoreAnswer uv_load_fault.Disk result = result ≡ Err fault_is.Disk
-IsNoStoreAnswer (uv_load_fault.NotRepository at) result = (result ≡ Ok (printed_of (not_repository at))) ⊎ (result ≡ Err fault_is.Memory)
-IsNoStoreAnswer (uv_load_fault.NotEntry name) result = (result ≡ Ok (said_printed (not_unversioned name))) ⊎ (result ≡ Err fault_is.Memory)
-IsNoStoreAnswer uv_load_fault.Memory result = result ≡ Err fault_is.Memory
+-- what is due of a file that isn't opened as a store, by what is printed of one that is no repository
+abbrev pub IsNoStoreAs : (ℕ → Printed) → UvLoadFault → Due → Type 0
+IsNoStoreAs place uv_load_fault.Disk d = d ≡ Err fault_is.Disk
+IsNoStoreAs place (uv_load_fault.NotRepository at) d = IsAnsweredWith (place at) d
+IsNoStoreAs place (uv_load_fault.NotEntry name) d = IsAnsweredWith (said_printed (not_unversioned name)) d
+IsNoStoreAs place uv_load_fault.Memory d = d ≡ Err fault_is.Memory
+
+abbrev pub IsNoStoreDue : UvLoadFault → Due → Type 0
+IsNoStoreDue why d = IsNoStoreAs (λ at. printed_of (not_repository at)) why d
 
 -- a line of a word and a path
 abbrev pub path_line : List ℕ → List ℕ → List ℕ
@@ -74,14 +77,14 @@ IsPutDue path (Some content) m input = IsInput input (Some content)
 IsPutDue path None m input = IsTrue (is_some (file_in (value_at m path)))
 
 -- what a command did that puts an entry into a store that was opened, from whatever file, under whatever input and clock
-abbrev pub PutsEntry : {D : Type 0} → Entry → (D → DiskState) × Whole D × Whole D → Result Printed Fault → Type 0
+abbrev pub PutsEntry : {D : Type 0} → Entry → (D → DiskState) × Whole D × Whole D → Due → Type 0
 PutsEntry e store result =
     (disk : _) (input : SourceState × SourceState) (clock : Moments × Moments) → IsPutDue e.path e.bytes store.1.seen.map (input_of input)
     → IsMoment e.moment × Asks clock.0 clock.1 (e.moment ∷ []) → IsOpened (store.0 disk) (store.0 store.1.disk) (loaded_store store.1)
     → Acts (command_of.Unversioned (putting e.path e.bytes)) input clock (store.0 disk, store.0 store.2.disk) result
 
 -- the same of a content, which is put in behind one moment of this clock
-abbrev pub AddsContent : {C D : Type 0} → List ℕ → List ℕ → (C → Moments) × C × C → (D → DiskState) × Whole D × Whole D → Result Printed Fault → Type 0
+abbrev pub AddsContent : {C D : Type 0} → List ℕ → List ℕ → (C → Moments) × C × C → (D → DiskState) × Whole D × Whole D → Due → Type 0
 AddsContent path content clock store result =
     (disk : _) (input : SourceState × SourceState) → IsInput (input_of input) (Some content)
     → IsOpened (store.0 disk) (store.0 store.1.disk) (loaded_store store.1)
@@ -89,22 +92,22 @@ AddsContent path content clock store result =
 
 -- what `uv-add` did over such a store
 abbrev pub AddsTo : {S C D : Type 0} → List ℕ → (S → SourceState) × S × S → (C → Moments) × C × C → (D → DiskState) × Whole D × Whole D →
-    Result Printed Fault → Type 0
+    Due → Type 0
 AddsTo path input clock store result =
     (disk : _) → IsOpened (store.0 disk) (store.0 store.1.disk) (loaded_store store.1)
     → Acts (command_of.Unversioned (Add path)) (states input) (states clock) (store.0 disk, store.0 store.2.disk) result
 
 -- what `uv-remove` did, whatever the input is
-abbrev pub RemovesFrom : {C D : Type 0} → List ℕ → (C → Moments) × C × C → (D → DiskState) × Whole D × Whole D → Result Printed Fault → Type 0
+abbrev pub RemovesFrom : {C D : Type 0} → List ℕ → (C → Moments) × C × C → (D → DiskState) × Whole D × Whole D → Due → Type 0
 RemovesFrom path clock store result =
     (disk : _) (input : SourceState) → IsOpened (store.0 disk) (store.0 store.1.disk) (loaded_store store.1)
     → Acts (command_of.Unversioned (Remove path)) (input, input) (states clock) (store.0 disk, store.0 store.2.disk) result
 
 -- what a command did that asks the clock and reads no input, whatever the input is
-abbrev pub ActsTicking : {C D : Type 0} → Unversioned → (C → Moments) × C × C → (D → DiskState) × D × D → Result Printed Fault → Type 0
+abbrev pub ActsTicking : {C D : Type 0} → Unversioned → (C → Moments) × C × C → (D → DiskState) × D × D → Due → Type 0
 ActsTicking asked clock file result = (input : SourceState) → Acts (command_of.Unversioned asked) (input, input) (states clock) (states file) result
 
 -- what is said is printed, or there was no memory for it
-abbrev pub IsToldAs : Done → Result Printed Fault → Type 0
+abbrev pub IsToldAs : Done → Due → Type 0
 IsToldAs d (Ok answer) = answer ≡ said_printed d.said
 IsToldAs d (Err fault) = fault ≡ fault_is.Memory

@@ -1,27 +1,22 @@
 -- What the parts of a sync of unversioned files say of what they did.
-use Rattle.std.specs.Prelude.{◌≡◌, ◌≢◌, ◌⊎◌, ◌++◌, ℕ, List, ◌∷◌, [], Some, Result, Ok, Err, codes, decimal}
+use Rattle.std.specs.Prelude.{[], ◌≡◌, ◌≢◌, ◌⊎◌, ◌++◌, ℕ, List, ◌∷◌, Some, Result, Ok, Err, codes, decimal}
 use Rattle.fsl_outside.specs.Streams.{SinkState}
 use Rattle.fsl_disk.specs.Disk.{DiskState, IsModelled, Keeps, LeavesOnly}
 use Rattle.fsl_journal.specs.File.{IsFileOf}
 use Rattle.fsl_journal.specs.Log.{WhereBetween, StandsBetween}
-use Rattle.fsl_uv.specs.declared.UvLoadFault.{UvLoadFault}
-use Rattle.fsl_uv.specs.declared.UvLoadFault.TheVariants as load_fault
 use Rattle.fsl_uv.specs.declared.SyncFault.{SyncFault}
 use Rattle.fsl_uv.specs.declared.SyncFault.TheVariants as sync_fault
 use Rattle.fsl_uv.specs.Stores.{Seen, Whole, IsStore, IsOpened}
-use Rattle.fsl_uv.specs.Reports.{not_unversioned, other_project}
+use Rattle.fsl_uv.specs.Reports.{other_project}
 use Rattle.fsl_uv.specs.Exchanging as exchanging
 use Rattle.fsl_words.specs.declared.Command.{Command}
-use Rattle.fossil.specs.declared.answers.due.Due.{Due}
 use Rattle.fossil.specs.declared.ran.Ran.{Ran}
-use Rattle.fossil.specs.Printed.{Printed, refused}
-use Rattle.fossil.specs.Outcome.{said, printed_of, not_repository}
-use Rattle.fossil.specs.Run.{disk_fault}
+use Rattle.fossil.specs.Printed.{Printed, refused, disk_fault, with_text, no_memory}
+use Rattle.fossil.specs.Outcome.{said}
 use Rattle.fossil.specs.Acts.{file_of}
-use Rattle.fossil.specs.Served.{with_text, no_memory}
-use Rattle.fossil.specs.Serving.{printed, IsDue}
-use Rattle.fossil.specs.Syncs.{no_peer}
-use Rattle.fossil.specs.UvSyncs.{said_printed, HasMerged, MergesIf}
+use Rattle.fossil.specs.Due.{printed, IsDue, Due}
+use Rattle.fossil.specs.Unversioned.{said_printed}
+use Rattle.fossil.specs.UvSyncs.{HasMerged, MergesIf}
 use Rattle.fossil.specs.RunCall.{states, back}
 
 -- ---- what is due
@@ -34,21 +29,8 @@ counted received sent = with_text 0 (codes "received " ++ decimal received ++ co
 abbrev pub IsUvSyncDue : Result (ℕ × ℕ) SyncFault → Due → Type 0
 IsUvSyncDue (Ok counts) d = IsDue (counted counts.0 counts.1) d
 IsUvSyncDue (Err sync_fault.Full) d = IsDue (refused (codes "full")) d
-IsUvSyncDue (Err sync_fault.Disk) d = printed d ≡ with_text 4 disk_fault
+IsUvSyncDue (Err sync_fault.Disk) d = printed d ≡ disk_fault
 IsUvSyncDue (Err sync_fault.Memory) d = printed d ≡ no_memory
-
--- of a file that isn't opened as a store, by what is printed of one that is no repository
-abbrev pub IsUnopenedDue : (ℕ → Printed) → UvLoadFault → Due → Type 0
-IsUnopenedDue place load_fault.Disk d = printed d ≡ with_text 4 disk_fault
-IsUnopenedDue place (load_fault.NotRepository at) d = IsDue (place at) d
-IsUnopenedDue place (load_fault.NotEntry name) d = IsDue (said_printed (not_unversioned name)) d
-IsUnopenedDue place load_fault.Memory d = printed d ≡ no_memory
-
-abbrev pub IsNoStoreDue : UvLoadFault → Due → Type 0
-IsNoStoreDue why d = IsUnopenedDue (λ at. printed_of (not_repository at)) why d
-
-abbrev pub IsNoPeerDue : UvLoadFault → Due → Type 0
-IsNoPeerDue why d = IsUnopenedDue no_peer why d
 
 -- ---- what was done
 

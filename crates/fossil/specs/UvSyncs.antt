@@ -1,5 +1,5 @@
 -- The outcome of a sync of unversioned files between two files, and what a run of it leaves.
-use Rattle.std.specs.Prelude.{◌≡◌, ◌≢◌, ◌⊎◌, ◌++◌, ℕ, List, [], ◌∷◌, map, Option, Some, IsTrue}
+use Rattle.std.specs.Prelude.{[], ◌≡◌, ◌≢◌, ◌⊎◌, ◌++◌, ℕ, List, ◌∷◌, map, Option, Some, IsTrue}
 use Rattle.fsl_order.specs.Causes.{Rose}
 use Rattle.fsl_outside.specs.Streams.{SinkState}
 use Rattle.fsl_disk.specs.Disk.{DiskState, IsModelled, Keeps, Quiet, LeavesOnly}
@@ -11,16 +11,15 @@ use Rattle.fsl_uv.specs.Entries.{Version}
 use Rattle.fsl_uv.specs.Maps.{merge}
 use Rattle.fsl_uv.specs.Laws.{Agree}
 use Rattle.fsl_uv.specs.Stores.{IsUv, IsNoEntry, blob_of}
-use Rattle.fsl_uv.specs.Reports as report
-use Rattle.fsl_uv.specs.Reports.{Said, Done, sync_done, not_unversioned, other_project}
+use Rattle.fsl_uv.specs.Reports.{Done, sync_done, not_unversioned, other_project}
 use Rattle.fsl_words.specs.declared.Command.{Command}
 use Rattle.fsl_words.specs.declared.Command.TheVariants.{Unversioned}
 use Rattle.fsl_words.specs.declared.Unversioned.TheVariants.{Sync}
-use Rattle.fossil.specs.Printed.{Printed, refused}
-use Rattle.fossil.specs.Outcome.{without_commit, printed_of, not_repository}
-use Rattle.fossil.specs.Run.{File, Agrees, IsNoRepository, IsTold, disk_fault}
+use Rattle.fossil.specs.Printed.{Printed, disk_fault, no_memory}
+use Rattle.fossil.specs.Unversioned.{said_printed}
+use Rattle.fossil.specs.Outcome.{printed_of, not_repository}
+use Rattle.fossil.specs.Run.{File, Agrees, IsNoRepository, IsWritten}
 use Rattle.fossil.specs.Acts.{file_of, output_of}
-use Rattle.fossil.specs.Served.{with_text, no_memory}
 use Rattle.fossil.specs.Syncs.{no_peer}
 use Rattle.fossil.specs.Synced.{AreImagesOf, IsUntouched}
 
@@ -42,11 +41,6 @@ pub record UvSync : Type 0 where
   pub printed : Printed
   pub here : Part
   pub there : Part
-
--- what is printed of what a command says
-abbrev pub said_printed : Said → Printed
-said_printed (report.printed text) = with_text 0 text
-said_printed (report.refused text) = refused text
 
 -- the entries that a sync stores here and there, a commit each
 abbrev pub synced_by : Done → UvSync
@@ -163,8 +157,8 @@ IsShort s here there = (IsBare here × IsBare there) ⊎ ((here ≡ s.here) × (
 abbrev pub IsAnswer : UvSync → File → File → Part → Part → (Printed → Type 0) → Type 0
 IsAnswer s file peer here there Tells =
     ((here ≡ s.here) × (there ≡ s.there) × IsSteady file × IsSteady peer × Tells s.printed)
-    ⊎ ((IsOwnFault s here there × Rose file.before.faults file.after.faults × IsSteady peer × Tells (with_text 4 disk_fault))
-    ⊎ ((IsPeerFault s here there × IsSteady file × Rose peer.before.faults peer.after.faults × Tells (with_text 4 disk_fault))
+    ⊎ ((IsOwnFault s here there × Rose file.before.faults file.after.faults × IsSteady peer × Tells disk_fault)
+    ⊎ ((IsPeerFault s here there × IsSteady file × Rose peer.before.faults peer.after.faults × Tells disk_fault)
     ⊎ (IsShort s here there × IsSteady file × IsSteady peer × Tells no_memory)))
 
 -- ---- a run
@@ -200,7 +194,7 @@ HasMerged file peer Tells =
 
 -- what is told was written
 abbrev pub Merges : DiskState × DiskState → DiskState × DiskState → SinkState × SinkState → ℕ → Type 0
-Merges file peer out status = HasMerged (file_of file) (file_of peer) (λ o. IsTold (without_commit o) status (output_of out))
+Merges file peer out status = HasMerged (file_of file) (file_of peer) (λ o. IsWritten o (output_of out) status)
 
 -- what a command came to if it is such a sync, with whatever peer
 abbrev pub MergesIf : Option Command → DiskState × DiskState → DiskState × DiskState → SinkState × SinkState → ℕ → Type 0

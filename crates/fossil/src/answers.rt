@@ -5,7 +5,6 @@ pub(crate) mod due;
 pub(crate) mod fault;
 pub(crate) mod ingest_report;
 pub(crate) mod reporting;
-pub(crate) mod say;
 pub(crate) mod status;
 pub(crate) mod sync_due;
 pub(crate) mod sync_text;

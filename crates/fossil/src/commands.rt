@@ -1,6 +1,5 @@
 //! What each command does.
 
-pub(crate) mod ask;
 pub(crate) mod checkin;
 pub(crate) mod clone;
 pub(crate) mod generating;
@@ -8,8 +7,9 @@ pub(crate) mod ingest;
 pub(crate) mod init;
 pub(crate) mod pull_local;
 pub(crate) mod put;
+pub(crate) mod question;
 pub(crate) mod scrub;
-pub(crate) mod serving;
+pub(crate) mod serve;
 pub(crate) mod shun;
 pub(crate) mod sync;
 pub(crate) mod trees;

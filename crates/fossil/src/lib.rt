@@ -27,7 +27,7 @@ mod top;
 mod worked;
 
 pub use answers::status::NO_MEMORY;
-pub use commands::serving::{Served, State, serve};
+pub use commands::serve::{Served, State, serve};
 pub use laws::tree_comes_back;
 pub use ran::Ran;
 pub use top::{one_outcome, run, some_outcome};

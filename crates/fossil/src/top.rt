@@ -15,17 +15,16 @@ ghost use Rattle.fossil.specs.Scrubs.{HasOneScrub, HasSomeScrub};
 ghost use Rattle.fossil.specs.ScrubCall.{ScrubsFor, ScrubsAs};
 ghost use Rattle.fossil.specs.RunCall.{texts, RunsCommand, RunsFor, SyncsFor, ClonesFor, RunsAlone, SyncsAs, ClonesAs};
 
-use crate::answers::due::print_due;
+use crate::answers::due::{answered, print_due};
 use crate::answers::fault::Fault;
-use crate::answers::say::{made, print, say_usage};
-use crate::commands::ask::ask;
-use crate::commands::checkin::{Asked, checkin};
+use crate::commands::checkin::{NewCheckin, checkin};
 use crate::commands::clone::clone_onto;
 use crate::commands::generating::generate;
 use crate::commands::ingest::ingest;
 use crate::commands::init::init;
 use crate::commands::pull_local::pull_local;
 use crate::commands::put::put;
+use crate::commands::question::answer_question;
 use crate::commands::scrub::scrub;
 use crate::commands::shun::shun;
 use crate::commands::sync::{Way, sync};
@@ -68,65 +67,65 @@ fn obey<S: Source, C: Clock, K: Sink, D: Disk>(
                 server,
                 fields,
             };
-            let status = print(out, init(alloc, &config, &mut repo));
+            let status = print_due(out, init(alloc, &config, &mut repo));
             Done { status, repo }
         }
         Command::Ingest => {
-            let status = print(out, ingest(alloc, input));
+            let status = print_due(out, ingest(alloc, input));
             Done { status, repo }
         }
         Command::Put => {
             let (answer, repo) = put(alloc, input, clock, repo);
-            let status = print(out, answer);
+            let status = print_due(out, answer);
             Done { status, repo }
         }
         Command::Shun { name } => {
             let (answer, repo) = shun(alloc, name, repo);
-            let status = print(out, answer);
+            let status = print_due(out, answer);
             Done { status, repo }
         }
         Command::Unshun { name } => {
             let (answer, repo) = unshun(alloc, name, repo);
-            let status = print(out, answer);
+            let status = print_due(out, answer);
             Done { status, repo }
         }
-        Command::Ask(question) => ask(alloc, &question, out, repo),
+        Command::Ask(question) => answer_question(alloc, &question, out, repo),
         Command::Checkin {
             parent,
             user,
             comment,
         } => {
-            let asked = Asked {
+            let asked = NewCheckin {
                 parent,
                 user,
                 comment,
             };
             let (answer, repo) = checkin(alloc, &asked, input, clock, repo);
             drop(asked);
-            let status = print(out, answer);
+            let status = print_due(out, answer);
             Done { status, repo }
         }
         Command::Export { prefix } => {
             let (answer, repo) = export_tree(alloc, &prefix, repo);
-            let status = print(out, answer);
+            let status = print_due(out, answer);
             Done { status, repo }
         }
         Command::Verify { prefix } => {
             let (answer, repo) = verify_tree(alloc, &prefix, repo);
-            let status = print(out, answer);
+            let status = print_due(out, answer);
             Done { status, repo }
         }
         Command::Serve { .. } => {
-            let status = say_usage(out);
+            let status = print_due(out, Err(Fault::Usage));
             Done { status, repo }
         }
         Command::Unversioned(asked) => {
             let (answer, repo) = unversioned(alloc, asked, input, clock, repo);
-            let status = print(out, answer);
+            let status = print_due(out, answer);
             Done { status, repo }
         }
         Command::Gen { count, reversed } => {
-            let status = print(out, made(generate(alloc, count, reversed)));
+            let status = print_due(out, answered(generate(alloc, count, reversed)));
             Done { status, repo }
         }
         Command::Pull { .. } => unreachable!(),
@@ -158,7 +157,7 @@ fn start_unversioned<S: Source, K: Sink, D: Disk, P: Disk, C: Clock>(
     match asked {
         Unversioned::Sync { .. } => {
             let (due, repo, peer) = uv_sync(alloc, repo, peer);
-            let status = print_due(out, &due);
+            let status = print_due(out, due);
             Ran { status, repo, peer }
         }
         asked => {
@@ -195,12 +194,12 @@ fn start<S: Source, K: Sink, D: Disk, P: Disk, N: Dial, C: Clock>(
     match command {
         Command::Pull { login, .. } => {
             let (due, repo) = sync(alloc, Way::Pull, login, repo, dial);
-            let status = print_due(out, &due);
+            let status = print_due(out, due);
             Ran { status, repo, peer }
         }
         Command::Push { login, .. } => {
             let (due, repo) = sync(alloc, Way::Push, login, repo, dial);
-            let status = print_due(out, &due);
+            let status = print_due(out, due);
             Ran { status, repo, peer }
         }
         Command::Clone {
@@ -209,17 +208,17 @@ fn start<S: Source, K: Sink, D: Disk, P: Disk, N: Dial, C: Clock>(
             fields,
         } => {
             let (due, repo) = clone_onto(alloc, server, &fields, repo, dial);
-            let status = print_due(out, &due);
+            let status = print_due(out, due);
             Ran { status, repo, peer }
         }
         Command::PullLocal { .. } => {
             let (due, repo, peer) = pull_local(alloc, repo, peer);
-            let status = print_due(out, &due);
+            let status = print_due(out, due);
             Ran { status, repo, peer }
         }
         Command::Scrub { .. } => {
             let (due, repo, peer) = scrub(alloc, repo, peer);
-            let status = print_due(out, &due);
+            let status = print_due(out, due);
             Ran { status, repo, peer }
         }
         Command::Unversioned(asked) => {
@@ -301,11 +300,11 @@ pub fn run<S: Source, K: Sink, D: Disk, P: Disk, N: Dial, C: Clock>(
     match read(alloc, words) {
         Ok(words) => start(alloc, words.command, input, out, repo, peer, dial, clock),
         Err(WordsFault::Usage) => {
-            let status = say_usage(out);
+            let status = print_due(out, Err(Fault::Usage));
             Ran { status, repo, peer }
         }
         Err(WordsFault::Memory) => {
-            let status = print(out, Err(Fault::Memory));
+            let status = print_due(out, Err(Fault::Memory));
             Ran { status, repo, peer }
         }
     }

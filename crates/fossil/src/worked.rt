@@ -3,15 +3,18 @@ ghost use Rattle.std.specs.Prelude.{◌≡◌, ◌≤◌, ◌++◌, length, deci
 ghost use Rattle.std.specs.List.{list_any};
 ghost use Rattle.fsl_repo.specs.Whole.{IsWholeOn};
 ghost use Rattle.fsl_serve.specs.Crews.{sessions_of};
-ghost use Rattle.fossil.specs.declared.commands.serving.State.TheVariants as state_is;
+ghost use Rattle.fossil.specs.declared.commands.serve.State.TheVariants as state_is;
 ghost use Rattle.fossil.specs.Acts.{output_of};
-ghost use Rattle.fossil.specs.Served.{line_of, served_text, with_text, worked};
-ghost use Rattle.fossil.specs.Serving.{IsDue, AreWithin, IsSaidOf};
+ghost use Rattle.fossil.specs.Printed.{line_of, with_text};
+ghost use Rattle.fossil.specs.Served.{served_text, worked};
+ghost use Rattle.fossil.specs.Due.{IsDue};
+ghost use Rattle.fossil.specs.Serving.{AreWithin, IsSaidOf};
 
 use crate::answers::answer::Answer;
 use crate::answers::due::{Due, answered, print_due};
+use crate::answers::fault::Fault;
 use crate::answers::status::DONE;
-use crate::commands::serving::{Served, State};
+use crate::commands::serve::{Served, State};
 use fsl_disk::Disk;
 use fsl_outside::Sink;
 use fsl_serve::{Served as Worked, Work};
@@ -70,10 +73,10 @@ fn due_of(alloc: Global, stopped: Option<u64>, works: &[Work], stored: u64) -> D
     ensures { IsDue (worked stopped works.now stored) result }
 {
     if stopped.is_some() {
-        return Due::Disk;
+        return Err(Fault::Disk);
     }
     if has_failed(works) {
-        return Due::Link;
+        return Err(Fault::Link);
     }
     answered(lines(alloc, sessions(works), stored))
 }
@@ -100,7 +103,7 @@ pub(crate) fn finished<D: Disk, A, G, C, K: Sink>(
     repo.is_whole();
     let due = due_of(alloc, repo.stopped(), works.as_slice(), stored);
     Served {
-        status: print_due(out, &due),
+        status: print_due(out, due),
         state: State::Loaded(repo),
         crews,
     }

@@ -1,11 +1,12 @@
 //! Answers: a status and the text that is printed.
-ghost use Rattle.std.specs.Prelude.{◌≡◌, ◌≢◌, ◌++◌, ℕ, Some, Err, IfOk, codes, decimal};
+ghost use Rattle.std.specs.Prelude.{◌≡◌, ◌≢◌, ◌++◌, ℕ, Some, Err, IfOk, decimal};
 ghost use Rattle.fossil.specs.Printed as printing;
+ghost use Rattle.fossil.specs.Printed.{with_line};
 ghost use Rattle.fossil.specs.Outcome.{printed_of, not_repository};
 ghost use Rattle.fossil.specs.Arrivals.{refusal_of as refused_for};
 ghost use Rattle.fsl_repo.specs.declared.ArriveFault.TheVariants as arrive_fault;
 
-use crate::answers::status::{DAMAGED, NOT_REPOSITORY, REFUSED};
+use crate::answers::status::{NOT_REPOSITORY, REFUSED};
 use fsl_name::Name;
 use fsl_repo::ArriveFault;
 use fsl_text::{Memory, Text};
@@ -27,25 +28,54 @@ impl Model for Answer {
     ghost view = { λ a. record { status = a.status; text = a.text } };
 }
 
+/// Words and the bytes behind them.
+pub fn joined(alloc: Global, words: &[u8], rest: &[u8]) -> Result<Text, Memory>
+    ensures { IfOk result (λ text. text ≡ words.now ++ rest.now) }
+{
+    let mut text = Text::of(alloc, words)?;
+    text.append(rest)?;
+    Ok(text)
+}
+
+/// Words and a number behind them.
+pub fn numbered(alloc: Global, words: &[u8], number: u64) -> Result<Text, Memory>
+    ensures { IfOk result (λ text. text ≡ words.now ++ decimal number) }
+{
+    let digits = number.to_string(alloc)?;
+    joined(alloc, words, digits.as_bytes())
+}
+
+/// A file under a wrong name: the name that it was sent under, and that of its bytes.
+pub fn wrong_name(alloc: Global, name: Name, found: Name) -> Result<Text, Memory>
+    ensures { IfOk result (λ text. text ≡ printing.wrong_name name found) }
+{
+    let mut text = joined(alloc, b"wrong name ", name.text().as_slice())?;
+    text.append(b" ")?;
+    text.append(found.text().as_slice())?;
+    Ok(text)
+}
+
+/// A status, and a line of words and what stands behind them.
+pub fn line(alloc: Global, status: u8, words: &[u8], rest: &[u8]) -> Result<Answer, Memory>
+    ensures { IfOk result (λ a. a ≡ with_line status (words.now ++ rest.now)) }
+{
+    let mut text = joined(alloc, words, rest)?;
+    text.append(b"\n")?;
+    Ok(Answer { status, text })
+}
+
 /// A refusal for a reason.
 pub fn refusal(alloc: Global, reason: &[u8]) -> Result<Answer, Memory>
     ensures { IfOk result (λ a. a ≡ printing.refused reason.now) }
 {
-    let mut text = Text::of(alloc, b"refused: ")?;
-    text.append(reason)?;
-    text.append(b"\n")?;
-    Ok(Answer {
-        status: REFUSED,
-        text,
-    })
+    line(alloc, REFUSED, b"refused: ", reason)
 }
 
 /// A refusal for a reason that ends with some bytes.
 pub fn refusal_of(alloc: Global, reason: &[u8], bytes: &[u8]) -> Result<Answer, Memory>
     ensures { IfOk result (λ a. a ≡ printing.refused (reason.now ++ bytes.now)) }
 {
-    let mut whole = Text::of(alloc, reason)?;
-    whole.append(bytes)?;
+    let whole = joined(alloc, reason, bytes)?;
     refusal(alloc, whole.bytes())
 }
 
@@ -53,8 +83,8 @@ pub fn refusal_of(alloc: Global, reason: &[u8], bytes: &[u8]) -> Result<Answer, 
 pub fn numbered_refusal(alloc: Global, reason: &[u8], number: u64) -> Result<Answer, Memory>
     ensures { IfOk result (λ a. a ≡ printing.refused (reason.now ++ decimal number)) }
 {
-    let digits = number.to_string(alloc)?;
-    refusal_of(alloc, reason, digits.as_bytes())
+    let whole = numbered(alloc, reason, number)?;
+    refusal(alloc, whole.bytes())
 }
 
 /// The refusal of the line with this number.
@@ -82,20 +112,17 @@ pub fn too_long(alloc: Global) -> Result<Answer, Memory>
 pub fn too_large(alloc: Global, name: Name, size: u64) -> Result<Answer, Memory>
     ensures { IfOk result (λ a. a ≡ printing.too_large name size) }
 {
-    let mut reason = Text::of(alloc, b"too large ")?;
-    reason.append(name.text().as_slice())?;
+    let mut reason = joined(alloc, b"too large ", name.text().as_slice())?;
     reason.append(b" ")?;
     numbered_refusal(alloc, reason.bytes(), size)
 }
 
 /// The refusal of a file by the name that it was sent under and the name of its content.
-fn wrong_name(alloc: Global, name: Name, found: Name) -> Result<Answer, Memory>
+fn wrongly_named(alloc: Global, name: Name, found: Name) -> Result<Answer, Memory>
     ensures { IfOk result (λ a. a ≡ printing.wrong (name, found)) }
 {
-    let mut reason = Text::of(alloc, b"wrong name ")?;
-    reason.append(name.text().as_slice())?;
-    reason.append(b" ")?;
-    refusal_of(alloc, reason.bytes(), found.text().as_slice())
+    let reason = wrong_name(alloc, name, found)?;
+    refusal(alloc, reason.bytes())
 }
 
 /// The refusal of a file for which there is no room, by its name.
@@ -105,21 +132,6 @@ pub fn full(alloc: Global, name: Name) -> Result<Answer, Memory>
     refusal_of(alloc, b"full ", name.text().as_slice())
 }
 
-/// A content whose bytes were read and have another name than its own.
-pub fn damaged(alloc: Global, name: Name, found: Name) -> Result<Answer, Memory>
-    ensures { IfOk result (λ a. a ≡ printing.damaged name found) }
-{
-    let mut text = Text::of(alloc, b"damaged ")?;
-    text.append(name.text().as_slice())?;
-    text.append(b" ")?;
-    text.append(found.text().as_slice())?;
-    text.append(b"\n")?;
-    Ok(Answer {
-        status: DAMAGED,
-        text,
-    })
-}
-
 /// The refusal of a file by its name and the fault of its arrival, which isn't that of a repository that is stopped.
 pub fn file_refusal(alloc: Global, name: Name, fault: ArriveFault) -> Result<Answer, Memory>
     requires { (faults : ℕ) → fault ≢ arrive_fault.Stopped faults }
@@ -127,7 +139,7 @@ pub fn file_refusal(alloc: Global, name: Name, fault: ArriveFault) -> Result<Ans
 {
     match fault {
         ArriveFault::TooLarge { size } => too_large(alloc, name, size),
-        ArriveFault::NameWrong { found } => wrong_name(alloc, name, found),
+        ArriveFault::NameWrong { found } => wrongly_named(alloc, name, found),
         ArriveFault::Full { .. } => full(alloc, name),
         ArriveFault::Memory => Err(Memory),
         ArriveFault::Stopped { .. } => unreachable!(),
@@ -139,11 +151,10 @@ pub fn not_repository(alloc: Global, at: u64) -> Result<Answer, Memory>
     ensures { IfOk result (λ a. a ≡ printed_of (not_repository at)) }
 {
     let digits = at.to_string(alloc)?;
-    let mut text = Text::of(alloc, b"not a repository: ")?;
-    text.append(digits.as_bytes())?;
-    text.append(b"\n")?;
-    Ok(Answer {
-        status: NOT_REPOSITORY,
-        text,
-    })
+    line(
+        alloc,
+        NOT_REPOSITORY,
+        b"not a repository: ",
+        digits.as_bytes(),
+    )
 }

@@ -1,17 +1,21 @@
-//! Why a command has no outcome.
+//! Why a command has no answer.
 ghost use Rattle.std.specs.Prelude.{◌≡◌};
 ghost use Rattle.fossil.specs.declared.answers.fault.Fault.TheVariants as fault_is;
 
 use fsl_name::Name;
 use fsl_text::Memory;
 
-/// Why a command has no outcome.
+/// Why a command has no answer. The line of a fault takes no memory.
 #[derive(Clone, Copy, Debug, PartialEq, Eq, Drop)]
 pub enum Fault {
-    /// A call of the disk failed.
+    /// The words are no command.
+    Usage,
+    /// A call of a disk failed.
     Disk,
-    /// A read of the input failed.
+    /// A read of the input or of the users file failed.
     Input,
+    /// A door or the dial failed.
+    Link,
     /// The bytes that were read for the artifact of a name have another name.
     Damaged { name: Name, found: Name },
     /// There was no memory.

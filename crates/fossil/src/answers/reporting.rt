@@ -8,6 +8,7 @@ ghost use Rattle.fossil.specs.Printed as printing;
 ghost use Rattle.fossil.specs.RunCall.{ActsUnread, AnswersQuestion};
 
 use crate::answers::answer::{Answer, refusal};
+use crate::answers::due::Due;
 use crate::answers::fault::Fault;
 use crate::answers::status::DONE;
 use crate::reading::load::{Loaded, load, not_loaded};
@@ -26,7 +27,7 @@ pub fn question_refusal(alloc: Global, refused: Refused) -> Result<Answer, Memor
 }
 
 /// What is answered where a question found no report.
-fn fault_answer(alloc: Global, fault: QueryFault) -> Result<Answer, Fault>
+fn fault_answer(alloc: Global, fault: QueryFault) -> Due
     ensures { IsAnswerOf (Err fault) result }
 {
     match fault {
@@ -38,7 +39,7 @@ fn fault_answer(alloc: Global, fault: QueryFault) -> Result<Answer, Fault>
 }
 
 /// What is answered where a question found this: the report, or the reason why there is none.
-fn answer_of(alloc: Global, found: Result<Text, QueryFault>) -> Result<Answer, Fault>
+fn answer_of(alloc: Global, found: Result<Text, QueryFault>) -> Due
     ensures { IsAnswerOf found result }
 {
     match found {
@@ -48,12 +49,7 @@ fn answer_of(alloc: Global, found: Result<Text, QueryFault>) -> Result<Answer, F
 }
 
 /// The report on a question about what was loaded, or the reason why there is none.
-fn report_on<D: Disk>(
-    alloc: Global,
-    loaded: Loaded,
-    question: &Question,
-    disk: &mut D,
-) -> Result<Answer, Fault>
+fn report_on<D: Disk>(alloc: Global, loaded: Loaded, question: &Question, disk: &mut D) -> Due
     requires open { IsOpen loaded }
     requires belongs { Belongs loaded.journal (D.state disk.old) }
     ensures { AnswersQuestion question.now loaded (D.state, disk.old, disk.new) result }
@@ -75,7 +71,7 @@ fn report_on<D: Disk>(
 ///
 /// Errors: `Disk` where a call of the disk failed; `Damaged` where the bytes that were read for `cat` have another name;
 /// `Memory`.
-pub fn report<D: Disk>(alloc: Global, question: &Question, disk: &mut D) -> Result<Answer, Fault>
+pub fn report<D: Disk>(alloc: Global, question: &Question, disk: &mut D) -> Due
     ensures { ActsUnread (command_of.Ask question.now) (D.state, disk.old, disk.new) result }
 {
     match load(alloc, disk) {

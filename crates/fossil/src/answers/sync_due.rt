@@ -1,8 +1,11 @@
 //! What is due to be said of a sync.
-ghost use Rattle.fossil.specs.Syncing.{IsFaultDue, IsSyncDue, IsUnopenedDue, IsNoPeerDue};
+ghost use Rattle.fossil.specs.Due.{IsNotLoadedAs};
+ghost use Rattle.fossil.specs.Syncs.{no_peer};
+ghost use Rattle.fossil.specs.Syncing.{IsFaultDue, IsSyncDue};
 
-use crate::answers::answer::{damaged, full, not_repository, numbered_refusal, too_large};
+use crate::answers::answer::{full, not_repository, numbered_refusal, too_large};
 use crate::answers::due::{Due, answered};
+use crate::answers::fault::Fault;
 use crate::answers::sync_text::{
     missing, no_peer, other_project, synced, too_many_rounds, wrong_reply,
 };
@@ -18,16 +21,16 @@ fn fault_due(alloc: Global, fault: PullFault) -> Due
         PullFault::NotEmpty { len } => answered(numbered_refusal(alloc, b"file not empty ", len)),
         PullFault::NotRepository { at } => answered(not_repository(alloc, at)),
         PullFault::Project { found } => answered(other_project(alloc, found)),
-        PullFault::Stopped { .. } => Due::Disk,
-        PullFault::Link => Due::Link,
-        PullFault::Disk => Due::Disk,
+        PullFault::Stopped { .. } => Err(Fault::Disk),
+        PullFault::Link => Err(Fault::Link),
+        PullFault::Disk => Err(Fault::Disk),
         PullFault::Peer(why) => answered(wrong_reply(alloc, &why)),
         PullFault::TooLarge { name, size } => answered(too_large(alloc, name, size)),
         PullFault::Full { name } => answered(full(alloc, name)),
         PullFault::Missing { name } => answered(missing(alloc, name)),
         PullFault::Rounds => answered(too_many_rounds(alloc)),
-        PullFault::Damaged { name, found } => answered(damaged(alloc, name, found)),
-        PullFault::Memory => Due::Memory,
+        PullFault::Damaged { name, found } => Err(Fault::Damaged { name, found }),
+        PullFault::Memory => Err(Fault::Memory),
     }
 }
 
@@ -41,24 +44,13 @@ pub(crate) fn sync_due(alloc: Global, made: Result<Pulled, PullFault>) -> Due
     }
 }
 
-/// What is due of a repository file that isn't loaded.
-pub(crate) fn unopened(alloc: Global, fault: LoadFault) -> Due
-    ensures { IsUnopenedDue fault result }
-{
-    match fault {
-        LoadFault::Disk => Due::Disk,
-        LoadFault::NotRepository { at } => answered(not_repository(alloc, at)),
-        LoadFault::Memory => Due::Memory,
-    }
-}
-
 /// What is due of a peer's file that isn't loaded.
 pub(crate) fn unopened_peer(alloc: Global, fault: LoadFault) -> Due
-    ensures { IsNoPeerDue fault result }
+    ensures { IsNotLoadedAs no_peer fault result }
 {
     match fault {
-        LoadFault::Disk => Due::Disk,
+        LoadFault::Disk => Err(Fault::Disk),
         LoadFault::NotRepository { at } => answered(no_peer(alloc, at)),
-        LoadFault::Memory => Due::Memory,
+        LoadFault::Memory => Err(Fault::Memory),
     }
 }

@@ -1,10 +1,8 @@
 //! What is printed of a sync.
-ghost use Rattle.std.specs.Prelude.{◌≡◌, ◌++◌, IfOk, decimal};
-ghost use Rattle.fsl_name.specs.Name.{name_text};
+ghost use Rattle.std.specs.Prelude.{◌≡◌, IfOk};
 ghost use Rattle.fossil.specs.Syncs as syncs;
-ghost use Rattle.fossil.specs.Syncs.{with_line};
 
-use crate::answers::answer::{Answer, refusal_of};
+use crate::answers::answer::{Answer, joined, line, numbered, refusal_of, wrong_name};
 use crate::answers::status::{DONE, MISSING, NOT_REPOSITORY, TOO_MANY_ROUNDS, WRONG_REPLY};
 use crate::worked::append_line;
 use fsl_name::Name;
@@ -12,43 +10,12 @@ use fsl_pull::{PeerFault, Pulled};
 use fsl_text::{Memory, Text, escape};
 use std::alloc::Global;
 
-/// Words and a number behind them.
-fn numbered(alloc: Global, words: &[u8], number: u64) -> Result<Text, Memory>
-    ensures { IfOk result (λ text. text ≡ words.now ++ decimal number) }
-{
-    let digits = number.to_string(alloc)?;
-    let mut text = Text::of(alloc, words)?;
-    text.append(digits.as_bytes())?;
-    Ok(text)
-}
-
-/// Words and a name behind them.
-fn named(alloc: Global, words: &[u8], name: Name) -> Result<Text, Memory>
-    ensures { IfOk result (λ text. text ≡ words.now ++ name_text name) }
-{
-    let mut text = Text::of(alloc, words)?;
-    text.append(name.text().as_slice())?;
-    Ok(text)
-}
-
-/// A file under a wrong name: the name that it was sent under, and that of its bytes.
-fn wrong_name(alloc: Global, name: Name, found: Name) -> Result<Text, Memory>
-    ensures { IfOk result (λ text. text ≡ syncs.wrong_name_text name found) }
-{
-    let mut text = named(alloc, b"wrong name ", name)?;
-    text.append(b" ")?;
-    text.append(found.text().as_slice())?;
-    Ok(text)
-}
-
 /// The text of an error card, escaped.
 fn error_text(alloc: Global, error: &[u8]) -> Result<Text, Memory>
     ensures { IfOk result (λ text. text ≡ syncs.error_text error.now) }
 {
     let escaped = escape(alloc, error)?;
-    let mut text = Text::of(alloc, b"error ")?;
-    text.append(escaped.bytes())?;
-    Ok(text)
+    joined(alloc, b"error ", escaped.bytes())
 }
 
 /// What is wrong with a reply.
@@ -66,18 +33,8 @@ fn peer_text(alloc: Global, why: &PeerFault) -> Result<Text, Memory>
         PeerFault::NoPush => Text::of(alloc, b"no push card"),
         PeerFault::NoSequence => Text::of(alloc, b"no sequence"),
         PeerFault::Sequence { found } => numbered(alloc, b"sequence ", *found),
-        PeerFault::Again { name } => named(alloc, b"asked again ", *name),
+        PeerFault::Again { name } => joined(alloc, b"asked again ", name.text().as_slice()),
     }
-}
-
-/// A status, and a line of words and what stands behind them.
-fn line(alloc: Global, status: u8, words: &[u8], rest: &[u8]) -> Result<Answer, Memory>
-    ensures { IfOk result (λ a. a ≡ with_line status (words.now ++ rest.now)) }
-{
-    let mut text = Text::of(alloc, words)?;
-    text.append(rest)?;
-    text.append(b"\n")?;
-    Ok(Answer { status, text })
 }
 
 /// A sync that ended well: how many rounds it had, and how many artifacts were stored.

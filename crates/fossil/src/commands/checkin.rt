@@ -10,6 +10,7 @@ ghost use Rattle.fossil.specs.CheckinCall.{AreArriving, ChecksInput, ChecksOver,
 ghost use Rattle.fossil.specs.RunCall.{ActsReading};
 
 use crate::answers::answer::{Answer, numbered_refusal, too_long};
+use crate::answers::due::Due;
 use crate::answers::fault::Fault;
 use crate::answers::ingest_report::add_line;
 use crate::answers::reporting::question_refusal;
@@ -19,7 +20,7 @@ use crate::commands::trees::found_one;
 use crate::reading::arrivals::{Arrivals, arrive};
 use crate::reading::input::read_input;
 use crate::reading::load::not_loaded;
-use crate::reading::message::Sent;
+use crate::reading::message::MessageFile;
 use fsl_checkin::{TreeFault, TreeItem, manifest, read_tree};
 use fsl_date::Moment;
 use fsl_disk::Disk;
@@ -32,9 +33,9 @@ use fsl_repo::Repo;
 use fsl_text::{List, Memory, Text};
 use std::alloc::Global;
 
-/// What a check-in is asked for with: the prefix of its parent's name, where it has a parent, its user and its comment.
+/// A check-in that is asked for: the prefix of its parent's name, where it has a parent, its user and its comment.
 #[derive(Drop)]
-pub(crate) struct Asked {
+pub(crate) struct NewCheckin {
     pub parent: Option<Text>,
     pub user: Text,
     pub comment: Text,
@@ -44,7 +45,7 @@ pub(crate) struct Asked {
 #[derive(Drop)]
 struct Arriving {
     name: Name,
-    files: List<Sent>,
+    files: List<MessageFile>,
 }
 
 /// The files of a name.
@@ -113,10 +114,10 @@ fn parent_of<D: Disk>(
 }
 
 /// A content as it arrives: public, and under its own name.
-fn sent(alloc: Global, bytes: &[u8]) -> Result<Sent, Memory>
+fn sent(alloc: Global, bytes: &[u8]) -> Result<MessageFile, Memory>
     ensures { IfOk result (λ f. f ≡ sent_of bytes.now) }
 {
-    Ok(Sent {
+    Ok(MessageFile {
         name: Name::of(bytes),
         bytes: Text::of(alloc, bytes)?,
         private: false,
@@ -124,7 +125,7 @@ fn sent(alloc: Global, bytes: &[u8]) -> Result<Sent, Memory>
 }
 
 /// The contents of a tree as they arrive.
-fn contents(alloc: Global, items: &[TreeItem]) -> Result<Vec<Sent>, Memory>
+fn contents(alloc: Global, items: &[TreeItem]) -> Result<Vec<MessageFile>, Memory>
     ensures { IfOk result (λ files. files.items ≡ map (λ item. sent_of item.bytes) items.now) }
 {
     let mut files = Vec::new(alloc);
@@ -137,7 +138,7 @@ fn contents(alloc: Global, items: &[TreeItem]) -> Result<Vec<Sent>, Memory>
 /// What arrives of a tree that is checked in over this parent at this moment.
 fn to_arrive(
     alloc: Global,
-    asked: &Asked,
+    asked: &NewCheckin,
     items: &List<TreeItem>,
     parent: Option<Name>,
     moment: Moment,
@@ -155,7 +156,7 @@ fn to_arrive(
     )?;
     let name = Name::of(text.bytes());
     let mut files = List::from_vec(contents(alloc, items.items())?);
-    files.append(Sent {
+    files.append(MessageFile {
         name,
         bytes: text,
         private: false,
@@ -167,12 +168,12 @@ fn to_arrive(
 /// refused, or there is no memory, nothing is committed.
 fn check_in<D: Disk>(
     alloc: Global,
-    asked: &Asked,
+    asked: &NewCheckin,
     items: &List<TreeItem>,
     parent: Option<Name>,
     receipt: &Receipt,
     repo: &mut Repo<D>,
-) -> Result<Answer, Fault>
+) -> Due
     requires can { IsToWrite asked.now items.now }
     requires runs { repo.old.seen.state.stopped ≡ None }
     ensures { ChecksWith asked.now receipt.now items.now parent (D.state, repo.old, repo.new) result }
@@ -198,12 +199,12 @@ fn check_in<D: Disk>(
 /// Checks a tree in over a parent, in a repository that was opened, behind one moment of the clock.
 fn check_over<C: Clock, D: Disk>(
     alloc: Global,
-    asked: &Asked,
+    asked: &NewCheckin,
     items: &List<TreeItem>,
     parent: Option<Name>,
     clock: &mut C,
     repo: &mut Repo<D>,
-) -> Result<Answer, Fault>
+) -> Due
     requires can { IsToWrite asked.now items.now }
     requires runs { repo.old.seen.state.stopped ≡ None }
     ensures { ChecksOver asked.now items.now parent (C.told, clock.old, clock.new) (D.state, repo.old, repo.new) result }
@@ -217,11 +218,11 @@ fn check_over<C: Clock, D: Disk>(
 /// Checks a tree in, in a repository that was opened: its parent is refused, or else it is checked in over it.
 fn check_tree<C: Clock, D: Disk>(
     alloc: Global,
-    asked: &Asked,
+    asked: &NewCheckin,
     items: &List<TreeItem>,
     clock: &mut C,
     repo: &mut Repo<D>,
-) -> Result<Answer, Fault>
+) -> Due
     requires can { IsToWrite asked.now items.now }
     requires runs { repo.old.seen.state.stopped ≡ None }
     ensures { ChecksTree asked.now items.now (C.told, clock.old, clock.new) (D.state, repo.old, repo.new) result }
@@ -236,11 +237,11 @@ fn check_tree<C: Clock, D: Disk>(
 /// Checks the tree in that a text is, in a repository that was opened, or refuses an item.
 fn check_text<C: Clock, D: Disk>(
     alloc: Global,
-    asked: &Asked,
+    asked: &NewCheckin,
     text: &[u8],
     clock: &mut C,
     repo: &mut Repo<D>,
-) -> Result<Answer, Fault>
+) -> Due
     requires user { asked.now.user ≢ [] }
     requires comment { asked.now.comment ≢ [] }
     requires runs { repo.old.seen.state.stopped ≡ None }
@@ -261,11 +262,11 @@ fn check_text<C: Clock, D: Disk>(
 /// Reads the input, and checks the tree in that it is, in a repository that was opened.
 fn check_input<S: Source, C: Clock, D: Disk>(
     alloc: Global,
-    asked: &Asked,
+    asked: &NewCheckin,
     input: &mut S,
     clock: &mut C,
     repo: &mut Repo<D>,
-) -> Result<Answer, Fault>
+) -> Due
     requires user { asked.now.user ≢ [] }
     requires comment { asked.now.comment ≢ [] }
     requires runs { repo.old.seen.state.stopped ≡ None }
@@ -283,11 +284,11 @@ fn check_input<S: Source, C: Clock, D: Disk>(
 /// that is stored.
 pub(crate) fn checkin<S: Source, C: Clock, D: Disk>(
     alloc: Global,
-    asked: &Asked,
+    asked: &NewCheckin,
     input: &mut S,
     clock: &mut C,
     disk: D,
-) -> (Result<Answer, Fault>, D)
+) -> (Due, D)
     requires user { asked.now.user ≢ [] }
     requires comment { asked.now.comment ≢ [] }
     ensures { ActsReading (asked_for asked.now) (S.state, input.old, input.new) (C.told, clock.old, clock.new) (D.state, disk, result.1) result.0 }

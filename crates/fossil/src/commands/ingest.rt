@@ -4,18 +4,18 @@ ghost use Rattle.fossil.specs.Ingest as ingest;
 ghost use Rattle.fossil.specs.Acts.{input_of, IsIngestRun, IsUnread};
 
 use crate::answers::answer::{Answer, too_long};
-use crate::answers::fault::Fault;
+use crate::answers::due::Due;
 use crate::answers::status::DONE;
 use crate::reading::checking::{Checked, check_message};
 use crate::reading::gathering::{Gathered, gather, print_set};
 use crate::reading::input::read_input;
-use crate::reading::message::Sent;
+use crate::reading::message::MessageFile;
 use fsl_outside::Source;
 use fsl_text::{List, Memory, Text};
 use std::alloc::Global;
 
 /// The report on the set that files make, or the refusal of one.
-fn report_on(alloc: Global, files: List<Sent>) -> Result<Answer, Memory>
+fn report_on(alloc: Global, files: List<MessageFile>) -> Result<Answer, Memory>
     ensures { IfOk result (λ a. ingest.IsReported files a) }
 {
     let mut set = Gathered::empty(alloc);
@@ -39,7 +39,7 @@ fn answer_of(alloc: Global, message: Text) -> Result<Answer, Memory>
 }
 
 /// Reads a message of files into a fresh set, and answers its unclustered and wanted names.
-pub fn ingest<S: Source>(alloc: Global, input: &mut S) -> Result<Answer, Fault>
+pub fn ingest<S: Source>(alloc: Global, input: &mut S) -> Due
     ensures ok { IfOk result (IsIngestRun (input_of (S.state input.old, S.state input.new))) }
     ensures err { IfErr result (λ fault. IsUnread fault (input_of (S.state input.old, S.state input.new))) }
 {

@@ -4,6 +4,7 @@ ghost use Rattle.fsl_words.specs.declared.Command.TheVariants as command_of;
 ghost use Rattle.fossil.specs.RunCall.{ActsUnread};
 
 use crate::answers::answer::{Answer, numbered_refusal};
+use crate::answers::due::Due;
 use crate::answers::fault::Fault;
 use crate::answers::status::DONE;
 use fsl_disk::Disk;
@@ -13,7 +14,7 @@ use fsl_text::Text;
 use std::alloc::Global;
 
 /// Writes a new repository with this Config into an empty file. A file that isn't empty is refused.
-pub fn init<D: Disk>(alloc: Global, config: &Config, disk: &mut D) -> Result<Answer, Fault>
+pub fn init<D: Disk>(alloc: Global, config: &Config, disk: &mut D) -> Due
     requires { AreFields config.now.fields }
     ensures { ActsUnread (command_of.Init config.now.project config.now.server config.now.fields) (D.state, disk.old, disk.new) result }
 {

@@ -5,7 +5,8 @@ ghost use Rattle.fsl_pull.specs.Reading.{IsOnlyRead};
 ghost use Rattle.fossil.specs.Syncing.{HasPulledFrom, PullsInto, PullsLocal};
 
 use crate::answers::due::Due;
-use crate::answers::sync_due::{sync_due, unopened, unopened_peer};
+use crate::answers::sync_due::{sync_due, unopened_peer};
+use crate::reading::load::not_loaded;
 use fsl_disk::Disk;
 use fsl_repo::Repo;
 use std::alloc::Global;
@@ -49,6 +50,6 @@ pub(crate) fn pull_local<D: Disk, P: Disk>(alloc: Global, disk: D, peer: P) -> (
             let (due, peer) = pull_from(alloc, &mut repo, peer);
             (due, repo.close(), peer)
         }
-        Err((disk, fault)) => (unopened(alloc, fault), disk, peer),
+        Err((disk, fault)) => (not_loaded(alloc, fault), disk, peer),
     }
 }

@@ -5,13 +5,14 @@ ghost use Rattle.fossil.specs.RunCall.{ActsReading};
 ghost use Rattle.fossil.specs.Taking.{IsPutReceipt, PutsWith, PutsMessage, PutsFiles, PutsInput};
 
 use crate::answers::answer::{Answer, too_long};
+use crate::answers::due::Due;
 use crate::answers::fault::Fault;
 use crate::answers::status::DONE;
 use crate::reading::arrivals::{Arrivals, arrive};
 use crate::reading::checking::{Checked, check_message};
 use crate::reading::input::read_input;
 use crate::reading::load::not_loaded;
-use crate::reading::message::Sent;
+use crate::reading::message::MessageFile;
 use fsl_disk::Disk;
 use fsl_outside::{Clock, Source};
 use fsl_record::Receipt;
@@ -30,10 +31,10 @@ pub(crate) fn put_receipt<C: Clock>(alloc: Global, clock: &mut C) -> Receipt
 /// no memory, nothing is committed.
 fn take_with<D: Disk>(
     alloc: Global,
-    files: List<Sent>,
+    files: List<MessageFile>,
     receipt: &Receipt,
     repo: &mut Repo<D>,
-) -> Result<Answer, Fault>
+) -> Due
     requires runs { repo.old.seen.state.stopped ≡ None }
     ensures { PutsWith receipt.now files (D.state, repo.old, repo.new) result }
 {
@@ -54,10 +55,10 @@ fn take_with<D: Disk>(
 /// Takes the files of a message into a repository that was opened, behind one moment of the clock.
 fn take_files<C: Clock, D: Disk>(
     alloc: Global,
-    files: List<Sent>,
+    files: List<MessageFile>,
     clock: &mut C,
     repo: &mut Repo<D>,
-) -> Result<Answer, Fault>
+) -> Due
     requires runs { repo.old.seen.state.stopped ≡ None }
     ensures { PutsFiles files (C.told, clock.old, clock.new) (D.state, repo.old, repo.new) result }
 {
@@ -73,7 +74,7 @@ fn take_message<C: Clock, D: Disk>(
     message: Text,
     clock: &mut C,
     repo: &mut Repo<D>,
-) -> Result<Answer, Fault>
+) -> Due
     requires runs { repo.old.seen.state.stopped ≡ None }
     ensures { PutsMessage message (C.told, clock.old, clock.new) (D.state, repo.old, repo.new) result }
 {
@@ -89,7 +90,7 @@ fn take_input<S: Source, C: Clock, D: Disk>(
     input: &mut S,
     clock: &mut C,
     repo: &mut Repo<D>,
-) -> Result<Answer, Fault>
+) -> Due
     requires runs { repo.old.seen.state.stopped ≡ None }
     ensures { PutsInput (S.state, input.old, input.new) (C.told, clock.old, clock.new) (D.state, repo.old, repo.new) result }
 {
@@ -107,7 +108,7 @@ pub fn put<S: Source, C: Clock, D: Disk>(
     input: &mut S,
     clock: &mut C,
     disk: D,
-) -> (Result<Answer, Fault>, D)
+) -> (Due, D)
     ensures { ActsReading command_of.Put (S.state, input.old, input.new) (C.told, clock.old, clock.new) (D.state, disk, result.1) result.0 }
 {
     match Repo::load(alloc, disk) {

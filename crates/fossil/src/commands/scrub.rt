@@ -3,10 +3,11 @@ ghost use Rattle.std.specs.Prelude.{◌≡◌, length, IfOk};
 ghost use Rattle.fossil.specs.Scrubs as scrubs;
 ghost use Rattle.fossil.specs.ScrubCall.{IsScrubDue, IsUnscrubbedDue, ScrubsFile, ScrubsInto};
 
-use crate::answers::answer::{Answer, damaged, numbered_refusal};
+use crate::answers::answer::{Answer, numbered_refusal};
 use crate::answers::due::{Due, answered};
+use crate::answers::fault::Fault;
 use crate::answers::status::DONE;
-use crate::answers::sync_due::unopened;
+use crate::reading::load::not_loaded;
 use crate::worked::append_line;
 use fsl_disk::Disk;
 use fsl_repo::Repo;
@@ -26,14 +27,14 @@ fn counts(alloc: Global, made: Scrubbed) -> Result<Answer, Memory>
 }
 
 /// What is due of a scrub that wasn't made.
-fn fault_due(alloc: Global, fault: ScrubFault) -> Due
+fn unscrubbed_due(alloc: Global, fault: ScrubFault) -> Due
     ensures { IsUnscrubbedDue fault result }
 {
     match fault {
         ScrubFault::NotEmpty { len } => answered(numbered_refusal(alloc, b"file not empty ", len)),
-        ScrubFault::Disk => Due::Disk,
-        ScrubFault::Damaged { name, found } => answered(damaged(alloc, name, found)),
-        ScrubFault::Memory => Due::Memory,
+        ScrubFault::Disk => Err(Fault::Disk),
+        ScrubFault::Damaged { name, found } => Err(Fault::Damaged { name, found }),
+        ScrubFault::Memory => Err(Fault::Memory),
     }
 }
 
@@ -43,7 +44,7 @@ fn scrub_due(alloc: Global, made: Result<Scrubbed, ScrubFault>) -> Due
 {
     match made {
         Ok(made) => answered(counts(alloc, made)),
-        Err(fault) => fault_due(alloc, fault),
+        Err(fault) => unscrubbed_due(alloc, fault),
     }
 }
 
@@ -70,6 +71,6 @@ pub(crate) fn scrub<D: Disk, P: Disk>(alloc: Global, disk: D, peer: P) -> (Due, 
             let due = scrub_into(alloc, &mut repo, &mut peer);
             (due, repo.close(), peer)
         }
-        Err((disk, fault)) => (unopened(alloc, fault), disk, peer),
+        Err((disk, fault)) => (not_loaded(alloc, fault), disk, peer),
     }
 }

@@ -6,6 +6,7 @@ ghost use Rattle.fossil.specs.Shun.{word_of};
 ghost use Rattle.fossil.specs.RunCall.{ActsUnread, ActsOpened};
 
 use crate::answers::answer::Answer;
+use crate::answers::due::Due;
 use crate::answers::fault::Fault;
 use crate::answers::ingest_report::add_line;
 use crate::answers::status::DONE;
@@ -28,7 +29,7 @@ fn word(done: Shunning) -> &'static [u8]
 }
 
 /// The line of what became of a name that was shunned.
-fn told(alloc: Global, name: Name, done: Shunning) -> Result<Answer, Memory>
+fn shun_answer(alloc: Global, name: Name, done: Shunning) -> Result<Answer, Memory>
     ensures { IfOk result (λ a. a ≡ record { status = 0; text = name_line (word_of done) name }) }
 {
     let mut text = Text::empty(alloc);
@@ -38,7 +39,7 @@ fn told(alloc: Global, name: Name, done: Shunning) -> Result<Answer, Memory>
 
 /// Shuns a name in a repository that was opened, and commits that. Where there is no memory for the line nothing is
 /// committed.
-fn take_out<D: Disk>(alloc: Global, name: Name, repo: &mut Repo<D>) -> Result<Answer, Fault>
+fn take_out<D: Disk>(alloc: Global, name: Name, repo: &mut Repo<D>) -> Due
     requires runs { repo.old.seen.state.stopped ≡ None }
     ensures { ActsOpened (command_of.Shun name) (D.state, repo.old, repo.new) result }
 {
@@ -46,7 +47,7 @@ fn take_out<D: Disk>(alloc: Global, name: Name, repo: &mut Repo<D>) -> Result<An
         Ok(done) => done,
         Err(_) => return Err(Fault::Memory),
     };
-    let answer = told(alloc, name, done)?;
+    let answer = shun_answer(alloc, name, done)?;
     repo.is_whole();
     let committed = repo.commit();
     repo.is_whole();
@@ -59,7 +60,7 @@ fn take_out<D: Disk>(alloc: Global, name: Name, repo: &mut Repo<D>) -> Result<An
 
 /// Takes a name out of the repository, in one commit: its artifact isn't held any more, and no artifact of this name is
 /// taken until it is unshunned. Nothing is committed where it is shunned already. The disk comes back.
-pub fn shun<D: Disk>(alloc: Global, name: Name, disk: D) -> (Result<Answer, Fault>, D)
+pub fn shun<D: Disk>(alloc: Global, name: Name, disk: D) -> (Due, D)
     ensures { ActsUnread (command_of.Shun name) (D.state, disk, result.1) result.0 }
 {
     match Repo::load(alloc, disk) {

@@ -6,7 +6,8 @@ ghost use Rattle.fossil.specs.Syncs.{login_of};
 ghost use Rattle.fossil.specs.Syncing.{HasMade, IsMadeOver, SyncsOver};
 
 use crate::answers::due::Due;
-use crate::answers::sync_due::{sync_due, unopened};
+use crate::answers::sync_due::sync_due;
+use crate::reading::load::not_loaded;
 use fsl_disk::Disk;
 use fsl_outside::Dial;
 use fsl_pull::{Login, PullFault, Pulled};
@@ -86,6 +87,6 @@ pub(crate) fn sync<D: Disk, N: Dial>(
             let due = sync_open(alloc, way, &login, &mut repo, dial);
             (due, repo.close())
         }
-        Err((disk, fault)) => (unopened(alloc, fault), disk),
+        Err((disk, fault)) => (not_loaded(alloc, fault), disk),
     }
 }

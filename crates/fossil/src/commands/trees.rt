@@ -11,6 +11,7 @@ ghost use Rattle.fossil.specs.TreeCall.{IsNamedAnswer, exporting, fault_as, veri
 ghost use Rattle.fossil.specs.RunCall.{ActsUnread, ActsOpened};
 
 use crate::answers::answer::{Answer, refusal};
+use crate::answers::due::Due;
 use crate::answers::fault::Fault;
 use crate::answers::reporting::question_refusal;
 use crate::answers::status::DONE;
@@ -66,7 +67,7 @@ fn lacking(alloc: Global, missing: &Ref) -> Result<Text, Memory>
 }
 
 /// A line with these bytes.
-fn line(alloc: Global, bytes: &[u8]) -> Result<Answer, Memory>
+fn done_line(alloc: Global, bytes: &[u8]) -> Result<Answer, Memory>
     ensures { IfOk result (λ a. a ≡ line_of bytes.now) }
 {
     let mut text = Text::of(alloc, bytes)?;
@@ -91,7 +92,7 @@ fn wrong_line(alloc: Global, kept: [u8; 16], found: [u8; 16]) -> Result<Answer, 
     append_sum(&mut text, &kept)?;
     text.append(b" ")?;
     append_sum(&mut text, &found)?;
-    line(alloc, text.bytes())
+    done_line(alloc, text.bytes())
 }
 
 /// What an export of this name came to.
@@ -121,18 +122,18 @@ fn verdict_answer(alloc: Global, name: Name, found: Verdict) -> Result<Answer, M
 {
     match found {
         Verdict::NotCheckin => question_refusal(alloc, Refused::NotCheckin { name }),
-        Verdict::NoSum => line(alloc, b"no sum"),
+        Verdict::NoSum => done_line(alloc, b"no sum"),
         Verdict::Incomplete { missing } => {
             let text = lacking(alloc, &missing)?;
-            line(alloc, text.bytes())
+            done_line(alloc, text.bytes())
         }
         Verdict::Wrong { kept, found } => wrong_line(alloc, kept, found),
-        Verdict::Right => line(alloc, b"right"),
+        Verdict::Right => done_line(alloc, b"right"),
     }
 }
 
 /// The tree of the check-in of a name, or why there is none.
-fn export_named<D: Disk>(alloc: Global, name: Name, repo: &mut Repo<D>) -> Result<Answer, Fault>
+fn export_named<D: Disk>(alloc: Global, name: Name, repo: &mut Repo<D>) -> Due
     ensures answer { IsNamedAnswer exporting name (D.state, repo.old, repo.new) result }
     ensures repo { IsOnlyRead D.state repo.old repo.new }
 {
@@ -146,7 +147,7 @@ fn export_named<D: Disk>(alloc: Global, name: Name, repo: &mut Repo<D>) -> Resul
 }
 
 /// Whether the checksum of the check-in of a name is that of its tree.
-fn verify_named<D: Disk>(alloc: Global, name: Name, repo: &mut Repo<D>) -> Result<Answer, Fault>
+fn verify_named<D: Disk>(alloc: Global, name: Name, repo: &mut Repo<D>) -> Due
     ensures answer { IsNamedAnswer verifying name (D.state, repo.old, repo.new) result }
     ensures repo { IsOnlyRead D.state repo.old repo.new }
 {
@@ -160,7 +161,7 @@ fn verify_named<D: Disk>(alloc: Global, name: Name, repo: &mut Repo<D>) -> Resul
 }
 
 /// The tree of the check-in whose name has a prefix, of a repository that was opened.
-fn export_from<D: Disk>(alloc: Global, prefix: &Text, repo: &mut Repo<D>) -> Result<Answer, Fault>
+fn export_from<D: Disk>(alloc: Global, prefix: &Text, repo: &mut Repo<D>) -> Due
     ensures { ActsOpened (command_of.Export prefix.now) (D.state, repo.old, repo.new) result }
 {
     repo.is_whole();
@@ -171,7 +172,7 @@ fn export_from<D: Disk>(alloc: Global, prefix: &Text, repo: &mut Repo<D>) -> Res
 }
 
 /// Whether the checksum of the check-in whose name has a prefix is that of its tree, of a repository that was opened.
-fn verify_from<D: Disk>(alloc: Global, prefix: &Text, repo: &mut Repo<D>) -> Result<Answer, Fault>
+fn verify_from<D: Disk>(alloc: Global, prefix: &Text, repo: &mut Repo<D>) -> Due
     ensures { ActsOpened (command_of.Verify prefix.now) (D.state, repo.old, repo.new) result }
 {
     repo.is_whole();
@@ -183,11 +184,7 @@ fn verify_from<D: Disk>(alloc: Global, prefix: &Text, repo: &mut Repo<D>) -> Res
 
 /// The tree of the check-in whose name has a prefix. Its contents are read from the disk, and nothing is written. The disk
 /// comes back.
-pub(crate) fn export_tree<D: Disk>(
-    alloc: Global,
-    prefix: &Text,
-    disk: D,
-) -> (Result<Answer, Fault>, D)
+pub(crate) fn export_tree<D: Disk>(alloc: Global, prefix: &Text, disk: D) -> (Due, D)
     ensures { ActsUnread (command_of.Export prefix.now) (D.state, disk, result.1) result.0 }
 {
     match Repo::load(alloc, disk) {
@@ -202,11 +199,7 @@ pub(crate) fn export_tree<D: Disk>(
 
 /// Whether the checksum of the check-in whose name has a prefix is that of its tree. Its contents are read from the disk, and
 /// nothing is written. The disk comes back.
-pub(crate) fn verify_tree<D: Disk>(
-    alloc: Global,
-    prefix: &Text,
-    disk: D,
-) -> (Result<Answer, Fault>, D)
+pub(crate) fn verify_tree<D: Disk>(alloc: Global, prefix: &Text, disk: D) -> (Due, D)
     ensures { ActsUnread (command_of.Verify prefix.now) (D.state, disk, result.1) result.0 }
 {
     match Repo::load(alloc, disk) {

@@ -6,6 +6,7 @@ ghost use Rattle.fossil.specs.Unshun.{word_of};
 ghost use Rattle.fossil.specs.RunCall.{ActsUnread, ActsOpened};
 
 use crate::answers::answer::{Answer, full};
+use crate::answers::due::Due;
 use crate::answers::fault::Fault;
 use crate::answers::ingest_report::add_line;
 use crate::answers::status::DONE;
@@ -27,7 +28,7 @@ fn word(done: Unshunning) -> &'static [u8]
 }
 
 /// The line of what became of a name that was to be taken off the list.
-fn told(alloc: Global, name: Name, done: Unshunning) -> Result<Answer, Memory>
+fn unshun_answer(alloc: Global, name: Name, done: Unshunning) -> Result<Answer, Memory>
     ensures { IfOk result (λ a. a ≡ record { status = 0; text = name_line (word_of done) name }) }
 {
     let mut text = Text::empty(alloc);
@@ -37,7 +38,7 @@ fn told(alloc: Global, name: Name, done: Unshunning) -> Result<Answer, Memory>
 
 /// Takes a name off the list of a repository that was opened, and commits that. Where there is no memory for the line, or too
 /// many names would be wanted without the name in the list, nothing is committed.
-fn unlist<D: Disk>(alloc: Global, name: Name, repo: &mut Repo<D>) -> Result<Answer, Fault>
+fn unlist<D: Disk>(alloc: Global, name: Name, repo: &mut Repo<D>) -> Due
     requires runs { repo.old.seen.state.stopped ≡ None }
     ensures { ActsOpened (command_of.Unshun name) (D.state, repo.old, repo.new) result }
 {
@@ -46,7 +47,7 @@ fn unlist<D: Disk>(alloc: Global, name: Name, repo: &mut Repo<D>) -> Result<Answ
         Err(UnshunFault::Full { .. }) => return Ok(full(alloc, name)?),
         Err(_) => return Err(Fault::Memory),
     };
-    let answer = told(alloc, name, done)?;
+    let answer = unshun_answer(alloc, name, done)?;
     repo.is_whole();
     let committed = repo.commit();
     repo.is_whole();
@@ -60,7 +61,7 @@ fn unlist<D: Disk>(alloc: Global, name: Name, repo: &mut Repo<D>) -> Result<Answ
 /// Takes a name off the list of the shunned ones, in one commit: artifacts of this name are taken again. Nothing is committed
 /// where it isn't shunned, or where too many names would be wanted without it in the list, which is refused. The disk comes
 /// back.
-pub fn unshun<D: Disk>(alloc: Global, name: Name, disk: D) -> (Result<Answer, Fault>, D)
+pub fn unshun<D: Disk>(alloc: Global, name: Name, disk: D) -> (Due, D)
     ensures { ActsUnread (command_of.Unshun name) (D.state, disk, result.1) result.0 }
 {
     match Repo::load(alloc, disk) {

@@ -11,12 +11,13 @@ ghost use Rattle.fsl_uv.specs.Reports.{list_done, cat_done, file_in};
 ghost use Rattle.fossil.specs.Printed as printing;
 ghost use Rattle.fossil.specs.Unversioned.{said_printed, IsUvObeyable};
 ghost use Rattle.fossil.specs.UvUses.{uv_use};
-ghost use Rattle.fossil.specs.UvCalls.{path_line, IsNoStoreAnswer, IsPutAnswer, HasPut, PutsEntry, AddsContent, AddsTo, RemovesFrom, ActsTicking, IsToldAs};
+ghost use Rattle.fossil.specs.UvCalls.{path_line, IsNoStoreDue, IsPutAnswer, HasPut, PutsEntry, AddsContent, AddsTo, RemovesFrom, ActsTicking, IsToldAs};
 ghost use Rattle.fossil.specs.RunCall.{ActsReading, ActsUnread};
 
 use crate::answers::answer::{
     Answer, not_repository, numbered_refusal, refusal, refusal_of, too_long,
 };
+use crate::answers::due::{Due, answered};
 use crate::answers::fault::Fault;
 use crate::answers::status::DONE;
 use crate::commands::init::init;
@@ -41,7 +42,7 @@ fn path_answer(alloc: Global, word: &[u8], path: &Text) -> Result<Answer, Memory
 }
 
 /// The refusal of a content of so many bytes, by its path.
-fn too_large(alloc: Global, path: &Text, size: u64) -> Result<Answer, Memory>
+fn content_too_large(alloc: Global, path: &Text, size: u64) -> Result<Answer, Memory>
     ensures { IfOk result (λ a. a ≡ printing.refused (codes "too large " ++ escape path.now ++ 32 ∷ decimal size)) }
 {
     let mut reason = Text::of(alloc, b"too large ")?;
@@ -60,25 +61,21 @@ fn no_file(alloc: Global, path: &Text) -> Result<Answer, Memory>
 }
 
 /// The refusal of a file with a Blob that is no entry, by its name.
-fn not_unversioned(alloc: Global, name: Name) -> Result<Answer, Memory>
+pub(crate) fn not_unversioned(alloc: Global, name: Name) -> Result<Answer, Memory>
     ensures { IfOk result (λ a. a ≡ said_printed (report.not_unversioned name)) }
 {
     refusal_of(alloc, b"not unversioned ", name.text().as_slice())
 }
 
-/// What is answered of a file that isn't opened as a store.
-fn no_store(alloc: Global, fault: UvLoadFault) -> Result<Answer, Fault>
-    ensures { IsNoStoreAnswer fault result }
+/// What is due of a file that isn't opened as a store.
+pub(crate) fn no_store(alloc: Global, fault: UvLoadFault) -> Due
+    ensures { IsNoStoreDue fault result }
 {
-    let answer = match fault {
-        UvLoadFault::Disk => return Err(Fault::Disk),
-        UvLoadFault::NotRepository { at } => not_repository(alloc, at),
-        UvLoadFault::NotEntry { name } => not_unversioned(alloc, name),
-        UvLoadFault::Memory => Err(Memory),
-    };
-    match answer {
-        Ok(answer) => Ok(answer),
-        Err(_) => Err(Fault::Memory),
+    match fault {
+        UvLoadFault::Disk => Err(Fault::Disk),
+        UvLoadFault::NotRepository { at } => answered(not_repository(alloc, at)),
+        UvLoadFault::NotEntry { name } => answered(not_unversioned(alloc, name)),
+        UvLoadFault::Memory => Err(Fault::Memory),
     }
 }
 
@@ -89,7 +86,7 @@ fn put_answer(alloc: Global, path: &Text, put: Result<Put, UvFault>) -> Result<A
     match put {
         Ok(Put::Stored) => path_answer(alloc, b"stored ", path),
         Ok(Put::Kept) => path_answer(alloc, b"kept ", path),
-        Err(UvFault::TooLarge { size }) => too_large(alloc, path, size),
+        Err(UvFault::TooLarge { size }) => content_too_large(alloc, path, size),
         Err(UvFault::Full { .. }) => refusal(alloc, b"full"),
         // The store runs, so memory was wanting.
         Err(_) => Err(Memory),
@@ -109,7 +106,7 @@ fn put_in<D: Disk>(alloc: Global, entry: &Entry, store: &mut Store<D>) -> Result
 
 /// Puts an entry into a store that was opened, and commits it. Where it isn't stored, or there is no memory for the line,
 /// nothing is committed.
-fn store_entry<D: Disk>(alloc: Global, entry: &Entry, store: &mut Store<D>) -> Result<Answer, Fault>
+fn store_entry<D: Disk>(alloc: Global, entry: &Entry, store: &mut Store<D>) -> Due
     requires path { IsTrue (is_path entry.now.path) }
     requires runs { store.old.seen.log.stopped ≡ None }
     ensures { PutsEntry entry.now (D.state, store.old, store.new) result }
@@ -132,7 +129,7 @@ fn add_content<C: Clock, D: Disk>(
     content: Text,
     clock: &mut C,
     store: &mut Store<D>,
-) -> Result<Answer, Fault>
+) -> Due
     requires path { IsTrue (is_path path) }
     requires runs { store.old.seen.log.stopped ≡ None }
     ensures { AddsContent path content (C.told, clock.old, clock.new) (D.state, store.old, store.new) result }
@@ -154,7 +151,7 @@ fn add_input<S: Source, C: Clock, D: Disk>(
     input: &mut S,
     clock: &mut C,
     store: &mut Store<D>,
-) -> Result<Answer, Fault>
+) -> Due
     requires path { IsTrue (is_path path) }
     requires runs { store.old.seen.log.stopped ≡ None }
     ensures { AddsTo path (S.state, input.old, input.new) (C.told, clock.old, clock.new) (D.state, store.old, store.new) result }
@@ -174,7 +171,7 @@ fn add<S: Source, C: Clock, D: Disk>(
     input: &mut S,
     clock: &mut C,
     disk: D,
-) -> (Result<Answer, Fault>, D)
+) -> (Due, D)
     requires { IsTrue (is_path path) }
     ensures { ActsReading (command_of.Unversioned (uv.Add path)) (S.state, input.old, input.new) (C.told, clock.old, clock.new) (D.state, disk, result.1) result.0 }
 {
@@ -204,7 +201,7 @@ fn remove_from<C: Clock, D: Disk>(
     path: Text,
     clock: &mut C,
     store: &mut Store<D>,
-) -> Result<Answer, Fault>
+) -> Due
     requires path { IsTrue (is_path path) }
     requires runs { store.old.seen.log.stopped ≡ None }
     ensures { RemovesFrom path (C.told, clock.old, clock.new) (D.state, store.old, store.new) result }
@@ -225,12 +222,7 @@ fn remove_from<C: Clock, D: Disk>(
 }
 
 /// Deletes a path, from the moment on that the clock answers where it is there. The disk comes back.
-fn remove<C: Clock, D: Disk>(
-    alloc: Global,
-    path: Text,
-    clock: &mut C,
-    disk: D,
-) -> (Result<Answer, Fault>, D)
+fn remove<C: Clock, D: Disk>(alloc: Global, path: Text, clock: &mut C, disk: D) -> (Due, D)
     requires { IsTrue (is_path path) }
     ensures { ActsTicking (uv.Remove path) (C.told, clock.old, clock.new) (D.state, disk, result.1) result.0 }
 {
@@ -245,7 +237,7 @@ fn remove<C: Clock, D: Disk>(
 }
 
 /// The lines of what a store holds.
-fn lines_of<D: Disk>(store: &Store<D>) -> Result<Answer, Fault>
+fn lines_of<D: Disk>(store: &Store<D>) -> Due
     ensures { IsToldAs (list_done store.now.seen.map) result }
 {
     match store.list() {
@@ -255,7 +247,7 @@ fn lines_of<D: Disk>(store: &Store<D>) -> Result<Answer, Fault>
 }
 
 /// A line for each path that isn't deleted, by path. The disk comes back.
-fn list<D: Disk>(alloc: Global, disk: D) -> (Result<Answer, Fault>, D)
+fn list<D: Disk>(alloc: Global, disk: D) -> (Due, D)
     ensures { ActsUnread (command_of.Unversioned uv.List) (D.state, disk, result.1) result.0 }
 {
     match Store::load(alloc, disk) {
@@ -285,7 +277,7 @@ fn content_in<D: Disk>(alloc: Global, path: &Text, store: &Store<D>) -> Result<A
 }
 
 /// What is answered of the content of a path in a store.
-fn content_of<D: Disk>(alloc: Global, path: &Text, store: &Store<D>) -> Result<Answer, Fault>
+fn content_of<D: Disk>(alloc: Global, path: &Text, store: &Store<D>) -> Due
     ensures { IsToldAs (cat_done store.now.seen.map path.now) result }
 {
     match content_in(alloc, path, store) {
@@ -295,7 +287,7 @@ fn content_of<D: Disk>(alloc: Global, path: &Text, store: &Store<D>) -> Result<A
 }
 
 /// The content of a path. The disk comes back.
-fn cat<D: Disk>(alloc: Global, path: &Text, disk: D) -> (Result<Answer, Fault>, D)
+fn cat<D: Disk>(alloc: Global, path: &Text, disk: D) -> (Due, D)
     ensures { ActsUnread (command_of.Unversioned (uv.Cat path.now)) (D.state, disk, result.1) result.0 }
 {
     match Store::load(alloc, disk) {
@@ -309,7 +301,7 @@ fn cat<D: Disk>(alloc: Global, path: &Text, disk: D) -> (Result<Answer, Fault>, 
 }
 
 /// Writes a new file for unversioned files with these codes into an empty file. A file that isn't empty is refused.
-fn begin<D: Disk>(alloc: Global, project: Name, server: Name, disk: &mut D) -> Result<Answer, Fault>
+fn begin<D: Disk>(alloc: Global, project: Name, server: Name, disk: &mut D) -> Due
     requires { AreFields [] }
     ensures { ActsUnread (command_of.Unversioned (uv.Init project server)) (D.state, disk.old, disk.new) result }
 {
@@ -334,7 +326,7 @@ pub(crate) fn unversioned<S: Source, C: Clock, D: Disk>(
     input: &mut S,
     clock: &mut C,
     disk: D,
-) -> (Result<Answer, Fault>, D)
+) -> (Due, D)
     requires obeyable { IsUvObeyable asked }
     requires alone { (uv_use asked).merges ≡ false }
     ensures acts { ActsReading (command_of.Unversioned asked) (S.state, input.old, input.new) (C.told, clock.old, clock.new) (D.state, disk, result.1) result.0 }

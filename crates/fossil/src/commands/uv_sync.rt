@@ -1,16 +1,17 @@
 //! `uv-sync`: the newest unversioned files go both ways between two files.
 ghost use Rattle.std.specs.Prelude.{◌≡◌, IfOk};
 ghost use Rattle.fsl_uv.specs.Stores.{IsStore, IsSettled};
-ghost use Rattle.fossil.specs.UvSyncs.{said_printed};
-ghost use Rattle.fsl_uv.specs.Reports as report;
-ghost use Rattle.fossil.specs.UvMerging.{counted, IsUvSyncDue, IsNoStoreDue, IsNoPeerDue, Talks, MergesInto, MergesFiles};
+ghost use Rattle.fossil.specs.Syncs.{no_peer};
+ghost use Rattle.fossil.specs.UvCalls.{IsNoStoreAs};
+ghost use Rattle.fossil.specs.UvMerging.{counted, IsUvSyncDue, Talks, MergesInto, MergesFiles};
 
-use crate::answers::answer::{Answer, not_repository, refusal, refusal_of};
+use crate::answers::answer::{Answer, refusal};
 use crate::answers::due::{Due, answered};
+use crate::answers::fault::Fault;
 use crate::answers::status::DONE;
 use crate::answers::sync_text::{no_peer, other_project};
+use crate::commands::unversioned::{no_store, not_unversioned};
 use fsl_disk::Disk;
-use fsl_name::Name;
 use fsl_text::{Memory, Text};
 use fsl_uv::{Store, SyncFault, UvLoadFault};
 use std::alloc::Global;
@@ -29,46 +30,27 @@ fn counts(alloc: Global, received: u64, sent: u64) -> Result<Answer, Memory>
     Ok(Answer { status: DONE, text })
 }
 
-/// The refusal of a file with a Blob that is no entry, by its name.
-fn not_unversioned(alloc: Global, name: Name) -> Result<Answer, Memory>
-    ensures { IfOk result (λ a. a ≡ said_printed (report.not_unversioned name)) }
-{
-    refusal_of(alloc, b"not unversioned ", name.text().as_slice())
-}
-
 /// What is due of a sync that was made.
-fn sync_due(alloc: Global, made: Result<(u64, u64), SyncFault>) -> Due
+fn uv_sync_due(alloc: Global, made: Result<(u64, u64), SyncFault>) -> Due
     ensures { IsUvSyncDue made result }
 {
     match made {
         Ok((received, sent)) => answered(counts(alloc, received, sent)),
         Err(SyncFault::Full) => answered(refusal(alloc, b"full")),
-        Err(SyncFault::Disk) => Due::Disk,
-        Err(SyncFault::Memory) => Due::Memory,
-    }
-}
-
-/// What is due of a file that isn't opened as a store.
-fn unopened(alloc: Global, fault: UvLoadFault) -> Due
-    ensures { IsNoStoreDue fault result }
-{
-    match fault {
-        UvLoadFault::Disk => Due::Disk,
-        UvLoadFault::NotRepository { at } => answered(not_repository(alloc, at)),
-        UvLoadFault::NotEntry { name } => answered(not_unversioned(alloc, name)),
-        UvLoadFault::Memory => Due::Memory,
+        Err(SyncFault::Disk) => Err(Fault::Disk),
+        Err(SyncFault::Memory) => Err(Fault::Memory),
     }
 }
 
 /// What is due of a peer's file that isn't opened as a store.
-fn unopened_peer(alloc: Global, fault: UvLoadFault) -> Due
-    ensures { IsNoPeerDue fault result }
+fn no_peer_store(alloc: Global, fault: UvLoadFault) -> Due
+    ensures { IsNoStoreAs no_peer fault result }
 {
     match fault {
-        UvLoadFault::Disk => Due::Disk,
+        UvLoadFault::Disk => Err(Fault::Disk),
         UvLoadFault::NotRepository { at } => answered(no_peer(alloc, at)),
         UvLoadFault::NotEntry { name } => answered(not_unversioned(alloc, name)),
-        UvLoadFault::Memory => Due::Memory,
+        UvLoadFault::Memory => Err(Fault::Memory),
     }
 }
 
@@ -83,7 +65,7 @@ fn talk<D: Disk, P: Disk>(alloc: Global, here: &mut Store<D>, there: &mut Store<
     let found = there.config().project;
     let same = found == here.config().project;
     let due = if same {
-        sync_due(alloc, fsl_uv::sync(here, there))
+        uv_sync_due(alloc, fsl_uv::sync(here, there))
     } else {
         answered(other_project(alloc, found))
     };
@@ -103,7 +85,7 @@ fn sync_with<D: Disk, P: Disk>(alloc: Global, here: &mut Store<D>, peer: P) -> (
             let due = talk(alloc, here, &mut there);
             (due, there.close())
         }
-        Err((peer, fault)) => (unopened_peer(alloc, fault), peer),
+        Err((peer, fault)) => (no_peer_store(alloc, fault), peer),
     }
 }
 
@@ -118,6 +100,6 @@ pub(crate) fn uv_sync<D: Disk, P: Disk>(alloc: Global, disk: D, peer: P) -> (Due
             let (due, peer) = sync_with(alloc, &mut here, peer);
             (due, here.close(), peer)
         }
-        Err((disk, fault)) => (unopened(alloc, fault), disk, peer),
+        Err((disk, fault)) => (no_store(alloc, fault), disk, peer),
     }
 }

@@ -5,7 +5,7 @@ ghost use Rattle.fossil.specs.Taking.{HasCome, HaveArrived};
 
 use crate::answers::answer::{Answer, file_refusal};
 use crate::answers::ingest_report::add_line;
-use crate::reading::message::Sent;
+use crate::reading::message::MessageFile;
 use fsl_disk::Disk;
 use fsl_record::Receipt;
 use fsl_repo::{Arrival, Repo};
@@ -38,7 +38,7 @@ fn word(arrival: Arrival) -> &'static [u8]
 /// One file arrives with a receipt, and its line is put at the end, or else it is refused.
 fn arrive_one<D: Disk, L: Ledger>(
     alloc: Global,
-    file: Sent,
+    file: MessageFile,
     receipt: &Receipt,
     repo: &mut Repo<D>,
     text: &mut Text,
@@ -48,7 +48,7 @@ fn arrive_one<D: Disk, L: Ledger>(
     ensures come { IfOk result (HasCome receipt.now file (repo.old.seen.state, repo.new.seen.state) (text.old, text.new)) }
     ensures disk { repo.new.disk ≡ repo.old.disk }
 {
-    let Sent {
+    let MessageFile {
         name,
         bytes,
         private,
@@ -68,7 +68,7 @@ fn arrive_one<D: Disk, L: Ledger>(
 /// The arrivals, with a counter of their own.
 fn arrive_counted<D: Disk, L: Ledger>(
     alloc: Global,
-    files: List<Sent>,
+    files: List<MessageFile>,
     receipt: &Receipt,
     repo: &mut Repo<D>,
     blank: Blank,
@@ -94,7 +94,7 @@ fn arrive_counted<D: Disk, L: Ledger>(
 /// has another name or finds no room refuses all, and else each has its line. Want of memory is the only error.
 pub fn arrive<D: Disk>(
     alloc: Global,
-    files: List<Sent>,
+    files: List<MessageFile>,
     receipt: &Receipt,
     repo: &mut Repo<D>,
 ) -> Result<Arrivals, Memory>

@@ -4,7 +4,7 @@ ghost use Rattle.fossil.specs.Messages.{IsFaultOf, IsMessageRefused};
 ghost use Rattle.fossil.specs.Taking.{IsChecked};
 
 use crate::answers::answer::{Answer, bad_line, not_a_file};
-use crate::reading::message::{MessageFault, Sent, read_files};
+use crate::reading::message::{MessageFault, MessageFile, read_files};
 use fsl_text::{List, Memory, Text};
 use std::alloc::Global;
 
@@ -12,7 +12,7 @@ use std::alloc::Global;
 #[derive(Drop)]
 pub enum Checked {
     /// These are its files.
-    Files(List<Sent>),
+    Files(List<MessageFile>),
     /// It is refused.
     Refused(Answer),
 }

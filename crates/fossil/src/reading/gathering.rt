@@ -12,7 +12,7 @@ ghost use Rattle.fossil.specs.Taking.{IsGathered, IsGatheredBy, HaveGathered, Is
 
 use crate::answers::answer::{Answer, file_refusal};
 use crate::answers::ingest_report::report_of;
-use crate::reading::message::Sent;
+use crate::reading::message::MessageFile;
 use fsl_artifact::{Artifact, members, refs};
 use fsl_cluster::Fact;
 use fsl_name::Name;
@@ -143,14 +143,14 @@ impl Gathered {
     }
 
     /// Stores an artifact whose name isn't there, where there is room.
-    fn store(&mut self, alloc: Global, file: Sent) -> Result<Arrival, ArriveFault>
+    fn store(&mut self, alloc: Global, file: MessageFile) -> Result<Arrival, ArriveFault>
         requires few { self.old.bytes ≤ 2 ^ 30 }
         requires absent { is_some (get bytes_cmp self.old.facts file.name) ≡ false }
         requires named { bytes_eq (name_of file.bytes) file.name ≡ true }
         requires small { length file.bytes ≤ 2 ^ 24 }
         ensures { IsGatheredBy file self.old self.new result }
     {
-        let Sent {
+        let MessageFile {
             name,
             bytes,
             private,
@@ -169,7 +169,7 @@ impl Gathered {
     }
 
     /// A file arrives, and is let go. On want of memory, and where there is no room for it, the set is of no use any more.
-    pub fn arrive(&mut self, alloc: Global, file: Sent) -> Result<Arrival, ArriveFault>
+    pub fn arrive(&mut self, alloc: Global, file: MessageFile) -> Result<Arrival, ArriveFault>
         requires { self.old.bytes ≤ 2 ^ 30 }
         ensures { IsGatheredBy file self.old self.new result }
     {
@@ -195,7 +195,7 @@ impl Gathered {
 /// The files arrive in a set one after another. The first that is too large, has another name or finds no room is refused.
 pub fn gather(
     alloc: Global,
-    files: List<Sent>,
+    files: List<MessageFile>,
     set: &mut Gathered,
 ) -> Result<Option<Answer>, Memory>
     requires { IsGathered fresh set.old }

@@ -1,8 +1,10 @@
 //! Loads the repository file.
 ghost use Rattle.std.specs.Prelude.{IfOk, IfErr};
-ghost use Rattle.fossil.specs.Acts.{IsOpened, IsUnopened, IsNotLoadedAnswer};
+ghost use Rattle.fossil.specs.Due.{IsNotLoadedDue};
+ghost use Rattle.fossil.specs.Acts.{IsOpened, IsUnopened};
 
-use crate::answers::answer::{Answer, not_repository};
+use crate::answers::answer::not_repository;
+use crate::answers::due::{Due, answered};
 use crate::answers::fault::Fault;
 use fsl_disk::Disk;
 use fsl_journal::{Journal, LoadFault};
@@ -34,16 +36,13 @@ pub fn load<D: Disk>(alloc: Global, disk: &mut D) -> Result<Loaded, LoadFault>
     }
 }
 
-/// What is answered of a file that isn't loaded.
-pub fn not_loaded(alloc: Global, fault: LoadFault) -> Result<Answer, Fault>
-    ensures { IsNotLoadedAnswer fault result }
+/// What is due of a file that isn't loaded.
+pub fn not_loaded(alloc: Global, fault: LoadFault) -> Due
+    ensures { IsNotLoadedDue fault result }
 {
     match fault {
         LoadFault::Disk => Err(Fault::Disk),
-        LoadFault::NotRepository { at } => match not_repository(alloc, at) {
-            Ok(answer) => Ok(answer),
-            Err(_) => Err(Fault::Memory),
-        },
+        LoadFault::NotRepository { at } => answered(not_repository(alloc, at)),
         LoadFault::Memory => Err(Fault::Memory),
     }
 }

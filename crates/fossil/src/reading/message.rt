@@ -12,7 +12,7 @@ use std::alloc::Global;
 
 /// A file as it was sent, under a name that may be wrong.
 #[derive(Drop)]
-pub struct Sent {
+pub struct MessageFile {
     pub name: Name,
     pub bytes: Text,
     pub private: bool,
@@ -69,12 +69,12 @@ fn first_other(cards: &[WireCard]) -> Option<usize>
 }
 
 /// Puts the file of a card at the end, where it has one, and tells whether the next file is marked as private.
-fn add_file(files: &mut List<Sent>, marked: bool, card: WireCard) -> Result<bool, Memory>
+fn add_file(files: &mut List<MessageFile>, marked: bool, card: WireCard) -> Result<bool, Memory>
     ensures { IfOk result (λ next. (rest : Items Card) → files.new ++ files_of next rest ≡ files.old ++ files_of marked (card ∷ rest)) }
 {
     match card {
         WireCard::File { name, bytes } => {
-            let file = Sent {
+            let file = MessageFile {
                 name,
                 bytes,
                 private: marked,
@@ -88,7 +88,7 @@ fn add_file(files: &mut List<Sent>, marked: bool, card: WireCard) -> Result<bool
 }
 
 /// The files of cards, whose contents are moved.
-fn files_in(alloc: Global, cards: List<WireCard>) -> Result<List<Sent>, Memory>
+fn files_in(alloc: Global, cards: List<WireCard>) -> Result<List<MessageFile>, Memory>
     ensures { IfOk result (λ files. files ≡ files_of false cards) }
 {
     let mut files = List::new(alloc);
@@ -104,7 +104,7 @@ fn files_among(
     alloc: Global,
     message: &[u8],
     cards: List<WireCard>,
-) -> Result<List<Sent>, MessageFault>
+) -> Result<List<MessageFile>, MessageFault>
     requires { IsBareMessage message.now cards }
     ensures files { IfOk result (IsFileList message.now) }
     ensures fault { IfErr result (IsFaultOf message.now) }
@@ -118,7 +118,7 @@ fn files_among(
 }
 
 /// The files of a message, which is let go: their contents are copied out of it once.
-pub fn read_files(alloc: Global, message: Text) -> Result<List<Sent>, MessageFault>
+pub fn read_files(alloc: Global, message: Text) -> Result<List<MessageFile>, MessageFault>
     ensures files { IfOk result (IsFileList message) }
     ensures fault { IfErr result (IsFaultOf message) }
 {

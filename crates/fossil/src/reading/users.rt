@@ -5,10 +5,12 @@ ghost use Rattle.fsl_outside.specs.Whole.{FailsBy};
 ghost use Rattle.fsl_login.specs.UserFiles.{IsUsersFile};
 ghost use Rattle.fossil.specs.Acts.{input_of};
 ghost use Rattle.fossil.specs.Served.{IsUsers, AreNoUsers};
-ghost use Rattle.fossil.specs.Serving.{printed, IsNoUserFile};
+ghost use Rattle.fossil.specs.Due.{printed};
+ghost use Rattle.fossil.specs.Serving.{IsNoUserFile};
 
 use crate::answers::answer::numbered_refusal;
 use crate::answers::due::{Due, answered};
+use crate::answers::fault::Fault;
 use fsl_login::{Users, UsersFault};
 use fsl_outside::{ReadFault, Source};
 use fsl_text::{MOST_OF_USERS, Text};
@@ -56,7 +58,7 @@ fn users_of(alloc: Global, bytes: &[u8]) -> Result<Users, Due>
             b"users line ",
             line,
         ))),
-        Err(UsersFault::Memory) => Err(Due::Memory),
+        Err(UsersFault::Memory) => Err(Err(Fault::Memory)),
     }
 }
 
@@ -67,7 +69,7 @@ pub(crate) fn read_users<S: Source>(alloc: Global, users: &mut S) -> Result<User
 {
     match read_front(alloc, users) {
         Ok(text) => users_of(alloc, text.bytes()),
-        Err(ReadFault::Failed) => Err(Due::Input),
-        Err(ReadFault::Memory) => Err(Due::Memory),
+        Err(ReadFault::Failed) => Err(Err(Fault::Input)),
+        Err(ReadFault::Memory) => Err(Err(Fault::Memory)),
     }
 }

@@ -19,66 +19,66 @@ pub returns-in-Init-clause-runs : goal.returns-in-Init-clause-runs
 returns-in-Init-clause-runs g c =
     let input : SourceState × SourceState = (g.S.Source.state c.args.input.now, g.S.Source.state c.args.input.now) in
     let clock : Moments × Moments = (g.C.Clock.told c.args.clock.now, g.C.Clock.told c.args.clock.now) in
-    let out : SinkState × SinkState = (g.K.Sink.state c.args.out.now, g.K.Sink.state c.print-status.new.out) in
+    let out : SinkState × SinkState = (g.K.Sink.state c.args.out.now, g.K.Sink.state c.print_due-status.new.out) in
     let file : DiskState × DiskState = (g.D.Disk.state c.args.repo, g.D.Disk.state c.init.new.disk) in
-    subst (λ (x : Command). HasRun (Some x) (input_of input) (clock_of clock) (output_of out) (file_of file) c.print-status.result) (sym c.in-Init.is)
-    (written (Some (command_of.Init c.in-Init.project c.in-Init.server c.in-Init.fields)) (input_of input) (clock_of clock) (file_of file) c.init.result (output_of out) c.print-status.result
-    (c.init.ensures (g.S.Source.state c.args.input.now) clock.0) c.print-status.ensures)
+    subst (λ (x : Command). HasRun (Some x) (input_of input) (clock_of clock) (output_of out) (file_of file) c.print_due-status.result) (sym c.in-Init.is)
+    (written (Some (command_of.Init c.in-Init.project c.in-Init.server c.in-Init.fields)) (input_of input) (clock_of clock) (file_of file) c.init.result (output_of out) c.print_due-status.result
+    (c.init.ensures (g.S.Source.state c.args.input.now) clock.0) c.print_due-status.ensures)
 
 pub returns-in-Ingest-clause-runs : goal.returns-in-Ingest-clause-runs
 returns-in-Ingest-clause-runs g c =
     let input : SourceState × SourceState = (g.S.Source.state c.args.input.now, g.S.Source.state c.ingest.new.input) in
     let clock : Moments × Moments = (g.C.Clock.told c.args.clock.now, g.C.Clock.told c.args.clock.now) in
-    let out : SinkState × SinkState = (g.K.Sink.state c.args.out.now, g.K.Sink.state c.print-status-in-Ingest.new.out) in
+    let out : SinkState × SinkState = (g.K.Sink.state c.args.out.now, g.K.Sink.state c.print_due-status-in-Ingest.new.out) in
     let file : DiskState × DiskState = (g.D.Disk.state c.args.repo, g.D.Disk.state c.args.repo) in
-    subst (λ (x : Command). HasRun (Some x) (input_of input) (clock_of clock) (output_of out) (file_of file) c.print-status-in-Ingest.result) (sym c.in-Ingest.is)
-    (written (Some command_of.Ingest) (input_of input) (clock_of clock) (file_of file) c.ingest.result (output_of out) c.print-status-in-Ingest.result
-    (ingest_acted (input_of input) clock.0 (g.D.Disk.state c.args.repo) (λ model f left. g.met.D.Disk.only_now c.args.repo f model left) c.ingest.result c.ingest.ensures.ok c.ingest.ensures.err) c.print-status-in-Ingest.ensures)
+    subst (λ (x : Command). HasRun (Some x) (input_of input) (clock_of clock) (output_of out) (file_of file) c.print_due-status-in-Ingest.result) (sym c.in-Ingest.is)
+    (written (Some command_of.Ingest) (input_of input) (clock_of clock) (file_of file) c.ingest.result (output_of out) c.print_due-status-in-Ingest.result
+    (ingest_acted (input_of input) clock.0 (g.D.Disk.state c.args.repo) (λ model f left. g.met.D.Disk.only_now c.args.repo f model left) c.ingest.result c.ingest.ensures.ok c.ingest.ensures.err) c.print_due-status-in-Ingest.ensures)
 
 pub returns-in-Put-clause-runs : goal.returns-in-Put-clause-runs
 returns-in-Put-clause-runs g c =
     let input : SourceState × SourceState = (g.S.Source.state c.args.input.now, g.S.Source.state c.put-answer.new.input) in
     let clock : Moments × Moments = (g.C.Clock.told c.args.clock.now, g.C.Clock.told c.put-answer.new.clock) in
-    let out : SinkState × SinkState = (g.K.Sink.state c.args.out.now, g.K.Sink.state c.print-status-in-Put.new.out) in
+    let out : SinkState × SinkState = (g.K.Sink.state c.args.out.now, g.K.Sink.state c.print_due-status-in-Put.new.out) in
     let file : DiskState × DiskState = (g.D.Disk.state c.args.repo, g.D.Disk.state c.put-answer.result.1) in
-    subst (λ (x : Command). HasRun (Some x) (input_of input) (clock_of clock) (output_of out) (file_of file) c.print-status-in-Put.result) (sym c.in-Put.is)
-    (written (Some command_of.Put) (input_of input) (clock_of clock) (file_of file) c.put-answer.result.0 (output_of out) c.print-status-in-Put.result c.put-answer.ensures c.print-status-in-Put.ensures)
+    subst (λ (x : Command). HasRun (Some x) (input_of input) (clock_of clock) (output_of out) (file_of file) c.print_due-status-in-Put.result) (sym c.in-Put.is)
+    (written (Some command_of.Put) (input_of input) (clock_of clock) (file_of file) c.put-answer.result.0 (output_of out) c.print_due-status-in-Put.result c.put-answer.ensures c.print_due-status-in-Put.ensures)
 
 pub returns-in-Shun-clause-runs : goal.returns-in-Shun-clause-runs
 returns-in-Shun-clause-runs g c =
     let input : SourceState × SourceState = (g.S.Source.state c.args.input.now, g.S.Source.state c.args.input.now) in
     let clock : Moments × Moments = (g.C.Clock.told c.args.clock.now, g.C.Clock.told c.args.clock.now) in
-    let out : SinkState × SinkState = (g.K.Sink.state c.args.out.now, g.K.Sink.state c.print-status-in-Shun.new.out) in
+    let out : SinkState × SinkState = (g.K.Sink.state c.args.out.now, g.K.Sink.state c.print_due-status-in-Shun.new.out) in
     let file : DiskState × DiskState = (g.D.Disk.state c.args.repo, g.D.Disk.state c.shun-answer.result.1) in
-    subst (λ (x : Command). HasRun (Some x) (input_of input) (clock_of clock) (output_of out) (file_of file) c.print-status-in-Shun.result) (sym c.in-Shun.is)
-    (written (Some (command_of.Shun c.in-Shun.name)) (input_of input) (clock_of clock) (file_of file) c.shun-answer.result.0 (output_of out) c.print-status-in-Shun.result (c.shun-answer.ensures (g.S.Source.state c.args.input.now) clock.0) c.print-status-in-Shun.ensures)
+    subst (λ (x : Command). HasRun (Some x) (input_of input) (clock_of clock) (output_of out) (file_of file) c.print_due-status-in-Shun.result) (sym c.in-Shun.is)
+    (written (Some (command_of.Shun c.in-Shun.name)) (input_of input) (clock_of clock) (file_of file) c.shun-answer.result.0 (output_of out) c.print_due-status-in-Shun.result (c.shun-answer.ensures (g.S.Source.state c.args.input.now) clock.0) c.print_due-status-in-Shun.ensures)
 
 pub returns-in-Unshun-clause-runs : goal.returns-in-Unshun-clause-runs
 returns-in-Unshun-clause-runs g c =
     let input : SourceState × SourceState = (g.S.Source.state c.args.input.now, g.S.Source.state c.args.input.now) in
     let clock : Moments × Moments = (g.C.Clock.told c.args.clock.now, g.C.Clock.told c.args.clock.now) in
-    let out : SinkState × SinkState = (g.K.Sink.state c.args.out.now, g.K.Sink.state c.print-status-in-Unshun.new.out) in
+    let out : SinkState × SinkState = (g.K.Sink.state c.args.out.now, g.K.Sink.state c.print_due-status-in-Unshun.new.out) in
     let file : DiskState × DiskState = (g.D.Disk.state c.args.repo, g.D.Disk.state c.unshun-answer.result.1) in
-    subst (λ (x : Command). HasRun (Some x) (input_of input) (clock_of clock) (output_of out) (file_of file) c.print-status-in-Unshun.result) (sym c.in-Unshun.is)
-    (written (Some (command_of.Unshun c.in-Unshun.name)) (input_of input) (clock_of clock) (file_of file) c.unshun-answer.result.0 (output_of out) c.print-status-in-Unshun.result (c.unshun-answer.ensures (g.S.Source.state c.args.input.now) clock.0) c.print-status-in-Unshun.ensures)
+    subst (λ (x : Command). HasRun (Some x) (input_of input) (clock_of clock) (output_of out) (file_of file) c.print_due-status-in-Unshun.result) (sym c.in-Unshun.is)
+    (written (Some (command_of.Unshun c.in-Unshun.name)) (input_of input) (clock_of clock) (file_of file) c.unshun-answer.result.0 (output_of out) c.print_due-status-in-Unshun.result (c.unshun-answer.ensures (g.S.Source.state c.args.input.now) clock.0) c.print_due-status-in-Unshun.ensures)
 
 pub returns-in-Ask-clause-runs : goal.returns-in-Ask-clause-runs
 returns-in-Ask-clause-runs g c =
     let input : SourceState × SourceState = (g.S.Source.state c.args.input.now, g.S.Source.state c.args.input.now) in
     let clock : Moments × Moments = (g.C.Clock.told c.args.clock.now, g.C.Clock.told c.args.clock.now) in
-    let out : SinkState × SinkState = (g.K.Sink.state c.args.out.now, g.K.Sink.state c.ask.new.out) in
-    let file : DiskState × DiskState = (g.D.Disk.state c.args.repo, g.D.Disk.state c.ask.result.repo) in
-    subst (λ (x : Command). HasRun (Some x) (input_of input) (clock_of clock) (output_of out) (file_of file) c.ask.result.status) (sym c.in-Ask.is) (c.ask.ensures (g.S.Source.state c.args.input.now) clock.0)
+    let out : SinkState × SinkState = (g.K.Sink.state c.args.out.now, g.K.Sink.state c.answer_question.new.out) in
+    let file : DiskState × DiskState = (g.D.Disk.state c.args.repo, g.D.Disk.state c.answer_question.result.repo) in
+    subst (λ (x : Command). HasRun (Some x) (input_of input) (clock_of clock) (output_of out) (file_of file) c.answer_question.result.status) (sym c.in-Ask.is) (c.answer_question.ensures (g.S.Source.state c.args.input.now) clock.0)
 
 pub returns-in-Serve-clause-runs : goal.returns-in-Serve-clause-runs
 returns-in-Serve-clause-runs g c =
     let input : SourceState × SourceState = (g.S.Source.state c.args.input.now, g.S.Source.state c.args.input.now) in
     let clock : Moments × Moments = (g.C.Clock.told c.args.clock.now, g.C.Clock.told c.args.clock.now) in
-    let out : SinkState × SinkState = (g.K.Sink.state c.args.out.now, g.K.Sink.state c.say_usage-status.new.out) in
+    let out : SinkState × SinkState = (g.K.Sink.state c.args.out.now, g.K.Sink.state c.print_due-status-in-Serve.new.out) in
     let file : DiskState × DiskState = (g.D.Disk.state c.args.repo, g.D.Disk.state c.args.repo) in
-    subst (λ (x : Command). HasRun (Some x) (input_of input) (clock_of clock) (output_of out) (file_of file) c.say_usage-status.result) (sym c.in-Serve.is)
-    (serve_run _ _ _ _ (input_of input) clock.0 (g.D.Disk.state c.args.repo) (λ model f left. g.met.D.Disk.only_now c.args.repo f model left) (output_of out) c.say_usage-status.result
-    c.say_usage-status.ensures.status c.say_usage-status.ensures.said)
+    subst (λ (x : Command). HasRun (Some x) (input_of input) (clock_of clock) (output_of out) (file_of file) c.print_due-status-in-Serve.result) (sym c.in-Serve.is)
+    (serve_run _ _ _ _ (input_of input) clock.0 (g.D.Disk.state c.args.repo) (λ model f left. g.met.D.Disk.only_now c.args.repo f model left) (output_of out) c.print_due-status-in-Serve.result
+    c.print_due-status-in-Serve.ensures)
 
 pub unversioned-answer-requires-clause-obeyable : goal.unversioned-answer-requires-clause-obeyable
 unversioned-answer-requires-clause-obeyable g c = subst IsObeyable c.in-Unversioned.is c.requires.obeyable
@@ -90,10 +90,10 @@ pub returns-in-Unversioned-clause-runs : goal.returns-in-Unversioned-clause-runs
 returns-in-Unversioned-clause-runs g c =
     let input : SourceState × SourceState = (g.S.Source.state c.args.input.now, g.S.Source.state c.unversioned-answer.new.input) in
     let clock : Moments × Moments = (g.C.Clock.told c.args.clock.now, g.C.Clock.told c.unversioned-answer.new.clock) in
-    let out : SinkState × SinkState = (g.K.Sink.state c.args.out.now, g.K.Sink.state c.print-status-in-Unversioned.new.out) in
+    let out : SinkState × SinkState = (g.K.Sink.state c.args.out.now, g.K.Sink.state c.print_due-status-in-Unversioned.new.out) in
     let file : DiskState × DiskState = (g.D.Disk.state c.args.repo, g.D.Disk.state c.unversioned-answer.result.1) in
-    subst (λ (x : Command). HasRun (Some x) (input_of input) (clock_of clock) (output_of out) (file_of file) c.print-status-in-Unversioned.result) (sym c.in-Unversioned.is)
-    (written (Some (command_of.Unversioned c.in-Unversioned.asked)) (input_of input) (clock_of clock) (file_of file) c.unversioned-answer.result.0 (output_of out) c.print-status-in-Unversioned.result c.unversioned-answer.ensures.acts c.print-status-in-Unversioned.ensures)
+    subst (λ (x : Command). HasRun (Some x) (input_of input) (clock_of clock) (output_of out) (file_of file) c.print_due-status-in-Unversioned.result) (sym c.in-Unversioned.is)
+    (written (Some (command_of.Unversioned c.in-Unversioned.asked)) (input_of input) (clock_of clock) (file_of file) c.unversioned-answer.result.0 (output_of out) c.print_due-status-in-Unversioned.result c.unversioned-answer.ensures.acts c.print_due-status-in-Unversioned.ensures)
 
 pub returns-in-Unversioned-clause-unread : goal.returns-in-Unversioned-clause-unread
 returns-in-Unversioned-clause-unread g c = λ unread. c.unversioned-answer.ensures.unread (subst (λ (x : Command). command_reads x ≡ false) c.in-Unversioned.is unread)
@@ -111,30 +111,30 @@ pub returns-in-Gen-clause-runs : goal.returns-in-Gen-clause-runs
 returns-in-Gen-clause-runs g c =
     let input : SourceState × SourceState = (g.S.Source.state c.args.input.now, g.S.Source.state c.args.input.now) in
     let clock : Moments × Moments = (g.C.Clock.told c.args.clock.now, g.C.Clock.told c.args.clock.now) in
-    let out : SinkState × SinkState = (g.K.Sink.state c.args.out.now, g.K.Sink.state c.print-status-in-Gen.new.out) in
+    let out : SinkState × SinkState = (g.K.Sink.state c.args.out.now, g.K.Sink.state c.print_due-status-in-Gen.new.out) in
     let file : DiskState × DiskState = (g.D.Disk.state c.args.repo, g.D.Disk.state c.args.repo) in
-    subst (λ (x : Command). HasRun (Some x) (input_of input) (clock_of clock) (output_of out) (file_of file) c.print-status-in-Gen.result) (sym c.in-Gen.is)
-    (written (Some (command_of.Gen c.in-Gen.count c.in-Gen.reversed)) (input_of input) (clock_of clock) (file_of file) c.made.result (output_of out) c.print-status-in-Gen.result
-    (gen_acted c.in-Gen.count c.in-Gen.reversed (input_of input) clock.0 (g.D.Disk.state c.args.repo) (λ model f left. g.met.D.Disk.only_now c.args.repo f model left) c.generate.result c.made.result c.generate.ensures c.made.ensures.ok c.made.ensures.err)
-    c.print-status-in-Gen.ensures)
+    subst (λ (x : Command). HasRun (Some x) (input_of input) (clock_of clock) (output_of out) (file_of file) c.print_due-status-in-Gen.result) (sym c.in-Gen.is)
+    (written (Some (command_of.Gen c.in-Gen.count c.in-Gen.reversed)) (input_of input) (clock_of clock) (file_of file) c.answered.result (output_of out) c.print_due-status-in-Gen.result
+    (gen_acted c.in-Gen.count c.in-Gen.reversed (input_of input) clock.0 (g.D.Disk.state c.args.repo) (λ model f left. g.met.D.Disk.only_now c.args.repo f model left) c.generate.result c.answered.result c.generate.ensures c.answered.ensures.ok c.answered.ensures.err)
+    c.print_due-status-in-Gen.ensures)
 
 pub returns-in-Export-clause-runs : goal.returns-in-Export-clause-runs
 returns-in-Export-clause-runs g c =
     let input : SourceState × SourceState = (g.S.Source.state c.args.input.now, g.S.Source.state c.args.input.now) in
     let clock : Moments × Moments = (g.C.Clock.told c.args.clock.now, g.C.Clock.told c.args.clock.now) in
-    let out : SinkState × SinkState = (g.K.Sink.state c.args.out.now, g.K.Sink.state c.print-status-in-Export.new.out) in
+    let out : SinkState × SinkState = (g.K.Sink.state c.args.out.now, g.K.Sink.state c.print_due-status-in-Export.new.out) in
     let file : DiskState × DiskState = (g.D.Disk.state c.args.repo, g.D.Disk.state c.export_tree-answer.result.1) in
-    subst (λ (x : Command). HasRun (Some x) (input_of input) (clock_of clock) (output_of out) (file_of file) c.print-status-in-Export.result) (sym c.in-Export.is)
-    (written (Some (command_of.Export c.in-Export.prefix)) (input_of input) (clock_of clock) (file_of file) c.export_tree-answer.result.0 (output_of out) c.print-status-in-Export.result (c.export_tree-answer.ensures (g.S.Source.state c.args.input.now) clock.0) c.print-status-in-Export.ensures)
+    subst (λ (x : Command). HasRun (Some x) (input_of input) (clock_of clock) (output_of out) (file_of file) c.print_due-status-in-Export.result) (sym c.in-Export.is)
+    (written (Some (command_of.Export c.in-Export.prefix)) (input_of input) (clock_of clock) (file_of file) c.export_tree-answer.result.0 (output_of out) c.print_due-status-in-Export.result (c.export_tree-answer.ensures (g.S.Source.state c.args.input.now) clock.0) c.print_due-status-in-Export.ensures)
 
 pub returns-in-Verify-clause-runs : goal.returns-in-Verify-clause-runs
 returns-in-Verify-clause-runs g c =
     let input : SourceState × SourceState = (g.S.Source.state c.args.input.now, g.S.Source.state c.args.input.now) in
     let clock : Moments × Moments = (g.C.Clock.told c.args.clock.now, g.C.Clock.told c.args.clock.now) in
-    let out : SinkState × SinkState = (g.K.Sink.state c.args.out.now, g.K.Sink.state c.print-status-in-Verify.new.out) in
+    let out : SinkState × SinkState = (g.K.Sink.state c.args.out.now, g.K.Sink.state c.print_due-status-in-Verify.new.out) in
     let file : DiskState × DiskState = (g.D.Disk.state c.args.repo, g.D.Disk.state c.verify_tree-answer.result.1) in
-    subst (λ (x : Command). HasRun (Some x) (input_of input) (clock_of clock) (output_of out) (file_of file) c.print-status-in-Verify.result) (sym c.in-Verify.is)
-    (written (Some (command_of.Verify c.in-Verify.prefix)) (input_of input) (clock_of clock) (file_of file) c.verify_tree-answer.result.0 (output_of out) c.print-status-in-Verify.result (c.verify_tree-answer.ensures (g.S.Source.state c.args.input.now) clock.0) c.print-status-in-Verify.ensures)
+    subst (λ (x : Command). HasRun (Some x) (input_of input) (clock_of clock) (output_of out) (file_of file) c.print_due-status-in-Verify.result) (sym c.in-Verify.is)
+    (written (Some (command_of.Verify c.in-Verify.prefix)) (input_of input) (clock_of clock) (file_of file) c.verify_tree-answer.result.0 (output_of out) c.print_due-status-in-Verify.result (c.verify_tree-answer.ensures (g.S.Source.state c.args.input.now) clock.0) c.print_due-status-in-Verify.ensures)
 
 pub checkin-answer-requires-clause-user : goal.checkin-answer-requires-clause-user
 checkin-answer-requires-clause-user g c = let some = subst IsObeyable c.in-Checkin.is c.requires.obeyable in some.0
@@ -146,7 +146,7 @@ pub returns-in-Checkin-clause-runs : goal.returns-in-Checkin-clause-runs
 returns-in-Checkin-clause-runs g c =
     let input : SourceState × SourceState = (g.S.Source.state c.args.input.now, g.S.Source.state c.checkin-answer.new.input) in
     let clock : Moments × Moments = (g.C.Clock.told c.args.clock.now, g.C.Clock.told c.checkin-answer.new.clock) in
-    let out : SinkState × SinkState = (g.K.Sink.state c.args.out.now, g.K.Sink.state c.print-status-in-Checkin.new.out) in
+    let out : SinkState × SinkState = (g.K.Sink.state c.args.out.now, g.K.Sink.state c.print_due-status-in-Checkin.new.out) in
     let file : DiskState × DiskState = (g.D.Disk.state c.args.repo, g.D.Disk.state c.checkin-answer.result.1) in
-    subst (λ (x : Command). HasRun (Some x) (input_of input) (clock_of clock) (output_of out) (file_of file) c.print-status-in-Checkin.result) (sym c.in-Checkin.is)
-    (written (Some (command_of.Checkin c.in-Checkin.parent c.in-Checkin.user c.in-Checkin.comment)) (input_of input) (clock_of clock) (file_of file) c.checkin-answer.result.0 (output_of out) c.print-status-in-Checkin.result c.checkin-answer.ensures c.print-status-in-Checkin.ensures)
+    subst (λ (x : Command). HasRun (Some x) (input_of input) (clock_of clock) (output_of out) (file_of file) c.print_due-status-in-Checkin.result) (sym c.in-Checkin.is)
+    (written (Some (command_of.Checkin c.in-Checkin.parent c.in-Checkin.user c.in-Checkin.comment)) (input_of input) (clock_of clock) (file_of file) c.checkin-answer.result.0 (output_of out) c.print_due-status-in-Checkin.result c.checkin-answer.ensures c.print_due-status-in-Checkin.ensures)

@@ -59,12 +59,12 @@ returns-in-Err-Usage g c =
     let none = none_said words (c.read.ensures.usage (c.in-Err-Usage.is ∙ ap Err c.in-Err-Usage.field-0-is)) in
     let input = input_of (g.S.Source.state c.args.input.now, g.S.Source.state c.args.input.now) in
     let clock = g.C.Clock.told c.args.clock.now in
-    let out = output_of (g.K.Sink.state c.args.out.now, g.K.Sink.state c.say_usage-status.new.out) in
+    let out = output_of (g.K.Sink.state c.args.out.now, g.K.Sink.state c.print_due-status.new.out) in
     let file = file_of (g.D.Disk.state c.args.repo, g.D.Disk.state c.args.repo) in
     record {
       runs = λ alone.
-          subst (λ (o : Option Command). HasRun o input (still clock) out file c.say_usage-status.result) (sym none)
-          (usage_run input clock (g.D.Disk.state c.args.repo) (λ model f left. g.met.D.Disk.only_now c.args.repo f model left) out c.say_usage-status.result c.say_usage-status.ensures.status c.say_usage-status.ensures.said);
+          subst (λ (o : Option Command). HasRun o input (still clock) out file c.print_due-status.result) (sym none)
+          (usage_run input clock (g.D.Disk.state c.args.repo) (λ model f left. g.met.D.Disk.only_now c.args.repo f model left) out c.print_due-status.result c.print_due-status.ensures);
       synced = λ command is asks. absurd (none_or_some command (sym none ∙ is));
       cloned = λ address server fields is. absurd (none_or_some (command_of.Clone address server fields) (sym none ∙ is));
       merged = λ path is. absurd (none_or_some (command_of.Unversioned (uv.Sync path)) (sym none ∙ is));
@@ -81,23 +81,23 @@ returns-in-Err-Memory g c =
     let words = map string_bytes c.args.words.now in
     let input = input_of (g.S.Source.state c.args.input.now, g.S.Source.state c.args.input.now) in
     let clock = g.C.Clock.told c.args.clock.now in
-    let out = output_of (g.K.Sink.state c.args.out.now, g.K.Sink.state c.print-status.new.out) in
+    let out = output_of (g.K.Sink.state c.args.out.now, g.K.Sink.state c.print_due-status-in-Err-Memory.new.out) in
     let file = file_of (g.D.Disk.state c.args.repo, g.D.Disk.state c.args.repo) in
     record {
       runs = λ alone.
-          written (said words) input (still clock) file (Err fault_is.Memory) out c.print-status.result
-          (idle_memory (said words) input clock (g.D.Disk.state c.args.repo) (λ model f left. g.met.D.Disk.only_now c.args.repo f model left) alone) c.print-status.ensures;
+          written (said words) input (still clock) file (Err fault_is.Memory) out c.print_due-status-in-Err-Memory.result
+          (idle_memory (said words) input clock (g.D.Disk.state c.args.repo) (λ model f left. g.met.D.Disk.only_now c.args.repo f model left) alone) c.print_due-status-in-Err-Memory.ensures;
       synced = λ command is asks.
-          idle_synced command (g.D.Disk.state c.args.repo) (g.P.Disk.state c.args.peer) (g.N.Link.state c.args.dial.now) out c.print-status.result (λ model f left. g.met.D.Disk.only_now c.args.repo f model left)
-          (λ model f left. g.met.P.Disk.only_now c.args.peer f model left) c.print-status.ensures;
+          idle_synced command (g.D.Disk.state c.args.repo) (g.P.Disk.state c.args.peer) (g.N.Link.state c.args.dial.now) out c.print_due-status-in-Err-Memory.result (λ model f left. g.met.D.Disk.only_now c.args.repo f model left)
+          (λ model f left. g.met.P.Disk.only_now c.args.peer f model left) c.print_due-status-in-Err-Memory.ensures;
       cloned = λ address server fields is.
-          idle_cloned g.D.Disk.state server fields c.args.repo (g.N.Link.state c.args.dial.now) out c.print-status.result c.print-status.ensures;
+          idle_cloned g.D.Disk.state server fields c.args.repo (g.N.Link.state c.args.dial.now) out c.print_due-status-in-Err-Memory.result c.print_due-status-in-Err-Memory.ensures;
       merged = λ path is.
-          idle_merged (g.D.Disk.state c.args.repo) (g.P.Disk.state c.args.peer) out c.print-status.result (λ model f left. g.met.D.Disk.only_now c.args.repo f model left)
-          (λ model f left. g.met.P.Disk.only_now c.args.peer f model left) c.print-status.ensures;
+          idle_merged (g.D.Disk.state c.args.repo) (g.P.Disk.state c.args.peer) out c.print_due-status-in-Err-Memory.result (λ model f left. g.met.D.Disk.only_now c.args.repo f model left)
+          (λ model f left. g.met.P.Disk.only_now c.args.peer f model left) c.print_due-status-in-Err-Memory.ensures;
       scrubbed = λ path is.
-          idle_scrubbed (g.D.Disk.state c.args.repo) (g.P.Disk.state c.args.peer) out c.print-status.result (λ model f left. g.met.D.Disk.only_now c.args.repo f model left)
-          (λ model f left. g.met.P.Disk.only_now c.args.peer f model left) c.print-status.ensures;
+          idle_scrubbed (g.D.Disk.state c.args.repo) (g.P.Disk.state c.args.peer) out c.print_due-status-in-Err-Memory.result (λ model f left. g.met.D.Disk.only_now c.args.repo f model left)
+          (λ model f left. g.met.P.Disk.only_now c.args.peer f model left) c.print_due-status-in-Err-Memory.ensures;
       unread = λ h. refl {a = c.args.input.now};
       untouched = λ h. refl {a = c.args.repo};
       unasked = λ h. refl {a = c.args.peer};

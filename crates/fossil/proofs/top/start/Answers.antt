@@ -6,7 +6,7 @@ use Rattle.fsl_words.specs.declared.Command.{Command}
 use Rattle.fsl_words.specs.declared.Command.TheVariants as command_of
 use Rattle.fossil.specs.declared.commands.sync.Way.TheVariants as way
 use Rattle.fossil.specs.Acts.{IsObeyable, file_of, output_of}
-use Rattle.fossil.specs.Serving.{printed}
+use Rattle.fossil.specs.Due.{printed}
 use Rattle.fossil.specs.Synced.{Syncs, objects_of}
 use Rattle.fossil.proofs.SyncedLemmas.{untouched, synced_printed, apart_by, other_peer, alone_meets, clone_alone, not_alone, is_alone}
 use Rattle.fossil.proofs.CloneLemmas.{cloned_printed, cloned_if, not_cloned, other_command}

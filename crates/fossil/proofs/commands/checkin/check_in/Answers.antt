@@ -1,17 +1,15 @@
-use Rattle.std.proofs.Common.{◌≡◌, false, List, ℕ, Some, None, Ok, Err, refl, sym, subst, ◌∙◌}
+use Rattle.std.proofs.Common.{◌≡◌, false, ℕ, Some, Ok, Err, sym, subst}
 use Rattle.std.proofs.lemmas.Result.{err_from_is_err_and}
-use Rattle.fsl_outside.specs.Streams.{SourceState}
 use Rattle.fsl_disk.specs.Disk.{DiskState}
 use Rattle.fsl_journal.proofs.Belonging.{same_moments}
 use Rattle.fsl_repo.specs.Whole.{log_of}
 use Rattle.fossil.specs.declared.answers.fault.Fault.TheVariants as fault_is
-use Rattle.fossil.specs.Acts.{input_of, clock_of, loaded_of, IsInput, IsOpened, Acts}
+use Rattle.fossil.specs.Acts.{input_of, clock_of, loaded_of, IsOpened, Acts}
 use Rattle.fossil.specs.CheckinCall.{AreArriving, asked_for}
 use Rattle.fossil.specs.Taking.{HaveArrived}
-use Rattle.fossil.proofs.ActLemmas.{still}
-use Rattle.fossil.proofs.AppendLemmas.{memory_acted, memory_timed, unread_acted, failed_acted, appended_acted, idle_acted}
-use Rattle.fossil.proofs.CheckinLemmas.{checkin_loads, checkin_timed, checked_appended, arrival_appended, parent_appended, item_appended, long_checkin, good_tree}
-use Rattle.fossil.proofs.ShunLemmas.{was_due, commit_rose, commit_contents}
+use Rattle.fossil.proofs.AppendLemmas.{memory_timed, failed_acted, appended_acted, idle_acted}
+use Rattle.fossil.proofs.CheckinLemmas.{checkin_loads, checkin_timed, checked_appended, arrival_appended}
+use Rattle.fossil.proofs.ShunLemmas.{was_due, commit_rose, commit_settles}
 use Rattle.fossil.proofs.commands.checkin.check_in.Goals as goal
 
 pub returns-in_err-made : goal.returns-in_err-made
@@ -93,5 +91,5 @@ returns-in-Ok g c = λ text clock tree parent taken disk input is opened.
     (clock_of clock) (loaded_of mid) (record { status = 0; text = c.add_line.new.text }) appended
     (g.D.Disk.state left.disk) c.commit-committed.ensures.keeps c.commit-committed.ensures.any_moment
     (λ held model told. g.met.D.Disk.reads_as_image disk held model told)
-    (commit_contents mid left (g.D.Disk.state mid.disk) (g.D.Disk.state left.disk) c.is_whole-2.ensures c.is_whole-3.ensures arrived.runs _ c.in-Ok.ensures.step)
+    (commit_settles mid left (g.D.Disk.state mid.disk) (g.D.Disk.state left.disk) c.is_whole-2.ensures c.is_whole-3.ensures arrived.runs _ c.in-Ok.ensures.step)
     c.in-Ok.ensures.durable

@@ -1,17 +1,13 @@
-use Rattle.std.proofs.Common.{◌≡◌, List, ℕ, Some, None, Ok, Err, refl, sym, subst, ◌∙◌}
+use Rattle.std.proofs.Common.{List, ℕ, Some, refl, sym, subst}
 use Rattle.std.proofs.lemmas.Result.{err_from_is_err_and}
 use Rattle.fsl_outside.specs.Streams.{SourceState}
-use Rattle.fsl_disk.specs.Disk.{DiskState}
 use Rattle.fsl_journal.proofs.Belonging.{same_moments}
 use Rattle.fsl_repo.specs.Whole.{log_of}
-use Rattle.fossil.specs.declared.answers.fault.Fault.TheVariants as fault_is
-use Rattle.fossil.specs.Acts.{input_of, clock_of, loaded_of, IsInput, IsOpened, Acts}
+use Rattle.fossil.specs.Acts.{input_of, loaded_of, IsInput}
 use Rattle.fossil.specs.CheckinCall.{asked_for}
-use Rattle.fossil.specs.Taking.{HaveArrived}
 use Rattle.fossil.proofs.ActLemmas.{still}
-use Rattle.fossil.proofs.AppendLemmas.{memory_acted, memory_timed, unread_acted, failed_acted, appended_acted, idle_acted}
-use Rattle.fossil.proofs.CheckinLemmas.{checkin_loads, checkin_timed, checked_appended, arrival_appended, parent_appended, item_appended, long_checkin, good_tree}
-use Rattle.fossil.proofs.ShunLemmas.{was_due, commit_rose, commit_contents}
+use Rattle.fossil.proofs.AppendLemmas.{memory_acted, unread_acted, idle_acted}
+use Rattle.fossil.proofs.CheckinLemmas.{checkin_loads, long_checkin}
 use Rattle.fossil.proofs.commands.checkin.check_input.Goals as goal
 
 pub returns-in_err-text : goal.returns-in_err-text

@@ -18,7 +18,7 @@ pub returns-in_ok-numbered_refusal-in-Err-NotEmpty : goal.returns-in_ok-numbered
 returns-in_ok-numbered_refusal-in-Err-NotEmpty g c = λ input clock.
     refused_acted c.args.config.now input clock (g.D.Disk.state c.args.disk.now) (g.D.Disk.state c.create.new.disk) c.create.ensures.keeps c.create.ensures.any_moment
     (λ held model told. g.met.D.Disk.reads_as_image c.args.disk.now held model told) c.create.ensures.untouched (λ model f left. g.met.D.Disk.only_now c.args.disk.now f model left) c.in-Err-NotEmpty.len c.in_ok-numbered_refusal-in-Err-NotEmpty.field-0 (rw c.in-Err-NotEmpty.field-0-is at c.in-Err-NotEmpty.ensures.fault).1 (rw c.in-Err-NotEmpty.field-0-is at c.in-Err-NotEmpty.ensures.fault).2
-    (rw c.in-Err-NotEmpty.field-0-is at c.in-Err-NotEmpty.ensures.fault).0.contents c.in_ok-numbered_refusal-in-Err-NotEmpty.ensures
+    (rw c.in-Err-NotEmpty.field-0-is at c.in-Err-NotEmpty.ensures.fault).0 c.in_ok-numbered_refusal-in-Err-NotEmpty.ensures
 
 pub returns-in-Err-Disk : goal.returns-in-Err-Disk
 returns-in-Err-Disk g c = λ input clock.

@@ -2,7 +2,7 @@ use Rattle.std.proofs.Common.{◌≡◌, sym, subst}
 use Rattle.fsl_disk.specs.Disk.{DiskState}
 use Rattle.fsl_words.specs.declared.Command.TheVariants as command_of
 use Rattle.fossil.specs.Syncing.{ComesTo}
-use Rattle.fossil.proofs.RepoLemmas.{repo_unopened, unopened_counts}
+use Rattle.fossil.proofs.RepoLemmas.{repo_unopened}
 use Rattle.fossil.proofs.ComeLemmas.{local_comes}
 use Rattle.fossil.proofs.UnopenedLemmas.{ready_of, no_peer_comes}
 use Rattle.fossil.proofs.commands.pull_local.pull_from.Goals as goal
@@ -34,4 +34,4 @@ returns-in-Err g c = λ disk ready path dial.
     let peer = g.P.Disk.state c.args.peer in
     let peer_left = g.P.Disk.state c.in-Err.peer in
     no_peer_comes path file mid old ready peer peer_left dial (λ held model told. g.met.D.Disk.reads_as_image disk held model told) (λ held model told. g.met.D.Disk.reads_as_image old.disk held model told) c.in-Err.ensures.spared c.in-Err.ensures.harmless c.unopened_peer.result c.in-Err.fault
-    (repo_unopened peer peer_left c.in-Err.fault c.in-Err.ensures.fault c.in-Err.ensures.spared c.in-Err.ensures.refused c.in-Err.ensures.any_moment c.in-Err.ensures.keeps) (unopened_counts peer peer_left c.in-Err.fault c.in-Err.ensures.fault) c.unopened_peer.ensures
+    (repo_unopened peer peer_left c.in-Err.fault c.in-Err.ensures.fault c.in-Err.ensures.spared c.in-Err.ensures.refused c.in-Err.ensures.any_moment c.in-Err.ensures.keeps) c.unopened_peer.ensures

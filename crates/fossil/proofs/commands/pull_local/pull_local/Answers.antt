@@ -2,7 +2,7 @@ use Rattle.std.proofs.Common.{◌≡◌, sym, subst}
 use Rattle.fsl_disk.specs.Disk.{DiskState}
 use Rattle.fsl_words.specs.declared.Command.TheVariants as command_of
 use Rattle.fossil.specs.Syncing.{ComesTo}
-use Rattle.fossil.proofs.RepoLemmas.{repo_unopened, unopened_counts}
+use Rattle.fossil.proofs.RepoLemmas.{repo_unopened}
 use Rattle.fossil.proofs.SyncedLemmas.{peer_idle}
 use Rattle.fossil.proofs.UnopenedLemmas.{ready_of, unopened_comes, local_unopened, local_due}
 use Rattle.fossil.proofs.commands.pull_local.pull_local.Goals as goal
@@ -22,5 +22,5 @@ returns-in-Err g c = λ path dial.
     let left = g.D.Disk.state c.in-Err.disk in
     let peer = g.P.Disk.state c.args.peer in
     unopened_comes (command_of.PullLocal path) (local_unopened path) file left peer dial (local_due path peer) (λ asks. peer_idle peer (λ model f held. g.met.P.Disk.only_now c.args.peer f model held))
-    c.in-Err.ensures.spared c.in-Err.ensures.harmless c.unopened.result c.in-Err.fault
-    (repo_unopened file left c.in-Err.fault c.in-Err.ensures.fault c.in-Err.ensures.spared c.in-Err.ensures.refused c.in-Err.ensures.any_moment c.in-Err.ensures.keeps) (unopened_counts file left c.in-Err.fault c.in-Err.ensures.fault) c.unopened.ensures
+    c.in-Err.ensures.spared c.in-Err.ensures.harmless c.not_loaded.result c.in-Err.fault
+    (repo_unopened file left c.in-Err.fault c.in-Err.ensures.fault c.in-Err.ensures.spared c.in-Err.ensures.refused c.in-Err.ensures.any_moment c.in-Err.ensures.keeps) c.not_loaded.ensures

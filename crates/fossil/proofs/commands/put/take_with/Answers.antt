@@ -10,7 +10,7 @@ use Rattle.fossil.specs.Taking.{HaveArrived}
 use Rattle.fossil.proofs.ActLemmas.{put_loads}
 use Rattle.fossil.proofs.AppendLemmas.{memory_timed, failed_acted, appended_acted, idle_acted}
 use Rattle.fossil.proofs.PutLemmas.{form_timed, files_appended, refused_file_appended}
-use Rattle.fossil.proofs.ShunLemmas.{was_due, commit_rose, commit_contents}
+use Rattle.fossil.proofs.ShunLemmas.{was_due, commit_rose, commit_settles}
 use Rattle.fossil.proofs.commands.put.take_with.Goals as goal
 
 pub returns-in_err-text : goal.returns-in_err-text
@@ -60,5 +60,5 @@ returns-in-Ok g c = λ message clock list taken disk input is opened.
     (clock_of clock) (loaded_of mid) (record { status = 0; text = c.in-Taken.text }) (files_appended (input_of input) (clock_of clock) c.args.receipt.now opened_mid.stands.0 message before mid c.args.files c.in-Taken.text taken is list arrived)
     (g.D.Disk.state left.disk) c.commit-committed.ensures.keeps c.commit-committed.ensures.any_moment
     (λ held model told. g.met.D.Disk.reads_as_image disk held model told)
-    (commit_contents mid left (g.D.Disk.state mid.disk) (g.D.Disk.state left.disk) c.is_whole.ensures c.is_whole-2.ensures arrived.runs _ c.in-Ok.ensures.step)
+    (commit_settles mid left (g.D.Disk.state mid.disk) (g.D.Disk.state left.disk) c.is_whole.ensures c.is_whole-2.ensures arrived.runs _ c.in-Ok.ensures.step)
     c.in-Ok.ensures.durable

@@ -1,9 +1,9 @@
 use Rattle.std.proofs.Common.{◌≡◌, sym, subst}
 use Rattle.fsl_disk.specs.Disk.{DiskState}
-use Rattle.fossil.specs.Serving.{printed}
+use Rattle.fossil.specs.Due.{printed}
 use Rattle.fossil.specs.Scrubs.{HasScrubbed}
 use Rattle.fossil.proofs.FileLemmas.{both}
-use Rattle.fossil.proofs.RepoLemmas.{repo_opened, repo_unopened, unopened_counts}
+use Rattle.fossil.proofs.RepoLemmas.{repo_opened, repo_unopened}
 use Rattle.fossil.proofs.ScrubLemmas.{unopened_scrubs}
 use Rattle.fossil.proofs.commands.scrub.scrub.Goals as goal
 
@@ -22,5 +22,5 @@ returns-in-Err g c =
     let file = g.D.Disk.state c.args.disk in
     let left = g.D.Disk.state c.in-Err.disk in
     let is = c.in-Err.ensures in
-    unopened_scrubs file left is.harmless (g.P.Disk.state c.args.peer) (λ model f held. g.met.P.Disk.only_now c.args.peer f model held) c.unopened.result c.in-Err.fault
-    (repo_unopened file left c.in-Err.fault is.fault is.spared is.refused is.any_moment is.keeps) (unopened_counts file left c.in-Err.fault is.fault) c.unopened.ensures
+    unopened_scrubs file left is.harmless (g.P.Disk.state c.args.peer) (λ model f held. g.met.P.Disk.only_now c.args.peer f model held) c.not_loaded.result c.in-Err.fault
+    (repo_unopened file left c.in-Err.fault is.fault is.spared is.refused is.any_moment is.keeps) c.not_loaded.ensures

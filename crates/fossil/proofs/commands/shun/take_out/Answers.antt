@@ -6,7 +6,7 @@ use Rattle.fossil.specs.declared.answers.fault.Fault.TheVariants as fault_is
 use Rattle.fossil.specs.Acts.{input_of, loaded_of, IsOpened, Acts}
 use Rattle.fossil.proofs.ActLemmas.{still, shun_loads}
 use Rattle.fossil.proofs.AppendLemmas.{memory_acted, failed_acted, appended_acted}
-use Rattle.fossil.proofs.ShunLemmas.{has_shunned, shun_appended, was_due, commit_rose, commit_contents}
+use Rattle.fossil.proofs.ShunLemmas.{has_shunned, shun_appended, was_due, commit_rose, commit_settles}
 use Rattle.fossil.proofs.commands.shun.take_out.Goals as goal
 
 pub returns-in-Err : goal.returns-in-Err
@@ -50,5 +50,5 @@ returns-in-Ok-committed g c = λ disk input clock opened.
     (still clock) (loaded_of mid) c.in_ok-answer.answer (shun_appended c.args.name input clock opened_mid.stands.0 before mid c.in-Ok.done c.in_ok-answer.answer c.in_ok-answer.ensures has)
     (g.D.Disk.state left.disk) c.commit-committed.ensures.keeps c.commit-committed.ensures.any_moment
     (λ held model told. g.met.D.Disk.reads_as_image disk held model told)
-    (commit_contents mid left (g.D.Disk.state mid.disk) (g.D.Disk.state left.disk) c.is_whole.ensures c.is_whole-2.ensures has.runs _ c.in-Ok-committed.ensures.step)
+    (commit_settles mid left (g.D.Disk.state mid.disk) (g.D.Disk.state left.disk) c.is_whole.ensures c.is_whole-2.ensures has.runs _ c.in-Ok-committed.ensures.step)
     c.in-Ok-committed.ensures.durable

@@ -5,7 +5,7 @@ use Rattle.fossil.proofs.commands.trees.export_named.Goals as goal
 
 pub returns-in_ok-export_answer-in-Ok-clause-answer : goal.returns-in_ok-export_answer-in-Ok-clause-answer
 returns-in_ok-export_answer-in-Ok-clause-answer g c =
-    named_ok exporting c.args.name g.D.Disk.state c.args.repo.now c.export-found.new.repo c.is_whole.ensures c.in-Ok.found c.in_ok-export_answer-in-Ok.field-0 c.in-Ok.ensures.read c.in_ok-export_answer-in-Ok.ensures
+    named_ok exporting c.args.name g.D.Disk.state c.args.repo.now c.export-found.new.repo c.is_whole.ensures c.is_whole-2.ensures c.in-Ok.ensures.count c.in-Ok.found c.in_ok-export_answer-in-Ok.field-0 c.in-Ok.ensures.read c.in_ok-export_answer-in-Ok.ensures
 
 pub returns-in_err-export_answer-in-Ok-clause-answer : goal.returns-in_err-export_answer-in-Ok-clause-answer
 returns-in_err-export_answer-in-Ok-clause-answer g c =

@@ -5,7 +5,7 @@ use Rattle.fossil.proofs.commands.trees.verify_named.Goals as goal
 
 pub returns-in_ok-verdict_answer-in-Ok-clause-answer : goal.returns-in_ok-verdict_answer-in-Ok-clause-answer
 returns-in_ok-verdict_answer-in-Ok-clause-answer g c =
-    named_ok verifying c.args.name g.D.Disk.state c.args.repo.now c.verify-found.new.repo c.is_whole.ensures c.in-Ok.found c.in_ok-verdict_answer-in-Ok.field-0 c.in-Ok.ensures.read c.in_ok-verdict_answer-in-Ok.ensures
+    named_ok verifying c.args.name g.D.Disk.state c.args.repo.now c.verify-found.new.repo c.is_whole.ensures c.is_whole-2.ensures c.in-Ok.ensures.count c.in-Ok.found c.in_ok-verdict_answer-in-Ok.field-0 c.in-Ok.ensures.read c.in_ok-verdict_answer-in-Ok.ensures
 
 pub returns-in_err-verdict_answer-in-Ok-clause-answer : goal.returns-in_err-verdict_answer-in-Ok-clause-answer
 returns-in_err-verdict_answer-in-Ok-clause-answer g c =

@@ -8,7 +8,7 @@ use Rattle.fossil.specs.declared.answers.fault.Fault.TheVariants as fault_is
 use Rattle.fossil.specs.Acts.{input_of, clock_of, IsOpened, Acts}
 use Rattle.fossil.specs.UvCalls.{loaded_store, putting}
 use Rattle.fossil.proofs.AppendLemmas.{memory_timed, failed_acted, appended_acted}
-use Rattle.fossil.proofs.UvLemmas.{putting_loads, put_timed, put_appended, was_due, commit_rose, commit_contents}
+use Rattle.fossil.proofs.UvLemmas.{putting_loads, put_timed, put_appended, was_due, commit_rose, commit_settles}
 use Rattle.fossil.proofs.commands.unversioned.store_entry.Goals as goal
 
 pub returns-in_err-answer : goal.returns-in_err-answer
@@ -52,5 +52,5 @@ returns-in-Ok g c = λ disk input clock due asked opened.
     (clock_of clock) (loaded_store mid) c.in_ok-answer.answer (put_appended before mid (input_of input) (clock_of clock) opened_mid.stands.0 c.in_ok-answer.answer c.is_store.ensures.map e due asked has)
     (g.D.Disk.state left.disk) c.commit-committed.ensures.keeps c.commit-committed.ensures.any_moment
     (λ held model told. g.met.D.Disk.reads_as_image disk held model told)
-    (commit_contents _ mid.seen.log left.seen.log (g.D.Disk.state mid.disk) (g.D.Disk.state left.disk) c.in-Ok.ensures.ok c.is_store-2.ensures.belongs)
+    (commit_settles _ mid.seen.log left.seen.log (g.D.Disk.state mid.disk) (g.D.Disk.state left.disk) c.in-Ok.ensures.ok c.is_store-2.ensures.belongs)
     c.in-Ok.ensures.durable

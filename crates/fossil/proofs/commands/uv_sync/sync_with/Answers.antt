@@ -1,6 +1,6 @@
 use Rattle.std.proofs.Common.{◌≡◌, sym, subst}
 use Rattle.fsl_disk.specs.Disk.{DiskState}
-use Rattle.fossil.specs.Serving.{printed}
+use Rattle.fossil.specs.Due.{printed}
 use Rattle.fossil.specs.UvSyncs.{HasMerged}
 use Rattle.fossil.proofs.FileLemmas.{both}
 use Rattle.fossil.proofs.UvSyncLemmas.{stores_come, no_peer_comes}
@@ -27,4 +27,4 @@ returns-in-Err g c = λ disk ready.
     let here = c.args.here.now in
     let is = c.in-Err.ensures in
     no_peer_comes (g.D.Disk.state disk) (g.D.Disk.state here.disk) here.seen ready (g.P.Disk.state c.args.peer) (g.P.Disk.state c.in-Err.peer) is.spared is.any_moment is.refused is.harmless is.keeps
-    c.unopened_peer.result c.in-Err.fault is.fault c.unopened_peer.ensures
+    c.no_peer_store.result c.in-Err.fault is.fault c.no_peer_store.ensures

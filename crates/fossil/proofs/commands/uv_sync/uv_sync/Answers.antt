@@ -1,6 +1,6 @@
 use Rattle.std.proofs.Common.{◌≡◌, sym, subst}
 use Rattle.fsl_disk.specs.Disk.{DiskState}
-use Rattle.fossil.specs.Serving.{printed}
+use Rattle.fossil.specs.Due.{printed}
 use Rattle.fossil.specs.UvSyncs.{HasMerged}
 use Rattle.fossil.proofs.FileLemmas.{both}
 use Rattle.fossil.proofs.UvSyncLemmas.{no_file_comes}
@@ -19,4 +19,4 @@ pub returns-in-Err : goal.returns-in-Err
 returns-in-Err g c =
     let is = c.in-Err.ensures in
     no_file_comes (g.D.Disk.state c.args.disk) (g.D.Disk.state c.in-Err.disk) is.spared is.any_moment is.refused is.harmless is.keeps (g.P.Disk.state c.args.peer)
-    (λ model f held. g.met.P.Disk.only_now c.args.peer f model held) c.unopened.result c.in-Err.fault is.fault c.unopened.ensures
+    (λ model f held. g.met.P.Disk.only_now c.args.peer f model held) c.no_store.result c.in-Err.fault is.fault c.no_store.ensures

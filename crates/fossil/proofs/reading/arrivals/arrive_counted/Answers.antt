@@ -1,6 +1,6 @@
 use Rattle.std.proofs.Common.{◌≡◌, List, [], sym, subst, refl, ◌∙◌, arith}
 use Rattle.std.proofs.lemmas.List.{nil_from_length}
-use Rattle.fossil.specs.declared.reading.message.Sent.{Sent}
+use Rattle.fossil.specs.declared.reading.message.MessageFile.{MessageFile}
 use Rattle.fossil.proofs.ArrivalLemmas.{AreTaken, before_all, one_taken, one_refused, all_taken}
 use Rattle.fossil.proofs.reading.arrivals.arrive_counted.Goals as goal
 
@@ -9,7 +9,7 @@ loop-file-init g c =
     let same : c.into_iter-file-iterator.result.rest.items ≡ c.args.files = c.into_iter-file-iterator.ensures.into_iter_gives.0 ∙ c.into_vec-file-items.ensures in
     record {
       taken =
-          subst (λ (left : List Sent). AreTaken c.args.receipt.now c.args.repo.now.seen.state c.args.files left c.args.repo.now.seen.state c.empty-text.result) (sym same)
+          subst (λ (left : List MessageFile). AreTaken c.args.receipt.now c.args.repo.now.seen.state c.args.files left c.args.repo.now.seen.state c.empty-text.result) (sym same)
           (before_all c.args.receipt.now c.args.repo.now.seen.state c.args.files c.empty-text.result c.requires.runs c.empty-text.ensures);
       disk = refl;
     }

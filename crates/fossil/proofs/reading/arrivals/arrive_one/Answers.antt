@@ -3,13 +3,13 @@ use Rattle.fsl_record.specs.Receipts.{Brought}
 use Rattle.fsl_repo.specs.declared.Arrival.{Arrival}
 use Rattle.fsl_repo.specs.declared.ArriveFault.{ArriveFault}
 use Rattle.fsl_repo.specs.Machine.{State, ArriveStep}
-use Rattle.fossil.specs.declared.reading.message.Sent.{Sent}
+use Rattle.fossil.specs.declared.reading.message.MessageFile.{MessageFile}
 use Rattle.fossil.specs.Printed.{name_line}
 use Rattle.fossil.proofs.ArrivalLemmas.{not_stopped}
 use Rattle.fossil.proofs.reading.arrivals.arrive_one.Goals as goal
 
 -- the bytes that arrive are those of the file
-stepped : (receipt : Option Brought) (s new : State) (f : Sent) (bytes : List ℕ) (r : Result Arrival ArriveFault) → bytes ≡ f.bytes → ArriveStep s f.name receipt bytes f.private r new → ArriveStep s f.name receipt f.bytes f.private r new
+stepped : (receipt : Option Brought) (s new : State) (f : MessageFile) (bytes : List ℕ) (r : Result Arrival ArriveFault) → bytes ≡ f.bytes → ArriveStep s f.name receipt bytes f.private r new → ArriveStep s f.name receipt f.bytes f.private r new
 stepped receipt s new f bytes r same step = subst (λ (b : List ℕ). ArriveStep s f.name receipt b f.private r new) same step
 
 pub file_refusal-requires : goal.file_refusal-requires

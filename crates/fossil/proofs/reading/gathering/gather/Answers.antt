@@ -1,6 +1,6 @@
 use Rattle.std.proofs.Common.{◌≡◌, List, [], sym, subst, ◌∙◌, arith}
 use Rattle.std.proofs.lemmas.List.{nil_from_length}
-use Rattle.fossil.specs.declared.reading.message.Sent.{Sent}
+use Rattle.fossil.specs.declared.reading.message.MessageFile.{MessageFile}
 use Rattle.fossil.specs.Arrivals.{none_taken}
 use Rattle.fossil.specs.Ingest.{fresh}
 use Rattle.fossil.proofs.GatherLemmas.{AreGathered, gathered_more, all_gathered}
@@ -8,7 +8,7 @@ use Rattle.fossil.proofs.reading.gathering.gather.Goals as goal
 
 pub loop-file-init : goal.loop-file-init
 loop-file-init c =
-    subst (λ (left : List Sent). AreGathered c.args.files left c.args.set.now) (sym (c.into_iter-file-iterator.ensures.into_iter_gives.0 ∙ c.into_vec-file-items.ensures))
+    subst (λ (left : List MessageFile). AreGathered c.args.files left c.args.set.now) (sym (c.into_iter-file-iterator.ensures.into_iter_gives.0 ∙ c.into_vec-file-items.ensures))
     (record { taken = none_taken fresh; goes_on = λ result h. h; state = c.requires })
 
 pub loop-file-preserved : goal.loop-file-preserved

@@ -2,7 +2,7 @@ use Rattle.std.proofs.Common.{rules, ◌≡◌, ℕ, List, ◌∷◌, [], ◌++�
 use Rattle.std.specs.Prelude.{codes, replicate}
 use Rattle.fsl_name.specs.Name.{name_text}
 use Rattle.fossil.proofs.DamagedLine.{line_is}
-use Rattle.fossil.proofs.answers.say.damaged_line.Goals as goal
+use Rattle.fossil.proofs.answers.due.damaged_line.Goals as goal
 
 pub returns : goal.returns
 returns c =

@@ -1,18 +1,20 @@
 //! Serves a repository to several connections.
-ghost use Rattle.std.specs.Prelude.{◌≡◌, ◌<◌, ◌≤◌, None, Some, vec_len, IfOk, IfErr};
+ghost use Rattle.std.specs.Prelude.{◌≡◌, ◌<◌, ◌≤◌, None, Some, Err, vec_len, IfOk, IfErr};
 ghost use Rattle.std.specs.Option.{option_map};
 ghost use Rattle.fossil.specs.Acts.{output_of};
-ghost use Rattle.fossil.specs.Served.{AreStaffed, IsWrittenAs, serving_of, serving_in, not_loaded};
-ghost use Rattle.fossil.specs.Serving.{printed, IsDue, IsAsked, IsUnasked};
+ghost use Rattle.fossil.specs.Run.{IsWritten};
+ghost use Rattle.fossil.specs.Served.{AreStaffed, serving_of, serving_in};
+ghost use Rattle.fossil.specs.Due.{printed};
+ghost use Rattle.fossil.specs.Serving.{IsAsked, IsUnasked};
 ghost use Rattle.fossil.specs.RunCall.{texts};
 ghost use Rattle.fossil.specs.ServeCall.{disk_left, IsServe, IsFileServed, IsDiskServed, IsLoadedServed};
 
-use crate::answers::answer::not_repository;
-use crate::answers::due::{Due, answered, print_due};
+use crate::answers::due::{Due, print_due};
+use crate::answers::fault::Fault;
+use crate::reading::load::not_loaded;
 use crate::reading::users::read_users;
 use crate::worked::finished;
 use fsl_disk::Disk;
-use fsl_journal::LoadFault;
 use fsl_login::Users;
 use fsl_outside::{Clock, Door, Gate, Sink, Source};
 use fsl_repo::Repo;
@@ -77,10 +79,10 @@ fn requests_of(command: &Command) -> Option<u64>
 }
 
 /// How many connections each worker is to take, by the words.
-fn asked(alloc: Global, words: &[String]) -> Result<u64, Due>
+fn connections_asked(alloc: Global, words: &[String]) -> Result<u64, Fault>
     ensures asked { IfOk result (IsAsked (texts words.now)) }
     ensures few { IfOk result (λ requests. requests ≤ 65536) }
-    ensures none { IfErr result (IsUnasked (texts words.now)) }
+    ensures none { IfErr result (λ fault. IsUnasked (texts words.now) (Err fault)) }
 {
     match read(alloc, words) {
         Ok(words) => {
@@ -89,33 +91,22 @@ fn asked(alloc: Global, words: &[String]) -> Result<u64, Due>
             drop(words);
             match requests {
                 Some(requests) => Ok(requests),
-                None => Err(Due::Usage),
+                None => Err(Fault::Usage),
             }
         }
-        Err(WordsFault::Usage) => Err(Due::Usage),
-        Err(WordsFault::Memory) => Err(Due::Memory),
-    }
-}
-
-/// What is said of a file that wasn't loaded.
-fn not_loaded(alloc: Global, fault: LoadFault) -> Due
-    ensures { IsDue (not_loaded fault) result }
-{
-    match fault {
-        LoadFault::Disk => Due::Disk,
-        LoadFault::NotRepository { at } => answered(not_repository(alloc, at)),
-        LoadFault::Memory => Due::Memory,
+        Err(WordsFault::Usage) => Err(Fault::Usage),
+        Err(WordsFault::Memory) => Err(Fault::Memory),
     }
 }
 
 /// Says what is due, and gives the status with what is left.
 fn ended<D: Disk, A, G, C, K: Sink>(
     out: &mut K,
-    due: &Due,
+    due: Due,
     state: State<D>,
     crews: Vec<Crew<A, G, C>>,
 ) -> Served<D, A, G, C>
-    ensures said { IsWrittenAs (printed due.now) (output_of (K.state out.old, K.state out.new)) result.status }
+    ensures said { IsWritten (printed due) (output_of (K.state out.old, K.state out.new)) result.status }
     ensures state { result.state ≡ state }
     ensures crews { result.crews ≡ crews }
 {
@@ -150,7 +141,7 @@ fn serve_loaded<
     let project = repo.config().project;
     match serve_crews(rt, alloc, users, project, repo, crews, requests) {
         Ok(worked) => finished(alloc, worked, out),
-        Err((repo, crews)) => ended(out, &Due::Memory, State::Loaded(repo), crews),
+        Err((repo, crews)) => ended(out, Err(Fault::Memory), State::Loaded(repo), crews),
     }
 }
 
@@ -177,7 +168,7 @@ fn serve_disk<
 {
     match Repo::load(alloc, disk) {
         Ok(repo) => serve_loaded(rt, alloc, users, repo, crews, requests, out),
-        Err((disk, fault)) => ended(out, &not_loaded(alloc, fault), State::Unloaded(disk), crews),
+        Err((disk, fault)) => ended(out, not_loaded(alloc, fault), State::Unloaded(disk), crews),
     }
 }
 
@@ -205,7 +196,7 @@ fn serve_file<
 {
     match read_users(alloc, users) {
         Ok(users) => serve_disk(rt, alloc, &users, disk, crews, requests, out),
-        Err(due) => ended(out, &due, State::Unloaded(disk), crews),
+        Err(due) => ended(out, due, State::Unloaded(disk), crews),
     }
 }
 
@@ -238,8 +229,8 @@ pub fn serve<
     ensures said { IsServe words.now (S.state, users.old, users.new) (K.state, out.old, out.new) (D.state, repo) ((A.state, G.passed, C.told), crews.items) result }
     ensures unread { serving_in (texts words.now) ≡ None → users.new ≡ users.old }
 {
-    match asked(alloc, words) {
+    match connections_asked(alloc, words) {
         Ok(requests) => serve_file(rt, alloc, users, repo, crews, requests, out),
-        Err(due) => ended(out, &due, State::Unloaded(repo), crews),
+        Err(fault) => ended(out, Err(fault), State::Unloaded(repo), crews),
     }
 }

@@ -2,7 +2,7 @@ use Rattle.std.proofs.Common.{ap}
 use Rattle.fossil.specs.Acts.{input_of}
 use Rattle.fossil.specs.ServeCall.{left_of}
 use Rattle.fossil.proofs.ServeLemmas.{users_served, nobody_served}
-use Rattle.fossil.proofs.commands.serving.serve_file.Goals as goal
+use Rattle.fossil.proofs.commands.serve.serve_file.Goals as goal
 
 pub returns-in-Ok : goal.returns-in-Ok
 returns-in-Ok g c = users_served _ _ _ _ _ _ _ c.args.disk _ c.in-Ok.users c.args.requests c.in-Ok.ensures.users c.serve_disk.ensures

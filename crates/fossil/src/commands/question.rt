@@ -1,8 +1,8 @@
-//! The commands that ask the repository.
+//! The commands that ask the repository a question.
 ghost use Rattle.fossil.specs.RunCall.{RunsQuestion};
 
+use crate::answers::due::print_due;
 use crate::answers::reporting::report;
-use crate::answers::say::print;
 use crate::ran::Done;
 use fsl_disk::Disk;
 use fsl_outside::Sink;
@@ -10,7 +10,7 @@ use fsl_words::Question;
 use std::alloc::Global;
 
 /// Prints the report on a question, and gives the status and the disk.
-pub(crate) fn ask<K: Sink, D: Disk>(
+pub(crate) fn answer_question<K: Sink, D: Disk>(
     alloc: Global,
     question: &Question,
     out: &mut K,
@@ -20,6 +20,6 @@ pub(crate) fn ask<K: Sink, D: Disk>(
 {
     let mut repo = repo;
     let answer = report(alloc, question, &mut repo);
-    let status = print(out, answer);
+    let status = print_due(out, answer);
     Done { status, repo }
 }

@@ -2,7 +2,7 @@ use Rattle.std.proofs.Common.{ap, sym, subst, ◌∙◌, arith}
 use Rattle.fossil.specs.Served.{Loaded}
 use Rattle.fossil.specs.ServeCall.{left_of, CrewsWorked}
 use Rattle.fossil.proofs.ServeLemmas.{nobody_works, workers_ran, has_served, within_of, project_is}
-use Rattle.fossil.proofs.commands.serving.serve_loaded.Goals as goal
+use Rattle.fossil.proofs.commands.serve.serve_loaded.Goals as goal
 
 pub finished-requires-clause-few : goal.finished-requires-clause-few
 finished-requires-clause-few g c = omega (arith, c.in-Ok.ensures.worked.1, c.requires.crews.1)

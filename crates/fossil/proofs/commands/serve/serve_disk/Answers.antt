@@ -2,7 +2,7 @@ use Rattle.std.proofs.Common.{ap}
 use Rattle.fsl_repo.specs.Opening.{disk_of}
 use Rattle.fossil.specs.ServeCall.{left_of}
 use Rattle.fossil.proofs.ServeLemmas.{loaded_served, not_served, safe_as}
-use Rattle.fossil.proofs.commands.serving.serve_disk.Goals as goal
+use Rattle.fossil.proofs.commands.serve.serve_disk.Goals as goal
 
 pub returns-in-Ok : goal.returns-in-Ok
 returns-in-Ok g c =
