@@ -205,6 +205,44 @@ impl Play for OfCheckIns {
     }
 }
 
+/// Shows what a table of two check-ins shows that is made at once.
+fn show_built(alloc: Global, whole: Fact, late: Fact, into: &mut Text) -> Result<(), Memory>
+    requires whole { IsCheckin whole.name late.name whole }
+    requires late { IsCheckin late.name whole.name late }
+    requires differ { bytes_eq late.name whole.name ≡ false }
+{
+    let tags = Tags::build(alloc, &[late, whole])?;
+    show(alloc, &tags, into);
+    Ok(())
+}
+
+/// A table of a circle of check-ins that is made at once.
+struct OfBuiltCheckIns;
+
+impl Play for OfBuiltCheckIns {
+    fn play<L: Ledger>(
+        alloc: Global,
+        is_reversed: bool,
+        into: &mut Text,
+        _steps: &mut Steps<L>,
+    ) -> Result<(), Memory> {
+        if are_same(second(), first()) {
+            return Err(Memory);
+        }
+        let one = check_in(alloc, first(), second(), !is_reversed)?;
+        let other = check_in(alloc, second(), first(), is_reversed)?;
+        show_built(alloc, one, other, into)
+    }
+}
+
+#[test]
+fn a_table_of_a_circle_of_check_ins_is_the_same(rt: HostRuntime) -> Result<(), Memory> {
+    let wanted = b" on 2f22 6b1f";
+    want(&rt, shown::<OfBuiltCheckIns>(rt.alloc(), false)?, wanted);
+    want(&rt, shown::<OfBuiltCheckIns>(rt.alloc(), true)?, wanted);
+    Ok(())
+}
+
 #[test]
 fn check_ins_come_into_a_circle(rt: HostRuntime) -> Result<(), Memory> {
     want(
