@@ -216,6 +216,22 @@ fn show_built(alloc: Global, whole: Fact, late: Fact, into: &mut Text) -> Result
     Ok(())
 }
 
+/// Shows what a table of check-ins of these names shows that is made at once, of which the one has the tag that is to have it.
+fn show_named(
+    alloc: Global,
+    early: Name,
+    late: Name,
+    is_tagged: bool,
+    into: &mut Text,
+) -> Result<(), Memory> {
+    if are_same(late, early) {
+        return Err(Memory);
+    }
+    let whole = check_in(alloc, early, late, is_tagged)?;
+    let child = check_in(alloc, late, early, !is_tagged)?;
+    show_built(alloc, whole, child, into)
+}
+
 /// A table of a circle of check-ins that is made at once.
 struct OfBuiltCheckIns;
 
@@ -226,12 +242,11 @@ impl Play for OfBuiltCheckIns {
         into: &mut Text,
         _steps: &mut Steps<L>,
     ) -> Result<(), Memory> {
-        if are_same(second(), first()) {
-            return Err(Memory);
+        if is_reversed {
+            show_named(alloc, second(), first(), false, into)
+        } else {
+            show_named(alloc, first(), second(), true, into)
         }
-        let one = check_in(alloc, first(), second(), !is_reversed)?;
-        let other = check_in(alloc, second(), first(), is_reversed)?;
-        show_built(alloc, one, other, into)
     }
 }
 

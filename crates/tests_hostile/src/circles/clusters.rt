@@ -139,6 +139,15 @@ impl Play for OfClusters {
     }
 }
 
+/// Shows what a table of two clusters shows that is made at once.
+fn show_built(alloc: Global, late: Fact, early: Fact, into: &mut Text) -> Result<(), Memory>
+    requires { bytes_eq late.name early.name ≡ false }
+{
+    let clusters = Clusters::build(alloc, &[late, early])?;
+    show(alloc, &clusters, into);
+    Ok(())
+}
+
 /// A table of a circle of clusters that is made at once.
 struct OfBuiltClusters;
 
@@ -153,9 +162,7 @@ impl Play for OfBuiltClusters {
         if are_same(late.name, early.name) {
             return Err(Memory);
         }
-        let clusters = Clusters::build(alloc, &[late, early])?;
-        show(alloc, &clusters, into);
-        Ok(())
+        show_built(alloc, late, early, into)
     }
 }
 

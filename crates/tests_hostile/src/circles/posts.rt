@@ -139,6 +139,15 @@ impl Play for OfPosts {
     }
 }
 
+/// Shows what a table of two posts shows that is made at once.
+fn show_built(alloc: Global, late: Fact, early: Fact, into: &mut Text) -> Result<(), Memory>
+    requires { bytes_eq late.name early.name ≡ false }
+{
+    let threads = Threads::build(alloc, &[late, early])?;
+    show(alloc, &threads, into);
+    Ok(())
+}
+
 /// A table of a circle of posts that is made at once.
 struct OfBuiltPosts;
 
@@ -153,9 +162,7 @@ impl Play for OfBuiltPosts {
         if are_same(late.name, early.name) {
             return Err(Memory);
         }
-        let threads = Threads::build(alloc, &[late, early])?;
-        show(alloc, &threads, into);
-        Ok(())
+        show_built(alloc, late, early, into)
     }
 }
 

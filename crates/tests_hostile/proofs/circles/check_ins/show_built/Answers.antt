@@ -1,5 +1,4 @@
 use Rattle.std.specs.Prelude.{◌≡◌, ℕ, List, [], ◌∷◌, true, false, cond, Option, Some, None, IsTrue, IfSome}
-use Rattle.std.specs.List.{IsDistinct}
 use Rattle.std.specs.Option.{option_map_or}
 use Rattle.std.proofs.Common.{refl, sym, ap, subst, ◌∙◌}
 use Rattle.std.specs.Str.{bytes_eq}
@@ -8,6 +7,7 @@ use Rattle.fsl_order.specs.Rows.{named}
 use Rattle.fsl_tags.specs.declared.Fact.{Fact}
 use Rattle.fsl_tags.specs.Tags.{IsTagFact, AreTagFacts}
 use Rattle.tests_hostile.specs.Circles.{IsCheckin}
+use Rattle.tests_hostile.proofs.Pairs.{distinct_pair}
 use Rattle.tests_hostile.proofs.circles.check_ins.show_built.Goals as goal
 
 -- a check-in whose parent is there as one
@@ -24,14 +24,13 @@ same name = (bytes_decides name name).1 refl
 
 -- two check-ins of which each is the other's parent
 both : (late whole : Fact) → IsCheckin whole.name late.name whole → IsCheckin late.name whole.name late → bytes_eq late.name whole.name ≡ false → AreTagFacts (late ∷ whole ∷ [])
-unfolding IsDistinct
 both late whole of_whole of_late differ =
     let none : Option Fact = None in
     let first : named (λ (f : Fact). f.name) (late ∷ whole ∷ []) late.name ≡ Some late = ap (λ b. cond b (Some late) (cond (bytes_eq whole.name late.name) (Some whole) none)) (same late.name) in
     let second : named (λ (f : Fact). f.name) (late ∷ whole ∷ []) whole.name ≡ Some whole =
     ap (λ b. cond b (Some late) (cond (bytes_eq whole.name whole.name) (Some whole) none)) differ ∙ ap (λ b. cond b (Some whole) none) (same whole.name) in
     record {
-      differ = ((differ, tt), (tt, tt));
+      differ = distinct_pair late.name whole.name differ;
       fit = (fit (late ∷ whole ∷ []) late whole of_late of_whole.checkin second, (fit (late ∷ whole ∷ []) whole late of_whole of_late.checkin first, tt));
     }
 
