@@ -53,7 +53,7 @@ def connected(port, patience=0):
     end = time.monotonic() + patience
     while True:
         try:
-            return socket.create_connection(('127.0.0.1', port), timeout=90)
+            return socket.create_connection(('127.0.0.1', port), timeout=max(90, patience))
         except ConnectionRefusedError:
             if time.monotonic() > end:
                 raise

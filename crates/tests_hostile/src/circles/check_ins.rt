@@ -205,6 +205,59 @@ impl Play for OfCheckIns {
     }
 }
 
+/// Shows what a table of two check-ins shows that is made at once.
+fn show_built(alloc: Global, whole: Fact, late: Fact, into: &mut Text) -> Result<(), Memory>
+    requires whole { IsCheckin whole.name late.name whole }
+    requires late { IsCheckin late.name whole.name late }
+    requires differ { bytes_eq late.name whole.name ≡ false }
+{
+    let tags = Tags::build(alloc, &[late, whole])?;
+    show(alloc, &tags, into);
+    Ok(())
+}
+
+/// Shows what a table of check-ins of these names shows that is made at once, of which the one has the tag that is to have it.
+fn show_named(
+    alloc: Global,
+    early: Name,
+    late: Name,
+    is_tagged: bool,
+    into: &mut Text,
+) -> Result<(), Memory> {
+    if are_same(late, early) {
+        return Err(Memory);
+    }
+    let whole = check_in(alloc, early, late, is_tagged)?;
+    let child = check_in(alloc, late, early, !is_tagged)?;
+    show_built(alloc, whole, child, into)
+}
+
+/// A table of a circle of check-ins that is made at once.
+struct OfBuiltCheckIns;
+
+impl Play for OfBuiltCheckIns {
+    fn play<L: Ledger>(
+        alloc: Global,
+        is_reversed: bool,
+        into: &mut Text,
+        _steps: &mut Steps<L>,
+    ) -> Result<(), Memory> {
+        if is_reversed {
+            show_named(alloc, second(), first(), false, into)
+        } else {
+            show_named(alloc, first(), second(), true, into)
+        }
+    }
+}
+
+#[test]
+fn a_table_of_a_circle_of_check_ins_is_the_same(rt: HostRuntime) -> Result<(), Memory> {
+    let wanted = b" on 2f22 6b1f";
+    want(&rt, shown::<OfBuiltCheckIns>(rt.alloc(), false)?, wanted);
+    want(&rt, shown::<OfBuiltCheckIns>(rt.alloc(), true)?, wanted);
+    Ok(())
+}
+
 #[test]
 fn check_ins_come_into_a_circle(rt: HostRuntime) -> Result<(), Memory> {
     want(

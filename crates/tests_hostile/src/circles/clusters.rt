@@ -139,6 +139,41 @@ impl Play for OfClusters {
     }
 }
 
+/// Shows what a table of two clusters shows that is made at once.
+fn show_built(alloc: Global, late: Fact, early: Fact, into: &mut Text) -> Result<(), Memory>
+    requires { bytes_eq late.name early.name ≡ false }
+{
+    let clusters = Clusters::build(alloc, &[late, early])?;
+    show(alloc, &clusters, into);
+    Ok(())
+}
+
+/// A table of a circle of clusters that is made at once.
+struct OfBuiltClusters;
+
+impl Play for OfBuiltClusters {
+    fn play<L: Ledger>(
+        alloc: Global,
+        is_reversed: bool,
+        into: &mut Text,
+        _steps: &mut Steps<L>,
+    ) -> Result<(), Memory> {
+        let Turns { late, early } = in_turn(alloc, is_reversed)?;
+        if are_same(late.name, early.name) {
+            return Err(Memory);
+        }
+        show_built(alloc, late, early, into)
+    }
+}
+
+#[test]
+fn a_table_of_a_circle_of_clusters_is_the_same(rt: HostRuntime) -> Result<(), Memory> {
+    let wanted = b" unclustered missing";
+    want(&rt, shown::<OfBuiltClusters>(rt.alloc(), false)?, wanted);
+    want(&rt, shown::<OfBuiltClusters>(rt.alloc(), true)?, wanted);
+    Ok(())
+}
+
 #[test]
 fn clusters_come_into_a_circle(rt: HostRuntime) -> Result<(), Memory> {
     want(

@@ -139,6 +139,41 @@ impl Play for OfPosts {
     }
 }
 
+/// Shows what a table of two posts shows that is made at once.
+fn show_built(alloc: Global, late: Fact, early: Fact, into: &mut Text) -> Result<(), Memory>
+    requires { bytes_eq late.name early.name ≡ false }
+{
+    let threads = Threads::build(alloc, &[late, early])?;
+    show(alloc, &threads, into);
+    Ok(())
+}
+
+/// A table of a circle of posts that is made at once.
+struct OfBuiltPosts;
+
+impl Play for OfBuiltPosts {
+    fn play<L: Ledger>(
+        alloc: Global,
+        is_reversed: bool,
+        into: &mut Text,
+        _steps: &mut Steps<L>,
+    ) -> Result<(), Memory> {
+        let Turns { late, early } = in_turn(alloc, is_reversed)?;
+        if are_same(late.name, early.name) {
+            return Err(Memory);
+        }
+        show_built(alloc, late, early, into)
+    }
+}
+
+#[test]
+fn a_table_of_a_circle_of_posts_is_the_same(rt: HostRuntime) -> Result<(), Memory> {
+    let wanted = b" e4fb e4fb b78f c5fd";
+    want(&rt, shown::<OfBuiltPosts>(rt.alloc(), false)?, wanted);
+    want(&rt, shown::<OfBuiltPosts>(rt.alloc(), true)?, wanted);
+    Ok(())
+}
+
 #[test]
 fn posts_come_into_a_circle(rt: HostRuntime) -> Result<(), Memory> {
     want(
