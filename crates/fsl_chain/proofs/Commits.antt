@@ -51,7 +51,7 @@ module _ {W : Type 0} (puts : Puts W) (one_file : IsOneFile) (before after : Dis
       (λ c left. unheard puts low high tries work group c (opened_reached puts low high tries one_file before modelled reads here c left)) harmless
 
 -- an opening, some work and a commit
-module _ {W D : Type 0} (puts : Puts W) (one_file : IsOneFile) (work : W) (loaded : List Record) (e : Ending (Whole D)) (before mid after : DiskState) (modelled : IsModelled before)
+module _ {W D : Type 0} (puts : Puts W) (one_file : IsOneFile) (work : W) (loaded : List Record) (e : Ending D) (before mid after : DiskState) (modelled : IsModelled before)
     (reads : (held : List ℕ) → before.contents ≡ Some held → before.images held) (harmless : LeavesOnly before mid (HeldOrSame before)) (keeps : Keeps before mid)
     (stands : OfBytes before (λ bytes. IsFileOf bytes loaded)) (commit : IsTried (puts work) loaded e mid after) where
   pub life_later : before.moment ≤ after.moment

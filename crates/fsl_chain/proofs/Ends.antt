@@ -1,5 +1,5 @@
 -- What lives and openings leave, one after the other.
-use Rattle.std.specs.Prelude.{◌≡◌, ℕ, true, false, List, [], ◌∷◌, ◌++◌, reverse}
+use Rattle.std.specs.Prelude.{◌≡◌, ℕ, Bool, true, false, if◌then◌else◌, ◌&&◌, List, [], ◌∷◌, ◌++◌, reverse}
 use Rattle.std.proofs.Common.{refl, sym, ap, subst, ◌∙◌}
 use Rattle.std.proofs.lemmas.List.{reverse-append}
 use Rattle.fsl_disk.specs.Disk.{DiskState, IsModelled}
@@ -8,7 +8,7 @@ use Rattle.fsl_repo.specs.Whole.{Whole}
 use Rattle.fsl_chain.specs.declared.reopening.Opening.{Opening}
 use Rattle.fsl_chain.specs.declared.surviving.Lived.{Lived}
 use Rattle.fsl_chain.specs.Chain.{Puts, AreReached, MayHave, Has, IsLeftBy, try_of}
-use Rattle.fsl_chain.specs.Lives.{Does, IsLifeOf, AreLives, SurvivesAll, try_in, tries_of}
+use Rattle.fsl_chain.specs.Lives.{Does, HasEnded, IsLifeOf, AreLives, SurvivesAll, is_done, try_in, tries_of}
 use Rattle.fsl_chain.specs.Openings.{IsOpeningOf, AreOpenings}
 
 -- unheard: a crash at some moment since the beginning
@@ -31,15 +31,15 @@ more_openings state first [] mid o last same opening = (last, subst (λ d. IsOpe
 more_openings state first (x ∷ all) mid o last so_far opening = (so_far.0, so_far.1, more_openings state so_far.0 all mid o last so_far.2 opening)
 
 -- one life more
-module _ {D W : Type 0} (state : D → DiskState) (does : Does W) (mid : D) (work : W) (l : Lived D (Whole D)) (last : D) where
-  pub more_lives : (first : D) (works : List W) (lives : List (Lived D (Whole D))) → AreLives state does first works lives mid → IsLifeOf state does work mid l last
+module _ {D W : Type 0} (state : D → DiskState) (does : Does W) (mid : D) (work : W) (l : Lived D) (last : D) where
+  pub more_lives : (first : D) (works : List W) (lives : List (Lived D)) → AreLives state does first works lives mid → IsLifeOf state does work mid l last
       → AreLives state does first (works ++ work ∷ []) (lives ++ l ∷ []) last
   more_lives first [] [] same life = (last, subst (λ d. IsLifeOf state does work d l last) same life, refl)
   more_lives first [] (x ∷ lives) so_far life = absurd so_far
   more_lives first (w ∷ works) [] so_far life = absurd so_far
   more_lives first (w ∷ works) (x ∷ lives) so_far life = (so_far.0, so_far.1, more_lives so_far.0 works lives so_far.2 life)
 
-  pub more_tries : (first : D) (works : List W) (lives : List (Lived D (Whole D))) → AreLives state does first works lives mid
+  pub more_tries : (first : D) (works : List W) (lives : List (Lived D)) → AreLives state does first works lives mid
       → tries_of (works ++ work ∷ []) (lives ++ l ∷ []) ≡ tries_of works lives ++ try_in work l ∷ []
   more_tries first [] [] same = refl
   more_tries first [] (x ∷ lives) so_far = absurd so_far
@@ -47,10 +47,44 @@ module _ {D W : Type 0} (state : D → DiskState) (does : Does W) (mid : D) (wor
   more_tries first (w ∷ works) (x ∷ lives) so_far = ap (λ ts. try_in w x ∷ ts) (more_tries so_far.0 works lives so_far.2)
 
   -- and so what it tried is survived
-  pub more_survives : (first : D) (works : List W) (lives : List (Lived D (Whole D))) → AreLives state does first works lives mid
+  pub more_survives : (first : D) (works : List W) (lives : List (Lived D)) → AreLives state does first works lives mid
       → (IsModelled (state first) → IsModelled (state mid)) → SurvivesAll does.puts works lives (state first) (state mid)
       → Has does.puts (try_in work l) (state mid) (state last) → SurvivesAll does.puts (works ++ work ∷ []) (lives ++ l ∷ []) (state first) (state last)
   more_survives first works lives so_far model survived has modelled low high between =
       subst (λ tries. AreReached does.puts low high tries (state last).images)
       (sym (ap reverse (more_tries first works lives so_far) ∙ reverse-append (tries_of works lives) (try_in work l ∷ [])))
       (has (model modelled) low high (reverse (tries_of works lives)) (survived modelled low high between))
+
+-- what was told was done
+pub told_done : (done waits told : Bool) → told ≡ (done && waits) → told ≡ true → done ≡ true
+told_done true waits told is so = refl
+told_done false waits told is so = sym is ∙ so
+
+-- a life and its end
+pub heard_life : {D W : Type 0} (state : D → DiskState) (does : Does W) (work : W) (first ended heard : D) (l : Lived D) (left : D) → l.began.value ≡ first
+    → l.ended.value ≡ ended → heard ≡ ended → HasEnded (does.puts work) (state first) (state ended) l.ending → l.is_heard ≡ (is_done l.ending && does.heard work) → l.is_heard ≡ true
+    → IsLeftBy (state heard) (state ended) (state left) → IsLifeOf state does work first l left
+heard_life state does work first ended heard l left is_first is_ended is_heard end told waited crash = record {
+  began = is_first;
+  ended =
+      subst (λ d. HasEnded (does.puts work) (state d) (state l.ended.value) l.ending) (sym is_first)
+      (subst (λ d. HasEnded (does.puts work) (state first) (state d) l.ending) (sym is_ended) end);
+  heard = told;
+  crash =
+      subst (λ b. IsLeftBy (state (if b then l.ended.value else l.began.value)) (state l.ended.value) (state left)) (sym waited)
+      (subst (λ d. IsLeftBy (state d) (state d) (state left)) (sym is_ended) (subst (λ d. IsLeftBy (state d) (state ended) (state left)) is_heard crash));
+}
+
+pub unheard_life : {D W : Type 0} (state : D → DiskState) (does : Does W) (work : W) (first : D) (began ended : D) (l : Lived D) (left : D) → l.began.value ≡ first
+    → l.ended.value ≡ ended → began ≡ first → HasEnded (does.puts work) (state first) (state ended) l.ending → l.is_heard ≡ (is_done l.ending && does.heard work) → l.is_heard ≡ false
+    → IsLeftBy (state began) (state ended) (state left) → IsLifeOf state does work first l left
+unheard_life state does work first began ended l left is_first is_ended is_began end told unheard crash = record {
+  began = is_first;
+  ended =
+      subst (λ d. HasEnded (does.puts work) (state d) (state l.ended.value) l.ending) (sym is_first)
+      (subst (λ d. HasEnded (does.puts work) (state first) (state d) l.ending) (sym is_ended) end);
+  heard = told;
+  crash =
+      subst (λ b. IsLeftBy (state (if b then l.ended.value else l.began.value)) (state l.ended.value) (state left)) (sym unheard)
+      (subst (λ d. IsLeftBy (state l.began.value) (state d) (state left)) (sym is_ended) (subst (λ d. IsLeftBy (state d) (state ended) (state left)) (is_began ∙ sym is_first) crash));
+}

@@ -1,5 +1,5 @@
 -- What a commit behind some work leaves, by what the calls say.
-use Rattle.std.specs.Prelude.{◌≡◌, ◌⊎◌, ℕ, Bool, List, ◌++◌, length, take, drop, None, IsTrue}
+use Rattle.std.specs.Prelude.{◌≡◌, ◌⊎◌, ℕ, Bool, true, false, List, ◌++◌, length, take, drop, None, IsTrue}
 use Rattle.std.proofs.Common.{inl, inr, refl, sym, ap, subst, ◌∙◌}
 use Rattle.std.proofs.Math.Seq.{take-append_seam, drop-append_seam, take-length}
 use Rattle.fsl_order.specs.Causes.{Rose}
@@ -16,7 +16,7 @@ use Rattle.fsl_chain.specs.declared.living.Ending.TheVariants as ending
 use Rattle.fsl_chain.specs.Lives.{IsWork, IsFresh, IsCommitOf, IsTried, HasWorked, HasEnded, group_of, group_in, is_done, opened_records}
 
 -- some work, and a commit behind it
-module _ {D : Type 0} (state : D → DiskState) (puts : List Record → List Record → Type 0) (repo worked : Whole D) (put : Put (Whole D))
+module _ {D : Type 0} (state : D → DiskState) (puts : List Record → List Record → Type 0) (repo worked : Whole D) (put : Put D)
     (first : put.opened.value ≡ repo) (second : put.worked.value ≡ worked) (fresh : IsFresh repo) (work : IsWork puts repo worked) where
   abbrev old : List Record
   old = repo.seen.state.records
@@ -33,12 +33,12 @@ module _ {D : Type 0} (state : D → DiskState) (puts : List Record → List Rec
   was : IsModelled (state repo.disk) → IsModelled (state worked.disk)
   was modelled = subst (λ d. IsModelled (state d)) (sym work.disk) modelled
 
-  abbrev OneOf : Ending (Whole D) → List ℕ → Type 0
+  abbrev OneOf : Ending D → List ℕ → Type 0
   OneOf e c = IsFileOf c old ⊎ (puts old (group_in e) × IsFileOf c (old ++ group_in e))
 
   module _ (left : DiskState) (keeps : Keeps (state worked.disk) left)
       (moments : IsModelled (state worked.disk) → LeavesOnly (state worked.disk) left (BeforeOrAll (log_of worked))) where
-    by_group : (e : Ending (Whole D)) → group_in e ≡ work.group → HasWorked puts old (state repo.disk) left e
+    by_group : (e : Ending D) → group_in e ≡ work.group → HasWorked puts old (state repo.disk) left e
         → (IsTrue (is_done e) → IsModelled (state worked.disk) → (c : List ℕ) → left.images c → IsFileOf c worked.seen.state.records)
         → IsTried puts old e (state repo.disk) left
     by_group e same ended durable = record {
@@ -59,7 +59,7 @@ module _ {D : Type 0} (state : D → DiskState) (puts : List Record → List Rec
         one_of c (inl file) = inl (subst (λ rs. IsFileOf c rs) committed_are_old file)
         one_of c (inr file) = inr (fits, subst (λ rs. IsFileOf c rs) all file)
 
-    pub tried : (e : Ending (Whole D)) → IsCommitOf put (state worked.disk) left e
+    pub tried : (e : Ending D) → IsCommitOf put (state worked.disk) left e
         → (IsTrue (is_done e) → IsModelled (state worked.disk) → (c : List ℕ) → left.images c → IsFileOf c worked.seen.state.records)
         → IsTried puts old e (state repo.disk) left
     tried (ending.Done p) by durable =
@@ -80,19 +80,19 @@ module _ {D : Type 0} (state : D → DiskState) (puts : List Record → List Rec
 -- no memory for the work: the disk is as it was opened
 pub unworked : {D : Type 0} (state : D → DiskState) (puts : List Record → List Record → Type 0) (repo : Whole D) → IsFresh repo
     → ((c : List ℕ) → IsModelled (state repo.disk) → (state repo.disk).since (state repo.disk).moment c → (state repo.disk).images c) → IsWholeOn (state repo.disk) repo
-    → IsTried puts repo.seen.state.records ending.Unworked (state repo.disk) (state repo.disk)
-unworked state puts repo fresh only whole = record {
+    → IsTried {D = D} puts repo.seen.state.records ending.Unworked (state repo.disk) (state repo.disk)
+unworked {D = D} state puts repo fresh only whole = record {
   keeps = record { tells = refl; model = refl };
   any_moment = λ modelled.
       started (state repo.disk) (λ c. IsFileOf c repo.seen.state.records ⊎ (puts repo.seen.state.records (group_in {D = D} ending.Unworked) × IsFileOf c (repo.seen.state.records ++ group_in {D = D} ending.Unworked)))
       (λ c since. only c modelled since)
       (λ c image. inl (subst (λ rs. IsFileOf c rs) (ap (λ n. take n repo.seen.state.records) fresh.committed ∙ take-length repo.seen.state.records) (whole.exact fresh.runs modelled c image)));
-  durable = λ wrong. absurd wrong;
+  durable = λ wrong. let never : false ≡ true = wrong in absurd (cc);
   ended = refl;
 }
 
 -- how a life ended, by how it did behind its opening
-pub ended : {D : Type 0} (puts : List Record → List Record → Type 0) (loaded : List Record) (before mid after : DiskState) (e : Ending (Whole D))
+pub ended : {D : Type 0} (puts : List Record → List Record → Type 0) (loaded : List Record) (before mid after : DiskState) (e : Ending D)
     → OfBytes before (λ bytes. IsFileOf bytes loaded) → mid.faults ≡ before.faults → HasWorked puts loaded mid after e → HasEnded puts before after e
 ended puts loaded before mid after (ending.Done put) stands faults worked = (
   record { stands = subst (λ rs. OfBytes before (λ bytes. IsFileOf bytes rs)) (sym worked.0) stands; fits = subst (λ rs. puts rs (group_of put)) (sym worked.0) worked.1 },

@@ -37,18 +37,18 @@ pub trait Work<D: Disk> {
 
 /// A repository as it was opened, and as a work left it. It has no bytes: clauses alone see both.
 #[derive(Drop)]
-pub struct Put<R> {
-    pub opened: Snapshot<R>,
-    pub worked: Snapshot<R>,
+pub struct Put<D: Disk> {
+    pub opened: Snapshot<Repo<D>>,
+    pub worked: Snapshot<Repo<D>>,
 }
 
 /// How a life ended.
 #[derive(Drop)]
-pub enum Ending<R> {
+pub enum Ending<D: Disk> {
     /// Its work is committed.
-    Done(Put<R>),
+    Done(Put<D>),
     /// A call of the disk failed in the commit: all of the work is there, or none of it.
-    Cut(Put<R>),
+    Cut(Put<D>),
     /// There was no memory for the work, so nothing was committed.
     Unworked,
     /// The repository wasn't opened.
@@ -59,11 +59,11 @@ pub enum Ending<R> {
 #[derive(Drop)]
 pub struct Life<D: Disk> {
     pub disk: D,
-    pub ending: Ending<Repo<D>>,
+    pub ending: Ending<D>,
 }
 
 /// Commits some work in a repository, and closes.
-fn commit_put<D: Disk>(repo: Repo<D>, put: Put<Repo<D>>) -> Life<D>
+fn commit_put<D: Disk>(repo: Repo<D>, put: Put<D>) -> Life<D>
     requires worked { put.worked.value ≡ repo }
     requires runs { repo.seen.state.stopped ≡ None }
     ensures keeps { Keeps (D.state repo.disk) (D.state result.disk) }

@@ -1,5 +1,5 @@
 //! Lives of a repository, one after the other.
-ghost use Rattle.std.specs.Prelude.{◌≡◌, IfOk};
+ghost use Rattle.std.specs.Prelude.{◌≡◌, ◌&&◌, IfOk};
 ghost use Rattle.fsl_disk.specs.Disk.{DiskState, IsModelled};
 ghost use Rattle.fsl_chain.specs.Chain.{Has};
 ghost use Rattle.fsl_chain.specs.Lives.{IsLifeOf, AreLives, SurvivesAll, is_done, does_of, try_in};
@@ -7,7 +7,6 @@ ghost use Rattle.fsl_chain.specs.Lives.{IsLifeOf, AreLives, SurvivesAll, is_done
 use crate::living::{Ending, Life, Work, live};
 use crate::outage::Outage;
 use fsl_disk::Disk;
-use fsl_repo::Repo;
 use fsl_text::Memory;
 use std::alloc::Global;
 use std::snapshot::Snapshot;
@@ -15,24 +14,27 @@ use std::snapshot::Snapshot;
 /// A life and its end: the disk before it and as it left it, which clauses alone see, how it ended, and whether somebody heard that
 /// its commit was done.
 #[derive(Drop)]
-pub struct Lived<D, R> {
+pub struct Lived<D: Disk> {
     pub began: Snapshot<D>,
     pub ended: Snapshot<D>,
-    pub ending: Ending<R>,
+    pub ending: Ending<D>,
     pub is_heard: bool,
 }
 
 /// What a life and its end leave: the disk, and what that life was.
 struct Ended<D: Disk> {
     disk: D,
-    lived: Lived<D, Repo<D>>,
+    lived: Lived<D>,
 }
 
-/// Whether a life came to the end of its commit.
-fn has_committed<R>(ending: &Ending<R>) -> bool
-    ensures { result ≡ is_done ending.now }
+/// Whether somebody who waits for a life's answer hears that its commit was done.
+fn is_told<D: Disk, W: Work<D>>(work: &W, ending: &Ending<D>) -> bool
+    ensures { result ≡ (is_done ending.now && W.heard work.now) }
 {
-    matches!(ending, Ending::Done(_))
+    match ending {
+        Ending::Done(_) => work.is_heard(),
+        _ => false,
+    }
 }
 
 /// One life and its end: an outage at some moment since it began or, where somebody heard that its commit was done, behind that.
@@ -50,7 +52,7 @@ fn live_once<D: Disk, W: Work<D>, O: Outage<D>>(
     let first = Snapshot::of(&disk);
     let Life { disk, ending } = live(alloc, disk, work);
     let ended = Snapshot::of(&disk);
-    if work.is_heard() && has_committed(&ending) {
+    if is_told(work, &ending) {
         let heard = Snapshot::of(&disk);
         Ended {
             disk: outage.strike(heard, disk),
@@ -78,7 +80,7 @@ fn live_once<D: Disk, W: Work<D>, O: Outage<D>>(
 #[derive(Drop)]
 pub struct Story<D: Disk> {
     pub disk: D,
-    pub lives: Vec<Lived<D, Repo<D>>>,
+    pub lives: Vec<Lived<D>>,
 }
 
 /// Takes a repository's disk through lives of these works, one after the other, and tells how each ended, of the disk as it stood then.

@@ -13,7 +13,7 @@ loop-work-preserved g c =
     let does = does_of (λ (w : g.row.W.Denot). g.W.Work.puts w) (λ (w : g.row.W.Denot). g.W.Work.heard w) in
     let passed = take c.loop-work.work-index c.args.works.now in
     let works : take (c.loop-work.work-index + 1) c.args.works.now ≡ passed ++ c.work-item.result ∷ [] =
-        take_more c.args.works.now c.loop-work.work-index c.work-item.result c.loop-work-test.true ∙ ap (λ w. passed ++ w ∷ []) (sym c.work-item.is) in
+    take_more c.args.works.now c.loop-work.work-index c.work-item.result c.loop-work-test.true ∙ ap (λ w. passed ++ w ∷ []) (sym c.work-item.is) in
     record {
       modelled = λ modelled. c.live_once-disk.ensures.modelled (c.loop-work.invariant.modelled modelled);
       lives =
