@@ -7,7 +7,6 @@ use Rattle.fsl_record.specs.declared.Record.{Record}
 use Rattle.fsl_journal.specs.File.{IsFileOf}
 use Rattle.fsl_journal.specs.Journal.{OfBytes, HeldOrSame}
 use Rattle.fsl_journal.specs.Laws.{IsOneFile}
-use Rattle.fsl_repo.specs.Whole.{Whole}
 use Rattle.fsl_chain.specs.declared.living.Ending.{Ending}
 use Rattle.fsl_chain.specs.Chain.{Puts, Try, Reached, StandsReached, AreReached, try_of}
 use Rattle.fsl_chain.specs.Lives.{IsTried, group_in, is_done}

@@ -4,7 +4,6 @@ use Rattle.std.proofs.Common.{refl, sym, ap, subst, ◌∙◌}
 use Rattle.std.proofs.lemmas.List.{reverse-append}
 use Rattle.fsl_disk.specs.Disk.{DiskState, IsModelled}
 use Rattle.fsl_record.specs.declared.Record.{Record}
-use Rattle.fsl_repo.specs.Whole.{Whole}
 use Rattle.fsl_chain.specs.declared.reopening.Opening.{Opening}
 use Rattle.fsl_chain.specs.declared.surviving.Lived.{Lived}
 use Rattle.fsl_chain.specs.Chain.{Puts, AreReached, MayHave, Has, IsLeftBy, try_of}

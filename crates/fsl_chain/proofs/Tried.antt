@@ -1,5 +1,5 @@
 -- What a commit behind some work leaves, by what the calls say.
-use Rattle.std.specs.Prelude.{◌≡◌, ◌⊎◌, ℕ, Bool, true, false, List, ◌++◌, length, take, drop, None, IsTrue}
+use Rattle.std.specs.Prelude.{◌≡◌, ◌⊎◌, ℕ, true, false, List, ◌++◌, length, take, drop, IsTrue}
 use Rattle.std.proofs.Common.{inl, inr, refl, sym, ap, subst, ◌∙◌}
 use Rattle.std.proofs.Math.Seq.{take-append_seam, drop-append_seam, take-length}
 use Rattle.fsl_order.specs.Causes.{Rose}
@@ -9,7 +9,7 @@ use Rattle.fsl_record.specs.declared.Record.{Record}
 use Rattle.fsl_journal.specs.File.{IsFileOf}
 use Rattle.fsl_journal.specs.Journal.{OfBytes}
 use Rattle.fsl_journal.specs.Log.{BeforeOrAll}
-use Rattle.fsl_repo.specs.Whole.{Whole, IsWholeOn, log_of, front}
+use Rattle.fsl_repo.specs.Whole.{Whole, IsWholeOn, log_of}
 use Rattle.fsl_chain.specs.declared.living.Put.{Put}
 use Rattle.fsl_chain.specs.declared.living.Ending.{Ending}
 use Rattle.fsl_chain.specs.declared.living.Ending.TheVariants as ending

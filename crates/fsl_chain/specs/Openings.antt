@@ -1,6 +1,6 @@
 -- Openings of a journal, one after the other: what each answered, by the disk as it stood then.
 use Rattle.std.specs.Prelude.{◌≡◌, ℕ, List, [], ◌∷◌, length, Result, Ok, Err}
-use Rattle.fsl_disk.specs.Disk.{DiskState, IsModelled, Keeps}
+use Rattle.fsl_disk.specs.Disk.{DiskState, IsModelled}
 use Rattle.fsl_record.specs.declared.Record.{Record}
 use Rattle.fsl_journal.specs.File.{IsFileOf}
 use Rattle.fsl_journal.specs.Journal.{OfBytes, LoadFailed}

@@ -1,9 +1,7 @@
-use Rattle.std.specs.Prelude.{◌≡◌, ◌+◌, List, ◌∷◌, [], ◌++◌, take}
+use Rattle.std.specs.Prelude.{◌≡◌, ◌+◌, ◌∷◌, [], ◌++◌, take}
 use Rattle.std.proofs.Common.{sym, ap, subst, ◌∙◌}
 use Rattle.std.proofs.lemmas.List.{take_all, take_more}
-use Rattle.fsl_repo.specs.Whole.{Whole}
-use Rattle.fsl_chain.specs.declared.surviving.Lived.{Lived}
-use Rattle.fsl_chain.specs.Lives.{Does, AreLives, SurvivesAll, does_of}
+use Rattle.fsl_chain.specs.Lives.{AreLives, SurvivesAll, does_of}
 use Rattle.fsl_chain.proofs.Ends.{more_lives, more_survives}
 use Rattle.fsl_chain.proofs.surviving.live_on.Goals as goal
 

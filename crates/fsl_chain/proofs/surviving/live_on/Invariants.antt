@@ -1,4 +1,4 @@
-use Rattle.std.proofs.Common.{◌≡◌, take}
+use Rattle.std.proofs.Common.{take}
 use Rattle.fsl_disk.specs.Disk.{IsModelled}
 use Rattle.fsl_chain.specs.Lives.{AreLives, SurvivesAll, does_of}
 use Rattle.fsl_chain.proofs.surviving.live_on.Given as goal
