@@ -7,8 +7,9 @@ use Rattle.fsl_record.specs.declared.Record.{Record}
 use Rattle.fsl_journal.specs.File.{IsFileOf}
 use Rattle.fsl_journal.specs.Journal.{OfBytes, HeldOrSame}
 use Rattle.fsl_journal.specs.Laws.{IsOneFile}
+use Rattle.fsl_chain.specs.declared.living.Ending.{Ending}
 use Rattle.fsl_chain.specs.Chain.{Puts, Try, Reached, StandsReached, AreReached, try_of}
-use Rattle.fsl_chain.specs.Lives.{IsTried}
+use Rattle.fsl_chain.specs.Lives.{IsTried, group_in, is_done}
 
 module _ {W : Type 0} (puts : Puts W) (low high : List Record) (tries : List (Try W)) where
   module _ (one_file : IsOneFile) (disk : DiskState) (modelled : IsModelled disk)
@@ -26,32 +27,32 @@ module _ {W : Type 0} (puts : Puts W) (low high : List Record) (tries : List (Tr
     opened_reached c (inr same) = (same.0, same.2, reached_by same.0 same.1)
 
   -- and so with one more try of which nobody heard
-  pub unheard : (work : W) (c : List ℕ) → StandsReached puts low high tries c → StandsReached puts low high (try_of work false ∷ tries) c
-  unheard work c stands = (stands.0, stands.1, inr (refl, stands.2))
+  pub unheard : (work : W) (group : List Record) (c : List ℕ) → StandsReached puts low high tries c → StandsReached puts low high (try_of work false group ∷ tries) c
+  unheard work group c stands = (stands.0, stands.1, inr (refl, stands.2))
 
-  module _ (work : W) (loaded group : List Record) (fits : puts work loaded group) (reached : Reached puts low high tries loaded) where
+  module _ (work : W) (loaded group : List Record) (reached : Reached puts low high tries loaded) where
     -- a file of all records has the try behind what was loaded
-    pub all_reached : (heard : Bool) (c : List ℕ) → IsFileOf c (loaded ++ group) → StandsReached puts low high (try_of work heard ∷ tries) c
-    all_reached heard c file = (loaded ++ group, file, inl (loaded, group, reached, fits, refl))
+    pub all_reached : (heard : Bool) → puts work loaded group → (c : List ℕ) → IsFileOf c (loaded ++ group) → StandsReached puts low high (try_of work heard group ∷ tries) c
+    all_reached heard fits c file = (loaded ++ group, file, inl (loaded, reached, fits, refl))
 
     -- at each moment of the commit
-    pub before_or_all : (c : List ℕ) → IsFileOf c loaded ⊎ IsFileOf c (loaded ++ group) → StandsReached puts low high (try_of work false ∷ tries) c
+    pub before_or_all : (c : List ℕ) → IsFileOf c loaded ⊎ (puts work loaded group × IsFileOf c (loaded ++ group)) → StandsReached puts low high (try_of work false group ∷ tries) c
     before_or_all c (inl file) = (loaded, file, inr (refl, reached))
-    before_or_all c (inr file) = all_reached false c file
+    before_or_all c (inr all) = all_reached false all.0 c all.1
 
 -- an opening that leaves no repository
 module _ {W : Type 0} (puts : Puts W) (one_file : IsOneFile) (before after : DiskState) (modelled : IsModelled before)
     (reads : (held : List ℕ) → before.contents ≡ Some held → before.images held) (harmless : LeavesOnly before after (HeldOrSame before)) where
-  pub opened_moments : (work : W) (low high : List Record) (tries : List (Try W)) → AreReached puts low high tries before.images
-      → LeavesOnly before after (StandsReached puts low high (try_of work false ∷ tries))
-  opened_moments work low high tries here =
-      weaker before after (HeldOrSame before) (StandsReached puts low high (try_of work false ∷ tries))
-      (λ c left. unheard puts low high tries work c (opened_reached puts low high tries one_file before modelled reads here c left)) harmless
+  pub opened_moments : (work : W) (group low high : List Record) (tries : List (Try W)) → AreReached puts low high tries before.images
+      → LeavesOnly before after (StandsReached puts low high (try_of work false group ∷ tries))
+  opened_moments work group low high tries here =
+      weaker before after (HeldOrSame before) (StandsReached puts low high (try_of work false group ∷ tries))
+      (λ c left. unheard puts low high tries work group c (opened_reached puts low high tries one_file before modelled reads here c left)) harmless
 
 -- an opening, some work and a commit
-module _ {W : Type 0} (puts : Puts W) (one_file : IsOneFile) (work : W) (loaded : List Record) (is_done : Bool) (before mid after : DiskState) (modelled : IsModelled before)
+module _ {W D : Type 0} (puts : Puts W) (one_file : IsOneFile) (work : W) (loaded : List Record) (e : Ending D) (before mid after : DiskState) (modelled : IsModelled before)
     (reads : (held : List ℕ) → before.contents ≡ Some held → before.images held) (harmless : LeavesOnly before mid (HeldOrSame before)) (keeps : Keeps before mid)
-    (stands : OfBytes before (λ bytes. IsFileOf bytes loaded)) (commit : IsTried (puts work) loaded is_done mid after) where
+    (stands : OfBytes before (λ bytes. IsFileOf bytes loaded)) (commit : IsTried (puts work) loaded e mid after) where
   pub life_later : before.moment ≤ after.moment
   life_later = omega (arith, harmless.later, (commit.any_moment (modelled_after before mid keeps modelled)).later)
 
@@ -59,13 +60,14 @@ module _ {W : Type 0} (puts : Puts W) (one_file : IsOneFile) (work : W) (loaded 
     reached : Reached puts low high tries loaded
     reached = reached_by puts low high tries one_file before modelled reads here loaded stands
 
-    pub life_moments : LeavesOnly before after (StandsReached puts low high (try_of work false ∷ tries))
+    pub life_moments : LeavesOnly before after (StandsReached puts low high (try_of work false (group_in e) ∷ tries))
     life_moments =
-        and_then before mid after (StandsReached puts low high (try_of work false ∷ tries))
-        (opened_moments puts one_file before mid modelled reads harmless work low high tries here)
-        (weaker mid after (λ c. IsFileOf c loaded ⊎ IsFileOf c (loaded ++ commit.group)) (StandsReached puts low high (try_of work false ∷ tries))
-        (before_or_all puts low high tries work loaded commit.group commit.fits reached) (commit.any_moment (modelled_after before mid keeps modelled)))
+        and_then before mid after (StandsReached puts low high (try_of work false (group_in e) ∷ tries))
+        (opened_moments puts one_file before mid modelled reads harmless work (group_in e) low high tries here)
+        (weaker mid after (λ c. IsFileOf c loaded ⊎ (puts work loaded (group_in e) × IsFileOf c (loaded ++ group_in e))) (StandsReached puts low high (try_of work false (group_in e) ∷ tries))
+        (before_or_all puts low high tries work loaded (group_in e) reached) (commit.any_moment (modelled_after before mid keeps modelled)))
 
-    pub life_done : IsTrue is_done → AreReached puts low high (try_of work true ∷ tries) after.images
+    pub life_done : IsTrue (is_done e) → AreReached puts low high (try_of work true (group_in e) ∷ tries) after.images
     life_done ok c image =
-        all_reached puts low high tries work loaded commit.group commit.fits reached true c (commit.durable ok (modelled_after before mid keeps modelled) c image)
+        let durable = commit.durable ok in
+        all_reached puts low high tries work loaded (group_in e) reached true durable.0 c (durable.1 (modelled_after before mid keeps modelled) c image)

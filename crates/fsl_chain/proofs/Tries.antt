@@ -7,14 +7,14 @@ use Rattle.fsl_chain.specs.Chain.{Puts, HeardStays, FirstStays}
 pub first_stays : {W : Type 0} (puts : Puts W) → FirstStays puts
 first_stays puts low high [] records reached = reached.more
 first_stays puts low high (t ∷ before) records (inl put) =
-    let first = first_stays puts low high before put.0 put.2 in
-    (first.0 ++ put.1, put.4 ∙ ap (λ rs. rs ++ put.1) first.1 ∙ append_assoc low first.0 put.1)
+    let first = first_stays puts low high before put.0 put.1 in
+    (first.0 ++ t.group, put.3 ∙ ap (λ rs. rs ++ t.group) first.1 ∙ append_assoc low first.0 t.group)
 first_stays puts low high (t ∷ before) records (inr kept) = first_stays puts low high before records kept.1
 
 pub heard_stays : {W : Type 0} (puts : Puts W) → HeardStays puts
-heard_stays puts low high work [] before records (inl put) = (put.0, put.1, [], put.2, put.3, put.4 ∙ sym (append-nil (put.0 ++ put.1)))
-heard_stays puts low high work [] before records (inr kept) = let wrong : true ≡ false = kept.0 in absurd (cc)
-heard_stays puts low high work (t ∷ later) before records (inl put) =
-    let stays = heard_stays puts low high work later before put.0 put.2 in
-    (stays.0, stays.1, stays.2 ++ put.1, stays.3, stays.4, put.4 ∙ ap (λ rs. rs ++ put.1) stays.5 ∙ append_assoc (stays.0 ++ stays.1) stays.2 put.1)
-heard_stays puts low high work (t ∷ later) before records (inr kept) = heard_stays puts low high work later before records kept.1
+heard_stays puts low high work group [] before records (inl put) = (put.0, [], put.1, put.2, put.3 ∙ sym (append-nil (put.0 ++ group)))
+heard_stays puts low high work group [] before records (inr kept) = let wrong : true ≡ false = kept.0 in absurd (cc)
+heard_stays puts low high work group (t ∷ later) before records (inl put) =
+    let stays = heard_stays puts low high work group later before put.0 put.1 in
+    (stays.0, stays.1 ++ t.group, stays.2, stays.3, put.3 ∙ ap (λ rs. rs ++ t.group) stays.4 ∙ append_assoc (stays.0 ++ group) stays.1 t.group)
+heard_stays puts low high work group (t ∷ later) before records (inr kept) = heard_stays puts low high work group later before records kept.1

@@ -1,59 +1,125 @@
 //! One life of a repository: it is opened, some work is done, and what this appended is committed.
-ghost use Rattle.std.specs.Prelude.{◌≡◌, List, IsTrue, true};
-ghost use Rattle.fsl_disk.specs.Disk.{DiskState, Keeps};
+ghost use Rattle.std.specs.Prelude.{◌≡◌, ℕ, Bool, List, None, IsTrue, true, OnOk};
+ghost use Rattle.fsl_disk.specs.Disk.{DiskState, IsModelled, Keeps, LeavesOnly};
 ghost use Rattle.fsl_record.specs.declared.Record.{Record};
-ghost use Rattle.fsl_chain.specs.Chain.{MayHave, Has, IsSince};
-ghost use Rattle.fsl_chain.specs.Lives.{IsWork, IsFresh, IsTried};
+ghost use Rattle.fsl_journal.specs.File.{IsFileOf};
+ghost use Rattle.fsl_journal.specs.Log.{BeforeOrAll};
+ghost use Rattle.fsl_repo.specs.Whole.{log_of};
+ghost use Rattle.fsl_chain.specs.Chain.{MayHave, Has, IsSince, try_of};
+ghost use Rattle.fsl_chain.specs.Lives.{IsWork, IsFresh, IsCommitOf, IsTried, HasEnded, group_in, is_done};
 
 use fsl_disk::Disk;
-use fsl_journal::is_one_file;
+use fsl_journal::{LoadFault, is_one_file};
 use fsl_repo::Repo;
+use fsl_text::Memory;
 use std::alloc::Global;
+use std::snapshot::Snapshot;
 
 /// What is done in a life before its commit.
 pub trait Work<D: Disk> {
-    /// Which records it may put behind others.
+    /// Which records it puts behind others.
     ghost puts: { Self → List Record → List Record → Type 0 };
 
-    /// Does anything that calls no device and commits nothing: such records come behind the others.
-    fn work(&self, repo: &mut Repo<D>)
-        ensures { IsWork (puts self.now) repo.old repo.new };
+    /// Whether somebody waits to hear that its commit was done.
+    ghost heard: { Self → Bool };
+
+    /// Whether somebody waits to hear that its commit was done.
+    fn is_heard(&self) -> bool
+        ensures { result ≡ heard self.now };
+
+    /// Does anything that calls no device and commits nothing: such records come behind the others. `Memory` is the only
+    /// error, and then nothing of it is committed.
+    fn work(&self, repo: &mut Repo<D>) -> Result<(), Memory>
+        requires { IsFresh repo.old }
+        ensures disk { repo.new.disk ≡ repo.old.disk }
+        ensures put { OnOk result (IsWork (puts self.now) repo.old repo.new) };
 }
 
-/// What a life leaves: the disk, and whether its commit was done.
+/// A repository as it was opened, and as a work left it. It has no bytes: clauses alone see both.
+#[derive(Drop)]
+pub struct Put<D: Disk> {
+    pub opened: Snapshot<Repo<D>>,
+    pub worked: Snapshot<Repo<D>>,
+}
+
+/// How a life ended.
+#[derive(Drop)]
+pub enum Ending<D: Disk> {
+    /// Its work is committed.
+    Done(Put<D>),
+    /// A call of the disk failed in the commit: all of the work is there, or none of it.
+    Cut(Put<D>),
+    /// There was no memory for the work, so nothing was committed.
+    Unworked,
+    /// The repository wasn't opened.
+    Unopened(LoadFault),
+}
+
+/// What a life leaves: the disk, and how it ended.
+#[derive(Drop)]
 pub struct Life<D: Disk> {
     pub disk: D,
-    pub is_done: bool,
+    pub ending: Ending<D>,
+}
+
+/// Commits some work in a repository, and closes.
+fn commit_put<D: Disk>(repo: Repo<D>, put: Put<D>) -> Life<D>
+    requires worked { put.worked.value ≡ repo }
+    requires runs { repo.seen.state.stopped ≡ None }
+    ensures keeps { Keeps (D.state repo.disk) (D.state result.disk) }
+    ensures any_moment { IsModelled (D.state repo.disk) → LeavesOnly (D.state repo.disk) (D.state result.disk) (BeforeOrAll (log_of repo)) }
+    ensures durable { IsTrue (is_done result.ending) → IsModelled (D.state repo.disk) → (c : List ℕ) → (D.state result.disk).images c → IsFileOf c repo.seen.state.records }
+    ensures ended { IsCommitOf put (D.state repo.disk) (D.state result.disk) result.ending }
+{
+    let mut repo = repo;
+    repo.is_whole();
+    let ending = match repo.commit() {
+        Ok(_) => Ending::Done(put),
+        Err(_) => Ending::Cut(put),
+    };
+    repo.is_whole();
+    Life {
+        disk: repo.close(),
+        ending,
+    }
 }
 
 /// Does some work in a repository all of whose records are committed, commits, and closes.
 fn commit_work<D: Disk, W: Work<D>>(repo: Repo<D>, work: &W) -> Life<D>
     requires { IsFresh repo }
-    ensures { IsTried (W.puts work.now) repo.seen.state.records result.is_done (D.state repo.disk) (D.state result.disk) }
+    ensures { IsTried (W.puts work.now) repo.seen.state.records result.ending (D.state repo.disk) (D.state result.disk) }
 {
+    let opened = Snapshot::of(&repo);
+    repo.is_whole();
     let mut repo = repo;
-    work.work(&mut repo);
-    let is_done = repo.commit().is_ok();
-    Life {
-        disk: repo.close(),
-        is_done,
+    match work.work(&mut repo) {
+        Ok(()) => {
+            let worked = Snapshot::of(&repo);
+            commit_put(repo, Put { opened, worked })
+        }
+        Err(_) => Life {
+            disk: repo.close(),
+            ending: Ending::Unworked,
+        },
     }
 }
 
-/// Opens the repository of a disk, does some work, commits and closes, as far as the disk goes and there is memory. At each moment
-/// each image stands for what was reached before or, with all that the work puts, behind it; for the latter where this was done.
+/// Opens the repository of a disk, does some work, commits and closes, as far as the disk goes and there is memory, and tells how
+/// that ended. At each moment each image stands for what was reached before or, with all that the work put, behind it; for the
+/// latter where this was done. It was done unless a call of the disk failed, there was no memory, or the file is no repository.
 pub fn live<D: Disk, W: Work<D>>(alloc: Global, disk: D, work: &W) -> Life<D>
     ensures keeps { Keeps (D.state disk) (D.state result.disk) }
     ensures later { IsSince (D.state disk) (D.state result.disk) }
-    ensures any_moment { MayHave (λ w. W.puts w) work.now (D.state disk) (D.state result.disk) }
-    ensures done { IsTrue result.is_done → Has (λ w. W.puts w) work.now true (D.state disk) (D.state result.disk) }
+    ensures ended { HasEnded (W.puts work.now) (D.state disk) (D.state result.disk) result.ending }
+    ensures any_moment { MayHave (λ w. W.puts w) work.now (group_in result.ending) (D.state disk) (D.state result.disk) }
+    ensures done { IsTrue (is_done result.ending) → Has (λ w. W.puts w) (try_of work.now true (group_in result.ending)) (D.state disk) (D.state result.disk) }
 {
     is_one_file();
     match Repo::load(alloc, disk) {
         Ok(repo) => commit_work(repo, work),
-        Err((disk, _)) => Life {
+        Err((disk, fault)) => Life {
             disk,
-            is_done: false,
+            ending: Ending::Unopened(fault),
         },
     }
 }

@@ -8,9 +8,6 @@ use std::snapshot::Snapshot;
 
 /// Whoever may crash a disk. Behind a crash there is a disk that holds what the crash left; without one it is the same disk.
 pub trait Outage<D: Disk> {
-    /// Whether somebody hears an answer before the crash that ends its step.
-    fn hears(&mut self) -> bool;
-
     /// Ends a step by a crash at some moment since it began, or lets it be.
     fn strike(&mut self, began: Snapshot<D>, disk: D) -> D
         requires { IsSince (D.state began.value) (D.state disk) }

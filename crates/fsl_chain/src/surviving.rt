@@ -1,19 +1,40 @@
 //! Lives of a repository, one after the other.
-ghost use Rattle.std.specs.Prelude.{◌≡◌, length, IfOk};
+ghost use Rattle.std.specs.Prelude.{◌≡◌, ◌&&◌, IfOk};
 ghost use Rattle.fsl_disk.specs.Disk.{DiskState, IsModelled};
-ghost use Rattle.fsl_chain.specs.Chain.{Has, SurvivesAll};
+ghost use Rattle.fsl_chain.specs.Chain.{Has};
+ghost use Rattle.fsl_chain.specs.Lives.{IsLifeOf, AreLives, SurvivesAll, is_done, does_of, try_in};
 
-use crate::living::{Life, Work, live};
+use crate::living::{Ending, Life, Work, live};
 use crate::outage::Outage;
 use fsl_disk::Disk;
 use fsl_text::Memory;
 use std::alloc::Global;
 use std::snapshot::Snapshot;
 
-/// What a life and its end leave: the disk, and whether somebody heard that its commit was done.
+/// A life and its end: the disk before it and as it left it, which clauses alone see, how it ended, and whether somebody heard that
+/// its commit was done.
+#[derive(Drop)]
+pub struct Lived<D: Disk> {
+    pub began: Snapshot<D>,
+    pub ended: Snapshot<D>,
+    pub ending: Ending<D>,
+    pub is_heard: bool,
+}
+
+/// What a life and its end leave: the disk, and what that life was.
 struct Ended<D: Disk> {
     disk: D,
-    is_heard: bool,
+    lived: Lived<D>,
+}
+
+/// Whether somebody who waits for a life's answer hears that its commit was done.
+fn is_told<D: Disk, W: Work<D>>(work: &W, ending: &Ending<D>) -> bool
+    ensures { result ≡ (is_done ending.now && W.heard work.now) }
+{
+    match ending {
+        Ending::Done(_) => work.is_heard(),
+        _ => false,
+    }
 }
 
 /// One life and its end: an outage at some moment since it began or, where somebody heard that its commit was done, behind that.
@@ -24,34 +45,48 @@ fn live_once<D: Disk, W: Work<D>, O: Outage<D>>(
     outage: &mut O,
 ) -> Ended<D>
     ensures modelled { IsModelled (D.state disk) → IsModelled (D.state result.disk) }
-    ensures has { Has (λ w. W.puts w) work.now result.is_heard (D.state disk) (D.state result.disk) }
+    ensures life { IsLifeOf (λ d. D.state d) (does_of (λ w. W.puts w) (λ w. W.heard w)) work.now disk result.lived result.disk }
+    ensures has { Has (λ w. W.puts w) (try_in work.now result.lived) (D.state disk) (D.state result.disk) }
 {
     let began = Snapshot::of(&disk);
-    let Life { disk, is_done } = live(alloc, disk, work);
-    if is_done && outage.hears() {
+    let first = Snapshot::of(&disk);
+    let Life { disk, ending } = live(alloc, disk, work);
+    let ended = Snapshot::of(&disk);
+    if is_told(work, &ending) {
         let heard = Snapshot::of(&disk);
         Ended {
             disk: outage.strike(heard, disk),
-            is_heard: true,
+            lived: Lived {
+                began,
+                ended,
+                ending,
+                is_heard: true,
+            },
         }
     } else {
         Ended {
-            disk: outage.strike(began, disk),
-            is_heard: false,
+            disk: outage.strike(first, disk),
+            lived: Lived {
+                began,
+                ended,
+                ending,
+                is_heard: false,
+            },
         }
     }
 }
 
-/// What some lives leave: the disk, and of each life whether somebody heard that its commit was done.
+/// What some lives leave: the disk, and of each life how it ended.
 #[derive(Drop)]
 pub struct Story<D: Disk> {
     pub disk: D,
-    pub heard: Vec<bool>,
+    pub lives: Vec<Lived<D>>,
 }
 
-/// Takes a repository's disk through lives of these works, one after the other. Where each image of the disk stands for records between
-/// two lists, each image stands behind them for such a list with, in their order, what the works put behind what stood there, of each all
-/// or nothing; and all of each of which somebody heard that it was done. `Memory` is the only error.
+/// Takes a repository's disk through lives of these works, one after the other, and tells how each ended, of the disk as it stood then.
+/// Where each image of the disk stands for records between two lists, each image stands behind them for such a list with, in their
+/// order, what each life put behind what stood there, all or nothing; and all of it where somebody heard that it was done. `Memory`
+/// is the only error.
 pub fn live_on<D: Disk + Drop, W: Work<D>, O: Outage<D>>(
     alloc: Global,
     disk: D,
@@ -60,17 +95,17 @@ pub fn live_on<D: Disk + Drop, W: Work<D>, O: Outage<D>>(
 ) -> Result<Story<D>, Memory>
     ensures modelled { IfOk result (λ story. IsModelled (D.state disk) → IsModelled (D.state story.disk)) }
     // One for each work.
-    ensures each { IfOk result (λ story. length story.heard.items ≡ length works.now) }
-    ensures survives { IfOk result (λ story. SurvivesAll (λ w. W.puts w) works.now story.heard.items (D.state disk) (D.state story.disk)) }
+    ensures lives { IfOk result (λ story. AreLives (λ d. D.state d) (does_of (λ w. W.puts w) (λ w. W.heard w)) disk works.now story.lives.items story.disk) }
+    ensures survives { IfOk result (λ story. SurvivesAll (λ w. W.puts w) works.now story.lives.items (D.state disk) (D.state story.disk)) }
 {
     let mut story = Story {
         disk,
-        heard: Vec::new(alloc),
+        lives: Vec::new(alloc),
     };
     for work in works {
-        let Ended { disk, is_heard } = live_once(alloc, story.disk, work, outage);
+        let Ended { disk, lived } = live_once(alloc, story.disk, work, outage);
         story.disk = disk;
-        story.heard.push(is_heard)?;
+        story.lives.push(lived)?;
     }
     Ok(story)
 }

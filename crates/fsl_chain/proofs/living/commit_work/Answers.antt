@@ -1,10 +1,17 @@
-use Rattle.std.specs.Prelude.{IsTrue}
-use Rattle.std.proofs.Common.{subst}
-use Rattle.fsl_chain.proofs.Tried.{tried, by_ok}
+use Rattle.std.proofs.Common.{sym, subst, ◌∙◌}
+use Rattle.fsl_chain.specs.declared.living.Ending.TheVariants.{Unworked}
+use Rattle.fsl_chain.specs.Lives.{IsTried}
+use Rattle.fsl_chain.proofs.Tried.{tried, unworked}
 use Rattle.fsl_chain.proofs.living.commit_work.Goals as goal
 
-pub returns : goal.returns
-returns g c =
-    tried (λ d. g.D.Disk.state d) (g.W.Work.puts c.args.work.now) c.args.repo c.work.new.repo c.commit.new.self c.close.result c.is_ok-is_done.result c.requires
-    c.work.ensures c.close.ensures c.commit.ensures.keeps c.commit.ensures.any_moment
-    (λ ok. by_ok c.commit.result _ c.commit.ensures.durable (subst (λ b. IsTrue b) c.is_ok-is_done.ensures.value ok))
+pub returns-in-Ok : goal.returns-in-Ok
+returns-in-Ok g c =
+    tried (λ d. g.D.Disk.state d) (g.W.Work.puts c.args.work.now) c.args.repo c.work.new.repo (record { opened = c.of-opened.result; worked = c.of-worked.result })
+    c.of-opened.ensures c.of-worked.ensures c.requires c.in-Ok.ensures.put (g.D.Disk.state c.commit_put.result.disk) c.commit_put.ensures.keeps
+    c.commit_put.ensures.any_moment c.commit_put.result.ending c.commit_put.ensures.ended c.commit_put.ensures.durable
+
+pub returns-in-Err : goal.returns-in-Err
+returns-in-Err g c =
+    subst (λ d. IsTried (g.W.Work.puts c.args.work.now) c.args.repo.seen.state.records Unworked (g.D.Disk.state c.args.repo.disk) (g.D.Disk.state d))
+    (sym (c.close.ensures ∙ c.work.ensures.disk))
+    (unworked (λ d. g.D.Disk.state d) (g.W.Work.puts c.args.work.now) c.args.repo c.requires (λ b modelled since. g.met.D.Disk.only_now c.args.repo.disk b modelled.model since) c.is_whole.ensures)

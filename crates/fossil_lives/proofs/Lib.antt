@@ -1,0 +1,4 @@
+mod Commits
+mod Steps
+mod SyncSteps
+mod Chains

@@ -1,0 +1,3 @@
+pub mod Reboot
+pub mod Runs
+pub mod Stands

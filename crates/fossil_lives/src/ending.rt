@@ -1,0 +1,51 @@
+//! What ends a run.
+ghost use Rattle.std.specs.Prelude.{◌≡◌};
+ghost use Rattle.fsl_disk.specs.Disk.{DiskState, IsModelled};
+ghost use Rattle.fossil.specs.Run.{is_done as has_done};
+ghost use Rattle.fossil_lives.specs.Reboot.{IsRebooted};
+ghost use Rattle.fossil_lives.specs.Runs.{IsEndedBy};
+
+use crate::reboot::Reboot;
+use crate::session::End;
+use fsl_disk::Disk;
+use std::snapshot::Snapshot;
+
+/// Whether a run with this status has done its command.
+fn is_done(status: u8) -> bool
+    ensures { result ≡ has_done status }
+{
+    status == 0 || status == 6
+}
+
+/// The power fails behind a run.
+fn strike_behind<D: Disk, R: Reboot<D>>(disk: D, reboot: &mut R) -> D
+    ensures modelled { IsModelled (D.state disk) → IsModelled (D.state result) }
+    ensures rebooted { IsRebooted (D.state disk) (D.state disk) (D.state result) }
+{
+    let ended = Snapshot::of(&disk);
+    reboot.strike(ended, disk)
+}
+
+/// The end of a run that had this status.
+pub(crate) fn end_run<D: Disk, R: Reboot<D>>(
+    end: End,
+    status: u8,
+    began: Snapshot<D>,
+    disk: D,
+    reboot: &mut R,
+) -> D
+    ensures modelled { IsModelled (D.state disk) → IsModelled (D.state result) }
+    ensures ended { IsEndedBy (λ d. D.state d) end status began.value disk result }
+{
+    match end {
+        End::Cut => reboot.strike(began, disk),
+        End::Heard => strike_behind(disk, reboot),
+        End::Spared => {
+            if is_done(status) {
+                disk
+            } else {
+                strike_behind(disk, reboot)
+            }
+        }
+    }
+}

@@ -1,0 +1,33 @@
+-- Openings of a journal, one after the other: what each answered, by the disk as it stood then.
+use Rattle.std.specs.Prelude.{◌≡◌, ℕ, List, [], ◌∷◌, length, Result, Ok, Err}
+use Rattle.fsl_disk.specs.Disk.{DiskState, IsModelled}
+use Rattle.fsl_record.specs.declared.Record.{Record}
+use Rattle.fsl_journal.specs.File.{IsFileOf}
+use Rattle.fsl_journal.specs.Journal.{OfBytes, LoadFailed}
+use Rattle.fsl_journal.specs.declared.LoadFault.{LoadFault}
+use Rattle.fsl_chain.specs.declared.reopening.Opening.{Opening}
+use Rattle.fsl_chain.specs.Chain.{IsLeftBy}
+
+-- the bytes that were read stand for so many records, no call failed, and a crash then leaves nothing but files of just these
+pub record HasLoaded (count : ℕ) (before after : DiskState) : Type 0 where
+  pub records : List Record
+  pub counted : count ≡ length records
+  pub stands : OfBytes before (λ bytes. IsFileOf bytes records)
+  pub faults : after.faults ≡ before.faults
+  pub durable : IsModelled before → (c : List ℕ) → after.images c → IsFileOf c records
+
+-- what an opening answers is so of the disk: how many records it stands for, or why it wasn't opened
+abbrev pub IsAnsweredAs : DiskState → DiskState → Result ℕ LoadFault → Type 0
+IsAnsweredAs before after (Ok count) = HasLoaded count before after
+IsAnsweredAs before after (Err fault) = LoadFailed fault before after
+
+-- an opening of such a disk, ended so
+abbrev pub IsOpeningOf : {D : Type 0} → (D → DiskState) → D → Opening D → D → Type 0
+IsOpeningOf state first o left =
+    (o.began.value ≡ first) × IsAnsweredAs (state o.began.value) (state o.ended.value) o.answer
+    × IsLeftBy (state o.began.value) (state o.ended.value) (state left)
+
+-- openings one after the other, of the first disk, and each other of what the end of the one before it left
+abbrev pub AreOpenings : {D : Type 0} → (D → DiskState) → D → List (Opening D) → D → Type 0
+AreOpenings state first [] last = last ≡ first
+AreOpenings {D} state first (o ∷ later) last = (left : D) × IsOpeningOf state first o left × AreOpenings state left later last
