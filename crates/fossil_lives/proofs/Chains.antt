@@ -1,7 +1,7 @@
 -- Runs one after the other.
-use Rattle.std.proofs.Common.{◌≡◌, inl, inr, ℕ, ◌++◌, List, [], ◌∷◌, Option, Some, IsTrue, refl, sym, ap, subst, ◌∙◌, append_assoc}
+use Rattle.std.proofs.Common.{◌≡◌, inl, inr, ℕ, ◌++◌, List, [], ◌∷◌, Some, IsTrue, refl, sym, ap, subst, ◌∙◌, append_assoc}
 use Rattle.std.proofs.lemmas.List.{append-nil}
-use Rattle.fsl_disk.specs.Disk.{DiskState, IsModelled, Keeps}
+use Rattle.fsl_disk.specs.Disk.{IsModelled}
 use Rattle.fsl_disk.proofs.Moments.{modelled_after}
 use Rattle.fsl_record.specs.declared.Record.{Record}
 use Rattle.fsl_journal.specs.Laws.{IsSomeFile}
@@ -11,7 +11,7 @@ use Rattle.fossil.specs.Acts.{output_of}
 use Rattle.fossil.specs.Synced.{reached}
 use Rattle.fossil_lives.specs.declared.session.Session.{Session}
 use Rattle.fossil_lives.specs.declared.session.Past.{Past}
-use Rattle.fossil_lives.specs.Stands.{Step, IsSettled, IsBehind}
+use Rattle.fossil_lives.specs.Stands.{IsSettled}
 use Rattle.fossil_lives.specs.Runs.{States, IsRun, IsEndedBy, IsRunOf, AreRuns, AreCommitsOf, IsCovered, AllSurvive, words_of, ran_of, is_sure}
 use Rattle.fossil_lives.proofs.Steps.{Passes, Steps, run_passes, ended_steps}
 use Rattle.fossil_lives.proofs.SyncSteps.{sync_passes}

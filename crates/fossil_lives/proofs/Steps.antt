@@ -1,17 +1,17 @@
 -- What one run and its end leave of a disk whose file stood for one list of records.
-use Rattle.std.proofs.Common.{◌≡◌, ◌≢◌, ◌⊎◌, inl, inr, ℕ, ◌≤◌, Bool, true, false, List, [], ◌∷◌, ◌++◌, length, Option, Some, None, IsTrue, refl, sym, ap, subst, ◌∙◌, arith}
+use Rattle.std.proofs.Common.{◌≡◌, ◌≢◌, ◌⊎◌, inl, inr, ℕ, ◌≤◌, Bool, true, false, List, [], ◌∷◌, ◌++◌, length, Option, Some, IsTrue, refl, sym, ap, subst, ◌∙◌, arith}
 use Rattle.std.specs.Prelude.{◌||◌, ◌&&◌, ◌==◌, not, MatchBool}
 use Rattle.std.proofs.lemmas.List.{append-nil}
 use Rattle.fsl_record.specs.declared.Record.{Record}
-use Rattle.fsl_disk.specs.Disk.{DiskState, IsModelled, Keeps, Quiet, LeavesOnly, Only}
-use Rattle.fsl_disk.proofs.Moments.{started, quiet_moments, told_contents, modelled_after}
+use Rattle.fsl_disk.specs.Disk.{DiskState, IsModelled, Quiet, LeavesOnly, Only}
+use Rattle.fsl_disk.proofs.Moments.{quiet_moments, told_contents}
 use Rattle.fsl_journal.specs.File.{IsFileOf}
 use Rattle.fsl_journal.specs.Log.{IsNoFile}
 use Rattle.fsl_journal.specs.Laws.{IsSomeFile}
 use Rattle.fsl_repo.specs.Whole.{is_modelled}
 use Rattle.fsl_words.specs.declared.Command.{Command}
 use Rattle.fossil.specs.Outcome.{Outcome}
-use Rattle.fossil.specs.Run.{Input, Output, Clock, Agrees, opens, begins, StandsFor, StandsForAll, StandsForSome, AreOldBy, AreOld, AreImages, IsNoRepository, IsRefused, RunsBy, after_commits, is_done, lasts}
+use Rattle.fossil.specs.Run.{Input, Output, Clock, Agrees, opens, begins, StandsFor, StandsForAll, StandsForSome, AreOldBy, AreImages, IsNoRepository, IsRefused, RunsBy, after_commits, is_done, lasts}
 use Rattle.fossil.specs.Acts.{file_of}
 use Rattle.fossil_lives.specs.declared.session.End.{End}
 use Rattle.fossil_lives.specs.declared.session.End.TheVariants as end_is

@@ -1,5 +1,5 @@
 -- Runs over one disk, one after the other, and what its file stands for behind them.
-use Rattle.std.specs.Prelude.{◌≡◌, ◌⊎◌, ℕ, Bool, true, false, List, [], ◌∷◌, Option, Some, IsTrue, MatchBool, ⊤}
+use Rattle.std.specs.Prelude.{◌≡◌, ◌⊎◌, ℕ, Bool, false, List, [], ◌∷◌, Option, Some, IsTrue, MatchBool, ⊤}
 use Rattle.std.specs.List.{AllByRecursion}
 use Rattle.fsl_outside.specs.Connections.{Connection, LinkState}
 use Rattle.fsl_outside.specs.Streams.{SourceState, SinkState}

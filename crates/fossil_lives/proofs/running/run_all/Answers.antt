@@ -1,7 +1,7 @@
-use Rattle.std.specs.Prelude.{◌≡◌, [], ◌∷◌}
+use Rattle.std.specs.Prelude.{◌≡◌, []}
 use Rattle.std.proofs.Common.{sym, subst, arith}
 use Rattle.std.proofs.lemmas.List.{nil_from_length}
-use Rattle.fossil_lives.specs.Runs.{AreRuns, states_of}
+use Rattle.fossil_lives.specs.Runs.{states_of}
 use Rattle.fossil_lives.proofs.Chains.{HaveRun, none_run, one_run, all_run, all_survive}
 use Rattle.fossil_lives.proofs.running.run_all.Goals as goal
 
