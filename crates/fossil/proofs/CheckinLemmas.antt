@@ -13,7 +13,7 @@ use Rattle.fsl_journal.proofs.Unique.{one_file}
 use Rattle.fsl_blobs.specs.Fold.{HeldSet, contents}
 use Rattle.fsl_blobs.specs.declared.Found.{Found}
 use Rattle.fsl_blobs.specs.declared.Found.TheVariants as found_as
-use Rattle.fsl_blobs.specs.Held.{matching, found}
+use Rattle.fsl_blobs.specs.Held.{found}
 use Rattle.fsl_files.specs.declared.FileRow.{FileRow}
 use Rattle.fsl_files.specs.declared.Listing.{Listing}
 use Rattle.fsl_files.specs.declared.Listing.TheVariants as listing
@@ -27,9 +27,7 @@ use Rattle.fsl_repo.proofs.OneList.{are_one_list}
 use Rattle.fsl_query.specs.declared.Refused.{Refused}
 use Rattle.fsl_query.specs.declared.Refused.TheVariants as refused_as
 use Rattle.fsl_query.specs.Refusals.{refusal_text}
-use Rattle.fsl_query.specs.Reports.{by_found, name_found, of_prefix}
-use Rattle.fsl_words.specs.declared.Command.{Command}
-use Rattle.fsl_words.specs.declared.Command.TheVariants as command_of
+use Rattle.fsl_query.specs.Reports.{by_found}
 use Rattle.fsl_checkin.specs.declared.types.TreeItem.{TreeItem}
 use Rattle.fsl_checkin.specs.Trees.{IsBadItem, IsItemText, IsTreeText, paths}
 use Rattle.fsl_checkin.specs.Exports.{checkin_at, checkins}

@@ -10,7 +10,6 @@ use Rattle.fsl_outside.specs.Streams.{SourceState}
 use Rattle.fsl_record.specs.declared.Record.{Record}
 use Rattle.fsl_record.specs.declared.Record.TheVariants as record_of
 use Rattle.fsl_disk.specs.Disk.{DiskState, Told}
-use Rattle.fsl_journal.specs.File.{IsFileOf}
 use Rattle.fsl_journal.specs.declared.CommitFault.{CommitFault}
 use Rattle.fsl_words.specs.declared.Command.TheVariants as command_of
 use Rattle.fsl_repo.specs.declared.Shunning.{Shunning}

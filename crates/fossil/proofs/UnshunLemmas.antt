@@ -1,6 +1,6 @@
 -- What `unshun` appended and committed.
 use Rattle.std.proofs.Common.{◌≡◌, inl, inr, ℕ, Bool, true, false, List, [], ◌∷◌, ◌++◌, Option, Some, None, Result, Ok, Err, refl, sym, ap, subst, ◌∙◌, codes}
-use Rattle.std.specs.Prelude.{◌^◌, nat_lt, length, if◌then◌else◌, MatchBool, MatchOption}
+use Rattle.std.specs.Prelude.{◌^◌, nat_lt, if◌then◌else◌, MatchBool, MatchOption}
 use Rattle.std.specs.FinSet as set
 use Rattle.std.proofs.lemmas.List.{append-nil}
 use Rattle.fsl_outside.specs.Streams.{SourceState}

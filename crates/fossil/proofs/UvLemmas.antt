@@ -19,7 +19,6 @@ use Rattle.fsl_journal.specs.declared.CommitFault.TheVariants as commit_fault
 use Rattle.fsl_journal.specs.declared.LoadFault.{LoadFault}
 use Rattle.fsl_journal.specs.declared.LoadFault.TheVariants as load_fault
 use Rattle.fsl_journal.proofs.Unique.{one_file}
-use Rattle.fsl_journal.proofs.Failing.{no_file}
 use Rattle.fsl_uv.specs.declared.Entry.{Entry}
 use Rattle.fsl_uv.specs.declared.Put.{Put}
 use Rattle.fsl_uv.specs.declared.Put.TheVariants as put_is
@@ -43,7 +42,7 @@ use Rattle.fsl_repo.specs.Whole.{is_modelled}
 use Rattle.fossil.specs.Due.{Due, IsNotLoadedDue}
 use Rattle.fossil.specs.declared.answers.fault.Fault.{Fault}
 use Rattle.fossil.specs.declared.answers.fault.Fault.TheVariants as fault_is
-use Rattle.fossil.specs.Printed.{Printed, refused, too_long}
+use Rattle.fossil.specs.Printed.{Printed, too_long}
 use Rattle.fossil.specs.Unversioned.{said_printed}
 use Rattle.fossil.specs.UvUses.{uv_use}
 use Rattle.fossil.specs.Uses.{command_opens, command_meets}
@@ -52,7 +51,7 @@ use Rattle.fossil.specs.Outcome.{Outcome, with_commit, uv_outcome, IsUvOf, IsUvO
 use Rattle.fossil.specs.Run.{Input, Clock, File, Agrees, reads, TakesMoment, TakesOne, IsTimed, IsJust}
 use Rattle.fossil.specs.Acts.{ActsBy, HasActed, IsTimedBy, IsCaused, IsOpened, IsUnopened, IsNotLoaded, IsInput, KeepsContents, KeepsUnreadable}
 use Rattle.fossil.proofs.InputLemmas.{some_bytes}
-use Rattle.fossil.proofs.FileLemmas.{both, Loads, stands, agrees, loaded_left, loaded_touches, loaded_durable}
+use Rattle.fossil.proofs.FileLemmas.{both, Loads, agrees, loaded_left, loaded_touches, loaded_durable}
 use Rattle.fossil.proofs.LoadLemmas.{KeepsBetween, opened, images_kept, same_contents, spared_contents}
 use Rattle.fossil.proofs.CommitLemmas.{idle_just}
 use Rattle.fossil.proofs.ActLemmas.{still, none_due, not_loaded_acted}

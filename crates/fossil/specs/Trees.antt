@@ -1,5 +1,5 @@
 -- What `export` and `verify` print of a check-in, by the records of the file.
-use Rattle.std.specs.Prelude.{◌≡◌, ℕ, Bool, IsTrue, List, [], ◌∷◌, ◌++◌, codes, Result, Ok, Err, MatchResult}
+use Rattle.std.specs.Prelude.{◌≡◌, ℕ, Bool, IsTrue, List, [], ◌∷◌, ◌++◌, codes, Ok, MatchResult}
 use Rattle.hex.specs.Hex.{encode_lower}
 use Rattle.fsl_order.specs.Names.{has}
 use Rattle.fsl_name.specs.declared.reference.Ref.{Ref}
@@ -7,7 +7,6 @@ use Rattle.fsl_name.specs.Ref.{ref_text}
 use Rattle.fsl_blobs.specs.Fold.{Contents, HeldSet}
 use Rattle.fsl_cross.specs.declared.Item.{Item}
 use Rattle.fsl_repo.specs.Machine.{AreItems}
-use Rattle.fsl_query.specs.declared.Refused.{Refused}
 use Rattle.fsl_query.specs.declared.Refused.TheVariants as refused_as
 use Rattle.fsl_query.specs.Refusals.{refusal_text}
 use Rattle.fsl_query.specs.Reports.{name_found}

@@ -1,4 +1,5 @@
 //! `pull` and `push`: one sync with the repository at the other end of a dial.
+ghost use Rattle.std.specs.Prelude.{◌≡◌};
 ghost use Rattle.fsl_disk.specs.Disk.{Keeps};
 ghost use Rattle.fsl_repo.specs.Whole.{IsWholeOn};
 ghost use Rattle.fsl_pull.specs.Asking.{IsDialCounted};

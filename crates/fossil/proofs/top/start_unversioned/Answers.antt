@@ -1,4 +1,4 @@
-use Rattle.std.proofs.Common.{◌≡◌, refl, ap}
+use Rattle.std.proofs.Common.{refl, ap}
 use Rattle.fsl_disk.specs.Disk.{DiskState}
 use Rattle.fsl_outside.specs.Streams.{SinkState}
 use Rattle.fsl_words.specs.declared.Command.TheVariants as command_of

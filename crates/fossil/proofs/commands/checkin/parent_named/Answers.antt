@@ -1,7 +1,6 @@
-use Rattle.std.proofs.Common.{◌≡◌, Option, Result, List, ℕ, Ok, ◌∙◌, sym}
+use Rattle.std.proofs.Common.{◌≡◌, ◌∙◌, sym}
 use Rattle.fsl_blobs.specs.Held.{matching, found}
 use Rattle.fsl_repo.specs.Machine.{now}
-use Rattle.fsl_query.specs.declared.Refused.{Refused}
 use Rattle.fsl_query.specs.Reports.{of_prefix}
 use Rattle.fsl_checkin.proofs.HavingLemmas.{if_ok_map}
 use Rattle.fossil.specs.Checkins.{checkin_or}

@@ -1,4 +1,4 @@
-use Rattle.std.proofs.Common.{Some, sym, ◌∙◌}
+use Rattle.std.proofs.Common.{sym, ◌∙◌}
 use Rattle.std.proofs.lemmas.Result.{err_from_is_err_and}
 use Rattle.fsl_words.specs.declared.Command.TheVariants as command_of
 use Rattle.fossil.specs.TreeCall.{verifying}
