@@ -5,6 +5,7 @@ mod crews;
 mod lock;
 mod open;
 mod sockets;
+mod standard;
 
 use fossil::{NO_MEMORY, run};
 use fsl_disk::{Disk, FileDisk};
@@ -13,6 +14,7 @@ use fsl_watch::{LoggedDial, WatchedDisk, WatchedSource, Whose};
 use fsl_words::{Command, Words, WordsFault, read};
 use open::{Disks, dial, listen, log_of, open, open_served, open_users, tell_ended};
 use sockets::{Staff, serve_at};
+use standard::hold;
 use std::alloc::Global;
 use std::env::Args;
 use std::io;
@@ -131,6 +133,8 @@ fn behind_name(alloc: Global, args: Args<Global>) -> Option<Vec<String>> {
 }
 
 fn main(rt: HostRuntime) -> ExitCode {
+    // first of all, before a file or a socket is opened
+    let standard = hold(&rt);
     let Some(words) = given_words(&rt) else {
         return ExitCode::from(NO_MEMORY);
     };
@@ -174,5 +178,6 @@ fn main(rt: HostRuntime) -> ExitCode {
         Err(WordsFault::Usage) => over_nothing(&rt, words),
         Err(WordsFault::Memory) => NO_MEMORY,
     };
+    drop(standard);
     ExitCode::from(status)
 }
