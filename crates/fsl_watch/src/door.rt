@@ -146,13 +146,14 @@ impl<A: Door, K: Sink, C: Clock> Door for LoggedDoor<A, K, C> {
         Ok(accepted)
     }
 
-    /// Puts out the line of the connection that was there, where there was one.
+    /// Puts out the line of the connection that was there, where there was one. It is left first, so that its peer doesn't wait for a slow
+    /// sink.
     fn leave(&mut self)
         ensures same { A.state self.new.door ≡ A.state self.old.door }
         ensures counted { self.new.traffic ≡ None }
         ensures notes { NotesRequest self.old.traffic (K.state self.old.out) (K.state self.new.out) }
     {
-        self.end();
         self.door.leave();
+        self.end();
     }
 }
