@@ -47,6 +47,10 @@ abbrev pub disk_line : Whose → Progress → List ℕ
 disk_line whose p =
     said_of whose ++ decimal p.read ++ codes " of " ++ decimal p.len ++ codes " bytes read, " ++ decimal p.written ++ codes " written\n"
 
+-- a sink that got a line took all of it, or a front of it before a call that failed
+abbrev pub Takes : SinkState → SinkState → List ℕ → Type 0
+Takes old new line = Appends old.taken new.taken line ⊎ (AppendsFront old.taken new.taken line × Rose old.faults new.faults)
+
 -- a sink took a line: all of it, or nothing for want of memory, or a front of it before a call that failed
 abbrev pub Notes : SinkState → SinkState → List ℕ → Type 0
 Notes old new line =

@@ -1,6 +1,6 @@
 //! The lines that are put out.
-ghost use Rattle.std.specs.Prelude.{◌≡◌, ◌++◌, ℕ, List, decimal, IfOk, OnOk};
-ghost use Rattle.fsl_watch.specs.Lines.{request_line as request_text, round_line as round_text, input_line as input_text, disk_line as disk_text, said_of as said_text, Notes};
+ghost use Rattle.std.specs.Prelude.{◌≡◌, ◌++◌, ℕ, List, decimal, IfOk, OnOk, IsErr};
+ghost use Rattle.fsl_watch.specs.Lines.{request_line as request_text, round_line as round_text, input_line as input_text, disk_line as disk_text, said_of as said_text, Takes, Notes};
 
 use crate::traffic::Traffic;
 use fsl_outside::{Sink, write_whole};
@@ -95,7 +95,9 @@ pub(crate) fn disk_line(alloc: Global, whose: Whose, progress: Progress) -> Resu
 
 /// Puts a line out, where there was memory for it. What can't be put out is dropped.
 pub(crate) fn put_out<K: Sink>(out: &mut K, line: Result<Text, Memory>)
-    ensures { (text : List ℕ) → IfOk line (λ t. t ≡ text) → Notes (K.state out.old) (K.state out.new) text }
+    ensures took { IfOk line (λ text. Takes (K.state out.old) (K.state out.new) text) }
+    ensures none { IsErr line → out.new ≡ out.old }
+    ensures notes { (text : List ℕ) → IfOk line (λ t. t ≡ text) → Notes (K.state out.old) (K.state out.new) text }
 {
     if let Ok(line) = line {
         drop(write_whole(out, line.bytes()));
