@@ -21,6 +21,7 @@ use Rattle.fsl_answer.specs.Refusals.{is_push}
 use Rattle.fsl_answer.specs.Contents.{State, Held, is_pull, first_clone, first_of, asks_from, names_by, sends_private, public_igots, private_igots, igots, gimmes, gimme_of, each_once, sendable, candidates, sent_file, taken_count, place_or_zero, sequel, lists_of}
 use Rattle.fsl_answer.specs.Keeps.{held_names, IsState}
 use Rattle.fsl_answer.specs.Fits.{IsWithin, RepliesFit}
+use Rattle.fsl_laws.specs.Fits.{SessionRepliesFit}
 use Rattle.fsl_answer.proofs.Keeping.{public_among, private_among}
 use Rattle.fsl_laws.proofs.Among.{all_take, all_drop, all_filter, all_found, all_given, all_map, all_unmapped, all_append, all_weaker, at_name, each_name, bounded}
 use Rattle.fsl_laws.proofs.Rising.{no_more}
@@ -36,7 +37,7 @@ three a b c = omega (arith, length-append (a ++ 32 ∷ (b ++ 32 ∷ c)) (10 ∷ 
 forty : (name : List ℕ) → IsName name → length (name_text name) ≡ 40
 forty name h = omega (arith, length_digits name, h.0)
 
-error_fits : (text : List ℕ) → length (escape text) ≤ 52 → length (error_line text) ≤ 59
+error_fits : (text : List ℕ) → length (escape text) ≤ 53 → length (error_line text) ≤ 60
 error_fits text h = omega (arith, two (codes "error") (escape text), h)
 
 push_fits : (c : List ℕ × List ℕ) → IsName c.0 × IsName c.1 → length (push_line c) ≤ 87
@@ -144,7 +145,8 @@ six a b c d e f = omega (arith, length-append (a ++ b ++ c ++ d ++ e) f, length-
 
 -- ---- the lists of a reply
 
-module _ (s : State) (message : List WireCard) (caps : Caps) (notices : List (List ℕ)) (state : IsState s) (within : IsWithin s notices) where
+module _ (s : State) (message : List WireCard) (caps : Caps) (notices : List (List ℕ)) (state : IsState s) (within : IsWithin s [])
+    (short : AllByRecursion (λ n. length (escape n) ≤ 53) notices) where
   small : AllByRecursion IsSmall s.held
   small = are_small s.held within.named within.sizes within.places
 
@@ -234,11 +236,11 @@ module _ (s : State) (message : List WireCard) (caps : Caps) (notices : List (Li
   codes_named None = tt
   codes_named (Some numbers) = ((within.server_code, within.project_code), tt)
 
-  errors_fit : length (flat_map error_line (take 100 notices)) ≤ 5900
+  errors_fit : length (flat_map error_line (take 100 notices)) ≤ 6000
   errors_fit =
       let few : length (take 100 notices) ≤ 100 = omega (arith, length-take 100 notices) in
-      let each = all_weaker (λ n. length (error_line n) ≤ 59) (λ n. length (escape n) ≤ 52) error_fits (take 100 notices) (all_take (λ n. length (escape n) ≤ 52) 100 notices within.short) in
-      omega (arith, few, bounded error_line 59 (take 100 notices) each)
+      let each = all_weaker (λ n. length (error_line n) ≤ 60) (λ n. length (escape n) ≤ 53) error_fits (take 100 notices) (all_take (λ n. length (escape n) ≤ 53) 100 notices short) in
+      omega (arith, few, bounded error_line 60 (take 100 notices) each)
 
   codes_fit : (clone : Option (ℕ × ℕ)) → length (flat_map push_line (option_to_list (option_map (λ numbers. (s.server, s.project)) clone))) ≤ 87
   codes_fit None = omega arith
@@ -274,5 +276,23 @@ module _ (s : State) (message : List WireCard) (caps : Caps) (notices : List (Li
       = six e c (flat_map igot_line (igots s message caps)) (flat_map gimme_line (gimmes s message)) (first_lines (taken_count found) found) q in
       omega (arith, whole, errors_fit, codes_fit clone, igots_fit, gimmes_fit, sent_fit, sequel_fits (asks_from clone))
 
+pub session_replies_fit : SessionRepliesFit
+session_replies_fit s message caps notices state within short = reply_fits s message caps notices state within short
+
 pub replies_fit : RepliesFit
-replies_fit s message caps notices state within = reply_fits s message caps notices state within
+replies_fit s message caps notices state within =
+    reply_fits s message caps notices state
+    (record {
+      count = within.count;
+      sizes = within.sizes;
+      places = within.places;
+      few_wants = within.few_wants;
+      few_announced = within.few_announced;
+      server_code = within.server_code;
+      project_code = within.project_code;
+      named = within.named;
+      wanted = within.wanted;
+      known = within.known;
+      short = tt;
+    })
+    (all_weaker (λ n. length (escape n) ≤ 53) (λ n. length (escape n) ≤ 52) (λ n h. omega (arith, h)) notices within.short)

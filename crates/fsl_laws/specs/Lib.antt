@@ -1,2 +1,3 @@
 pub mod Clusters
+pub mod Fits
 pub mod Replies

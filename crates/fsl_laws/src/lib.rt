@@ -7,4 +7,4 @@ mod clusters;
 mod replies;
 
 pub use clusters::made_clusters_read;
-pub use replies::{replies_fit, replies_read};
+pub use replies::{replies_fit, replies_read, session_replies_fit};
