@@ -132,9 +132,9 @@ pub fn run_all<
     let mut disk = disk;
     let mut pasts = Vec::with_capacity(alloc, sessions.len())?;
     for session in sessions {
-        let left = run_once(alloc, disk, session, reboot)?;
-        disk = left.disk;
-        pasts.push(left.past)?;
+        let Left { disk: left, past } = run_once(alloc, disk, session, reboot)?;
+        disk = left;
+        pasts.push(past)?;
     }
     Ok(Lives { disk, pasts })
 }

@@ -8,7 +8,7 @@ use Rattle.fossil_lives.proofs.running.run_all.Goals as goal
 pub loop-session-init : goal.loop-session-init
 loop-session-init g c =
     subst (λ pasts. HaveRun (states_of g.S.Source.state g.K.Sink.state g.P.Disk.state g.N.Link.state g.C.Clock.told g.D.Disk.state) c.args.disk c.args.sessions.items
-    c.into_iter-session-iterator.result.rest.items pasts c.args.disk) (sym c.in_ok-with_capacity.ensures.items)
+    c.into_iter-session-iterator.result.rest.items pasts c.args.disk) (sym c.in_ok-pasts.ensures.items)
     (none_run (states_of g.S.Source.state g.K.Sink.state g.P.Disk.state g.N.Link.state g.C.Clock.told g.D.Disk.state) c.args.disk c.args.sessions.items
     c.into_iter-session-iterator.result.rest.items c.into_iter-session-iterator.ensures.into_iter_gives.0)
 
