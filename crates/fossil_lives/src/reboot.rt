@@ -1,16 +1,17 @@
 //! What a power failure leaves.
-ghost use Rattle.std.specs.Prelude.{◌≡◌, ◌≤◌};
+ghost use Rattle.std.specs.Prelude.{◌≡◌, ◌≤◌, IfOk};
 ghost use Rattle.fsl_disk.specs.Disk.{DiskState, IsModelled};
 ghost use Rattle.fossil_lives.specs.Reboot.{IsRebooted};
 
 use fsl_disk::Disk;
+use fsl_text::Memory;
 use std::snapshot::Snapshot;
 
 /// Whoever may cut the power of a disk, and starts it again.
 pub trait Reboot<D: Disk> {
     /// The disk behind a power failure at some moment since it began. It holds one of the contents that a crash then might have
-    /// left, and a crash of it leaves this alone.
-    fn strike(&mut self, began: Snapshot<D>, disk: D) -> D
-        ensures modelled { IsModelled (D.state disk) → IsModelled (D.state result) }
-        ensures rebooted { IsRebooted (D.state began.value) (D.state disk) (D.state result) };
+    /// left, and a crash of it leaves this alone. `Memory` is the only error.
+    fn strike(&mut self, began: Snapshot<D>, disk: D) -> Result<D, Memory>
+        ensures modelled { IfOk result (λ left. IsModelled (D.state disk) → IsModelled (D.state left)) }
+        ensures rebooted { IfOk result (λ left. IsRebooted (D.state began.value) (D.state disk) (D.state left)) };
 }

@@ -67,21 +67,32 @@ fn run_session<S: Source, K: Sink, P: Disk, N: Dial, C: Clock, D: Disk>(
     }
 }
 
-/// Makes one run, and ends it.
-fn run_once<S: Source, K: Sink, P: Disk, N: Dial, C: Clock, D: Disk, R: Reboot<D>>(
+/// Makes one run, and ends it. `Memory` is the only error.
+fn run_once<
+    S: Source + Drop,
+    K: Sink + Drop,
+    P: Disk + Drop,
+    N: Dial + Drop,
+    C: Clock + Drop,
+    D: Disk + Drop,
+    R: Reboot<D>,
+>(
     alloc: Global,
     disk: D,
     session: Session<S, K, P, N, C>,
     reboot: &mut R,
-) -> Left<S, K, P, N, C, D>
-    ensures { IsRunOf (states_of S.state K.state P.state N.state C.told D.state) disk session result.past result.disk }
+) -> Result<Left<S, K, P, N, C, D>, Memory>
+    ensures { IfOk result (λ left. IsRunOf (states_of S.state K.state P.state N.state C.told D.state) disk session left.past left.disk) }
 {
     let began = Snapshot::of(&disk);
     let end = session.end;
     let Left { disk, past } = run_session(alloc, disk, session);
-    Left {
-        disk: end_run(end, past.status, began, disk, reboot),
-        past,
+    match end_run(end, past.status, began, disk, reboot) {
+        Ok(disk) => Ok(Left { disk, past }),
+        Err(fault) => {
+            drop(past);
+            Err(fault)
+        }
     }
 }
 
@@ -93,7 +104,7 @@ pub struct Lives<S, K, P, N, C, D> {
 }
 
 /// Makes runs of the program over one disk, one after the other, each over what the end of the one before it left. `Memory` is the
-/// only error, of the list of what is known of each; a run's own want of memory is its status 9.
+/// only error, of the list of what is known of each and of a power failure; a run's own want of memory is its status 9.
 ///
 /// Where no command meets a peer, and each image of the disk stood for old records before, or was one content that is no repository
 /// (as an empty file, where the first command begins one), each image stands behind them for the old records followed by, for each run
@@ -118,14 +129,12 @@ pub fn run_all<
     ensures survive { IfOk result (λ all. AllSurvive (states_of S.state K.state P.state N.state C.told D.state) disk sessions.items all.pasts.items all.disk) }
 {
     some_file();
-    let mut all = Lives {
-        disk,
-        pasts: Vec::with_capacity(alloc, sessions.len())?,
-    };
+    let mut disk = disk;
+    let mut pasts = Vec::with_capacity(alloc, sessions.len())?;
     for session in sessions {
-        let Left { disk, past } = run_once(alloc, all.disk, session, reboot);
-        all.disk = disk;
-        all.pasts.push(past)?;
+        let Left { disk: left, past } = run_once(alloc, disk, session, reboot)?;
+        disk = left;
+        pasts.push(past)?;
     }
-    Ok(all)
+    Ok(Lives { disk, pasts })
 }

@@ -1,4 +1,4 @@
-use Rattle.std.specs.Prelude.{◌≡◌, MatchBool}
+use Rattle.std.specs.Prelude.{◌≡◌, MatchBool, IfOk}
 use Rattle.std.proofs.Common.{sym, subst, ◌∙◌}
 use Rattle.fossil_lives.specs.Reboot.{IsRebooted}
 use Rattle.fossil_lives.specs.Runs.{IsEndedBy}
@@ -6,11 +6,11 @@ use Rattle.fossil_lives.proofs.ending.end_run.Goals as goal
 
 pub returns-in-Heard-clause-ended : goal.returns-in-Heard-clause-ended
 returns-in-Heard-clause-ended g c =
-    subst (λ e. IsEndedBy (λ d. g.D.Disk.state d) e c.args.status c.args.began.value c.args.disk c.strike_behind.result) (sym c.in-Heard.is) c.strike_behind.ensures.rebooted
+    subst (λ e. IfOk c.strike_behind.result (λ left. IsEndedBy (λ d. g.D.Disk.state d) e c.args.status c.args.began.value c.args.disk left)) (sym c.in-Heard.is) c.strike_behind.ensures.rebooted
 
 pub returns-clause-ended : goal.returns-clause-ended
 returns-clause-ended g c =
-    subst (λ e. IsEndedBy (λ d. g.D.Disk.state d) e c.args.status c.args.began.value c.args.disk c.strike_behind-else-is_done.result) (sym c.in-Spared.is)
-    (subst (λ b. MatchBool b (c.strike_behind-else-is_done.result ≡ c.args.disk)
-    (IsRebooted (g.D.Disk.state c.args.disk) (g.D.Disk.state c.args.disk) (g.D.Disk.state c.strike_behind-else-is_done.result)))
+    subst (λ e. IfOk c.strike_behind-else-is_done.result (λ left. IsEndedBy (λ d. g.D.Disk.state d) e c.args.status c.args.began.value c.args.disk left)) (sym c.in-Spared.is)
+    (subst (λ b. IfOk c.strike_behind-else-is_done.result (λ left. MatchBool b (left ≡ c.args.disk)
+    (IsRebooted (g.D.Disk.state c.args.disk) (g.D.Disk.state c.args.disk) (g.D.Disk.state left))))
     (sym c.if-is_done.false ∙ c.is_done.ensures) c.strike_behind-else-is_done.ensures.rebooted)

@@ -6,4 +6,4 @@ use Rattle.fossil_lives.proofs.running.run_all.Given as goal
 abbrev pub invariant-loop-session : goal.invariant-loop-session
 invariant-loop-session g l =
     HaveRun (states_of g.S.Source.state g.K.Sink.state g.P.Disk.state g.N.Link.state g.C.Clock.told g.D.Disk.state) l.fn.disk l.fn.sessions.items l.session-iterator.rest.items
-    l.all.pasts.items l.all.disk
+    l.pasts.items l.disk
