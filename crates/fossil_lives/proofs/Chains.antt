@@ -5,8 +5,8 @@ use Rattle.fsl_disk.specs.Disk.{IsModelled}
 use Rattle.fsl_disk.proofs.Moments.{modelled_after}
 use Rattle.fsl_record.specs.declared.Record.{Record}
 use Rattle.fsl_journal.specs.Laws.{IsSomeFile}
-use Rattle.fossil.specs.Outcome.{said, without_commit}
-use Rattle.fossil.specs.Run.{IsTold, after_commits, is_done}
+use Rattle.fossil.specs.Outcome.{said}
+use Rattle.fossil.specs.Run.{IsWritten, after_commits, is_done}
 use Rattle.fossil.specs.Acts.{output_of}
 use Rattle.fossil.specs.Synced.{reached}
 use Rattle.fossil_lives.specs.declared.session.Session.{Session}
@@ -52,12 +52,12 @@ module _ {S K P N C D : Type 0} (states : States S K P N C D)
         let r = run.run.synced syncs.0 syncs.1 syncs.2 in
         let s = r.3.2 in (
           reached p.status s.far,
-          inr (syncs.0, syncs.1, r.0, r.1, r.3.0, r.3.1, s, refl),
+          inr (syncs.0, syncs.1, r.0, r.1, r.2, r.3.0, r.3.1, s, refl),
           λ modelled old settled. (
             modelled_after (states.disk p.began.value) (states.disk p.ended.value) s.keeps modelled,
             sync_passes syncs.0 (states.disk p.began.value) (states.disk p.ended.value) (states.peer p.handed.value.peer, states.peer p.session.peer)
                 (states.dial p.handed.value.dial, states.dial p.session.dial)
-                (λ o. IsTold (without_commit o) p.status (output_of (states.out p.handed.value.out, states.out p.session.out))) p.status r.0 r.1 r.3.0 r.3.1 s some_file modelled
+                (λ o. IsWritten o (output_of (states.out p.handed.value.out, states.out p.session.out)) p.status) p.status r.0 r.1 r.3.0 r.3.1 s some_file modelled
                 (λ held told. reads p.began.value held modelled.model told) (λ c since. only_now p.began.value c modelled.model since) old settled,
           ),
         )

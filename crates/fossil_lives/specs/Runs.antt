@@ -1,17 +1,17 @@
 -- Runs over one disk, one after the other, and what its file stands for behind them.
 use Rattle.std.specs.Prelude.{◌≡◌, ◌⊎◌, ℕ, Bool, false, List, [], ◌∷◌, Option, Some, IsTrue, MatchBool, ⊤}
 use Rattle.std.specs.List.{AllByRecursion}
-use Rattle.fsl_outside.specs.Connections.{Connection, LinkState}
+use Rattle.fsl_outside.specs.Connections.{LinkState}
 use Rattle.fsl_outside.specs.Streams.{SourceState, SinkState}
 use Rattle.fsl_disk.specs.Disk.{DiskState, IsModelled}
 use Rattle.fsl_record.specs.declared.Record.{Record}
-use Rattle.fsl_pull.specs.Dialled.{Rounds}
+use Rattle.fsl_pull.specs.Dialled.{HasRounds}
 use Rattle.fsl_words.specs.declared.Command.{Command}
 use Rattle.fossil.specs.declared.ran.Ran.{Ran}
 use Rattle.fossil.specs.Uses.{command_syncs}
-use Rattle.fossil.specs.Outcome.{Outcome, without_commit, said, meets}
-use Rattle.fossil.specs.Run.{RunsBy, IsTold, is_done, opens_file}
-use Rattle.fossil.specs.Synced.{Read, Objects, SyncsBy, reached, objects_of}
+use Rattle.fossil.specs.Outcome.{Outcome, said, meets}
+use Rattle.fossil.specs.Run.{RunsBy, IsWritten, is_done, reads_input, opens_file, asks_clock}
+use Rattle.fossil.specs.Synced.{Read, Objects, SyncsBy, asks_peer, dials, reached, objects_of}
 use Rattle.fossil.specs.Acts.{input_of, clock_of, output_of, file_of}
 use Rattle.fossil.specs.RunCall.{texts, RunsAlone, SyncsAs, ClonesAs}
 use Rattle.fossil.specs.UvMerging.{MergesAs}
@@ -50,7 +50,14 @@ pub record IsRun {S K P N C D : Type 0} (states : States S K P N C D) (handed le
   pub cloned : ClonesAs (words_of handed) (states.disk, began) (states.dial, handed.dial, left.dial) (states.out, handed.out, left.out) ran
   pub merged : MergesAs (words_of handed) (states.disk, began) (states.peer, handed.peer) (states.out, handed.out, left.out) ran
   pub scrubbed : ScrubsAs (words_of handed) (states.disk, began) (states.peer, handed.peer) (states.out, handed.out, left.out) ran
+  -- what its words don't name is as it was
+  pub unread : reads_input (words_of handed) ≡ false → left.input ≡ handed.input
   pub untouched : opens_file (words_of handed) ≡ false → ran.repo ≡ began
+  pub unasked : asks_peer (words_of handed) ≡ false → ran.peer ≡ handed.peer
+  pub undialled : dials (words_of handed) ≡ false → left.dial ≡ handed.dial
+  pub unasked_clock : asks_clock (words_of handed) ≡ false → left.clock ≡ handed.clock
+  pub words : left.words ≡ handed.words
+  pub end : left.end ≡ handed.end
 
 -- what a run left
 abbrev pub ran_of : {S K P N C D : Type 0} → Past S K P N C D → Ran D P
@@ -101,13 +108,16 @@ objects_in states p =
     objects_of (states.disk p.began.value, states.disk p.ended.value) (states.peer p.handed.value.peer, states.peer p.session.peer)
     (states.dial p.handed.value.dial, states.dial p.session.dial)
 
--- by one reading of what a sync was handed, and its rounds, these are the commits that it made, and where a disk failed the one that was due
+-- by one reading of what a sync was handed, and the rounds by which its dial's list grew, these are the commits that it made, and where a disk failed the one
+-- that was due
 abbrev pub AreOfSync : {S K P N C D : Type 0} → States S K P N C D → Past S K P N C D → List (List Record) → Type 0
 AreOfSync states p commits =
-    (command : Command) × (said (words_of p.handed.value) ≡ Some command) × (rounds : Rounds) × (broken : List Connection) × (r : Read) × (all : List (List Record))
-    × (synced : SyncsBy command (objects_in states p) (λ o. IsTold (without_commit o) p.status (output_of (states.out p.handed.value.out, states.out p.session.out)))
+    (command : Command) × (said (words_of p.handed.value) ≡ Some command)
+    × HasRounds (objects_in states p).dial.before (objects_in states p).dial.after
+    (λ rounds broken. (r : Read) × (all : List (List Record))
+    × (synced : SyncsBy command (objects_in states p) (λ o. IsWritten o (output_of (states.out p.handed.value.out, states.out p.session.out)) p.status)
     p.status rounds broken r all)
-    × (commits ≡ reached p.status synced.far)
+    × (commits ≡ reached p.status synced.far))
 
 -- the commits of a run, by its outcome where it meets no peer
 abbrev pub AreCommitsOf : {S K P N C D : Type 0} → States S K P N C D → Past S K P N C D → List (List Record) → Type 0

@@ -1,6 +1,7 @@
 use Rattle.std.specs.Prelude.{◌≡◌, false}
-use Rattle.std.proofs.Common.{sym, subst}
-use Rattle.fossil.specs.Run.{opens_file}
+use Rattle.std.proofs.Common.{refl, sym, subst}
+use Rattle.fossil.specs.Run.{reads_input, opens_file, asks_clock}
+use Rattle.fossil.specs.Synced.{asks_peer, dials}
 use Rattle.fossil.specs.RunCall.{texts, RunsAlone, SyncsAs, ClonesAs}
 use Rattle.fossil.specs.UvMerging.{MergesAs}
 use Rattle.fossil.specs.ScrubCall.{ScrubsAs}
@@ -17,5 +18,11 @@ returns-clause-run g c =
       cloned = subst (λ w. ClonesAs (texts w) (g.D.Disk.state, c.args.disk) (g.N.Link.state, c.args.session.dial, c.run-status.new.dial) (g.K.Sink.state, c.args.session.out, c.run-status.new.out) c.run-status.result) c.deref.ensures.value c.run-status.ensures.cloned;
       merged = subst (λ w. MergesAs (texts w) (g.D.Disk.state, c.args.disk) (g.P.Disk.state, c.args.session.peer) (g.K.Sink.state, c.args.session.out, c.run-status.new.out) c.run-status.result) c.deref.ensures.value c.run-status.ensures.merged;
       scrubbed = subst (λ w. ScrubsAs (texts w) (g.D.Disk.state, c.args.disk) (g.P.Disk.state, c.args.session.peer) (g.K.Sink.state, c.args.session.out, c.run-status.new.out) c.run-status.result) c.deref.ensures.value c.run-status.ensures.scrubbed;
+      unread = subst (λ w. reads_input (texts w) ≡ false → c.run-status.new.input ≡ c.args.session.input) c.deref.ensures.value c.run-status.ensures.unread;
       untouched = subst (λ w. opens_file (texts w) ≡ false → c.run-status.result.repo ≡ c.args.disk) c.deref.ensures.value c.run-status.ensures.untouched;
+      unasked = subst (λ w. asks_peer (texts w) ≡ false → c.run-status.result.peer ≡ c.args.session.peer) c.deref.ensures.value c.run-status.ensures.unasked;
+      undialled = subst (λ w. dials (texts w) ≡ false → c.run-status.new.dial ≡ c.args.session.dial) c.deref.ensures.value c.run-status.ensures.undialled;
+      unasked_clock = subst (λ w. asks_clock (texts w) ≡ false → c.run-status.new.clock ≡ c.args.session.clock) c.deref.ensures.value c.run-status.ensures.unasked_clock;
+      words = refl;
+      end = refl;
     })
