@@ -52,7 +52,7 @@ module _ {S K P N C D : Type 0} (states : States S K P N C D)
         let r = run.run.synced syncs.0 syncs.1 syncs.2 in
         let s = r.3.2 in (
           reached p.status s.far,
-          inr (syncs.0, syncs.1, r.0, r.1, r.2, r.3.0, r.3.1, s, refl),
+          inr (syncs.0, syncs.1, (r.0, r.1, r.2, (r.3.0, r.3.1, s, refl))),
           λ modelled old settled. (
             modelled_after (states.disk p.began.value) (states.disk p.ended.value) s.keeps modelled,
             sync_passes syncs.0 (states.disk p.began.value) (states.disk p.ended.value) (states.peer p.handed.value.peer, states.peer p.session.peer)
