@@ -187,7 +187,8 @@ fn conclusion(built: Answer, committed: Answer) -> Said
     }
 }
 
-/// The build and the commit.
+/// The build and the commit. A message that pushes stands back before its commit, so that the commit serves the arrivals of those
+/// who wait too, and theirs find nothing left to do.
 fn conclude<T: Turns<Repo<D>>, D: Disk, R: Wait>(
     serving: &Serving<T, R>,
     pass: &mut T::Pass,
@@ -196,7 +197,11 @@ fn conclude<T: Turns<Repo<D>>, D: Disk, R: Wait>(
     ensures grown { T.grows pass.old pass.new }
     ensures made { Gains D.state (T.calls pass.old) (T.calls pass.new) (λ made. IsConcluded ask made (sent_of result)) }
 {
+    let pushes = has_push(ask.message.cards());
     let built = call(serving, pass, &Event::Build { ask });
+    if pushes {
+        serving.turns.stand_back();
+    }
     let committed = call(serving, pass, &Event::Commit);
     conclusion(built, committed)
 }

@@ -184,4 +184,6 @@ impl<M: Machine, L: Origin<M>> Turns<M> for Locked<M, L> {
     fn turn<R: Wait>(&self, rt: &R, pass: &mut LockedPass<M, L>, event: &M::Event) -> M::Answer {
         self.under.lock(rt).turn(pass, event)
     }
+
+    fn stand_back(&self) {}
 }

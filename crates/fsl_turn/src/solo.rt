@@ -64,4 +64,6 @@ impl<M: Machine> Turns<M> for Solo<M> {
         pass.told = pass.told.and(event, &answer);
         answer
     }
+
+    fn stand_back(&self) {}
 }

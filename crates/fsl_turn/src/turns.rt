@@ -22,6 +22,9 @@ pub trait Turns<M: Machine> {
         ensures told { Tells (calls pass.old) (calls pass.new) (λ made. made ≡ (event.now, result) ∷ []) }
         ensures grown { grows pass.old pass.new };
 
+    /// Lets those who wait for a turn go first, for a short while at most. It makes no turn, and may do nothing.
+    fn stand_back(&self);
+
     ghost grows_self: { (p : Self.Pass) → grows p p };
 
     ghost grows_through: { (p q r : Self.Pass) → grows p q → grows q r → grows p r };
