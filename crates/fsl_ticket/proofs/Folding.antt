@@ -18,8 +18,8 @@ use Rattle.fsl_ticket.specs.declared.Fact.{Fact}
 use Rattle.fsl_ticket.specs.declared.entry.Entry.{Entry}
 use Rattle.fsl_ticket.specs.Tickets.{after}
 use Rattle.fsl_ticket.specs.Seen.{value_after, value_from}
-use Rattle.fsl_ticket.specs.Kept.{Lines, fact_of, put_before, changes_at}
-use Rattle.fsl_ticket.specs.Walked.{Down, made, made_at, is_set, is_set_at, names_of, names_until, value_down, value_below, is_masked, is_other}
+use Rattle.fsl_ticket.specs.Kept.{Lines, fact_of, put_before, changes_at, is_set, is_set_at}
+use Rattle.fsl_ticket.specs.Walked.{Down, made, made_at, names_of, names_until, value_down, value_below, is_masked, is_other}
 use Rattle.fsl_ticket.proofs.Backward.{backward}
 
 abbrev of_field : List ℕ → FieldChange → Bool
@@ -123,6 +123,10 @@ module _ (es : Lines) (cards : List FieldChange) (p : ℕ × List ℕ) (ws : Dow
   empty_is [] b h = h
   empty_is (x ∷ t) false h = refl
   empty_is (x ∷ t) true h = let none : length (x ∷ t) ≡ 0 = eqb-true (length (x ∷ t)) 0 h in absurd (omega (arith, none))
+
+  -- below a newer change that replaces the field nothing counts
+  pub other_masked : is_masked es p q ws ≡ true → false ≡ is_other es cards p ws q
+  other_masked seen = let v = value_below es p q ws in ap (λ m. not m && not (bytes_eq v (made cards q v))) (sym seen)
 
   -- others make a longer one where they put something at its end
   pub other_longer : is_set cards q ≡ false → (length own == 0) ≡ false → not (is_masked es p q ws) ≡ is_other es cards p ws q

@@ -6,4 +6,5 @@ pub mod Going
 pub mod Looking
 pub mod Others
 pub mod Placing
+pub mod Settings
 pub mod Walking

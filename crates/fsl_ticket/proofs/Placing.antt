@@ -46,6 +46,9 @@ turned m n = ap is_eq (nat_cmp_total.antisymm m n) ∙ by (nat_cmp n m)
     by Equal = refl
     by Greater = refl
 
+pub same_place : (p : ℕ × List ℕ) (t : ℕ) (name : List ℕ) → is_eq (newest_cmp p (t, name)) ≡ (bytes_eq p.1 name && is_eq (nat_cmp p.0 t))
+same_place p t name = place_eq p t name ∙ (λ i. nat_list_eq_equiv.symm name p.1 i && turned t p.0 i)
+
 abbrev pub place : Fact → ℕ × List ℕ
 place f = (f.date, f.name)
 

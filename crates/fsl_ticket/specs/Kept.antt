@@ -1,5 +1,6 @@
--- How the tables hold the changes: each by its name, and a key of its ticket, date and name for each.
-use Rattle.std.specs.Prelude.{◌≡◌, ℕ, List, [], ◌∷◌, Bool, true, false, ◌&&◌, ◌||◌, if◌then◌else◌, Option, Some, None, map, is_some}
+-- How the maps hold the changes: each by its name, a key of its ticket, date and name for each, and one for each field that it replaces.
+use Rattle.std.specs.Prelude.{◌≡◌, ℕ, List, [], ◌∷◌, Bool, true, false, not, ◌&&◌, ◌||◌, if◌then◌else◌, Option, Some, None, map, is_some}
+use Rattle.std.specs.List.{list_any}
 use Rattle.std.specs.Cmp.Lexicographic.{pointwise}
 use Rattle.std.specs.Option.{option_map}
 use Rattle.std.specs.Str.{bytes_eq}
@@ -9,16 +10,20 @@ use Rattle.std.specs.Map.{keys_of}
 use Rattle.std.specs.declared.cmp.Ordering.{Ordering}
 use Rattle.fsl_order.specs.Names.{bytes_cmp, has}
 use Rattle.fsl_table.specs.Contents.{Contents, value_at}
-use Rattle.fsl_table.specs.Within.{within_cmp}
+use Rattle.fsl_table.specs.Within.{within_cmp, is_second}
 use Rattle.fsl_table.specs.declared.within.Within.{Within}
-use Rattle.fsl_table.specs.declared.step.Step.{Step}
-use Rattle.fsl_table.specs.Undo.{undone, CanUndo}
+use Rattle.fsl_table.specs.Undo.{undone, CanUndo, IsAsGood, Undoes}
 use Rattle.fsl_ticket.specs.declared.Fact.{Fact}
+use Rattle.fsl_ticket.specs.declared.FieldChange.{FieldChange}
 use Rattle.fsl_ticket.specs.declared.entry.Entry.{Entry}
+use Rattle.fsl_ticket.specs.declared.field.TicketField.{TicketField}
+use Rattle.fsl_ticket.specs.declared.maps.Maps.{Maps}
+use Rattle.fsl_ticket.specs.declared.maps.Logs.{Logs}
 use Rattle.fsl_ticket.specs.declared.rows.Row.{Row}
 use Rattle.fsl_ticket.specs.Seen.{Seen, IsAsBefore}
 use Rattle.fsl_ticket.specs.Tickets.{fields}
 use Rattle.fsl_ticket.specs.Newest.{newest_cmp}
+use Rattle.fsl_ticket.specs.FieldOrder.{field_cmp}
 
 abbrev pub Lines : Type 0
 Lines = List (List ℕ × Entry)
@@ -36,18 +41,51 @@ Spots = List (Spot × Unit {0})
 abbrev pub spot : List ℕ → ℕ → List ℕ → Spot
 spot id date name = record { first = id; second = Some (date, name) }
 
+-- a field of a ticket, and the date and name of a change that replaces it
+abbrev pub Setting : Type 0
+Setting = Within TicketField (ℕ × List ℕ)
+
+abbrev pub setting_cmp : Setting → Setting → Ordering
+setting_cmp = within_cmp field_cmp newest_cmp
+
+abbrev pub Settings : Type 0
+Settings = List (Setting × Unit {0})
+
+abbrev pub setting : List ℕ → List ℕ → ℕ × List ℕ → Setting
+setting id field p = record { first = record { id = id; field = field }; second = Some p }
+
 abbrev pub fact_of : List ℕ × Entry → Fact
 fact_of e = record { name = e.0; date = e.1.date; id = e.1.id; changes = e.1.changes }
+
+abbrev pub entry_of : Fact → Entry
+entry_of f = record { date = f.date; id = f.id; changes = f.changes }
 
 abbrev pub facts_of : Lines → List Fact
 facts_of es = map fact_of es
 
+-- the changes, and the keys of their tickets
 pub record Rows : Type 0 where
   pub facts : Contents (List ℕ) Entry
   pub spots : Contents Spot (Unit {0})
 
-abbrev pub seen_of : List (List ℕ) → Rows → Seen
-seen_of fields r = record { fields = fields; facts = facts_of r.facts.entries; spare = r.facts.spare ∷ r.spots.spare ∷ [] }
+abbrev pub rows_in : Maps → Rows
+rows_in m = record { facts = m.facts; spots = m.spots }
+
+abbrev pub seen_of : List (List ℕ) → Maps → Seen
+seen_of fields m = record { fields = fields; facts = facts_of m.facts.entries; spare = m.facts.spare ∷ m.spots.spare ∷ m.sets.spare ∷ [] }
+
+-- whether a J card replaces a field
+abbrev pub replaces : FieldChange → List ℕ → Bool
+replaces card field = bytes_eq card.field field && not card.append
+
+-- whether J cards replace a field
+abbrev pub is_set : List FieldChange → List ℕ → Bool
+is_set cards field = list_any (λ card. bytes_eq card.field field && not card.append) cards
+
+-- whether a change replaces a field, where it is there
+abbrev pub is_set_at : Option Entry → List ℕ → Bool
+is_set_at None field = false
+is_set_at (Some e) field = is_set e.changes field
 
 -- whether the change is there, of this ticket and at this date
 abbrev pub is_of : Option Entry → List ℕ → ℕ → Bool
@@ -63,6 +101,27 @@ is_id (Some e) id = bytes_eq id e.id
 abbrev pub is_spot : Lines → List ℕ → Option (ℕ × List ℕ) → Bool
 is_spot es id None = false
 is_spot es id (Some p) = is_of (value_at bytes_cmp p.1 es) id p.0
+
+-- whether what may be a date and a name is that of a change of this ticket that replaces the field
+abbrev pub is_setting : Lines → TicketField → Option (ℕ × List ℕ) → Bool
+is_setting es f None = false
+is_setting es f (Some p) = is_of (value_at bytes_cmp p.1 es) f.id p.0 && is_set_at (value_at bytes_cmp p.1 es) f.field
+
+-- whether a key is there
+abbrev pub is_kept_set : Settings → Setting → Bool
+is_kept_set ss k = is_some (value_at setting_cmp k ss)
+
+-- whether a key is one of a ticket, and of a date and a name
+abbrev pub is_keyed : List ℕ → ℕ × List ℕ → Setting → Bool
+is_keyed id p k = bytes_eq k.first.id id && is_second newest_cmp k.second p
+
+-- whether it is that of a field which a J card of this change replaces
+abbrev pub is_card_set : List ℕ → ℕ × List ℕ → FieldChange → Setting → Bool
+is_card_set id p card k = is_keyed id p k && replaces card k.first.field
+
+-- whether it is that of a field which the J cards of this change replace
+abbrev pub is_set_of : List ℕ → ℕ × List ℕ → List FieldChange → Setting → Bool
+is_set_of id p cards k = is_keyed id p k && is_set cards k.first.field
 
 -- the change of a name
 abbrev pub change_at : Lines → List ℕ → Option Fact
@@ -105,18 +164,40 @@ pub record AreTouched (configured : List (List ℕ)) (es : Lines) (name id : Lis
   pub own : (q : List ℕ) → has ids q ≡ (is_id (value_at bytes_cmp name es) q || bytes_eq q id)
   pub are : rows ≡ map (row_of configured es) ids
 
-pub record IsKept (r : Rows) : Type 0 where
+pub record IsLaid (r : Rows) : Type 0 where
   pub ordered : IsStrictlySortedBy bytes_cmp (keys_of r.facts.entries)
   pub spots_ordered : IsStrictlySortedBy spot_cmp (keys_of r.spots.entries)
   pub spots : (k : Spot) → is_some (value_at spot_cmp k r.spots.entries) ≡ is_spot r.facts.entries k.first k.second
 
--- what both logs leave
-abbrev pub undone_rows : List (Step (List ℕ) Entry) → List (Step Spot (Unit {0})) → Rows → Rows
-undone_rows facts spots r = record { facts = undone bytes_cmp facts r.facts; spots = undone spot_cmp spots r.spots }
+-- there is a key exactly for each change and each field that it replaces
+pub record AreSets (es : Lines) (ss : Settings) : Type 0 where
+  pub ordered : IsStrictlySortedBy setting_cmp (keys_of ss)
+  pub are : (k : Setting) → is_kept_set ss k ≡ is_setting es k.first k.second
 
--- both logs find their memory, and lead back
-pub record TakesBack (facts : List (Step (List ℕ) Entry)) (spots : List (Step Spot (Unit {0}))) (before : Seen) (fields : List (List ℕ)) (now : Rows) : Type 0 where
-  pub facts_can : CanUndo bytes_cmp facts now.facts
-  pub spots_can : CanUndo spot_cmp spots now.spots
-  pub kept : IsKept (undone_rows facts spots now)
-  pub back : IsAsBefore before (seen_of fields (undone_rows facts spots now))
+pub record IsKept (m : Maps) : Type 0 where
+  pub laid : IsLaid (rows_in m)
+  pub sets : AreSets m.facts.entries m.sets.entries
+
+-- the logs take the maps back to what they were before
+pub record AreUndone (logs : Logs) (now before : Maps) : Type 0 where
+  pub facts : Undoes bytes_cmp logs.facts now.facts before.facts
+  pub spots : Undoes spot_cmp logs.spots now.spots before.spots
+  pub sets : Undoes setting_cmp logs.sets now.sets before.sets
+
+-- what the logs leave
+abbrev pub undone_maps : Logs → Maps → Maps
+undone_maps l m = record { facts = undone bytes_cmp l.facts m.facts; spots = undone spot_cmp l.spots m.spots; sets = undone setting_cmp l.sets m.sets }
+
+-- each map of the second is as good as that of the first
+pub record AreAsGood (m n : Maps) : Type 0 where
+  pub facts : IsAsGood m.facts n.facts
+  pub spots : IsAsGood m.spots n.spots
+  pub sets : IsAsGood m.sets n.sets
+
+-- the logs find their memory, and lead back
+pub record TakesBack (logs : Logs) (before : Seen) (fields : List (List ℕ)) (now : Maps) : Type 0 where
+  pub facts_can : CanUndo bytes_cmp logs.facts now.facts
+  pub spots_can : CanUndo spot_cmp logs.spots now.spots
+  pub sets_can : CanUndo setting_cmp logs.sets now.sets
+  pub kept : IsKept (undone_maps logs now)
+  pub back : IsAsBefore before (seen_of fields (undone_maps logs now))

@@ -9,7 +9,7 @@ use Rattle.fsl_ticket.specs.declared.FieldChange.{FieldChange}
 use Rattle.fsl_ticket.specs.declared.entry.Entry.{Entry}
 use Rattle.fsl_ticket.specs.Tickets.{after}
 use Rattle.fsl_ticket.specs.Newest.{newest_cmp}
-use Rattle.fsl_ticket.specs.Kept.{Lines}
+use Rattle.fsl_ticket.specs.Kept.{Lines, is_set_at}
 
 -- dates and names, the newest first
 abbrev pub Down : Type 0
@@ -19,19 +19,10 @@ Down = List ((ℕ × List ℕ) × Unit {0})
 abbrev pub made : List FieldChange → List ℕ → List ℕ → List ℕ
 made cards field value = fold after value (filter (λ card. bytes_eq card.field field) cards)
 
--- whether J cards replace a field
-abbrev pub is_set : List FieldChange → List ℕ → Bool
-is_set cards field = list_any (λ card. bytes_eq card.field field && not card.append) cards
-
 -- what a change makes of the value of a field, where it is there
 abbrev pub made_at : Option Entry → List ℕ → List ℕ → List ℕ
 made_at None field value = value
 made_at (Some e) field value = made e.changes field value
-
--- whether a change replaces a field, where it is there
-abbrev pub is_set_at : Option Entry → List ℕ → Bool
-is_set_at None field = false
-is_set_at (Some e) field = is_set e.changes field
 
 -- whether a walk ends with a change: where that replaces the field, if one is given
 abbrev pub ends_at : Option Entry → Option (List ℕ) → Bool
@@ -55,6 +46,11 @@ value_down es (name ∷ names) field = made_at (value_at bytes_cmp name es) fiel
 abbrev pub is_masked : Lines → ℕ × List ℕ → List ℕ → Down → Bool
 is_masked es p field [] = false
 is_masked es p field (w ∷ ws) = if is_lt (newest_cmp w.0 p) then (is_set_at (value_at bytes_cmp w.0.1 es) field || is_masked es p field ws) else false
+
+-- whether what may be there is newer than a date and a name
+abbrev pub is_newer : ℕ × List ℕ → Option ((ℕ × List ℕ) × Unit {0}) → Bool
+is_newer p None = false
+is_newer p (Some w) = is_lt (newest_cmp w.0 p)
 
 -- the value of a field below a date and a name
 abbrev pub value_below : Lines → ℕ × List ℕ → List ℕ → Down → List ℕ

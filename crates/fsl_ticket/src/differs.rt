@@ -1,21 +1,23 @@
 //! Whether one change more makes another row of its ticket. That is found from the fields that it touches: what it puts at the end of
 //! one makes it longer, what replaces one is compared with what stands since the last change that replaced it, and a newer change that
 //! replaces the field leaves it as it was.
-ghost use Rattle.std.specs.Prelude.{◌≡◌, ℕ, [], List, Some, IfOk};
+ghost use Rattle.std.specs.Prelude.{◌≡◌, ◌&&◌, ◌==◌, not, length, ℕ, [], List, Some, IfOk};
 ghost use Rattle.std.specs.List.{list_any};
 ghost use Rattle.std.specs.List.Sorted.{IsStrictlySortedBy};
 ghost use Rattle.std.specs.Map.{keys_of};
 ghost use Rattle.fsl_order.specs.Names.{bytes_cmp};
 ghost use Rattle.fsl_table.specs.Within.{within};
 ghost use Rattle.fsl_table.proofs.Walk.{from};
-ghost use Rattle.fsl_ticket.specs.Kept.{spot_cmp};
+ghost use Rattle.fsl_ticket.specs.Kept.{IsKept, spot_cmp};
 ghost use Rattle.fsl_ticket.specs.Newest.{newest_cmp};
 ghost use Rattle.fsl_ticket.specs.Seen.{value_in};
-ghost use Rattle.fsl_ticket.specs.Walked.{made, is_masked, is_other, is_row_other, names_of, value_below, value_down};
+ghost use Rattle.fsl_ticket.specs.Walked.{made, is_other, is_row_other, names_of, value_below, value_down};
 
 use crate::entry::Entry;
+use crate::maps::Maps;
 use crate::place::Place;
-use crate::walk::{next_place, replaces, values_from};
+use crate::sets::is_masked;
+use crate::walk::{next_place, values_from};
 use crate::{Fact, values};
 use fsl_name::Name;
 use fsl_table::{Table, Within};
@@ -23,31 +25,6 @@ use fsl_text::{Memory, Steps, Text};
 use std::alloc::Global;
 use std::collections::BTreeMap;
 use std::sync::ledger::Ledger;
-
-/// Whether a newer change of a ticket replaces a field.
-fn is_masked<L: Ledger>(
-    facts: &Table<Name, Entry>,
-    spots: &Table<Within<Name, Place>, ()>,
-    id: Name,
-    place: Place,
-    field: &Text,
-    steps: &mut Steps<L>,
-) -> bool
-    requires { IsStrictlySortedBy spot_cmp (keys_of spots.now.entries) }
-    ensures { result ≡ is_masked facts.now.entries place field.now (within bytes_cmp id spots.now.entries) }
-{
-    let mut next = next_place(spots, id, None, steps);
-    while let Some(newer) = next {
-        if !newer.cmp(&place).is_lt() {
-            return false;
-        }
-        if replaces(facts, newer.name(), field, steps) {
-            return true;
-        }
-        next = next_place(spots, id, Some(newer), steps);
-    }
-    false
-}
 
 /// The value that changes give a field from one of them down.
 fn value_from<L: Ledger>(
@@ -94,29 +71,47 @@ fn value_below<L: Ledger>(
     }
 }
 
+/// Whether cards leave a field as it is: they don't replace it, and put nothing at its end.
+fn is_untouched(replaced: bool, value: &[u8]) -> bool
+    ensures { result ≡ (not replaced && length value.now == 0) }
+{
+    !replaced && value.is_empty()
+}
+
 /// Whether a change, which isn't there, makes another value of a field. `own` has what its cards alone make of each field.
 fn is_other<L: Ledger>(
     alloc: Global,
-    facts: &Table<Name, Entry>,
-    spots: &Table<Within<Name, Place>, ()>,
+    maps: &Maps,
     fact: &Fact,
     own: &BTreeMap<Text, Text>,
     field: &Text,
     steps: &mut Steps<L>,
 ) -> Result<bool, Memory>
-    requires sorted { IsStrictlySortedBy spot_cmp (keys_of spots.now.entries) }
+    requires kept { IsKept maps.now }
     requires own { (q : List ℕ) → value_in own.now.entries q ≡ made fact.now.changes q [] }
-    ensures { IfOk result (λ b. b ≡ is_other facts.now.entries fact.now.changes (fact.now.date, fact.now.name) (within bytes_cmp fact.now.id spots.now.entries) field.now) }
+    ensures { IfOk result (λ b. b ≡ is_other maps.now.facts.entries fact.now.changes (fact.now.date, fact.now.name) (within bytes_cmp fact.now.id maps.now.spots.entries) field.now) }
 {
     let place = Place::new(fact.date, fact.name);
     let value = values::value_of(own, field);
-    if !values::is_set(fact.changes.items(), field) {
-        return Ok(!value.is_empty() && !is_masked(facts, spots, fact.id, place, field, steps));
-    }
-    if is_masked(facts, spots, fact.id, place, field, steps) {
+    let replaced = values::is_set(fact.changes.items(), field);
+    if is_untouched(replaced, value) {
         return Ok(false);
     }
-    match value_below(alloc, facts, spots, fact.id, place, field, steps) {
+    if is_masked(alloc, &maps.sets, fact.id, field, place, steps)? {
+        return Ok(false);
+    }
+    if !replaced {
+        return Ok(true);
+    }
+    match value_below(
+        alloc,
+        &maps.facts,
+        &maps.spots,
+        fact.id,
+        place,
+        field,
+        steps,
+    ) {
         Ok(before) => {
             let same = before.bytes() == value;
             drop(before);
@@ -130,43 +125,42 @@ fn is_other<L: Ledger>(
 fn any_other<L: Ledger>(
     alloc: Global,
     configured: &[Text],
-    facts: &Table<Name, Entry>,
-    spots: &Table<Within<Name, Place>, ()>,
+    maps: &Maps,
     fact: &Fact,
     own: &BTreeMap<Text, Text>,
     steps: &mut Steps<L>,
 ) -> Result<bool, Memory>
-    requires sorted { IsStrictlySortedBy spot_cmp (keys_of spots.now.entries) }
+    requires kept { IsKept maps.now }
     requires own { (q : List ℕ) → value_in own.now.entries q ≡ made fact.now.changes q [] }
-    ensures { IfOk result (λ b. b ≡ list_any (is_other facts.now.entries fact.now.changes (fact.now.date, fact.now.name) (within bytes_cmp fact.now.id spots.now.entries)) configured.now) }
+    ensures { IfOk result (λ b. b ≡ list_any (is_other maps.now.facts.entries fact.now.changes (fact.now.date, fact.now.name) (within bytes_cmp fact.now.id maps.now.spots.entries)) configured.now) }
 {
     for field in configured {
-        if is_other(alloc, facts, spots, fact, own, field, steps)? {
+        if is_other(alloc, maps, fact, own, field, steps)? {
             return Ok(true);
         }
     }
     Ok(false)
 }
 
-/// Whether a change, which isn't there, makes another row of its ticket. It takes time by the changes of the ticket that are newer,
-/// until one replaces the field, and where the change itself replaces one by those that came since that was replaced before.
+/// Whether a change, which isn't there, makes another row of its ticket. For each configured field that it touches it takes one look
+/// at the newest change that replaces that. Where the change itself replaces it and none that is newer does, it walks those of the
+/// ticket that are older, down to the last that replaced it: no later change walks those again for this field, save that last one.
 pub(crate) fn is_row_other<L: Ledger>(
     alloc: Global,
     configured: &[Text],
-    facts: &Table<Name, Entry>,
-    spots: &Table<Within<Name, Place>, ()>,
+    maps: &Maps,
     fact: &Fact,
     steps: &mut Steps<L>,
 ) -> Result<bool, Memory>
-    requires { IsStrictlySortedBy spot_cmp (keys_of spots.now.entries) }
-    ensures { IfOk result (λ b. b ≡ is_row_other configured.now facts.now.entries fact.now.changes (fact.now.date, fact.now.name) (within bytes_cmp fact.now.id spots.now.entries)) }
+    requires { IsKept maps.now }
+    ensures { IfOk result (λ b. b ≡ is_row_other configured.now maps.now.facts.entries fact.now.changes (fact.now.date, fact.now.name) (within bytes_cmp fact.now.id maps.now.spots.entries)) }
 {
-    if next_place(spots, fact.id, None, steps).is_none() {
+    if next_place(&maps.spots, fact.id, None, steps).is_none() {
         return Ok(true);
     }
     match values::made(alloc, fact.changes.items()) {
         Ok(own) => {
-            let other = any_other(alloc, configured, facts, spots, fact, &own, steps);
+            let other = any_other(alloc, configured, maps, fact, &own, steps);
             drop(own);
             other
         }

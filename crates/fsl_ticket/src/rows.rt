@@ -1,4 +1,4 @@
-//! The rows of tickets: a change put into the two tables and taken out, and the ids whose rows differ then.
+//! The rows of tickets: a change put into the maps and taken out, and the ids whose rows differ then.
 ghost use Rattle.std.specs.Prelude.{◌≡◌, [], ◌&&◌, ◌||◌, not, ℕ, List, Option, Some, None, ◌∷◌, ◌++◌, if◌then◌else◌, IfOk, OnOk, is_some, map};
 ghost use Rattle.std.specs.List.{filter_map};
 ghost use Rattle.std.specs.Option.{option_to_list};
@@ -9,14 +9,17 @@ ghost use Rattle.fsl_order.specs.Names.{bytes_cmp, has};
 ghost use Rattle.fsl_order.specs.Rows.{by_name, AreDistinct, ListsChanged};
 ghost use Rattle.fsl_table.specs.Contents.{Contents, value_at, with_entry, without_key};
 ghost use Rattle.fsl_table.specs.Undo.{Undoes};
-ghost use Rattle.fsl_ticket.specs.Kept.{AreTouched, IsKept, Spot, spot_cmp, facts_of, if_other, is_id, is_same, row_of, is_spot};
+ghost use Rattle.fsl_ticket.specs.Kept.{AreTouched, AreUndone, IsKept, IsLaid, Spot, spot_cmp, entry_of, facts_of, if_other, is_id, is_same, row_of, is_spot};
 ghost use Rattle.fsl_ticket.specs.Tickets.{tickets_row};
 ghost use Rattle.fsl_ticket.specs.declared.entry.Entry as entry_type;
+ghost use Rattle.fsl_ticket.specs.declared.maps.Maps as maps_type;
 
 use crate::Fact;
 use crate::differs::is_row_other;
 use crate::entry::Entry;
+use crate::maps::{Logs, Maps};
 use crate::place::Place;
+use crate::sets::{put_sets, unset};
 use crate::walk::{fields_of, key};
 use fsl_name::Name;
 use fsl_rows::Named;
@@ -33,8 +36,8 @@ pub(crate) struct Row {
     pub(crate) values: Option<List<Text>>,
 }
 
-/// Puts a new change, and logs what takes it out again. Nothing is copied. After `Memory` a part may be done; the logs have it.
-pub(crate) fn put_fact<L: Ledger>(
+/// Puts a new change and the key of its ticket, and logs what takes both out again. After `Memory` a part may be done; the logs have it.
+fn lay<L: Ledger>(
     facts: &mut Table<Name, Entry>,
     spots: &mut Table<Within<Name, Place>, ()>,
     facts_log: &mut Log<Name, Entry>,
@@ -42,10 +45,10 @@ pub(crate) fn put_fact<L: Ledger>(
     fact: Fact,
     steps: &mut Steps<L>,
 ) -> Result<(), Memory>
-    requires kept { IsKept (record { facts = facts.old; spots = spots.old }) }
+    requires laid { IsLaid (record { facts = facts.old; spots = spots.old }) }
     requires absent { value_at bytes_cmp fact.name facts.old.entries ≡ None }
-    ensures entries { OnOk result (facts.new.entries ≡ with_entry bytes_cmp fact.name (record { date = fact.date; id = fact.id; changes = fact.changes }) facts.old.entries) }
-    ensures kept { OnOk result (IsKept (record { facts = facts.new; spots = spots.new })) }
+    ensures entries { OnOk result (facts.new.entries ≡ with_entry bytes_cmp fact.name (entry_of fact) facts.old.entries) }
+    ensures laid { OnOk result (IsLaid (record { facts = facts.new; spots = spots.new })) }
     ensures undoes_facts { (before : Contents (List ℕ) entry_type.Entry) → Undoes bytes_cmp facts_log.old facts.old before → Undoes bytes_cmp facts_log.new facts.new before }
     ensures undoes_spots { (before : Contents Spot Unit) → Undoes spot_cmp spots_log.old spots.old before → Undoes spot_cmp spots_log.new spots.new before }
 {
@@ -62,50 +65,78 @@ pub(crate) fn put_fact<L: Ledger>(
     log::put(facts, facts_log, name, name, entry, steps)
 }
 
+/// Puts a new change, and logs what takes it out again. The names of the fields that it replaces are copied, and nothing else. After
+/// `Memory` a part may be done; the logs have it.
+pub(crate) fn put_fact<L: Ledger>(
+    alloc: Global,
+    maps: &mut Maps,
+    logs: &mut Logs,
+    fact: Fact,
+    steps: &mut Steps<L>,
+) -> Result<(), Memory>
+    requires kept { IsKept maps.old }
+    requires absent { value_at bytes_cmp fact.name maps.old.facts.entries ≡ None }
+    ensures entries { OnOk result (maps.new.facts.entries ≡ with_entry bytes_cmp fact.name (entry_of fact) maps.old.facts.entries) }
+    ensures kept { OnOk result (IsKept maps.new) }
+    ensures undoes { (before : maps_type.Maps) → AreUndone logs.old maps.old before → AreUndone logs.new maps.new before }
+{
+    let place = Place::new(fact.date, fact.name);
+    match put_sets(
+        alloc,
+        &mut maps.sets,
+        &mut logs.sets,
+        fact.id,
+        place,
+        fact.changes.items(),
+        steps,
+    ) {
+        Ok(()) => lay(
+            &mut maps.facts,
+            &mut maps.spots,
+            &mut logs.facts,
+            &mut logs.spots,
+            fact,
+            steps,
+        ),
+        Err(Memory) => Err(Memory),
+    }
+}
+
 /// Puts a copy of a new change. After `Memory` a part may be done.
 fn put_copy<L: Ledger>(
     alloc: Global,
-    facts: &mut Table<Name, Entry>,
-    spots: &mut Table<Within<Name, Place>, ()>,
+    maps: &mut Maps,
     fact: &Fact,
     steps: &mut Steps<L>,
 ) -> Result<(), Memory>
-    requires kept { IsKept (record { facts = facts.old; spots = spots.old }) }
-    requires absent { value_at bytes_cmp fact.now.name facts.old.entries ≡ None }
-    ensures entries { OnOk result (facts.new.entries ≡ with_entry bytes_cmp fact.now.name (record { date = fact.now.date; id = fact.now.id; changes = fact.now.changes }) facts.old.entries) }
-    ensures kept { OnOk result (IsKept (record { facts = facts.new; spots = spots.new })) }
+    requires kept { IsKept maps.old }
+    requires absent { value_at bytes_cmp fact.now.name maps.old.facts.entries ≡ None }
+    ensures entries { OnOk result (maps.new.facts.entries ≡ with_entry bytes_cmp fact.now.name (entry_of fact.now) maps.old.facts.entries) }
+    ensures kept { OnOk result (IsKept maps.new) }
 {
     let Ok(copy) = fact.copied(alloc) else {
         return Err(Memory);
     };
-    put_fact(
-        facts,
-        spots,
-        &mut Log::new(alloc),
-        &mut Log::new(alloc),
-        copy,
-        steps,
-    )
+    put_fact(alloc, maps, &mut Logs::new(alloc), copy, steps)
 }
 
-/// Puts copies of new changes, of which no two have one name, into tables without any. After `Memory` a part may be done.
+/// Puts copies of new changes, of which no two have one name, into maps without any. After `Memory` a part may be done.
 pub(crate) fn put_all<L: Ledger>(
     alloc: Global,
-    facts: &mut Table<Name, Entry>,
-    spots: &mut Table<Within<Name, Place>, ()>,
+    maps: &mut Maps,
     all: &[Fact],
     steps: &mut Steps<L>,
 ) -> Result<(), Memory>
-    requires no_facts { facts.old.entries ≡ [] }
-    requires no_spots { spots.old.entries ≡ [] }
+    requires none { maps.old.facts.entries ≡ [] }
+    requires kept { IsKept maps.old }
     requires distinct { AreDistinct (map (λ f. f.name) all.now) }
-    ensures facts { OnOk result (facts_of facts.new.entries ≡ by_name (λ f. f.name) all.now) }
-    ensures kept { OnOk result (IsKept (record { facts = facts.new; spots = spots.new })) }
+    ensures facts { OnOk result (facts_of maps.new.facts.entries ≡ by_name (λ f. f.name) all.now) }
+    ensures kept { OnOk result (IsKept maps.new) }
 {
     let mut left = all.len();
     while left > 0 {
         left -= 1;
-        let Ok(()) = put_copy(alloc, facts, spots, &all[left], steps) else {
+        let Ok(()) = put_copy(alloc, maps, &all[left], steps) else {
             return Err(Memory);
         };
     }
@@ -120,7 +151,7 @@ fn unplace<L: Ledger>(
     name: Name,
     steps: &mut Steps<L>,
 ) -> Result<(), Memory>
-    requires kept { IsKept (record { facts = facts.now; spots = spots.old }) }
+    requires laid { IsLaid (record { facts = facts.now; spots = spots.old }) }
     ensures ordered { OnOk result (IsStrictlySortedBy spot_cmp (keys_of spots.new.entries)) }
     ensures spots { OnOk result ((k : Spot) → is_some (value_at spot_cmp k spots.new.entries) ≡ is_spot (without_key bytes_cmp name facts.now.entries) k.first k.second) }
     ensures undoes { (before : Contents Spot Unit) → Undoes spot_cmp log.old spots.old before → Undoes spot_cmp log.new spots.new before }
@@ -134,8 +165,8 @@ fn unplace<L: Ledger>(
     }
 }
 
-/// Takes a change out, and logs what puts it back. After `Memory` a part may be done; the logs have it.
-fn take_out<L: Ledger>(
+/// Takes a change and the key of its ticket out, and logs what puts both back. After `Memory` a part may be done; the logs have it.
+fn lift<L: Ledger>(
     facts: &mut Table<Name, Entry>,
     spots: &mut Table<Within<Name, Place>, ()>,
     facts_log: &mut Log<Name, Entry>,
@@ -143,14 +174,38 @@ fn take_out<L: Ledger>(
     name: Name,
     steps: &mut Steps<L>,
 ) -> Result<(), Memory>
-    requires kept { IsKept (record { facts = facts.old; spots = spots.old }) }
+    requires laid { IsLaid (record { facts = facts.old; spots = spots.old }) }
     ensures entries { OnOk result (facts.new.entries ≡ without_key bytes_cmp name facts.old.entries) }
-    ensures kept { OnOk result (IsKept (record { facts = facts.new; spots = spots.new })) }
+    ensures laid { OnOk result (IsLaid (record { facts = facts.new; spots = spots.new })) }
     ensures undoes_facts { (before : Contents (List ℕ) entry_type.Entry) → Undoes bytes_cmp facts_log.old facts.old before → Undoes bytes_cmp facts_log.new facts.new before }
     ensures undoes_spots { (before : Contents Spot Unit) → Undoes spot_cmp spots_log.old spots.old before → Undoes spot_cmp spots_log.new spots.new before }
 {
     unplace(facts, spots, spots_log, name, steps)?;
     log::remove(facts, facts_log, name, steps)
+}
+
+/// Takes a change out, and logs what puts it back. After `Memory` a part may be done; the logs have it.
+fn take_out<L: Ledger>(
+    alloc: Global,
+    maps: &mut Maps,
+    logs: &mut Logs,
+    name: Name,
+    steps: &mut Steps<L>,
+) -> Result<(), Memory>
+    requires kept { IsKept maps.old }
+    ensures entries { OnOk result (maps.new.facts.entries ≡ without_key bytes_cmp name maps.old.facts.entries) }
+    ensures kept { OnOk result (IsKept maps.new) }
+    ensures undoes { (before : maps_type.Maps) → AreUndone logs.old maps.old before → AreUndone logs.new maps.new before }
+{
+    unset(alloc, &maps.facts, &mut maps.sets, &mut logs.sets, name, steps)?;
+    lift(
+        &mut maps.facts,
+        &mut maps.spots,
+        &mut logs.facts,
+        &mut logs.spots,
+        name,
+        steps,
+    )
 }
 
 /// Puts the id of the change of a name in, where it is there.
@@ -194,7 +249,7 @@ fn rows_of<L: Ledger>(
     ids: &[Name],
     steps: &mut Steps<L>,
 ) -> Result<List<Row>, Memory>
-    requires { IsKept (record { facts = facts.now; spots = spots.now }) }
+    requires { IsLaid (record { facts = facts.now; spots = spots.now }) }
     ensures { IfOk result (λ rows. rows ≡ map (row_of configured.now facts.now.entries) ids.now) }
 {
     let mut rows = List::new(alloc);
@@ -225,7 +280,7 @@ fn other_of<L: Ledger>(
     row: &Row,
     steps: &mut Steps<L>,
 ) -> Result<Option<Name>, Memory>
-    requires { IsKept (record { facts = facts.now; spots = spots.now }) }
+    requires { IsLaid (record { facts = facts.now; spots = spots.now }) }
     ensures { IfOk result (λ id. id ≡ if_other configured.now facts.now.entries row.now) }
 {
     let values = fields_of(alloc, configured, facts, spots, row.id, steps)?;
@@ -255,7 +310,7 @@ fn others<L: Ledger>(
     rows: &[Row],
     steps: &mut Steps<L>,
 ) -> Result<List<Name>, Memory>
-    requires { IsKept (record { facts = facts.now; spots = spots.now }) }
+    requires { IsLaid (record { facts = facts.now; spots = spots.now }) }
     ensures { IfOk result (λ list. list ≡ filter_map (if_other configured.now facts.now.entries) rows.now) }
 {
     let mut list = List::new(alloc);
@@ -276,7 +331,7 @@ fn rows_touched<L: Ledger>(
     id: Name,
     steps: &mut Steps<L>,
 ) -> Result<List<Row>, Memory>
-    requires { IsKept (record { facts = facts.now; spots = spots.now }) }
+    requires { IsLaid (record { facts = facts.now; spots = spots.now }) }
     ensures { IfOk result (AreTouched configured.now facts.now.entries name id) }
 {
     let Ok(ids) = ids_of(alloc, facts, name, id, steps) else {
@@ -289,21 +344,19 @@ fn rows_touched<L: Ledger>(
 
 /// Puts a change in the place of that of its name, where there is one. After `Memory` a part may be done; the logs have it.
 fn replace_fact<L: Ledger>(
-    facts: &mut Table<Name, Entry>,
-    spots: &mut Table<Within<Name, Place>, ()>,
-    facts_log: &mut Log<Name, Entry>,
-    spots_log: &mut Log<Within<Name, Place>, ()>,
+    alloc: Global,
+    maps: &mut Maps,
+    logs: &mut Logs,
     fact: Fact,
     steps: &mut Steps<L>,
 ) -> Result<(), Memory>
-    requires kept { IsKept (record { facts = facts.old; spots = spots.old }) }
-    ensures entries { OnOk result (facts.new.entries ≡ with_entry bytes_cmp fact.name (record { date = fact.date; id = fact.id; changes = fact.changes }) facts.old.entries) }
-    ensures kept { OnOk result (IsKept (record { facts = facts.new; spots = spots.new })) }
-    ensures undoes_facts { (before : Contents (List ℕ) entry_type.Entry) → Undoes bytes_cmp facts_log.old facts.old before → Undoes bytes_cmp facts_log.new facts.new before }
-    ensures undoes_spots { (before : Contents Spot Unit) → Undoes spot_cmp spots_log.old spots.old before → Undoes spot_cmp spots_log.new spots.new before }
+    requires kept { IsKept maps.old }
+    ensures entries { OnOk result (maps.new.facts.entries ≡ with_entry bytes_cmp fact.name (entry_of fact) maps.old.facts.entries) }
+    ensures kept { OnOk result (IsKept maps.new) }
+    ensures undoes { (before : maps_type.Maps) → AreUndone logs.old maps.old before → AreUndone logs.new maps.new before }
 {
-    take_out(facts, spots, facts_log, spots_log, fact.name, steps)?;
-    put_fact(facts, spots, facts_log, spots_log, fact, steps)
+    take_out(alloc, maps, logs, fact.name, steps)?;
+    put_fact(alloc, maps, logs, fact, steps)
 }
 
 /// The id, where its row differs.
@@ -324,24 +377,21 @@ fn listed(alloc: Global, id: Name, differs: bool) -> Result<List<Name>, Memory>
 fn put_new<L: Ledger>(
     alloc: Global,
     configured: &[Text],
-    facts: &mut Table<Name, Entry>,
-    spots: &mut Table<Within<Name, Place>, ()>,
-    facts_log: &mut Log<Name, Entry>,
-    spots_log: &mut Log<Within<Name, Place>, ()>,
+    maps: &mut Maps,
+    logs: &mut Logs,
     fact: Fact,
     steps: &mut Steps<L>,
 ) -> Result<List<Name>, Memory>
-    requires kept { IsKept (record { facts = facts.old; spots = spots.old }) }
-    requires absent { value_at bytes_cmp fact.name facts.old.entries ≡ None }
-    ensures entries { OnOk result (facts.new.entries ≡ with_entry bytes_cmp fact.name (record { date = fact.date; id = fact.id; changes = fact.changes }) facts.old.entries) }
-    ensures kept { OnOk result (IsKept (record { facts = facts.new; spots = spots.new })) }
-    ensures changed { IfOk result (ListsChanged (tickets_row configured.now (facts_of facts.old.entries)) (tickets_row configured.now (facts_of (with_entry bytes_cmp fact.name (record { date = fact.date; id = fact.id; changes = fact.changes }) facts.old.entries)))) }
-    ensures undoes_facts { (before : Contents (List ℕ) entry_type.Entry) → Undoes bytes_cmp facts_log.old facts.old before → Undoes bytes_cmp facts_log.new facts.new before }
-    ensures undoes_spots { (before : Contents Spot Unit) → Undoes spot_cmp spots_log.old spots.old before → Undoes spot_cmp spots_log.new spots.new before }
+    requires kept { IsKept maps.old }
+    requires absent { value_at bytes_cmp fact.name maps.old.facts.entries ≡ None }
+    ensures entries { OnOk result (maps.new.facts.entries ≡ with_entry bytes_cmp fact.name (entry_of fact) maps.old.facts.entries) }
+    ensures kept { OnOk result (IsKept maps.new) }
+    ensures changed { IfOk result (ListsChanged (tickets_row configured.now (facts_of maps.old.facts.entries)) (tickets_row configured.now (facts_of (with_entry bytes_cmp fact.name (entry_of fact) maps.old.facts.entries)))) }
+    ensures undoes { (before : maps_type.Maps) → AreUndone logs.old maps.old before → AreUndone logs.new maps.new before }
 {
     let id = fact.id;
-    match is_row_other(alloc, configured, facts, spots, &fact, steps) {
-        Ok(differs) => match put_fact(facts, spots, facts_log, spots_log, fact, steps) {
+    match is_row_other(alloc, configured, maps, &fact, steps) {
+        Ok(differs) => match put_fact(alloc, maps, logs, fact, steps) {
             Ok(()) => listed(alloc, id, differs),
             Err(Memory) => Err(Memory),
         },
@@ -354,26 +404,38 @@ fn put_new<L: Ledger>(
 fn put_again<L: Ledger>(
     alloc: Global,
     configured: &[Text],
-    facts: &mut Table<Name, Entry>,
-    spots: &mut Table<Within<Name, Place>, ()>,
-    facts_log: &mut Log<Name, Entry>,
-    spots_log: &mut Log<Within<Name, Place>, ()>,
+    maps: &mut Maps,
+    logs: &mut Logs,
     fact: Fact,
     steps: &mut Steps<L>,
 ) -> Result<List<Name>, Memory>
-    requires kept { IsKept (record { facts = facts.old; spots = spots.old }) }
-    ensures entries { OnOk result (facts.new.entries ≡ with_entry bytes_cmp fact.name (record { date = fact.date; id = fact.id; changes = fact.changes }) facts.old.entries) }
-    ensures kept { OnOk result (IsKept (record { facts = facts.new; spots = spots.new })) }
-    ensures changed { IfOk result (ListsChanged (tickets_row configured.now (facts_of facts.old.entries)) (tickets_row configured.now (facts_of (with_entry bytes_cmp fact.name (record { date = fact.date; id = fact.id; changes = fact.changes }) facts.old.entries)))) }
-    ensures undoes_facts { (before : Contents (List ℕ) entry_type.Entry) → Undoes bytes_cmp facts_log.old facts.old before → Undoes bytes_cmp facts_log.new facts.new before }
-    ensures undoes_spots { (before : Contents Spot Unit) → Undoes spot_cmp spots_log.old spots.old before → Undoes spot_cmp spots_log.new spots.new before }
+    requires kept { IsKept maps.old }
+    ensures entries { OnOk result (maps.new.facts.entries ≡ with_entry bytes_cmp fact.name (entry_of fact) maps.old.facts.entries) }
+    ensures kept { OnOk result (IsKept maps.new) }
+    ensures changed { IfOk result (ListsChanged (tickets_row configured.now (facts_of maps.old.facts.entries)) (tickets_row configured.now (facts_of (with_entry bytes_cmp fact.name (entry_of fact) maps.old.facts.entries)))) }
+    ensures undoes { (before : maps_type.Maps) → AreUndone logs.old maps.old before → AreUndone logs.new maps.new before }
 {
-    let Ok(before) = rows_touched(alloc, configured, facts, spots, fact.name, fact.id, steps) else {
+    let Ok(before) = rows_touched(
+        alloc,
+        configured,
+        &maps.facts,
+        &maps.spots,
+        fact.name,
+        fact.id,
+        steps,
+    ) else {
         return Err(Memory);
     };
-    match replace_fact(facts, spots, facts_log, spots_log, fact, steps) {
+    match replace_fact(alloc, maps, logs, fact, steps) {
         Ok(()) => {
-            let changed = others(alloc, configured, facts, spots, before.items(), steps);
+            let changed = others(
+                alloc,
+                configured,
+                &maps.facts,
+                &maps.spots,
+                before.items(),
+                steps,
+            );
             drop(before);
             changed
         }
@@ -386,27 +448,20 @@ fn put_again<L: Ledger>(
 pub(crate) fn put_either<L: Ledger>(
     alloc: Global,
     configured: &[Text],
-    facts: &mut Table<Name, Entry>,
-    spots: &mut Table<Within<Name, Place>, ()>,
-    facts_log: &mut Log<Name, Entry>,
-    spots_log: &mut Log<Within<Name, Place>, ()>,
+    maps: &mut Maps,
+    logs: &mut Logs,
     fact: Fact,
     steps: &mut Steps<L>,
 ) -> Result<List<Name>, Memory>
-    requires kept { IsKept (record { facts = facts.old; spots = spots.old }) }
-    ensures entries { OnOk result (facts.new.entries ≡ with_entry bytes_cmp fact.name (record { date = fact.date; id = fact.id; changes = fact.changes }) facts.old.entries) }
-    ensures kept { OnOk result (IsKept (record { facts = facts.new; spots = spots.new })) }
-    ensures changed { IfOk result (ListsChanged (tickets_row configured.now (facts_of facts.old.entries)) (tickets_row configured.now (facts_of (with_entry bytes_cmp fact.name (record { date = fact.date; id = fact.id; changes = fact.changes }) facts.old.entries)))) }
-    ensures undoes_facts { (before : Contents (List ℕ) entry_type.Entry) → Undoes bytes_cmp facts_log.old facts.old before → Undoes bytes_cmp facts_log.new facts.new before }
-    ensures undoes_spots { (before : Contents Spot Unit) → Undoes spot_cmp spots_log.old spots.old before → Undoes spot_cmp spots_log.new spots.new before }
+    requires kept { IsKept maps.old }
+    ensures entries { OnOk result (maps.new.facts.entries ≡ with_entry bytes_cmp fact.name (entry_of fact) maps.old.facts.entries) }
+    ensures kept { OnOk result (IsKept maps.new) }
+    ensures changed { IfOk result (ListsChanged (tickets_row configured.now (facts_of maps.old.facts.entries)) (tickets_row configured.now (facts_of (with_entry bytes_cmp fact.name (entry_of fact) maps.old.facts.entries)))) }
+    ensures undoes { (before : maps_type.Maps) → AreUndone logs.old maps.old before → AreUndone logs.new maps.new before }
 {
-    if facts.get(&fact.name, steps).is_none() {
-        put_new(
-            alloc, configured, facts, spots, facts_log, spots_log, fact, steps,
-        )
+    if maps.facts.get(&fact.name, steps).is_none() {
+        put_new(alloc, configured, maps, logs, fact, steps)
     } else {
-        put_again(
-            alloc, configured, facts, spots, facts_log, spots_log, fact, steps,
-        )
+        put_again(alloc, configured, maps, logs, fact, steps)
     }
 }

@@ -6,13 +6,11 @@ ghost use Rattle.fsl_ticket.specs.Seen.{IsAsBefore};
 ghost use Rattle.fsl_ticket.specs.Tickets.{tickets_row};
 ghost use Rattle.fsl_ticket.specs.Tickets as table;
 
-use super::entry::Entry;
-use super::place::Place;
+use super::maps::{Logs, Maps, undo_all};
 use super::rows::{put_all, put_either};
 use super::walk::fields_of;
 use super::{Fact, cards};
 use fsl_name::Name;
-use fsl_table::{Log, Table, Within, log};
 use fsl_text::{List, Memory, Steps, Text};
 use std::alloc::Global;
 use std::marker::{Brand, Model};
@@ -24,9 +22,7 @@ use std::sync::ledger::{Blank, Ledger};
 #[derive(Drop)]
 pub struct Tickets {
     configured: List<Text>,
-    facts: Table<Name, Entry>,
-    /// The ticket, the date and the name of each change.
-    spots: Table<Within<Name, Place>, ()>,
+    maps: Maps,
 }
 
 impl Model for Tickets {
@@ -35,16 +31,15 @@ impl Model for Tickets {
 
     ghost Value = { Seen };
 
-    ghost view = { λ t. seen_of t.configured (record { facts = t.facts; spots = t.spots }) };
+    ghost view = { λ t. seen_of t.configured t.maps };
 
-    ghost invariant = { λ t. IsKept (record { facts = t.facts; spots = t.spots }) };
+    ghost invariant = { λ t. IsKept t.maps };
 }
 
 /// What takes a change back, and the ids whose rows it changed. Contracts see it as both, with the table before and after.
 #[derive(Drop)]
 pub struct Undo {
-    facts: Log<Name, Entry>,
-    spots: Log<Within<Name, Place>, ()>,
+    logs: Logs,
     changed: List<Name>,
     before: Snapshot<Tickets>,
     after: Snapshot<Tickets>,
@@ -53,13 +48,14 @@ pub struct Undo {
 impl Model for Undo {
     ghost use Rattle.std.specs.Prelude.{ℕ, List};
     ghost use Rattle.fsl_ticket.specs.Seen.{Change, IsAsBefore};
-    ghost use Rattle.fsl_ticket.specs.Kept.{Rows, IsKept, seen_of, TakesBack};
+    ghost use Rattle.fsl_ticket.specs.Kept.{IsKept, seen_of, TakesBack};
+    ghost use Rattle.fsl_ticket.specs.declared.maps.Maps as maps_type;
 
     ghost Value = { Change };
 
     ghost view = { λ u. record { before = u.before.value; after = u.after.value; changed = u.changed } };
 
-    ghost invariant = { λ u. (fields : List (List ℕ)) (now : Rows) → IsKept now → IsAsBefore u.after.value (seen_of fields now) → TakesBack u.facts u.spots u.before.value fields now };
+    ghost invariant = { λ u. (fields : List (List ℕ)) (now : maps_type.Maps) → IsKept now → IsAsBefore u.after.value (seen_of fields now) → TakesBack u.logs u.before.value fields now };
 }
 
 impl Undo {
@@ -79,8 +75,7 @@ impl Tickets {
     {
         Tickets {
             configured: List::new(alloc),
-            facts: Table::new(alloc),
-            spots: Table::new(alloc),
+            maps: Maps::new(alloc),
         }
     }
 
@@ -125,21 +120,18 @@ impl Tickets {
         let Ok(configured) = cards::texts(alloc, fields.items()) else {
             return Err(Memory);
         };
-        let mut entries = Table::new(alloc);
-        let mut spots = Table::new(alloc);
-        match put_all(alloc, &mut entries, &mut spots, facts, steps) {
-            Ok(()) => Ok(Tickets {
-                configured,
-                facts: entries,
-                spots,
-            }),
+        let mut maps = Maps::new(alloc);
+        match put_all(alloc, &mut maps, facts, steps) {
+            Ok(()) => Ok(Tickets { configured, maps }),
             Err(Memory) => Err(Memory),
         }
     }
 
-    /// Adds a change whose name isn't there, which is moved. It takes time by the changes of its ticket that are newer, as far as none of
-    /// them replaces a field that it touches, and where it replaces one itself, by those that came since the last that did. `Memory` is
-    /// the only error, and the table then holds what it held.
+    /// Adds a change whose name isn't there, which is moved. It takes time by the logarithm of all changes for each of its cards and each
+    /// configured field. Where it replaces such a field and no newer change of the ticket does, it also passes the older ones down to
+    /// the last that did: as long as none is changed or taken back, each is passed so once for a field, and once more as the last, so
+    /// n changes take time by n log n in whatever order they come, as far as the number of their cards and of the configured fields
+    /// stays the same. `Memory` is the only error, and the table then holds what it held.
     pub fn add<L: Ledger>(
         &mut self,
         alloc: Global,
@@ -191,31 +183,26 @@ impl Tickets {
         ensures err { OnErr result (IsAsBefore self.old self.new) }
     {
         let before = Snapshot::of(&*self);
-        let mut facts = Log::new(alloc);
-        let mut spots = Log::new(alloc);
+        let mut logs = Logs::new(alloc);
         match put_either(
             alloc,
             self.configured.items(),
-            &mut self.facts,
-            &mut self.spots,
-            &mut facts,
-            &mut spots,
+            &mut self.maps,
+            &mut logs,
             fact,
             steps,
         ) {
             Ok(changed) => {
                 let after = Snapshot::of(&*self);
                 Ok(Undo {
-                    facts,
-                    spots,
+                    logs,
                     changed,
                     before,
                     after,
                 })
             }
             Err(Memory) => {
-                log::undo(&mut self.facts, facts, steps);
-                log::undo(&mut self.spots, spots, steps);
+                undo_all(&mut self.maps, logs, steps);
                 Err(Memory)
             }
         }
@@ -237,9 +224,8 @@ impl Tickets {
         ensures { IsAsBefore undo.before self.new }
     {
         let mut steps: Steps<L> = Steps::new(blank);
-        let Undo { facts, spots, .. } = undo;
-        log::undo(&mut self.facts, facts, &mut steps);
-        log::undo(&mut self.spots, spots, &mut steps);
+        let Undo { logs, .. } = undo;
+        undo_all(&mut self.maps, logs, &mut steps);
     }
 
     /// The values of the configured fields of a ticket, in their order: each begins empty, and takes the J cards of its field in the
@@ -266,8 +252,8 @@ impl Tickets {
         fields_of(
             alloc,
             self.configured.items(),
-            &self.facts,
-            &self.spots,
+            &self.maps.facts,
+            &self.maps.spots,
             id,
             &mut steps,
         )

@@ -6,7 +6,8 @@ ghost use Rattle.std.specs.BTreeMap.{is_at};
 ghost use Rattle.fsl_order.specs.Names.{bytes_cmp};
 ghost use Rattle.fsl_ticket.specs.Tickets.{after};
 ghost use Rattle.fsl_ticket.specs.Seen.{value_in};
-ghost use Rattle.fsl_ticket.specs.Walked.{made, is_set};
+ghost use Rattle.fsl_ticket.specs.Kept.{is_set, replaces};
+ghost use Rattle.fsl_ticket.specs.Walked.{made};
 
 use super::FieldChange;
 use fsl_text::{List, Memory, Text};
@@ -91,7 +92,7 @@ pub fn made(alloc: Global, cards: &[FieldChange]) -> Result<BTreeMap<Text, Text>
 
 /// Whether a card replaces the field.
 fn is_replaced(card: &FieldChange, field: &Text) -> bool
-    ensures { result ≡ (bytes_eq card.now.field field.now && not card.now.append) }
+    ensures { result ≡ replaces card.now field.now }
 {
     card.field.bytes() == field.bytes() && !card.append
 }

@@ -7,11 +7,11 @@ ghost use Rattle.fsl_order.specs.Names.{bytes_cmp};
 ghost use Rattle.fsl_table.specs.Contents.{value_at, entries_after};
 ghost use Rattle.fsl_table.specs.Within.{within, above};
 ghost use Rattle.fsl_table.proofs.Walk.{from};
-ghost use Rattle.fsl_ticket.specs.Kept.{IsKept, spot_cmp, facts_of};
+ghost use Rattle.fsl_ticket.specs.Kept.{IsLaid, is_set_at, spot_cmp, facts_of};
 ghost use Rattle.fsl_ticket.specs.Newest.{newest_cmp};
 ghost use Rattle.fsl_ticket.specs.Seen.{value_in};
 ghost use Rattle.fsl_ticket.specs.Tickets as table;
-ghost use Rattle.fsl_ticket.specs.Walked.{made_at, is_set_at, ends_at, names_until, value_down};
+ghost use Rattle.fsl_ticket.specs.Walked.{made_at, ends_at, names_until, value_down};
 
 use crate::entry::Entry;
 use crate::place::Place;
@@ -48,7 +48,7 @@ pub(crate) fn next_place<L: Ledger>(
 }
 
 /// Whether a change replaces a field, where it is there.
-pub(crate) fn replaces<L: Ledger>(
+fn replaces<L: Ledger>(
     facts: &Table<Name, Entry>,
     name: Name,
     field: &Text,
@@ -183,7 +183,7 @@ pub(crate) fn fields_of<L: Ledger>(
     id: Name,
     steps: &mut Steps<L>,
 ) -> Result<Option<List<Text>>, Memory>
-    requires { IsKept (record { facts = facts.now; spots = spots.now }) }
+    requires { IsLaid (record { facts = facts.now; spots = spots.now }) }
     ensures { IfOk result (λ values. values ≡ table.fields configured.now (facts_of facts.now.entries) id) }
 {
     let Some(first) = next_place(spots, id, None, steps) else {

@@ -6,7 +6,7 @@ use Rattle.fsl_table.specs.Contents.{with_entry}
 use Rattle.fsl_table.proofs.Outcomes.{always_ok, if_ok_map}
 use Rattle.fsl_ticket.specs.declared.entry.Entry.{Entry}
 use Rattle.fsl_ticket.specs.Tickets.{tickets_row}
-use Rattle.fsl_ticket.specs.Kept.{facts_of, if_other}
+use Rattle.fsl_ticket.specs.Kept.{entry_of, facts_of, if_other}
 use Rattle.fsl_ticket.proofs.Changing.{lists_others}
 use Rattle.fsl_ticket.proofs.rows.put_again.Goals as goal
 
@@ -16,18 +16,15 @@ returns-in-Ok-replace_fact-clause-entries g c = always_ok c.others-changed.resul
 pub returns-in-Ok-replace_fact-clause-kept : goal.returns-in-Ok-replace_fact-clause-kept
 returns-in-Ok-replace_fact-clause-kept g c = always_ok c.others-changed.result c.in-Ok-replace_fact.ensures.kept
 
-pub returns-in-Ok-replace_fact-clause-undoes_facts : goal.returns-in-Ok-replace_fact-clause-undoes_facts
-returns-in-Ok-replace_fact-clause-undoes_facts g c = c.replace_fact.ensures.undoes_facts
-
-pub returns-in-Ok-replace_fact-clause-undoes_spots : goal.returns-in-Ok-replace_fact-clause-undoes_spots
-returns-in-Ok-replace_fact-clause-undoes_spots g c = c.replace_fact.ensures.undoes_spots
+pub returns-in-Ok-replace_fact-clause-undoes : goal.returns-in-Ok-replace_fact-clause-undoes
+returns-in-Ok-replace_fact-clause-undoes g c = c.replace_fact.ensures.undoes
 
 pub returns-in-Ok-replace_fact-clause-changed : goal.returns-in-Ok-replace_fact-clause-changed
 returns-in-Ok-replace_fact-clause-changed g c =
     let f = c.args.fact in
-    let es = c.args.facts.now.entries in
+    let es = c.args.maps.now.facts.entries in
     let configured = c.args.configured.now in
-    let entry : Entry = record { date = f.date; id = f.id; changes = f.changes } in
+    let entry : Entry = entry_of f in
     let after = with_entry bytes_cmp f.name entry es in
     let touched = c.in-Ok.ensures in
     let entries = c.in-Ok-replace_fact.ensures.entries in

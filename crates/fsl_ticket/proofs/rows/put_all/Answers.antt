@@ -6,13 +6,12 @@ use Rattle.fsl_order.specs.Rows.{by_name, AreDistinct}
 use Rattle.fsl_rows.proofs.Built.{distinct-drop, by_name-again}
 use Rattle.fsl_table.proofs.Facts.{absent-entry, absent_before, facts_with}
 use Rattle.fsl_ticket.specs.Kept.{fact_of, facts_of}
-use Rattle.fsl_ticket.proofs.Canonical.{kept_none}
 use Rattle.fsl_ticket.proofs.rows.put_all.Goals as goal
 
 pub loop-left-init : goal.loop-left-init
 loop-left-init g c = record {
-  done = ap facts_of c.requires.no_facts ∙ ap (by_name (λ f. f.name)) (sym (drop-length c.args.all.now));
-  kept = kept_none (record { facts = c.args.facts.now; spots = c.args.spots.now }) c.requires.no_facts c.requires.no_spots;
+  done = ap facts_of c.requires.none ∙ ap (by_name (λ f. f.name)) (sym (drop-length c.args.all.now));
+  kept = c.requires.kept;
   within = omega arith;
 }
 
@@ -26,7 +25,7 @@ put_copy-requires-clause-absent g c =
     let less : j < length facts = omega (arith, c.loop-left-test.true, c.loop-left.invariant.within) in
     let cut : drop j facts ≡ r ∷ rest = drop_more facts j r less ∙ (λ i. (sym c.index-all-left.is) i ∷ drop (e i) facts) in
     let d : AreDistinct (map (λ f. f.name) (r ∷ rest)) = subst (λ l. AreDistinct (map (λ f. f.name) l)) cut (distinct-drop (λ f. f.name) j facts c.requires.distinct) in
-    absent-entry fact_of (λ f. f.name) (λ e. refl) c.loop-left.facts.entries r.name
+    absent-entry fact_of (λ f. f.name) (λ e. refl) c.loop-left.maps.facts.entries r.name
     (ap (λ l. has (map (λ f. f.name) l) r.name) c.loop-left.invariant.done ∙ absent_before (λ f. f.name) r rest d)
 
 pub loop-left-preserved : goal.loop-left-preserved
@@ -41,7 +40,7 @@ loop-left-preserved g c =
     let d : AreDistinct (map (λ f. f.name) (r ∷ rest)) = subst (λ l. AreDistinct (map (λ f. f.name) l)) cut (distinct-drop (λ f. f.name) j facts c.requires.distinct) in
     record {
       done = ap facts_of c.in-Ok.ensures.entries
-          ∙ facts_with fact_of (λ f. f.name) (λ e. refl) _ _ c.loop-left.facts.entries c.loop-left.invariant.kept.ordered
+          ∙ facts_with fact_of (λ f. f.name) (λ e. refl) _ _ c.loop-left.maps.facts.entries c.loop-left.invariant.kept.laid.ordered
           ∙ ap (λ l. by_name (λ f. f.name) (r ∷ l)) c.loop-left.invariant.done ∙ by_name-again (λ f. f.name) r rest d ∙ ap (by_name (λ f. f.name)) (sym cut);
       kept = c.in-Ok.ensures.kept;
       within = omega (arith, c.loop-left.invariant.within);

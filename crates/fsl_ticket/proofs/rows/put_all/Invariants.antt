@@ -6,8 +6,8 @@ use Rattle.fsl_ticket.proofs.rows.put_all.Given as goal
 -- those that are done are there
 abbrev pub invariant-loop-left : goal.invariant-loop-left
 invariant-loop-left g l = record {
-  done : facts_of l.facts.entries ≡ by_name (λ f. f.name) (drop l.left l.all);
-  kept : IsKept (record { facts = l.facts; spots = l.spots });
+  done : facts_of l.maps.facts.entries ≡ by_name (λ f. f.name) (drop l.left l.all);
+  kept : IsKept l.maps;
   within : l.left ≤ length l.all;
 }
 

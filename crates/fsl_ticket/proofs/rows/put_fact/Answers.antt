@@ -1,30 +1,30 @@
-use Rattle.std.proofs.Common.{◌≡◌, ◌∙◌, ap, sym, subst, is_some, Some}
-use Rattle.std.specs.List.Sorted.{IsStrictlySortedBy}
-use Rattle.std.specs.Map.{keys_of}
-use Rattle.fsl_order.specs.Names.{bytes_cmp}
-use Rattle.fsl_order.proofs.Orders.{bytes_cmp-IsTotalOrder}
-use Rattle.fsl_table.specs.Contents.{value_at, with_entry}
-use Rattle.fsl_table.proofs.Entries.{sorted-insert_entry}
-use Rattle.fsl_table.proofs.Outcomes.{on_ok_map}
-use Rattle.fsl_ticket.specs.declared.entry.Entry.{Entry}
-use Rattle.fsl_ticket.specs.Kept.{is_spot, spot, spot_cmp}
-use Rattle.fsl_ticket.proofs.Canonical.{spot_cmp-IsTotalOrder}
-use Rattle.fsl_ticket.proofs.Placing.{spots_with}
+use Rattle.std.proofs.Common.{◌∙◌, ◌||◌, sym, subst}
+use Rattle.fsl_table.proofs.Outcomes.{both_ok}
+use Rattle.fsl_ticket.specs.Kept.{AreSets, entry_of, is_kept_set, is_set_of}
+use Rattle.fsl_ticket.proofs.Settings.{sets_with}
 use Rattle.fsl_ticket.proofs.rows.put_fact.Goals as goal
 
-pub returns-clause-kept : goal.returns-clause-kept
-returns-clause-kept g c =
-    let k = c.requires.kept in
-    let es = c.args.facts.now.entries in
-    let ss = c.args.spots.now.entries in
-    let name = c.args.fact.name in
-    let entry : Entry = record { date = c.args.fact.date; id = c.args.fact.id; changes = c.args.fact.changes } in
-    let key : c.key-spot.result ≡ spot entry.id entry.date name = c.key-spot.ensures ∙ ap (λ p. record { first = entry.id; second = Some p }) c.new.ensures in
-    let spotted : c.put.new.table.entries ≡ with_entry spot_cmp (spot entry.id entry.date name) tt ss = c.in_ok-put.ensures.ok ∙ ap (λ s. with_entry spot_cmp s tt ss) key in
-    on_ok_map c.put-2.result
-    (λ put. record {
-      ordered = subst (λ es. IsStrictlySortedBy bytes_cmp (keys_of es)) (sym put) (sorted-insert_entry bytes_cmp-IsTotalOrder name entry es k.ordered);
-      spots_ordered = subst (λ es. IsStrictlySortedBy spot_cmp (keys_of es)) (sym spotted) (sorted-insert_entry spot_cmp-IsTotalOrder (spot entry.id entry.date name) tt ss k.spots_ordered);
-      spots = λ q. ap (λ l. is_some (value_at spot_cmp q l)) spotted ∙ spots_with es ss k.spots name entry c.requires.absent q ∙ ap (λ es. is_spot es q.first q.second) (sym put);
+pub returns-in-Ok-clause-kept : goal.returns-in-Ok-clause-kept
+returns-in-Ok-clause-kept g c =
+    let f = c.args.fact in
+    let es = c.args.maps.now.facts.entries in
+    let ss = c.args.maps.now.sets.entries in
+    let rs = c.put_sets.new.sets.entries in
+    both_ok c.lay.result
+    (λ put laid. record {
+      laid = laid;
+      sets = subst (λ es. AreSets es rs) (sym put)
+          (sets_with es ss rs f.name (entry_of f) c.requires.kept.sets c.requires.absent c.in-Ok.ensures.ordered
+          (λ k. c.in-Ok.ensures.sets k ∙ (λ i. is_kept_set ss k || is_set_of f.id (c.new-place.ensures i) (c.items.ensures i) k)));
     })
-    c.put-2.ensures.ok
+    c.lay.ensures.entries c.lay.ensures.laid
+
+pub returns-in-Ok-clause-undoes : goal.returns-in-Ok-clause-undoes
+returns-in-Ok-clause-undoes g c = λ before u. record {
+  facts = c.lay.ensures.undoes_facts before.facts u.facts;
+  spots = c.lay.ensures.undoes_spots before.spots u.spots;
+  sets = c.in-Ok.ensures.undoes before.sets u.sets;
+}
+
+pub returns-in-Err-clause-undoes : goal.returns-in-Err-clause-undoes
+returns-in-Err-clause-undoes g c = λ before u. record { facts = u.facts; spots = u.spots; sets = c.in-Err.ensures.undoes before.sets u.sets }

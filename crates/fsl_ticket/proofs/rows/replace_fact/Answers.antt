@@ -4,22 +4,20 @@ use Rattle.fsl_table.specs.Contents.{value_at, with_entry}
 use Rattle.fsl_table.proofs.Facts.{with-without, none-without}
 use Rattle.fsl_table.proofs.Outcomes.{on_ok_map}
 use Rattle.fsl_ticket.specs.declared.entry.Entry.{Entry}
+use Rattle.fsl_ticket.specs.Kept.{entry_of}
 use Rattle.fsl_ticket.proofs.rows.replace_fact.Goals as goal
 
 pub put_fact-requires-clause-absent : goal.put_fact-requires-clause-absent
 put_fact-requires-clause-absent g c =
-    ap (value_at bytes_cmp c.args.fact.name) c.in_ok-take_out.ensures.entries ∙ none-without c.args.fact.name c.args.facts.now.entries c.requires.kept.ordered
+    ap (value_at bytes_cmp c.args.fact.name) c.in_ok-take_out.ensures.entries ∙ none-without c.args.fact.name c.args.maps.now.facts.entries c.requires.kept.laid.ordered
 
-pub returns-clause-undoes_facts : goal.returns-clause-undoes_facts
-returns-clause-undoes_facts g c = λ before u. c.put_fact.ensures.undoes_facts before (c.take_out.ensures.undoes_facts before u)
-
-pub returns-clause-undoes_spots : goal.returns-clause-undoes_spots
-returns-clause-undoes_spots g c = λ before u. c.put_fact.ensures.undoes_spots before (c.take_out.ensures.undoes_spots before u)
+pub returns-clause-undoes : goal.returns-clause-undoes
+returns-clause-undoes g c = λ before u. c.put_fact.ensures.undoes before (c.take_out.ensures.undoes before u)
 
 pub returns-clause-entries : goal.returns-clause-entries
 returns-clause-entries g c =
     let f = c.args.fact in
-    let entry : Entry = record { date = f.date; id = f.id; changes = f.changes } in
+    let entry : Entry = entry_of f in
     on_ok_map c.put_fact.result
-    (λ put. put ∙ ap (with_entry bytes_cmp f.name entry) c.in_ok-take_out.ensures.entries ∙ with-without f.name entry c.args.facts.now.entries c.requires.kept.ordered)
+    (λ put. put ∙ ap (with_entry bytes_cmp f.name entry) c.in_ok-take_out.ensures.entries ∙ with-without f.name entry c.args.maps.now.facts.entries c.requires.kept.laid.ordered)
     c.put_fact.ensures.entries

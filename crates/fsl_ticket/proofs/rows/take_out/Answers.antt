@@ -1,22 +1,18 @@
-use Rattle.std.proofs.Common.{◌∙◌, ap, sym, subst}
-use Rattle.std.specs.BTreeMap.{is_at}
-use Rattle.std.specs.List.Sorted.{IsStrictlySortedBy}
-use Rattle.std.specs.Map.{keys_of}
-use Rattle.fsl_order.specs.Names.{bytes_cmp}
-use Rattle.fsl_order.proofs.Orders.{bytes_cmp-IsTotalOrder}
-use Rattle.fsl_table.proofs.Entries.{sorted-remove_entry}
-use Rattle.fsl_table.proofs.Outcomes.{on_ok_map}
-use Rattle.fsl_ticket.specs.Kept.{is_spot}
+use Rattle.std.proofs.Common.{sym, subst}
+use Rattle.fsl_table.proofs.Outcomes.{both_ok}
+use Rattle.fsl_ticket.specs.Kept.{AreSets}
 use Rattle.fsl_ticket.proofs.rows.take_out.Goals as goal
 
 pub returns-clause-kept : goal.returns-clause-kept
 returns-clause-kept g c =
-    let k = c.requires.kept in
-    let es = c.args.facts.now.entries in
-    on_ok_map c.remove.result
-    (λ out. record {
-      ordered = subst (λ es. IsStrictlySortedBy bytes_cmp (keys_of es)) (sym out) (sorted-remove_entry bytes_cmp-IsTotalOrder (is_at (bytes_cmp c.args.name)) es k.ordered);
-      spots_ordered = c.in_ok-unplace.ensures.ordered;
-      spots = λ key. c.in_ok-unplace.ensures.spots key ∙ ap (λ es. is_spot es key.first key.second) (sym out);
-    })
-    c.remove.ensures.ok
+    both_ok c.lift.result (λ out laid. record { laid = laid; sets = subst (λ es. AreSets es c.unset.new.sets.entries) (sym out) c.in_ok-unset.ensures.sets }) c.lift.ensures.entries c.lift.ensures.laid
+
+pub returns-clause-undoes : goal.returns-clause-undoes
+returns-clause-undoes g c = λ before u. record {
+  facts = c.lift.ensures.undoes_facts before.facts u.facts;
+  spots = c.lift.ensures.undoes_spots before.spots u.spots;
+  sets = c.unset.ensures.undoes before.sets u.sets;
+}
+
+pub returns-in_err-unset-clause-undoes : goal.returns-in_err-unset-clause-undoes
+returns-in_err-unset-clause-undoes g c = λ before u. record { facts = u.facts; spots = u.spots; sets = c.unset.ensures.undoes before.sets u.sets }
