@@ -217,10 +217,11 @@ pub fn tell_ended(rt: &HostRuntime, has_listened: bool) {
     }
 }
 
-/// Where the lines of a server's connections go: to standard error where the variable FOSSIL_LOG is set and not empty, else nowhere.
+/// Where the lines of a server's connections go: to standard error where the variable FOSSIL_LOG is set and neither empty nor `0`, else
+/// nowhere.
 pub fn log_of(rt: &HostRuntime) -> Option<Stderr> {
     match std::env::var(rt, "FOSSIL_LOG") {
-        Ok(value) if value.is_empty() => None,
+        Ok(value) if value.is_empty() || value.as_str() == "0" => None,
         Ok(_) | Err(VarError::NotUnicode) => Some(rt.stderr()),
         Err(_) => None,
     }
