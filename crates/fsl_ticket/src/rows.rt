@@ -197,7 +197,14 @@ fn take_out<L: Ledger>(
     ensures kept { OnOk result (IsKept maps.new) }
     ensures undoes { (before : maps_type.Maps) → AreUndone logs.old maps.old before → AreUndone logs.new maps.new before }
 {
-    unset(alloc, &maps.facts, &mut maps.sets, &mut logs.sets, name, steps)?;
+    unset(
+        alloc,
+        &maps.facts,
+        &mut maps.sets,
+        &mut logs.sets,
+        name,
+        steps,
+    )?;
     lift(
         &mut maps.facts,
         &mut maps.spots,
