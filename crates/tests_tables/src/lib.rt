@@ -14,6 +14,8 @@ mod names;
 #[cfg(test)]
 mod notes;
 #[cfg(test)]
+mod orders;
+#[cfg(test)]
 mod plays;
 #[cfg(test)]
 mod posts;
