@@ -13,12 +13,11 @@ use Rattle.fsl_journal.proofs.Unique.{one_file}
 use Rattle.fsl_words.specs.declared.Command.{Command}
 use Rattle.fossil.specs.declared.answers.fault.Fault.{Fault}
 use Rattle.fossil.specs.declared.answers.fault.Fault.TheVariants as fault_is
-use Rattle.fossil.specs.declared.reading.load.Loaded.{Loaded}
 use Rattle.fossil.specs.Printed.{Printed}
 use Rattle.fsl_repo.specs.Whole.{is_modelled}
 use Rattle.fossil.specs.Outcome.{Outcome, with_commit, one_commit, IsSaidOutcome}
 use Rattle.fossil.specs.Run.{Input, Clock, Agrees, IsTimed, AreImages, StandsFor, StandsForAll, StandsForSome, IsLeft, IsWholeAtAnyMoment, reads, IsJust}
-use Rattle.fossil.specs.Acts.{HasActed, Touches, IsOpened, IsUnread, KeepsUnreadable}
+use Rattle.fossil.specs.Acts.{Loaded, HasActed, Touches, IsOpened, IsUnread, KeepsUnreadable}
 use Rattle.fossil.proofs.InputLemmas.{some_bytes}
 use Rattle.fossil.proofs.FileLemmas.{both, Loads, stands, agrees, none_committed, all_committed, one_is_all, readable, loaded_touches}
 use Rattle.fossil.proofs.SomeOutcome.{some_said_outcome}

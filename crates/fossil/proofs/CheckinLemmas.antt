@@ -35,7 +35,6 @@ use Rattle.fsl_checkin.proofs.FilesLemmas.{baseline_checkin, known_checkin, not_
 use Rattle.fsl_checkin.proofs.OneLemmas.{bad_is_no_tree}
 use Rattle.fossil.specs.declared.commands.checkin.NewCheckin.{NewCheckin}
 use Rattle.fossil.specs.declared.commands.checkin.Arriving.{Arriving}
-use Rattle.fossil.specs.declared.reading.load.Loaded.{Loaded}
 use Rattle.fossil.specs.Printed.{Printed, name_line}
 use Rattle.fossil.specs.Printed as printing
 use Rattle.fossil.specs.Arrivals.{Taken, none_taken, Arrive}
@@ -44,7 +43,7 @@ use Rattle.fossil.specs.Put.{put_receipt}
 use Rattle.fossil.specs.Checkins.{IsCheckinRead, IsOver, arrivals_of, bad_item, checkin_text, parent_of}
 use Rattle.fossil.specs.CheckinCall.{AreArriving, IsParent, asked_for}
 use Rattle.fossil.specs.Run.{Input, Clock, IsTimed, TakesMoment}
-use Rattle.fossil.specs.Acts.{loaded_of, IsInput}
+use Rattle.fossil.specs.Acts.{Loaded, loaded_of, IsInput}
 use Rattle.fossil.specs.Taking.{AreAllTaken, IsPutReceipt}
 use Rattle.fossil.proofs.ArrivalLemmas.{refused_files}
 use Rattle.fossil.proofs.ActLemmas.{still, none_due}

@@ -11,8 +11,7 @@ use Rattle.fsl_journal.specs.Journal.{Belongs, OfBytes, LoadFailed, IsSpared}
 use Rattle.fsl_journal.specs.declared.LoadFault.{LoadFault}
 use Rattle.fsl_journal.specs.declared.LoadFault.TheVariants as load_fault
 use Rattle.fsl_journal.proofs.Unique.{one_file}
-use Rattle.fossil.specs.declared.reading.load.Loaded.{Loaded}
-use Rattle.fossil.specs.Acts.{KeepsContents, KeepsImages, KeepsUnreadable, IsOpened, IsNotLoaded, IsUnopened}
+use Rattle.fossil.specs.Acts.{Loaded, KeepsContents, KeepsImages, KeepsUnreadable, IsOpened, IsNotLoaded, IsUnopened}
 use Rattle.fossil.proofs.FileLemmas.{some_same}
 
 -- ---- images

@@ -7,7 +7,6 @@ use Rattle.fsl_record.specs.declared.Record.{Record}
 use Rattle.fsl_journal.specs.File.{IsFileOf}
 use Rattle.fsl_repo.specs.Whole.{Whole, opened}
 use Rattle.fsl_words.specs.declared.Command.TheVariants as command_of
-use Rattle.fossil.specs.declared.reading.load.Loaded.{Loaded}
 use Rattle.fossil.specs.declared.reading.message.MessageFile.{MessageFile}
 use Rattle.fossil.specs.Messages.{IsMessageRefused, IsFileList}
 use Rattle.fossil.specs.Printed.{Printed}
@@ -15,7 +14,7 @@ use Rattle.fossil.specs.Printed as printing
 use Rattle.fossil.specs.Arrivals.{none_taken, Arrive}
 use Rattle.fossil.specs.Put.{IsPutRead}
 use Rattle.fossil.specs.Run.{Input, Clock, IsTimed}
-use Rattle.fossil.specs.Acts.{loaded_of, IsInput}
+use Rattle.fossil.specs.Acts.{Loaded, loaded_of, IsInput}
 use Rattle.fossil.specs.Taking.{AreAllTaken, IsPutReceipt}
 use Rattle.fossil.proofs.MessageLemmas.{refused_status, not_both}
 use Rattle.fossil.proofs.ArrivalLemmas.{refused_files}

@@ -19,12 +19,11 @@ use Rattle.fsl_query.specs.Reports.{IsReport}
 use Rattle.fsl_query.specs.Answers.{content_asked, IsReported, IsReportedOn, IsSpoiltIn}
 use Rattle.fossil.specs.Due.{Due}
 use Rattle.fossil.specs.declared.answers.fault.Fault.TheVariants as fault_is
-use Rattle.fossil.specs.declared.reading.load.Loaded.{Loaded}
 use Rattle.fossil.specs.Printed.{Printed}
 use Rattle.fossil.specs.Printed as printing
 use Rattle.fossil.specs.Outcome.{Outcome, without_commit, printed_of, report_outcome, IsAnswered}
 use Rattle.fossil.specs.Run.{Input, Agrees, IsTimed}
-use Rattle.fossil.specs.Acts.{HasActed, Touches, IsOpened, IsAnsweredBy, IsAnswerOf, KeepsContents, KeepsImages}
+use Rattle.fossil.specs.Acts.{Loaded, HasActed, Touches, IsOpened, IsAnsweredBy, IsAnswerOf, KeepsContents, KeepsImages}
 use Rattle.fossil.proofs.InputLemmas.{some_bytes}
 use Rattle.fossil.proofs.FileLemmas.{both, agrees, stands, none_committed, readable, loaded_left, loaded_touches, loaded_durable}
 use Rattle.fossil.proofs.SomeOutcome.{some_said_outcome}

@@ -8,11 +8,10 @@ use Rattle.fsl_repo.specs.Whole.{is_modelled}
 use Rattle.fsl_words.specs.declared.Command.{Command}
 use Rattle.fossil.specs.Due.{Due}
 use Rattle.fossil.specs.declared.answers.fault.Fault.TheVariants as fault_is
-use Rattle.fossil.specs.declared.reading.load.Loaded.{Loaded}
 use Rattle.fossil.specs.Printed.{Printed}
 use Rattle.fossil.specs.Outcome.{Outcome, without_commit, IsSaidOutcome}
 use Rattle.fossil.specs.Run.{Input, Agrees, reads, TakesMoment, IsTimed, IsDamaged}
-use Rattle.fossil.specs.Acts.{HasActed, Touches, IsOpened, KeepsContents, KeepsImages}
+use Rattle.fossil.specs.Acts.{Loaded, HasActed, Touches, IsOpened, KeepsContents, KeepsImages}
 use Rattle.fossil.proofs.InputLemmas.{some_bytes}
 use Rattle.fossil.proofs.FileLemmas.{both, Loads, agrees, stands, none_committed, readable, loaded_left, loaded_touches, loaded_durable}
 use Rattle.fossil.proofs.SomeOutcome.{some_said_outcome}

@@ -9,7 +9,9 @@ use Rattle.fsl_journal.specs.declared.LoadFault.TheVariants as load_fault
 use Rattle.fsl_journal.proofs.Unique.{one_file}
 use Rattle.fsl_repo.specs.Whole.{Whole, log_of, IsWholeOn}
 use Rattle.fsl_repo.specs.Opening as opening
-use Rattle.fossil.specs.Acts.{loaded_of, KeepsContents, KeepsUnreadable, IsOpened, IsNotLoaded, IsUnopened}
+use Rattle.fsl_repo.specs.declared.Opened.{Opened}
+use Rattle.fsl_blobs.specs.Seen.{Seen}
+use Rattle.fossil.specs.Acts.{loaded_file, loaded_of, KeepsContents, KeepsUnreadable, IsOpened, IsNotLoaded, IsUnopened}
 use Rattle.fossil.proofs.LoadLemmas.{KeepsBetween, opened, images_kept, same_contents, spared_contents}
 
 pub repo_opened : {D : Type 0} (file left : DiskState) (r : Whole D) → opening.IsOpened file left r → IsWholeOn left r → KeepsBetween file left → Keeps file left → IsOpened file left (loaded_of r)
@@ -46,3 +48,12 @@ pub repo_unopened : (file left : DiskState) (fault : LoadFault) → opening.Open
 repo_unopened file left fault failed spared unreadable between keeps =
     let is = why file left fault failed in
     record { cause = is.0; contents = is.1; faults = counts file left fault failed; modelled = spared_contents file left spared; unreadable = unreadable; any_moment = images_kept file left between; keeps = keeps }
+
+-- ---- a file that was opened without tables, or wasn't
+
+pub file_opened : (file left : DiskState) (f : Opened) → opening.IsFileOpened file left f.journal f.blobs → opening.SparesFile file left → IsOpened file left (loaded_file f)
+file_opened file left f is spares =
+    opened file left f.journal f.blobs.records is.loaded is.stands is.belongs (loaded_file f) refl refl (ap (λ (b : Seen). b.starts) is.held) spares.any_moment spares.keeps is.faults
+
+pub file_unopened : (file left : DiskState) (fault : LoadFault) → opening.OpenFailed fault file left → opening.SparesFile file left → IsUnopened file left fault
+file_unopened file left fault failed spares = repo_unopened file left fault failed spares.spared spares.refused spares.any_moment spares.keeps

@@ -34,10 +34,9 @@ use Rattle.fsl_words.specs.declared.Command.{Command}
 use Rattle.fsl_words.specs.declared.Command.TheVariants as command_of
 use Rattle.fsl_words.specs.declared.Unversioned.{Unversioned}
 use Rattle.fossil.specs.Uses.{command_syncs, command_scrubs}
-use Rattle.fossil.specs.declared.reading.load.Loaded.{Loaded}
 use Rattle.fossil.specs.Printed.{Printed, refused, damaged, disk_fault, no_memory}
 use Rattle.fossil.specs.Run.{File, Output, Agrees, IsWritten}
-use Rattle.fossil.specs.Acts.{KeepsContents, IsOpened, IsUnopened, loaded_of}
+use Rattle.fossil.specs.Acts.{Loaded, KeepsContents, IsOpened, IsUnopened, loaded_of}
 use Rattle.fossil.specs.Due.{printed, IsDue, Due, IsNotLoadedDue}
 use Rattle.fossil.specs.UvSyncs.{Part, aside, kept, IsLeftAs, IsSteady}
 use Rattle.fossil.specs.Scrubs.{NewFile, counts, counted, scrub_of, IsScrub, IsNewFile, IsPeerLeft, IsAnswer, HasScrubbed, ScrubsIf}

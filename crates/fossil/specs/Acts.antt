@@ -9,21 +9,22 @@ use Rattle.fsl_record.specs.Records.{AreRecords, AreFields}
 use Rattle.fsl_disk.specs.Disk.{DiskState, IsModelled, Told, Keeps, Quiet, LeavesOnly}
 use Rattle.fsl_journal.specs.File.{IsFileOf, FailsAt}
 use Rattle.fsl_journal.specs.Journal.{Belongs, OfBytes}
+use Rattle.fsl_journal.specs.Log.{Log}
 use Rattle.fsl_journal.specs.declared.LoadFault.{LoadFault}
 use Rattle.fsl_journal.specs.declared.LoadFault.TheVariants as load_fault
 use Rattle.fsl_blobs.specs.Fold.{contents}
 use Rattle.fsl_repo.specs.Whole.{Whole, log_of, is_modelled}
+use Rattle.fsl_repo.specs.declared.Opened.{Opened}
 use Rattle.fsl_words.specs.declared.Question.{Question}
 use Rattle.fsl_words.specs.declared.Command.{Command}
 use Rattle.fsl_words.specs.declared.Command.TheVariants.{Init, Ingest, Put, Shun, Unshun, Ask, Serve, Gen, Pull, Push, Clone, PullLocal, Checkin, Export, Verify, Scrub, Unversioned}
 use Rattle.fossil.specs.declared.answers.fault.Fault.{Fault}
 use Rattle.fossil.specs.declared.answers.fault.Fault.TheVariants as fault_is
-use Rattle.fossil.specs.declared.reading.load.Loaded.{Loaded}
 use Rattle.fossil.specs.Due.{Due, printed}
 use Rattle.fossil.specs.Printed.{Printed}
 use Rattle.fossil.specs.Ingest.{IsIngested}
 use Rattle.fsl_query.specs.declared.QueryFault.{QueryFault}
-use Rattle.fsl_query.specs.Answers.{content_asked, IsRead, IsReported, IsSpoiltIn}
+use Rattle.fsl_query.specs.Answers.{content_asked, IsReported, IsSpoiltIn}
 use Rattle.fossil.specs.Unversioned.{IsUvObeyable}
 use Rattle.fossil.specs.Outcome.{Outcome, without_commit, printed_of, IsAnswered, IsSaidOutcome}
 use Rattle.fossil.specs.Run.{Input, Clock, Output, File, Agrees, reads, TakesNone, IsTimed, IsCutTimed, IsDiskFault, IsInputFault, IsDamaged, IsFileLeft, IsRefusedKept, IsWholeAtAnyMoment, lasts, IsDurable, IsSpared, trims, IsTrimmed}
@@ -81,9 +82,23 @@ KeepsImages file left =
 abbrev pub KeepsUnreadable : DiskState → DiskState → Type 0
 KeepsUnreadable file left = Told file (λ bytes. (at : ℕ) → FailsAt bytes at → Quiet file left)
 
+-- what a file was loaded as: its journal, its records, and for each of them the place in the file where its content begins
+pub record Loaded : Type 0 where
+  pub journal : Log
+  pub places : List ℕ
+  pub records : List Record
+
+-- what a file was opened as for a question, so
+abbrev pub loaded_file : Opened → Loaded
+loaded_file f = record { journal = f.journal; places = f.blobs.starts; records = f.blobs.records }
+
 -- a repository as the journal of a file that was loaded, with its records and where their contents begin
 abbrev pub loaded_of : {D : Type 0} → Whole D → Loaded
 loaded_of r = record { journal = log_of r; places = r.places; records = r.seen.state.records }
+
+-- the records and the places of their contents are a journal's
+abbrev pub IsRead : Log → List Record → List ℕ → Type 0
+IsRead log records places = (log.records ≡ records) × (log.places ≡ places)
 
 -- a journal that runs, with all its records committed, and these records with the places of their contents
 pub record IsOpen (l : Loaded) : Type 0 where

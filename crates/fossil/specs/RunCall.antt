@@ -10,12 +10,11 @@ use Rattle.fsl_words.specs.declared.Command.{Command}
 use Rattle.fsl_words.specs.declared.Command.TheVariants.{Ask}
 use Rattle.fossil.specs.declared.ran.Done.{Done}
 use Rattle.fossil.specs.declared.ran.Ran.{Ran}
-use Rattle.fossil.specs.declared.reading.load.Loaded.{Loaded}
 use Rattle.fossil.specs.Due.{Due}
 use Rattle.fossil.specs.Uses.{command_meets, command_syncs}
 use Rattle.fossil.specs.Outcome.{said, meets}
 use Rattle.fossil.specs.Run.{HasRun}
-use Rattle.fossil.specs.Acts.{input_of, clock_of, output_of, file_of, loaded_of, IsOpened, Acts}
+use Rattle.fossil.specs.Acts.{Loaded, input_of, clock_of, output_of, file_of, loaded_of, IsOpened, Acts}
 use Rattle.fossil.specs.Synced.{Syncs}
 use Rattle.fossil.specs.Cloned.{ClonesIf}
 

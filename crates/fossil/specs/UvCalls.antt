@@ -20,13 +20,12 @@ use Rattle.fsl_words.specs.declared.Unversioned.{Unversioned}
 use Rattle.fsl_words.specs.declared.Unversioned.TheVariants.{Add, Remove}
 use Rattle.fsl_words.specs.declared.Command.TheVariants as command_of
 use Rattle.fossil.specs.declared.answers.fault.Fault.TheVariants as fault_is
-use Rattle.fossil.specs.declared.reading.load.Loaded.{Loaded}
 use Rattle.fossil.specs.Due.{Due, IsAnsweredWith}
 use Rattle.fossil.specs.Printed.{Printed, refused}
 use Rattle.fossil.specs.Unversioned.{said_printed}
 use Rattle.fossil.specs.Outcome.{printed_of, not_repository}
 use Rattle.fossil.specs.Run.{Input}
-use Rattle.fossil.specs.Acts.{input_of, IsInput, IsOpened, Acts}
+use Rattle.fossil.specs.Acts.{Loaded, input_of, IsInput, IsOpened, Acts}
 use Rattle.fossil.specs.RunCall.{Moments, states}
 
 -- a store as the journal of a file that was loaded

@@ -1,6 +1,6 @@
 -- What an answer says of its value, of its refusal, and of what is reported.
 use Rattle.std.proofs.Common.{◌≡◌, ℕ, arith, Bool, true, List, [], ◌∷◌, length, Option, Some, None, Ok, Err, inl, inr, refl, sym, ap, subst, ◌∙◌}
-use Rattle.std.specs.Prelude.{◌≢◌, ◌↔◌, false, Contains, Result, IfOk, IfSome}
+use Rattle.std.specs.Prelude.{◌≢◌, ◌↔◌, false, All, Contains, Result, IfOk, IfSome}
 use Rattle.std.specs.Option.{option_map_or}
 use Rattle.std.specs.FinMap as map_of
 use Rattle.fsl_name.specs.Name.{name_of}
@@ -17,10 +17,12 @@ use Rattle.fsl_blobs.specs.declared.Found.TheVariants as found_as
 use Rattle.fsl_blobs.specs.Held.{matching, found}
 use Rattle.fsl_blobs.proofs.NamedHeld.{held_are_named}
 use Rattle.fsl_cross.specs.declared.Item.{Item}
+use Rattle.fsl_cross.specs.Tables.{IsItem}
 use Rattle.fsl_blobs.specs.declared.BlobFault.{BlobFault}
 use Rattle.fsl_blobs.specs.declared.BlobFault.TheVariants as blob_fault
 use Rattle.fsl_repo.specs.Machine.{State, AreItems, now}
 use Rattle.fsl_repo.specs.Contents.{IsContentNow, ContentFails}
+use Rattle.fsl_repo.specs.Opening.{HasItems}
 use Rattle.fsl_repo.specs.Whole.{is_modelled}
 use Rattle.fsl_repo.proofs.Givings.{modelled_by}
 use Rattle.fsl_words.specs.declared.Question.{Question}
@@ -29,7 +31,7 @@ use Rattle.fsl_query.specs.declared.Refused.{Refused}
 use Rattle.fsl_query.specs.declared.Refused.TheVariants as refused_as
 use Rattle.fsl_query.specs.declared.QueryFault.{QueryFault}
 use Rattle.fsl_query.specs.declared.QueryFault.TheVariants as query_fault
-use Rattle.fsl_query.specs.Answers.{IsAnswer, IsReported, IsReportedIn, IsReportedOn, IsSpoiltIn, IsContentUntold, content_asked, one_of, prefix_of}
+use Rattle.fsl_query.specs.Answers.{IsAnswer, IsReadFor, IsReported, IsReportedIn, IsReportedOn, IsSpoiltIn, IsContentUntold, content_asked, one_of, prefix_of}
 use Rattle.fsl_query.specs.Reports.{IsReadContent, IsReport, IsReportTold, by_found, content, name_found, receipt_report, report}
 use Rattle.fsl_query.proofs.Prefixes.{of_one}
 
@@ -260,3 +262,31 @@ module _ (before after : DiskState) (b : Seen) (are : AreRecords b.records) (cac
 -- nothing is kept of contents where none was read
 pub none_cached : (b : Seen) → b.cached ≡ [] → AreTrue b
 none_cached b is = λ e there. absurd (none_there e (subst (λ (es : List (ℕ × List ℕ)). Contains es e) is there))
+
+-- ---- what was read of a file for a question
+
+pub read_for : (question : Question) (c : Contents) (items : Option (List Item)) → HasItems c items → prefix_of question ≡ None → ((prefix : List ℕ) → question ≡ question_of.Receipt prefix → ⊥) → IsReadFor question c items
+read_for (question_of.Cat prefix) c items has unread other = absurd cc
+read_for (question_of.Receipt prefix) c items has unread other = absurd (other prefix refl)
+read_for (question_of.Timeline count) c items has unread other = has
+read_for question_of.Leaves c items has unread other = has
+read_for (question_of.Tags prefix) c items has unread other = has
+read_for (question_of.Tip symbol) c items has unread other = has
+read_for (question_of.Files prefix) c items has unread other = has
+read_for (question_of.Wiki title) c items has unread other = has
+read_for (question_of.Ticket id) c items has unread other = has
+read_for (question_of.Thread name) c items has unread other = has
+read_for question_of.Phantoms c items has unread other = has
+
+pub items_for : (question : Question) (c : Contents) (items : List Item) → IsReadFor question c (Some items) → AreItems c.held items × All IsItem items
+items_for (question_of.Cat prefix) c items read = absurd cc
+items_for (question_of.Receipt prefix) c items read = absurd cc
+items_for (question_of.Timeline count) c items read = read
+items_for question_of.Leaves c items read = read
+items_for (question_of.Tags prefix) c items read = read
+items_for (question_of.Tip symbol) c items read = read
+items_for (question_of.Files prefix) c items read = read
+items_for (question_of.Wiki title) c items read = read
+items_for (question_of.Ticket id) c items read = read
+items_for (question_of.Thread name) c items read = read
+items_for question_of.Phantoms c items read = read

@@ -5,7 +5,6 @@ use Rattle.fsl_name.specs.Name.{name_of}
 use Rattle.fsl_order.specs.Causes.{Rose}
 use Rattle.fsl_disk.specs.Disk.{DiskState}
 use Rattle.fsl_record.specs.declared.Record.{Record}
-use Rattle.fsl_journal.specs.Log.{Log}
 use Rattle.fsl_blobs.specs.Fold.{Held, Contents, contents}
 use Rattle.fsl_blobs.specs.declared.BlobFault.{BlobFault}
 use Rattle.fsl_blobs.specs.declared.BlobFault.TheVariants as blob_fault
@@ -13,12 +12,14 @@ use Rattle.fsl_blobs.specs.Held.{matching, found}
 use Rattle.fsl_blobs.specs.declared.Found.{Found}
 use Rattle.fsl_blobs.specs.declared.Found.TheVariants as found_as
 use Rattle.fsl_words.specs.declared.Question.{Question}
-use Rattle.fsl_words.specs.declared.Question.TheVariants.{Cat}
+use Rattle.fsl_words.specs.declared.Question.TheVariants.{Cat, Receipt}
 use Rattle.fsl_query.specs.declared.Refused.{Refused}
 use Rattle.fsl_query.specs.declared.Refused.TheVariants.{NoArtifact}
 use Rattle.fsl_query.specs.declared.QueryFault.{QueryFault}
 use Rattle.fsl_query.specs.declared.QueryFault.TheVariants.{Refused as RefusedFault, Disk, Damaged, Memory}
+use Rattle.fsl_cross.specs.declared.Item.{Item}
 use Rattle.fsl_repo.specs.Machine.{State, now}
+use Rattle.fsl_repo.specs.Opening.{HasItems}
 use Rattle.fsl_repo.specs.Whole.{is_modelled}
 use Rattle.fsl_query.specs.Reports.{IsReport}
 
@@ -63,9 +64,11 @@ IsReported honest c question before after (Err Disk) = (name : List ℕ) × (con
 IsReported honest c question before after (Err (Damaged name found)) = (content_asked c question ≡ Some name) × IsSpoiltIn honest c name found × (after ≡ before)
 IsReported honest c question before after (Err Memory) = after ≡ before
 
--- the records and the places of their contents are a journal's
-abbrev pub IsRead : Log → List Record → List ℕ → Type 0
-IsRead log records places = (log.records ≡ records) × (log.places ≡ places)
+-- what was read of a file for a question: for `cat` and `receipt`, which are told by names, no more than these, and for each other the items that the held artifacts are
+abbrev pub IsReadFor : Question → Contents → Option (List Item) → Type 0
+IsReadFor (Cat prefix) c items = items ≡ None
+IsReadFor (Receipt prefix) c items = items ≡ None
+IsReadFor question c items = HasItems c items
 
 -- by the records that were loaded from a disk, and the disk that is left
 abbrev pub IsReportedOn : DiskState → List Record → Question → DiskState → Result (List ℕ) QueryFault → Type 0

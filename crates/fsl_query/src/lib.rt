@@ -28,7 +28,7 @@ pub use answering::report;
 pub use finding::content;
 use fsl_name::Name;
 use fsl_text::{Memory, Text};
-pub use loaded::report_from;
+pub use loaded::{open_for, report_from};
 pub use noting::note_of;
 pub use refusals::refusal_text;
 pub use summing::summary;

@@ -1,14 +1,15 @@
-//! Reports on what was loaded without tables: those by which a report is told are made for it, and those that these rest on.
-ghost use Rattle.std.specs.Prelude.{◌≡◌, ◌≤◌, ℕ, Bool, None, List as Texts, length, All, IfOk};
+//! Reports on a file that is opened without tables: those by which a report is told are made for it, and those that these rest on.
+ghost use Rattle.std.specs.Prelude.{◌≡◌, ◌≤◌, ℕ, Bool, None, List as Texts, All, IfOk, IfErr};
 ghost use Rattle.fsl_blobs.specs.Fold.{contents};
 ghost use Rattle.fsl_cross.specs.Checkins.{branch};
 ghost use Rattle.fsl_cross.specs.Tables.{IsItem, tables};
 ghost use Rattle.fsl_disk.specs.Disk.{Quiet};
 ghost use Rattle.fsl_journal.specs.Journal.{Belongs};
-ghost use Rattle.fsl_record.specs.Records.{AreRecords};
+ghost use Rattle.fsl_journal.specs.Log.{IsLoaded, WhereBetween};
+ghost use Rattle.fsl_journal.specs.declared.LoadFault.TheVariants as load_fault;
 ghost use Rattle.fsl_repo.specs.Machine.{AreItems};
-ghost use Rattle.fsl_words.specs.declared.Question.TheVariants as question_of;
-ghost use Rattle.fsl_query.specs.Answers.{IsAnswer, IsRead, IsReported, IsReportedOn, content_asked, prefix_of};
+ghost use Rattle.fsl_repo.specs.Opening.{IsFileOpened, IsFolded, OpenFailed, SparesFile};
+ghost use Rattle.fsl_query.specs.Answers.{IsAnswer, IsReadFor, IsReported, IsReportedOn, content_asked, prefix_of};
 ghost use Rattle.fsl_query.specs.Reports.{files_report, leaves_report, receipt_report, tags_report, thread_report, ticket_report, timeline_report, wiki_report, report};
 
 use crate::finding::{content, named, prefix_of};
@@ -18,10 +19,9 @@ use crate::{
 use fsl_blobs::Blobs;
 use fsl_cross::Items;
 use fsl_disk::Disk;
-use fsl_journal::Journal;
+use fsl_journal::LoadFault;
 use fsl_name::Name;
-use fsl_record::Record;
-use fsl_repo::{items_of, wants_of};
+use fsl_repo::{Opened, artifacts_of_file, names_of_file, wants_of};
 use fsl_text::{List, Memory, Text};
 use fsl_wiki::Pages;
 use fsl_words::Question;
@@ -168,108 +168,95 @@ fn report_of(
     }
 }
 
-/// The content of the one artifact that the records leave whose digits begin with a prefix, as it is read.
-fn content_from<D: Disk>(
-    alloc: Global,
-    journal: &Journal,
-    places: &List<u64>,
-    records: List<Record>,
-    disk: &mut D,
-    prefix: &[u8],
-) -> Result<Text, QueryFault>
-    requires records { AreRecords records }
-    requires same { IsRead journal.now records places.now }
-    requires belongs { Belongs journal.now (D.state disk.old) }
-    ensures means { IsReportedOn (D.state disk.old) records (question_of.Cat prefix.now) (D.state disk.new) result }
-    ensures unread { content_asked (contents records) (question_of.Cat prefix.now) ≡ None → disk.new ≡ disk.old }
-    ensures later { (D.state disk.old).faults ≤ (D.state disk.new).faults }
-    ensures quiet { Quiet (D.state disk.old) (D.state disk.new) }
-{
-    let mut blobs = Blobs::fold(alloc, places, records)?;
-    let found = content(alloc, journal, &mut blobs, disk, prefix);
-    drop(blobs);
-    found
-}
-
-/// The receipt of the one artifact that the records leave whose digits begin with a prefix. No artifact is read for it.
-fn receipt_from(
-    alloc: Global,
-    places: &List<u64>,
-    records: List<Record>,
-    prefix: &[u8],
-) -> Result<Text, QueryFault>
-    requires records { AreRecords records }
-    requires places { length places.now ≡ length records }
-    ensures { IsAnswer (receipt_report (contents records) prefix.now) result }
-{
-    let blobs = Blobs::fold(alloc, places, records)?;
-    let told = receipt_of(alloc, &blobs, prefix);
-    drop(blobs);
-    told
-}
-
-/// The text of a report on the artifacts that the records leave, by what these are.
-fn report_by_items(
-    alloc: Global,
-    places: &List<u64>,
-    records: List<Record>,
-    question: &Question,
-) -> Result<Text, QueryFault>
-    requires records { AreRecords records }
-    requires places { length places.now ≡ length records }
-    requires unread { prefix_of question.now ≡ None }
-    ensures { (honest : Bool) (faults : ℕ) → IsReported honest (contents records) question.now faults faults result }
-{
-    let (blobs, items) = items_of(alloc, places, records)?;
-    let told = report_of(alloc, &blobs, &items, question);
-    drop(items);
-    drop(blobs);
-    told
-}
-
-/// The text of a report on the artifacts that the records leave, where no content is asked for.
+/// The text of a report on what a file was opened as, where no content is asked for.
 fn report_over(
     alloc: Global,
-    places: &List<u64>,
-    records: List<Record>,
+    blobs: &Blobs,
+    items: &Option<Items>,
     question: &Question,
 ) -> Result<Text, QueryFault>
-    requires records { AreRecords records }
-    requires places { length places.now ≡ length records }
+    requires read { IsReadFor question.now (contents blobs.now.records) items.now }
     requires unread { prefix_of question.now ≡ None }
-    ensures { (honest : Bool) (faults : ℕ) → IsReported honest (contents records) question.now faults faults result }
+    ensures { (honest : Bool) (faults : ℕ) → IsReported honest (contents blobs.now.records) question.now faults faults result }
 {
     match question {
-        Question::Receipt { prefix } => receipt_from(alloc, places, records, prefix.bytes()),
-        _ => report_by_items(alloc, places, records, question),
+        Question::Receipt { prefix } => receipt_of(alloc, blobs, prefix.bytes()),
+        _ => match items {
+            Some(items) => report_of(alloc, blobs, items, question),
+            None => unreachable!(),
+        },
     }
 }
 
-/// The text of a report on what was loaded without tables: those by which it is told are made, and those that these rest on. All
-/// that is held is read first as it was loaded, but for `receipt`, and for `cat`, whose content alone is read from the disk.
+/// The text of a report on what a file was opened as.
+fn report_by<D: Disk>(
+    alloc: Global,
+    opened: &mut Opened,
+    disk: &mut D,
+    question: &Question,
+) -> Result<Text, QueryFault>
+    requires loaded { IsLoaded opened.old.journal opened.old.blobs.records }
+    requires held { IsFolded opened.old.blobs.records opened.old.journal.places opened.old.blobs }
+    requires belongs { Belongs opened.old.journal (D.state disk.old) }
+    requires read { IsReadFor question.now (contents opened.old.blobs.records) opened.old.items }
+    ensures means { IsReportedOn (D.state disk.old) opened.old.blobs.records question.now (D.state disk.new) result }
+    ensures unread { content_asked (contents opened.old.blobs.records) question.now ≡ None → disk.new ≡ disk.old }
+    ensures later { (D.state disk.old).faults ≤ (D.state disk.new).faults }
+    ensures quiet { Quiet (D.state disk.old) (D.state disk.new) }
+{
+    match prefix_of(question) {
+        Some(prefix) => content(alloc, &opened.journal, &mut opened.blobs, disk, prefix),
+        None => report_over(alloc, &opened.blobs, &opened.items, question),
+    }
+}
+
+/// Opens the file of a repository for a question: by its names for `cat` and `receipt`, which are told by these, and else with
+/// what the held artifacts are. It takes memory for one group, and for what it keeps, which are no contents.
+///
+/// Errors: `Disk` where a call of the disk failed; `NotRepository` with the place at which the file fails to stand for
+/// records; `Memory`.
+pub fn open_for<D: Disk>(
+    alloc: Global,
+    disk: &mut D,
+    question: &Question,
+) -> Result<Opened, LoadFault>
+    ensures opened { IfOk result (λ f. IsFileOpened (D.state disk.old) (D.state disk.new) f.journal f.blobs) }
+    ensures read { IfOk result (λ f. IsReadFor question.now (contents f.blobs.records) f.items) }
+    ensures fault { IfErr result (λ fault. OpenFailed fault (D.state disk.old) (D.state disk.new)) }
+    ensures file { SparesFile (D.state disk.old) (D.state disk.new) }
+    // Where each image stands for records, it isn't `NotRepository`.
+    ensures stays { IfErr result (λ fault. (at : ℕ) → fault ≡ load_fault.NotRepository at → WhereBetween (D.state disk.old) (λ _ _. ⊥)) }
+{
+    match question {
+        Question::Cat { .. } => names_of_file(alloc, disk),
+        Question::Receipt { .. } => names_of_file(alloc, disk),
+        _ => artifacts_of_file(alloc, disk),
+    }
+}
+
+/// The text of a report on what a file was opened as for this question: the tables by which it is told are made, and those that
+/// these rest on. For `cat` the one content is read from the disk, and that alone.
 ///
 /// Errors: `Refused` where there is nothing to report; for `cat`, `Disk` where a call of the disk failed, and `Damaged` where
 /// the bytes that were read have another name; `Memory`.
 pub fn report_from<D: Disk>(
     alloc: Global,
-    journal: &Journal,
-    places: &List<u64>,
-    records: List<Record>,
+    mut opened: Opened,
     disk: &mut D,
     question: &Question,
 ) -> Result<Text, QueryFault>
-    requires records { AreRecords records }
-    requires same { IsRead journal.now records places.now }
-    requires belongs { Belongs journal.now (D.state disk.old) }
-    ensures means { IsReportedOn (D.state disk.old) records question.now (D.state disk.new) result }
+    requires loaded { IsLoaded opened.journal opened.blobs.records }
+    requires held { IsFolded opened.blobs.records opened.journal.places opened.blobs }
+    requires belongs { Belongs opened.journal (D.state disk.old) }
+    requires read { IsReadFor question.now (contents opened.blobs.records) opened.items }
+    ensures means { IsReportedOn (D.state disk.old) opened.blobs.records question.now (D.state disk.new) result }
     // Where no content is asked for, or the prefix doesn't find one name, no device is called.
-    ensures unread { content_asked (contents records) question.now ≡ None → disk.new ≡ disk.old }
+    ensures unread { content_asked (contents opened.blobs.records) question.now ≡ None → disk.new ≡ disk.old }
     ensures later { (D.state disk.old).faults ≤ (D.state disk.new).faults }
     // It only reads.
     ensures quiet { Quiet (D.state disk.old) (D.state disk.new) }
 {
-    match prefix_of(question) {
-        Some(prefix) => content_from(alloc, journal, places, records, disk, prefix),
-        None => report_over(alloc, places, records, question),
-    }
+    let told = report_by(alloc, &mut opened, disk, question);
+    drop(opened);
+    told
 }

@@ -42,6 +42,9 @@ gathered_more before found more group places kept so_far read is = record {
   read = subst (λ (rs : List Record). AllZip IsReadOf rs more) (sym (ap (λ (b : blobs.Seen). b.records) is)) (read (records_in before) so_far.read);
 }
 
+pub fresh_none : (kept : Option blobs.Seen) → kept ≡ None → AreFresh kept
+fresh_none kept nothing = subst AreFresh (sym nothing) tt
+
 pub gathered_none : (kept : Option blobs.Seen) (found : List (Option Artifact)) → kept ≡ None → found ≡ [] → AreGathered kept found
 gathered_none kept found nothing none =
     subst (λ (o : Option blobs.Seen). AreGathered o found) (sym nothing) (subst (AreGathered None) (sym none) (record { fresh = tt; read = tt }))

@@ -1,24 +1,25 @@
 -- A repository that was opened goes together.
-use Rattle.std.proofs.Common.{◌≡◌, inl, ℕ, Bool, List, [], length, drop, sym, ap, subst, ◌∙◌, arith}
+use Rattle.std.proofs.Common.{◌≡◌, inl, inr, ℕ, ◌+◌, Bool, List, [], length, take, drop, Some, sym, ap, subst, ◌∙◌, arith}
 use Rattle.std.specs.Prelude.{IsTrue, Contains}
 use Rattle.std.specs.FinSet as set
 use Rattle.std.proofs.lemmas.List.{drop_all, take_all}
 use Rattle.std.proofs.lemmas.Bool.{false≢true}
 use Rattle.fsl_order.specs.Names.{bytes_cmp}
-use Rattle.fsl_disk.specs.Disk.{DiskState, Told}
+use Rattle.fsl_disk.specs.Disk.{DiskState, IsModelled, Told}
 use Rattle.fsl_journal.specs.File.{IsFileOf}
 use Rattle.fsl_record.specs.declared.Record.{Record}
 use Rattle.fsl_record.specs.Records.{AreRecords}
-use Rattle.fsl_journal.specs.Journal.{Belongs, LoadFailed}
+use Rattle.fsl_journal.specs.Journal.{Belongs, OfBytes, LoadFailed}
 use Rattle.fsl_journal.specs.declared.LoadFault.{LoadFault}
 use Rattle.fsl_journal.specs.declared.LoadFault.TheVariants as load_fault
-use Rattle.fsl_journal.specs.Log.{Log, IsLoaded}
+use Rattle.fsl_journal.specs.Log.{Log, IsLoaded, IsBetween, WhereBetween}
+use Rattle.fsl_journal.specs.Places.{IsPlacedFile}
 use Rattle.fsl_blobs.specs.Seen as blobs
 use Rattle.fsl_blobs.specs.Fold.{contents}
 use Rattle.fsl_cross.specs.Tables as tables
 use Rattle.fsl_repo.specs.Machine.{AreItems, AnnouncedAreNew, configured}
 use Rattle.fsl_repo.specs.Keeping.{IsKept, state_of}
-use Rattle.fsl_repo.specs.Opening.{AreDerived, OpenFailed}
+use Rattle.fsl_repo.specs.Opening.{AreDerived, IsFileOpened, IsFolded, OpenFailed}
 use Rattle.fsl_blobs.specs.Seen.{AreTrue}
 use Rattle.fsl_repo.specs.Whole as whole
 use Rattle.fsl_repo.specs.Whole.{is_modelled}
@@ -56,3 +57,27 @@ open_failed load_fault.Memory before after failed = record { faults = failed.0.f
 pub reads_back : (log : Log) (loaded : List Record) (disk : DiskState) → IsLoaded log loaded → Belongs log disk → Told disk (λ held. IsFileOf held loaded)
 reads_back log loaded disk is belongs held told =
     subst (IsFileOf held) (take_all log.stable log.records (omega (arith, is.stable, ap length is.records)) ∙ is.records) (belongs.reads is.runs held told).0.file
+
+-- ---- a file that is opened without tables
+
+-- there was no memory for what it holds
+pub memory_failed : (log : Log) (loaded : List Record) (before after : DiskState) → IsLoaded log loaded → Belongs log after → OfBytes before (λ bytes. IsFileOf bytes loaded)
+    → Told before (λ held. after.contents ≡ Some (take (log.place + 1) held)) → after.faults ≡ before.faults → OpenFailed load_fault.Memory before after
+memory_failed log loaded before after is belongs stands cut faults = record { faults = faults; contents = inr (loaded, log.place, stands, cut, reads_back log loaded after is belongs) }
+
+pub file_opened : (before after : DiskState) (log : Log) (records : List Record) (places : List ℕ) (kept : blobs.Seen) → IsLoaded log records → log.places ≡ places → IsFolded records places kept
+    → OfBytes before (λ bytes. IsFileOf bytes records) → OfBytes before (λ bytes. IsPlacedFile bytes records places) → Told before (λ held. after.contents ≡ Some (take (log.place + 1) held)) → after.faults ≡ before.faults
+    → Belongs log after → WhereBetween before (λ low high. IsBetween low high records) → (IsModelled before → (c : List ℕ) → after.images c → IsFileOf c records) → IsFileOpened before after log kept
+file_opened before after log records places kept is starts folded stands placed cut faults belongs between durable =
+    subst (IsFileOpened before after log) (sym folded)
+    (record {
+      loaded = is;
+      held = ap (λ (ps : List ℕ). record { records = records; starts = ps; announced = set.empty; cached = [] }) (sym starts);
+      stands = stands;
+      placed = subst (λ (ps : List ℕ). OfBytes before (λ bytes. IsPlacedFile bytes records ps)) (sym starts) placed;
+      cut = cut;
+      faults = faults;
+      belongs = belongs;
+      between = between;
+      durable = durable;
+    })

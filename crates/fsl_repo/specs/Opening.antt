@@ -1,7 +1,7 @@
 -- What the opening of a repository answers.
-use Rattle.std.specs.Prelude.{◌≡◌, ◌⊎◌, ℕ, ◌+◌, ◌-◌, List, [], length, take, slice_get, Option, Some, None, Result, Ok, Err, ⊤}
+use Rattle.std.specs.Prelude.{◌≡◌, ◌⊎◌, ℕ, ◌+◌, ◌-◌, List, All, [], length, take, slice_get, Option, Some, None, Result, Ok, Err, ⊤}
 use Rattle.std.specs.List.{AllZip}
-use Rattle.fsl_disk.specs.Disk.{DiskState, Told, Quiet}
+use Rattle.fsl_disk.specs.Disk.{DiskState, IsModelled, Told, Keeps, Quiet, LeavesOnly}
 use Rattle.fsl_order.specs.Causes.{Rose}
 use Rattle.fsl_record.specs.declared.Record.{Record}
 use Rattle.fsl_record.specs.declared.Record.TheVariants as record_of
@@ -9,12 +9,16 @@ use Rattle.fsl_artifact.specs.declared.Artifact.{Artifact}
 use Rattle.fsl_artifact.specs.Kind.{IsKind}
 use Rattle.fsl_blobs.specs.declared.Holding.{Holding}
 use Rattle.fsl_journal.specs.File.{IsFileOf, FailsAt}
-use Rattle.fsl_journal.specs.Journal.{OfBytes, IsLeft}
+use Rattle.fsl_journal.specs.Journal.{Belongs, OfBytes, HeldOrSame, IsLeft, IsSpared}
+use Rattle.fsl_journal.specs.Log.{Log, IsLoaded, IsBetween, StandsBetween, WhereBetween}
+use Rattle.fsl_journal.specs.Places.{IsPlacedFile}
 use Rattle.fsl_journal.specs.declared.LoadFault.{LoadFault}
 use Rattle.fsl_journal.specs.declared.LoadFault.TheVariants as load_fault
-use Rattle.fsl_blobs.specs.Fold.{contents}
+use Rattle.fsl_blobs.specs.Fold.{Contents, contents}
 use Rattle.fsl_blobs.specs.Seen as blobs
+use Rattle.fsl_cross.specs.declared.Item.{Item}
 use Rattle.fsl_cross.specs.Tables as tables
+use Rattle.fsl_cross.specs.Tables.{IsItem}
 use Rattle.std.specs.FinSet as set
 use Rattle.fsl_repo.specs.Machine.{AreItems, configured}
 use Rattle.fsl_repo.specs.Whole.{Whole, is_modelled, opened}
@@ -63,6 +67,17 @@ pub record AreDerived (records : List Record) (places : List ℕ) (kept : blobs.
   pub items : AreItems (contents records).held all.items
   pub fields : all.fields ≡ configured (contents records)
 
+-- the artifacts that these records leave, and what each of them is
+pub record AreHeld (records : List Record) (places : List ℕ) (kept : blobs.Seen) (read : List Item) : Type 0 where
+  pub held : IsFolded records places kept
+  pub items : AreItems (contents records).held read
+  pub kinds : All IsItem read
+
+-- the items are there that the held artifacts are
+abbrev pub HasItems : Contents → Option (List Item) → Type 0
+HasItems c None = ⊥
+HasItems c (Some items) = AreItems c.held items × All IsItem items
+
 -- an opening that answers Ok: the file stood for the records, and was cut behind its closed gate
 pub record IsOpened {D : Type 0} (before after : DiskState) (repo : Whole D) : Type 0 where
   pub state : repo.seen.state ≡ opened repo.seen.state.records before.faults (is_modelled before)
@@ -70,6 +85,32 @@ pub record IsOpened {D : Type 0} (before after : DiskState) (repo : Whole D) : T
   pub stands : OfBytes before (λ bytes. IsFileOf bytes repo.seen.state.records)
   pub cut : Told before (λ held. after.contents ≡ Some (take (repo.place + 1) held))
   pub faults : after.faults ≡ before.faults
+
+-- an opening of the file alone that answers Ok: the file stood for the records, with their contents at these places, and was cut behind its closed gate; all records are
+-- committed, and the artifacts are what they leave
+pub record IsFileOpened (before after : DiskState) (log : Log) (kept : blobs.Seen) : Type 0 where
+  pub loaded : IsLoaded log kept.records
+  pub held : IsFolded kept.records log.places kept
+  pub stands : OfBytes before (λ bytes. IsFileOf bytes kept.records)
+  pub placed : OfBytes before (λ bytes. IsPlacedFile bytes kept.records log.places)
+  pub cut : Told before (λ bytes. after.contents ≡ Some (take (log.place + 1) bytes))
+  pub faults : after.faults ≡ before.faults
+  pub belongs : Belongs log after
+  -- where each image stood for records between two lists, so do these
+  pub between : WhereBetween before (λ low high. IsBetween low high kept.records)
+  -- and each image then stands for exactly these
+  pub durable : IsModelled before → (c : List ℕ) → after.images c → IsFileOf c kept.records
+
+-- what an opening leaves of the file, whatever it answers
+pub record SparesFile (before after : DiskState) : Type 0 where
+  pub keeps : Keeps before after
+  -- a file that fails to stand for records stays, at each moment
+  pub refused : Told before (λ bytes. (at : ℕ) → FailsAt bytes at → Quiet before after)
+  -- whatever it holds, a crash at each moment leaves what one before the call might have left, or a file of the records that it stood for; and so does the call
+  pub harmless : IsModelled before → LeavesOnly before after (HeldOrSame before)
+  pub spared : IsSpared before after
+  -- where each image stands for records between two lists, each does so at each moment
+  pub any_moment : WhereBetween before (λ low high. LeavesOnly before after (StandsBetween low high))
 
 -- what an opening for which there was no memory leaves: the file as it was, or cut behind its closed gate
 pub record IsCutAtMost (before after : DiskState) : Type 0 where

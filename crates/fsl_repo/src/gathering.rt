@@ -1,24 +1,33 @@
 //! Gathers what the records of a file leave, while it is read group by group.
-ghost use Rattle.std.specs.Prelude.{◌≡◌, ◌++◌, [], length, IfOk, OnOk, None as NoneSeen, List as Items};
+ghost use Rattle.std.specs.Prelude.{◌≡◌, ◌++◌, [], length, All, IfOk, OnOk, None as NoneSeen, List as ItemList};
 ghost use Rattle.std.specs.List.{AllZip};
 ghost use Rattle.fsl_blobs.specs.Fold.{contents};
+ghost use Rattle.fsl_cross.specs.Tables.{IsItem};
 ghost use Rattle.fsl_record.specs.Records.{AreRecords};
 ghost use Rattle.fsl_record.specs.declared.Record.{Record as RecordSeen};
 ghost use Rattle.fsl_repo.specs.Machine.{AreItems, configured};
-ghost use Rattle.fsl_repo.specs.Opening.{IsReadOf, IsFolded, AreDerived, AreFresh, AreGathered, records_in, starts_in};
+ghost use Rattle.fsl_repo.specs.Opening.{IsReadOf, IsFolded, AreDerived, AreFresh, AreGathered, AreHeld, records_in, starts_in};
 
-use crate::parsing::{artifacts_of, items_in};
+use crate::parsing::{artifacts_of, item_set, items_in};
 use fsl_artifact::Artifact;
 use fsl_blobs::Blobs;
-use fsl_cross::Tables;
+use fsl_cross::{Items, Tables};
 use fsl_journal::Taker;
 use fsl_record::Record;
 use fsl_text::{List, Memory};
 use std::alloc::Global;
 use std::mem::replace;
 
-/// What the groups of a file leave so far: the held names without their contents, and what the bytes of each blob are. A
-/// group's contents go before the next group is read.
+/// What the groups of a file leave so far: the held names without their contents. Nothing is parsed, and a group's contents
+/// go before the next group is read.
+#[derive(Drop)]
+pub(crate) struct Named {
+    alloc: Global,
+    /// None before the first group.
+    blobs: Option<Blobs>,
+}
+
+/// The same, and what the bytes of each blob are.
 #[derive(Drop)]
 pub(crate) struct Gathered {
     alloc: Global,
@@ -34,7 +43,7 @@ fn add_artifacts(
     entries: &[Record],
     list: &mut Vec<Option<Artifact>>,
 ) -> Result<(), Memory>
-    ensures { OnOk result ((before : Items RecordSeen) → AllZip IsReadOf before list.old.items → AllZip IsReadOf (before ++ entries.now) list.new.items) }
+    ensures { OnOk result ((before : ItemList RecordSeen) → AllZip IsReadOf before list.old.items → AllZip IsReadOf (before ++ entries.now) list.new.items) }
 {
     let mut more = artifacts_of(alloc, entries)?;
     list.append(&mut more)?;
@@ -56,6 +65,42 @@ fn folded_on(
     match before {
         None => Blobs::fold(alloc, places, group),
         Some(blobs) => blobs.and_more(places, group),
+    }
+}
+
+impl Named {
+    /// Nothing yet. Takes no memory.
+    pub(crate) fn nothing(alloc: Global) -> Named
+        ensures { result.blobs ≡ NoneSeen }
+    {
+        Named { alloc, blobs: None }
+    }
+
+    /// What the records of a file leave.
+    pub(crate) fn blobs(self) -> Blobs
+        requires records { AreRecords (records_in self.blobs) }
+        requires fresh { AreFresh self.blobs }
+        ensures { IsFolded (records_in self.blobs) (starts_in self.blobs) result }
+    {
+        match self.blobs {
+            Some(blobs) => blobs,
+            None => unreachable!(),
+        }
+    }
+}
+
+impl Taker for Named {
+    ghost taken = { λ g. records_in g.blobs };
+
+    ghost starts = { λ g. starts_in g.blobs };
+
+    ghost is_sound = { λ g. AreFresh g.blobs };
+
+    fn take(&mut self, places: List<u64>, group: List<Record>) -> Result<(), Memory> {
+        let before = replace(&mut self.blobs, None);
+        let blobs = folded_on(self.alloc, before, &places, group)?;
+        self.blobs = Some(blobs);
+        Ok(())
     }
 }
 
@@ -126,6 +171,44 @@ pub(crate) fn derived(gathered: Gathered) -> Result<(Blobs, Tables), Memory>
     } = gathered;
     match blobs {
         Some(blobs) => with_tables(alloc, blobs, artifacts),
+        None => unreachable!(),
+    }
+}
+
+/// Held artifacts, and what their bytes are, by what was read of their records.
+fn with_items(
+    alloc: Global,
+    blobs: Blobs,
+    artifacts: Vec<Option<Artifact>>,
+) -> Result<(Blobs, Items), Memory>
+    requires { AllZip IsReadOf blobs.records artifacts.items }
+    ensures blobs { IfOk result (λ f. f.0 ≡ blobs) }
+    ensures items { IfOk result (λ f. AreItems (contents blobs.records).held f.1) }
+    ensures kinds { IfOk result (λ f. All IsItem f.1) }
+{
+    match item_set(alloc, &blobs, artifacts) {
+        Ok(items) => Ok((blobs, items)),
+        Err(_) => {
+            drop(blobs);
+            Err(Memory)
+        }
+    }
+}
+
+/// What the records of a file leave, and the held artifacts with what their bytes are; no table is made. `Memory` is the only
+/// error.
+pub(crate) fn held(gathered: Gathered) -> Result<(Blobs, Items), Memory>
+    requires records { AreRecords (records_in gathered.blobs) }
+    requires gathered { AreGathered gathered.blobs gathered.artifacts.items }
+    ensures { IfOk result (λ f. AreHeld (records_in gathered.blobs) (starts_in gathered.blobs) f.0 f.1) }
+{
+    let Gathered {
+        alloc,
+        blobs,
+        artifacts,
+    } = gathered;
+    match blobs {
+        Some(blobs) => with_items(alloc, blobs, artifacts),
         None => unreachable!(),
     }
 }

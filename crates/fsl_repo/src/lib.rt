@@ -22,8 +22,9 @@ mod repo;
 mod sending;
 mod wanting;
 
-use fsl_blobs::Known;
-use fsl_journal::CommitFault;
+use fsl_blobs::{Blobs, Known};
+use fsl_cross::Items;
+use fsl_journal::{CommitFault, Journal};
 use fsl_name::Name;
 use fsl_record::Receipt;
 use fsl_text::{List, Memory, Text};
@@ -34,10 +35,20 @@ pub use laws::{
     held_are_items, held_are_one_list, unshunning_has_an_answer, unshunning_has_one_answer,
 };
 pub use machine::steps_go_on;
-pub use parsing::{items_of, read_artifact};
+pub use opening::{artifacts_of_file, names_of_file};
+pub use parsing::read_artifact;
 pub use repo::Repo;
 use std::marker::Model;
 pub use wanting::wants_of;
+
+/// What the file of a repository was opened as, without tables: its journal, what its records leave, without contents, and
+/// what the held artifacts are, where that was read.
+#[derive(Drop)]
+pub struct Opened {
+    pub journal: Journal,
+    pub blobs: Blobs,
+    pub items: Option<Items>,
+}
 
 /// What became of an artifact that arrived.
 #[derive(Clone, Copy, PartialEq, Eq, Debug)]

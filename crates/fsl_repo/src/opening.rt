@@ -1,14 +1,15 @@
-//! Opens a repository.
-ghost use Rattle.std.specs.Prelude.{◌≡◌, ℕ, List, length, IfOk, IfErr};
+//! Opens a repository, and its file alone.
+ghost use Rattle.std.specs.Prelude.{◌≡◌, ℕ, List, length, IfOk, IfErr, None as NoneSeen};
+ghost use Rattle.fsl_blobs.specs.Fold.{contents};
 ghost use Rattle.fsl_disk.specs.Disk.{DiskState, IsModelled, Told, Keeps, Quiet, LeavesOnly};
 ghost use Rattle.fsl_journal.specs.File.{IsFileOf, FailsAt};
 ghost use Rattle.fsl_journal.specs.Journal.{HeldOrSame, IsSpared};
 ghost use Rattle.fsl_journal.specs.Log.{IsBetween, StandsBetween, WhereBetween};
 ghost use Rattle.fsl_journal.specs.declared.LoadFault.TheVariants as load_fault;
-ghost use Rattle.fsl_repo.specs.Opening.{IsOpened, OpenFailed, disk_of};
+ghost use Rattle.fsl_repo.specs.Opening.{IsOpened, IsFileOpened, HasItems, OpenFailed, SparesFile, disk_of};
 
-use crate::Repo;
-use crate::gathering::{Gathered, derived};
+use crate::gathering::{Gathered, Named, derived, held};
+use crate::{Opened, Repo};
 use fsl_disk::Disk;
 use fsl_journal::{Journal, LoadFault};
 use std::alloc::Global;
@@ -60,6 +61,65 @@ impl<D: Disk> Repo<D> {
                 drop(gathered);
                 Err((disk, fault))
             }
+        }
+    }
+}
+
+/// Opens the file of a repository by its held names: makes what the disk holds stable, reads the file, and cuts what stands
+/// behind the closed gate. It reads the file group by group, tests each content against its name, and lets it go before the
+/// next group is read; nothing is parsed. So it takes memory for one group, and for the names, sizes, receipts and places of
+/// the blobs. It may be stopped at any moment.
+///
+/// Errors: `Disk` where a call of the disk failed; `NotRepository` with the place at which the file fails to stand for
+/// records; `Memory`.
+pub fn names_of_file<D: Disk>(alloc: Global, disk: &mut D) -> Result<Opened, LoadFault>
+    ensures opened { IfOk result (λ f. IsFileOpened (D.state disk.old) (D.state disk.new) f.journal f.blobs) }
+    ensures items { IfOk result (λ f. f.items ≡ NoneSeen) }
+    ensures fault { IfErr result (λ fault. OpenFailed fault (D.state disk.old) (D.state disk.new)) }
+    ensures file { SparesFile (D.state disk.old) (D.state disk.new) }
+    // Where each image stands for records, it isn't `NotRepository`.
+    ensures stays { IfErr result (λ fault. (at : ℕ) → fault ≡ load_fault.NotRepository at → WhereBetween (D.state disk.old) (λ _ _. ⊥)) }
+{
+    let mut named = Named::nothing(alloc);
+    match Journal::load_into(alloc, disk, &mut named) {
+        Ok(journal) => Ok(Opened {
+            journal,
+            blobs: named.blobs(),
+            items: None,
+        }),
+        Err(fault) => {
+            drop(named);
+            Err(fault)
+        }
+    }
+}
+
+/// The same, and what the held artifacts are: the bytes of each blob are parsed once, before they go, also of one that a later
+/// record takes out, as a shun does. So it takes memory for one group, for the names, and for what is parsed. No table is made.
+pub fn artifacts_of_file<D: Disk>(alloc: Global, disk: &mut D) -> Result<Opened, LoadFault>
+    ensures opened { IfOk result (λ f. IsFileOpened (D.state disk.old) (D.state disk.new) f.journal f.blobs) }
+    ensures items { IfOk result (λ f. HasItems (contents f.blobs.records) f.items) }
+    ensures fault { IfErr result (λ fault. OpenFailed fault (D.state disk.old) (D.state disk.new)) }
+    ensures file { SparesFile (D.state disk.old) (D.state disk.new) }
+    // Where each image stands for records, it isn't `NotRepository`.
+    ensures stays { IfErr result (λ fault. (at : ℕ) → fault ≡ load_fault.NotRepository at → WhereBetween (D.state disk.old) (λ _ _. ⊥)) }
+{
+    let mut gathered = Gathered::nothing(alloc);
+    match Journal::load_into(alloc, disk, &mut gathered) {
+        Ok(journal) => match held(gathered) {
+            Ok((blobs, items)) => Ok(Opened {
+                journal,
+                blobs,
+                items: Some(items),
+            }),
+            Err(_) => {
+                drop(journal);
+                Err(LoadFault::Memory)
+            }
+        },
+        Err(fault) => {
+            drop(gathered);
+            Err(fault)
         }
     }
 }

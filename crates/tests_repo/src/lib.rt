@@ -7,6 +7,8 @@ mod crashes;
 #[cfg(test)]
 mod events;
 #[cfg(test)]
+mod files;
+#[cfg(test)]
 mod histories;
 #[cfg(test)]
 mod many;

@@ -88,7 +88,7 @@ fn show_text(into: &mut Shown, text: Result<Text, Memory>) {
 }
 
 /// Shows a report, or the text of its refusal.
-fn show_answer(alloc: Global, into: &mut Shown, answer: Result<Text, QueryFault>) {
+pub(crate) fn show_answer(alloc: Global, into: &mut Shown, answer: Result<Text, QueryFault>) {
     match answer {
         Ok(text) => show_text(into, Ok(text)),
         Err(QueryFault::Refused(refused)) => {

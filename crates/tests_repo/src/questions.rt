@@ -1,10 +1,9 @@
-//! A question is answered alike over an open repository and over its file, which is loaded without tables; and where a content
+//! A question is answered alike over an open repository and over its file, which is opened without tables; and where a content
 //! that is asked for can't be read as it was stored, this is told.
 use crate::events::arrives;
 use crate::repo::{CONFIGURED, ONE_BLOB, disk_of, fused, loaded, opened};
 use fsl_disk::{Disk, FlipDisk, MemoryDisk};
-use fsl_journal::Journal;
-use fsl_query::{QueryFault, report, report_from};
+use fsl_query::{QueryFault, open_for, report, report_from};
 use fsl_repo::Repo;
 use fsl_text::Text;
 use fsl_words::Question;
@@ -51,17 +50,23 @@ fn told_open(alloc: Global, mut repo: Repo<MemoryDisk>) -> Option<MemoryDisk> {
     }
 }
 
+/// What a file answers to a question.
+pub(crate) fn asked(
+    alloc: Global,
+    disk: &mut MemoryDisk,
+    question: &Question,
+) -> Result<Text, QueryFault> {
+    match open_for(alloc, disk, question) {
+        Ok(opened) => report_from(alloc, opened, disk, question),
+        Err(_) => Err(QueryFault::Disk),
+    }
+}
+
 /// Whether a file's answer to a question is this text.
 fn is_told(alloc: Global, mut disk: MemoryDisk, question: &Question, due: &[u8]) -> bool {
-    match Journal::load(alloc, &mut disk) {
-        Ok((journal, places, records)) => {
-            let told = report_from(alloc, &journal, &places, records, &mut disk, question);
-            drop(places);
-            drop(journal);
-            tells(told, due)
-        }
-        Err(_) => false,
-    }
+    let told = tells(asked(alloc, &mut disk, question), due);
+    drop(disk);
+    told
 }
 
 /// The leaf is told over an open repository, and over its file.

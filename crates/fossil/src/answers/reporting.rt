@@ -1,9 +1,13 @@
 //! Reports on what a repository holds.
 ghost use Rattle.std.specs.Prelude.{◌≡◌, Err, IfOk};
+ghost use Rattle.fsl_blobs.specs.Fold.{contents};
+ghost use Rattle.fsl_query.specs.Answers.{IsReadFor};
 ghost use Rattle.fsl_query.specs.Refusals.{refusal_text};
 ghost use Rattle.fsl_words.specs.declared.Command.TheVariants as command_of;
 ghost use Rattle.fsl_journal.specs.Journal.{Belongs};
-ghost use Rattle.fossil.specs.Acts.{IsOpen, IsAnswerOf};
+ghost use Rattle.fsl_journal.specs.Log.{IsLoaded};
+ghost use Rattle.fsl_repo.specs.Opening.{IsFolded};
+ghost use Rattle.fossil.specs.Acts.{IsAnswerOf, loaded_file};
 ghost use Rattle.fossil.specs.Printed as printing;
 ghost use Rattle.fossil.specs.RunCall.{ActsUnread, AnswersQuestion};
 
@@ -11,9 +15,10 @@ use crate::answers::answer::{Answer, refusal};
 use crate::answers::due::Due;
 use crate::answers::fault::Fault;
 use crate::answers::status::DONE;
-use crate::reading::load::{Loaded, load, not_loaded};
+use crate::reading::load::not_loaded;
 use fsl_disk::Disk;
-use fsl_query::{QueryFault, Refused, refusal_text, report_from};
+use fsl_query::{QueryFault, Refused, open_for, refusal_text, report_from};
+use fsl_repo::Opened;
 use fsl_text::{Memory, Text};
 use fsl_words::Question;
 use std::alloc::Global;
@@ -48,34 +53,29 @@ fn answer_of(alloc: Global, found: Result<Text, QueryFault>) -> Due
     }
 }
 
-/// The report on a question about what was loaded, or the reason why there is none.
-fn report_on<D: Disk>(alloc: Global, loaded: Loaded, question: &Question, disk: &mut D) -> Due
-    requires open { IsOpen loaded }
-    requires belongs { Belongs loaded.journal (D.state disk.old) }
-    ensures { AnswersQuestion question.now loaded (D.state, disk.old, disk.new) result }
+/// The report on a question about what was loaded for it, or the reason why there is none.
+fn report_on<D: Disk>(alloc: Global, opened: Opened, question: &Question, disk: &mut D) -> Due
+    requires loaded { IsLoaded opened.journal opened.blobs.records }
+    requires held { IsFolded opened.blobs.records opened.journal.places opened.blobs }
+    requires read { IsReadFor question.now (contents opened.blobs.records) opened.items }
+    requires belongs { Belongs opened.journal (D.state disk.old) }
+    ensures { AnswersQuestion question.now (loaded_file opened) (D.state, disk.old, disk.new) result }
 {
-    let Loaded {
-        journal,
-        places,
-        records,
-    } = loaded;
-    let found = report_from(alloc, &journal, &places, records, disk, question);
-    // The journal has so many parts that it is let go before there are several ends.
-    drop(journal);
-    drop(places);
+    let found = report_from(alloc, opened, disk, question);
     answer_of(alloc, found)
 }
 
-/// Loads the repository, and answers with the report on a question. All tables together are never made. `cat` reads the content
-/// that it asks for from the disk, and that alone; its refusals come before that.
+/// Loads the repository, and answers with the report on a question. All tables together are never made, and of the file no more
+/// than a group is in memory at a time. `cat` reads the content that it asks for from the disk, and that alone; its refusals come
+/// before that.
 ///
 /// Errors: `Disk` where a call of the disk failed; `Damaged` where the bytes that were read for `cat` have another name;
 /// `Memory`.
 pub fn report<D: Disk>(alloc: Global, question: &Question, disk: &mut D) -> Due
     ensures { ActsUnread (command_of.Ask question.now) (D.state, disk.old, disk.new) result }
 {
-    match load(alloc, disk) {
-        Ok(loaded) => report_on(alloc, loaded, question, disk),
+    match open_for(alloc, disk, question) {
+        Ok(opened) => report_on(alloc, opened, question, disk),
         Err(fault) => not_loaded(alloc, fault),
     }
 }

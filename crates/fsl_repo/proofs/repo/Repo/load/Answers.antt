@@ -1,8 +1,8 @@
-use Rattle.std.proofs.Common.{ap, subst, sym, inr}
+use Rattle.std.proofs.Common.{ap, subst, sym}
 use Rattle.fsl_journal.specs.Log.{IsBetween}
 use Rattle.fsl_repo.specs.Opening.{records_in, starts_in}
 use Rattle.fsl_repo.proofs.Gathers.{gathered_none}
-use Rattle.fsl_repo.proofs.Openings.{kept_of, open_failed, reads_back}
+use Rattle.fsl_repo.proofs.Openings.{kept_of, memory_failed, open_failed}
 use Rattle.fsl_repo.proofs.repo.Repo.load.Goals as goal
 
 pub load_into-requires : goal.load_into-requires
@@ -24,10 +24,8 @@ returns-in-Ok-derived-clause-between g c modelled low high images =
 
 pub returns-in-Err-derived-clause-fault : goal.returns-in-Err-derived-clause-fault
 returns-in-Err-derived-clause-fault g c =
-    let records = records_in c.load_into.new.taker.blobs in record {
-      faults = c.in-Ok.ensures.count;
-      contents = inr (records, c.in-Ok.journal.place, c.in-Ok.ensures.stands, c.in-Ok.ensures.cut, reads_back c.in-Ok.journal records _ c.in-Ok.ensures.loaded c.in-Ok.ensures.belongs);
-    }
+    let is = c.in-Ok.ensures in
+    memory_failed c.in-Ok.journal (records_in c.load_into.new.taker.blobs) (g.D.Disk.state c.args.disk) (g.D.Disk.state c.load_into.new.disk) is.loaded is.belongs is.stands is.cut is.count
 
 pub returns-in-Err-clause-fault : goal.returns-in-Err-clause-fault
 returns-in-Err-clause-fault g c = open_failed c.in-Err.fault _ _ c.in-Err.ensures.fault
