@@ -7,6 +7,7 @@
 
 mod chronicle;
 mod housed;
+mod lane;
 mod rule;
 mod steps;
 mod ticketed;

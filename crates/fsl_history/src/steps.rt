@@ -10,7 +10,6 @@ use fsl_turn::{Machine, step_uncounted};
 use std::hint::spin_loop;
 use std::marker::Brand;
 use std::sync::Wait;
-use std::sync::atomic::Ordering;
 
 /// The word that counts the turns made.
 const TURN: usize = 0;
@@ -113,9 +112,7 @@ impl<M: Machine, B: Chronicle<M>> Ticketed<M, B> {
         ensures table { (chair.new.table_id ≡ chair.old.table_id) × (chair.new.id ≡ chair.old.id) }
         ensures called { (t : _) (left : ℕ) → MakesTurn M.may_step M.stored_count B.first t left event.now result chair.old.me chair.new.me }
     {
-        self.waiting.fetch_add(1, Ordering::Relaxed);
-        let lane = self.lane.lock(rt);
-        self.waiting.fetch_sub(1, Ordering::Relaxed);
+        let lane = self.lane.enter(rt);
         let ticket = self.draw(chair);
         self.wait(rt, chair, ticket);
         self.take(chair, ticket);

@@ -10,19 +10,15 @@ ghost use Rattle.fsl_history.specs.Rule.{tale_in, most_turns};
 
 use crate::chronicle::Chronicle;
 use crate::housed::{Desk, Housed, emptied};
+use crate::lane::Lane;
 use crate::rule::{Chair, Gathers, Issues};
 use fsl_turn::{Machine, Turns};
 use std::alloc::Global;
 use std::marker::{Model, PhantomData};
-use std::sync::atomic::{AtomicU64, Ordering};
 use std::sync::{Mutex, Wait};
-use std::thread::yield_now;
 
 /// The most turns of one pass.
 const MOST_TURNS: u64 = 1 << 58;
-
-/// How often a pass looks whether others wait, before it stands back no longer.
-const STANDS_BACK: u64 = 400;
 
 /// The seat that takes the passes back. It lies under a lock that nobody takes while turns are made, since a seat can't be shared.
 #[derive(Drop)]
@@ -38,9 +34,7 @@ pub struct Ticketed<M: Machine, B: Chronicle<M>> {
     pub(crate) table: Desk<M, M::Event, M::Answer>,
     keeper: Mutex<Keeper<M, B>>,
     /// Who has this lock may draw a ticket. So no pass sleeps with a ticket, which would hold up all that drew theirs behind it.
-    pub(crate) lane: Mutex<()>,
-    /// How many wait for it.
-    pub(crate) waiting: AtomicU64,
+    pub(crate) lane: Lane,
     /// The machine's count when the table was made.
     began: u64,
     of: PhantomData<B>,
@@ -151,8 +145,7 @@ impl<M: Machine, B: Chronicle<M>> Ticketed<M, B> {
         let ticketed = Ticketed {
             table,
             keeper: Mutex::new(keeper),
-            lane: Mutex::new(()),
-            waiting: AtomicU64::new(0),
+            lane: Lane::new(),
             began,
             of: PhantomData,
         };
@@ -179,7 +172,6 @@ impl<M: Machine, B: Chronicle<M>> Ticketed<M, B> {
             table,
             keeper,
             lane: _,
-            waiting: _,
             began,
             of: _,
         } = self;
@@ -223,11 +215,6 @@ impl<M: Machine, B: Chronicle<M>> Turns<M> for Ticketed<M, B> {
     }
 
     fn stand_back(&self) {
-        for _round in 0..STANDS_BACK {
-            if self.waiting.load(Ordering::Relaxed) == 0 {
-                return;
-            }
-            yield_now();
-        }
+        self.lane.stand_back();
     }
 }
