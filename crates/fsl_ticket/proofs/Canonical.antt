@@ -24,7 +24,7 @@ use Rattle.fsl_ticket.specs.Seen.{Seen, IsAsBefore}
 use Rattle.fsl_ticket.specs.Newest.{newest_cmp}
 use Rattle.fsl_ticket.specs.NewestOrder.{newest_cmp-IsTotalOrder, newest_cmp-IsAntisymmetric}
 use Rattle.fsl_ticket.specs.FieldOrder.{field_cmp, exact_field}
-use Rattle.fsl_ticket.specs.Kept.{Lines, Spot, spot_cmp, Setting, setting_cmp, IsLaid, AreSets, IsKept, AreUndone, AreAsGood, TakesBack, undone_maps, seen_of, fact_of, facts_of, entry_of, is_spot, is_setting}
+use Rattle.fsl_ticket.specs.Kept.{Lines, Spot, spot_cmp, Setting, Settings, setting_cmp, IsLaid, AreSets, IsKept, AreUndone, AreAsGood, TakesBack, rows_in, undone_maps, seen_of, fact_of, facts_of, entry_of, is_spot, is_setting}
 
 pub spot_cmp-IsTotalOrder : IsTotalOrder spot_cmp
 spot_cmp-IsTotalOrder = within-IsTotalOrder bytes_cmp newest_cmp bytes_cmp-IsTotalOrder newest_cmp-IsTotalOrder
