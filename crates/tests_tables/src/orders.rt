@@ -220,13 +220,7 @@ struct OfAppends;
 impl Play for OfAppends {
     fn play<L: Ledger>(alloc: Global, into: &mut Text, steps: &mut Steps<L>) -> Result<(), Memory> {
         let texts: [&[u8]; 7] = [
-            b"e5xf+5",
-            b"c3xf+3",
-            b"a1xf+1",
-            b"b2xf=2",
-            b"z0xf=0",
-            b"d4xf=4",
-            b"y1xf+7",
+            b"e5xf+5", b"c3xf+3", b"a1xf+1", b"b2xf=2", b"z0xf=0", b"d4xf=4", b"y1xf+7",
         ];
         play_order(alloc, &texts, into, steps)
     }
