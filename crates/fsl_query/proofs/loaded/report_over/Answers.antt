@@ -13,13 +13,13 @@ returns-in-Receipt c = λ honest faults.
     (subst (λ p. IsReported honest k (question_of.Receipt p) faults faults told) c.bytes.ensures (reported_receipt honest k c.bytes.result.now faults told c.receipt_of.ensures))
 
 pub report_of-requires-clause-held : goal.report_of-requires-clause-held
-report_of-requires-clause-held c = (items_for c.args.question.now (contents c.args.blobs.now.records) c.in-Some.items.now (subst (IsReadFor c.args.question.now (contents c.args.blobs.now.records)) (c.in-Some.is) c.requires.read)).0
+report_of-requires-clause-held c = (items_for c.args.question.now (contents c.args.blobs.now.records) c.in-Some.items (subst (IsReadFor c.args.question.now (contents c.args.blobs.now.records)) (c.in-Some.is) c.requires.read)).0
 
 pub report_of-requires-clause-kinds : goal.report_of-requires-clause-kinds
-report_of-requires-clause-kinds c = (items_for c.args.question.now (contents c.args.blobs.now.records) c.in-Some.items.now (subst (IsReadFor c.args.question.now (contents c.args.blobs.now.records)) (c.in-Some.is) c.requires.read)).1
+report_of-requires-clause-kinds c = (items_for c.args.question.now (contents c.args.blobs.now.records) c.in-Some.items (subst (IsReadFor c.args.question.now (contents c.args.blobs.now.records)) (c.in-Some.is) c.requires.read)).1
 
 pub returns-in-Some : goal.returns-in-Some
 returns-in-Some c = λ honest faults.
     let k = contents c.args.blobs.now.records in
-    let items = items_for c.args.question.now k c.in-Some.items.now (subst (IsReadFor c.args.question.now k) (c.in-Some.is) c.requires.read) in
-    reported_by honest k c.in-Some.items.now c.args.question.now faults c.report_of.result c.requires.unread items.0 c.report_of.ensures
+    let items = items_for c.args.question.now k c.in-Some.items (subst (IsReadFor c.args.question.now k) (c.in-Some.is) c.requires.read) in
+    reported_by honest k c.in-Some.items c.args.question.now faults c.report_of.result c.requires.unread items.0 c.report_of.ensures
