@@ -17,7 +17,7 @@ use Rattle.fossil.specs.Due.{Due, IsNotLoadedDue}
 use Rattle.fossil.specs.declared.answers.fault.Fault.{Fault}
 use Rattle.fossil.specs.declared.answers.fault.Fault.TheVariants as fault_is
 use Rattle.fossil.specs.Outcome.{Outcome, printed_of, not_repository, IsSaidOutcome}
-use Rattle.fossil.specs.Run.{Input, Clock, Agrees, reads, TakesMoment, IsTimed, IsInputFault, IsDamaged, IsFileLeft}
+use Rattle.fossil.specs.Run.{Input, IsInputSteady, Clock, Agrees, reads, TakesMoment, IsTimed, IsInputFault, IsDamaged, IsFileLeft}
 use Rattle.fossil.specs.Acts.{ActsBy, HasActed, IsTimedBy, Touches, IsUnopened, IsUnread, KeepsContents, KeepsImages}
 use Rattle.fossil.proofs.InputLemmas.{some_bytes}
 use Rattle.fossil.proofs.FileLemmas.{both, Loads, stands, agrees, none_committed, loaded_left, loaded_touches}
@@ -39,8 +39,8 @@ ask_loads question = record { opened = refl; begun = λ begun. cc; old = λ old 
 
 module _ (command : Option Command) (loads : Loads command) (input : Input) (file left : DiskState) (read : List ℕ) (moment : ℕ) (bytes : List ℕ) (o : Outcome)
     (input_told : Agrees input.before.left read) (file_told : Agrees file.contents bytes) (outcome : IsSaidOutcome (is_modelled file) command read moment bytes o) (touches : Touches command (both file left) bytes o) where
-  pub memory_by : KeepsContents file left → ActsBy command input (both file left) (Err fault_is.Memory) read moment bytes o
-  memory_by contents = record {
+  pub memory_by : left.faults ≡ file.faults → IsInputSteady input → KeepsContents file left → ActsBy command input (both file left) (Err fault_is.Memory) read moment bytes o
+  memory_by steady input_steady contents = record {
     input_told = input_told;
     file_told = file_told;
     outcome = outcome;
@@ -53,11 +53,12 @@ module _ (command : Option Command) (loads : Loads command) (input : Input) (fil
     durable = λ last. absurd (cc);
     trimmed = λ last. absurd (cc);
     spared = λ nine begun. absurd (loads.begun begun);
-    steady = tt;
+    steady = λ other. steady;
+    input_steady = λ other. input_steady;
   }
 
-  input_by : IsInputFault command input bytes → KeepsContents file left → ActsBy command input (both file left) (Err fault_is.Input) read moment bytes o
-  input_by cause contents = record {
+  input_by : left.faults ≡ file.faults → IsInputFault command input bytes → KeepsContents file left → ActsBy command input (both file left) (Err fault_is.Input) read moment bytes o
+  input_by steady cause contents = record {
     input_told = input_told;
     file_told = file_told;
     outcome = outcome;
@@ -70,12 +71,13 @@ module _ (command : Option Command) (loads : Loads command) (input : Input) (fil
     durable = λ last. absurd (cc);
     trimmed = λ last. absurd (cc);
     spared = λ nine begun. absurd (loads.begun begun);
-    steady = tt;
+    steady = λ other. steady;
+    input_steady = λ other. absurd (other refl);
   }
 
-  pub disk_by : Rose file.faults left.faults → (input.after ≡ input.before) ⊎ (o.commits ≡ [] → ⊥) → IsFileLeft command (both file left) 4 bytes o
+  pub disk_by : Rose file.faults left.faults → IsInputSteady input → (input.after ≡ input.before) ⊎ (o.commits ≡ [] → ⊥) → IsFileLeft command (both file left) 4 bytes o
       → ActsBy command input (both file left) (Err fault_is.Disk) read moment bytes o
-  disk_by rose moment contents = record {
+  disk_by rose input_steady moment contents = record {
     input_told = input_told;
     file_told = file_told;
     outcome = outcome;
@@ -88,13 +90,14 @@ module _ (command : Option Command) (loads : Loads command) (input : Input) (fil
     durable = λ last. absurd (cc);
     trimmed = λ last. absurd (cc);
     spared = λ nine begun. absurd (loads.begun begun);
-    steady = tt;
+    steady = λ other. absurd (other refl);
+    input_steady = λ other. input_steady;
   }
 
   -- a content is damaged
-  pub damaged_by : (name found : List ℕ) → IsDamaged (is_modelled file) command bytes name found → left.faults ≡ file.faults → KeepsContents file left
+  pub damaged_by : (name found : List ℕ) → IsDamaged (is_modelled file) command bytes name found → left.faults ≡ file.faults → IsInputSteady input → KeepsContents file left
       → ActsBy command input (both file left) (Err (fault_is.Damaged name found)) read moment bytes o
-  damaged_by name found damaged faults contents = record {
+  damaged_by name found damaged faults input_steady contents = record {
     input_told = input_told;
     file_told = file_told;
     outcome = outcome;
@@ -107,12 +110,13 @@ module _ (command : Option Command) (loads : Loads command) (input : Input) (fil
     durable = λ last. absurd (cc);
     trimmed = λ last. absurd (cc);
     spared = λ nine begun. absurd (loads.begun begun);
-    steady = tt;
+    steady = λ other. faults;
+    input_steady = λ other. input_steady;
   }
 
   -- the place at which the file fails is told
-  nowhere_by : (at : ℕ) → o ≡ not_repository at → KeepsContents file left → KeepsImages file left → left.faults ≡ file.faults → ActsBy command input (both file left) (Ok (printed_of (not_repository at))) read moment bytes o
-  nowhere_by at is contents images faults = record {
+  nowhere_by : (at : ℕ) → o ≡ not_repository at → KeepsContents file left → KeepsImages file left → left.faults ≡ file.faults → IsInputSteady input → ActsBy command input (both file left) (Ok (printed_of (not_repository at))) read moment bytes o
+  nowhere_by at is contents images faults input_steady = record {
     input_told = input_told;
     file_told = file_told;
     outcome = outcome;
@@ -125,18 +129,19 @@ module _ (command : Option Command) (loads : Loads command) (input : Input) (fil
     durable = λ last. absurd (cc);
     trimmed = λ last. absurd (cc);
     spared = λ nine begun. absurd (loads.begun begun);
-    steady = faults;
+    steady = λ other. faults;
+    input_steady = λ other. input_steady;
   }
 
   -- the input wasn't read
-  pub unread_by : (fault : Fault) → IsUnread fault input → IsTrue (reads command) → (records : List Record) → IsFileOf bytes records → KeepsContents file left
+  pub unread_by : (fault : Fault) → IsUnread fault input → IsTrue (reads command) → (records : List Record) → IsFileOf bytes records → left.faults ≡ file.faults → KeepsContents file left
       → ActsBy command input (both file left) (Err fault) read moment bytes o
-  unread_by fault_is.Usage un reads_it records is contents = absurd un
-  unread_by fault_is.Disk un reads_it records is contents = absurd un
-  unread_by fault_is.Input un reads_it records is contents = input_by (record { read = reads_it; rose = un; file = λ opened. (records, is) }) contents
-  unread_by fault_is.Link un reads_it records is contents = absurd un
-  unread_by (fault_is.Damaged name found) un reads_it records is contents = absurd un
-  unread_by fault_is.Memory un reads_it records is contents = memory_by contents
+  unread_by fault_is.Usage un reads_it records is steady contents = absurd un
+  unread_by fault_is.Disk un reads_it records is steady contents = absurd un
+  unread_by fault_is.Input un reads_it records is steady contents = input_by steady (record { read = reads_it; rose = un; file = λ opened. (records, is) }) contents
+  unread_by fault_is.Link un reads_it records is steady contents = absurd un
+  unread_by (fault_is.Damaged name found) un reads_it records is steady contents = absurd un
+  unread_by fault_is.Memory un reads_it records is steady contents = memory_by steady un contents
 
 -- ---- the clock
 
@@ -185,7 +190,7 @@ module _ (command : Option Command) (loads : Loads command) (source : SourceStat
         un.cause.0,
         o,
         nowhere_by command loads input file left read.0 0 un.cause.0 o read.1 (agrees file.contents un.cause.0 un.cause.1) (loads.fails (is_modelled file) read.0 0 un.cause.0 at un.cause.2)
-            (loaded_touches command loads file left un.cause.0 o un.unreadable un.any_moment un.keeps) at refl (un.contents (λ e. cc)) un.any_moment (un.faults (λ e. cc)),
+            (loaded_touches command loads file left un.cause.0 o un.unreadable un.any_moment un.keeps) at refl (un.contents (λ e. cc)) un.any_moment (un.faults (λ e. cc)) refl,
         none_due command clock true read.0 0 un.cause.0 (unread_none command loads read.0 un.cause.0 at un.cause.2),
       )
 
@@ -206,7 +211,7 @@ module _ (command : Option Command) (loads : Loads command) (source : SourceStat
     touches = loaded_touches command loads file left held.0 outcome.0 un.unreadable un.any_moment un.keeps
 
     memory_acted : (fault ≡ load_fault.Disk → ⊥) → Acted (Err fault_is.Memory)
-    memory_acted other = (read.0, 0, held.0, outcome.0, memory_by command loads input file left read.0 0 held.0 outcome.0 read.1 held.1 outcome.1 touches (un.contents other), unasked)
+    memory_acted other = (read.0, 0, held.0, outcome.0, memory_by command loads input file left read.0 0 held.0 outcome.0 read.1 held.1 outcome.1 touches (un.faults other) refl (un.contents other), unasked)
 
     -- the file stands for what it stood for
     contents : IsFileLeft command (both file left) 4 held.0 outcome.0
@@ -215,7 +220,7 @@ module _ (command : Option Command) (loads : Loads command) (source : SourceStat
         none_committed old outcome.0.commits bytes (stands old bytes (un.modelled modelled held.0 file_told old (loads.old old held.0 are) bytes left_told))
 
     disk_acted : Rose file.faults left.faults → Acted (Err fault_is.Disk)
-    disk_acted rose = (read.0, 0, held.0, outcome.0, disk_by command loads input file left read.0 0 held.0 outcome.0 read.1 held.1 outcome.1 touches rose (inl refl) contents, inl (refl, refl))
+    disk_acted rose = (read.0, 0, held.0, outcome.0, disk_by command loads input file left read.0 0 held.0 outcome.0 read.1 held.1 outcome.1 touches rose refl (inl refl) contents, inl (refl, refl))
 
   pub not_loaded_acted : (fault : LoadFault) (result : Due) → IsUnopened file left fault → IsNotLoadedDue fault result → Acted result
   not_loaded_acted load_fault.Disk result un is = subst Acted (sym is) (disk_acted load_fault.Disk un un.cause)

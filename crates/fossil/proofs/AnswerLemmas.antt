@@ -29,4 +29,5 @@ ingest_run input o message a is e read =
       told = whole.0;
       ingested = subst (λ (t : Bool). MatchBool t (a ≡ too_long) (IsRead message a)) (sym whole.2) read;
       end = λ z. whole.1;
+      input_steady = whole.3;
     }

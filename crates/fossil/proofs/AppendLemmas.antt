@@ -16,7 +16,7 @@ use Rattle.fossil.specs.declared.answers.fault.Fault.TheVariants as fault_is
 use Rattle.fossil.specs.Printed.{Printed}
 use Rattle.fsl_repo.specs.Whole.{is_modelled}
 use Rattle.fossil.specs.Outcome.{Outcome, with_commit, one_commit, IsSaidOutcome}
-use Rattle.fossil.specs.Run.{Input, Clock, Agrees, IsTimed, AreImages, StandsFor, StandsForAll, StandsForSome, IsLeft, IsWholeAtAnyMoment, reads, IsJust}
+use Rattle.fossil.specs.Run.{Input, IsInputSteady, Clock, Agrees, IsTimed, AreImages, StandsFor, StandsForAll, StandsForSome, IsLeft, IsWholeAtAnyMoment, reads, IsJust}
 use Rattle.fossil.specs.Acts.{Loaded, HasActed, Touches, IsOpened, IsUnread, KeepsUnreadable}
 use Rattle.fossil.proofs.InputLemmas.{some_bytes}
 use Rattle.fossil.proofs.FileLemmas.{both, Loads, stands, agrees, none_committed, all_committed, one_is_all, readable, loaded_touches}
@@ -48,6 +48,7 @@ pub record IsAppended (command : Option Command) (input : Input) (clock : Clock)
   pub records : after.journal.records ≡ before.journal.records ++ appended
   pub stable : after.journal.stable ≡ before.journal.stable
   pub end : answer.status ≡ 0 → IsTrue (reads command) → IsAtEnd input.after.left
+  pub input_steady : IsInputSteady input
 
 module _ (command : Option Command) (loads : Loads command) (input : Input) (file mid : DiskState) (l : Loaded) (opened : IsOpened file mid l) where
   abbrev bytes : List ℕ
@@ -73,28 +74,28 @@ module _ (command : Option Command) (loads : Loads command) (input : Input) (fil
         bytes,
         o.0,
         unread_by command loads input file mid read.0 0 bytes o.0 read.1 file_told o.1
-            (loaded_touches command loads file mid bytes o.0 (unreadable mid) opened.any_moment opened.keeps) fault un reads_it l.journal.records opened.stands.2 opened.contents,
+            (loaded_touches command loads file mid bytes o.0 (unreadable mid) opened.any_moment opened.keeps) fault un reads_it l.journal.records opened.stands.2 opened.faults opened.contents,
         still_by command input told fault (λ e. subst (λ (f : Fault). IsUnread f input) e un) read.0 0 bytes,
       )
 
   -- there was no memory for what is appended, behind a moment that was taken
-  pub memory_timed : (clock : Clock) (read : List ℕ) (moment : ℕ) → Agrees input.before.left read → IsTimed command clock false read moment bytes → HasActed command input clock (both file mid) (Err fault_is.Memory)
-  memory_timed clock read moment told timed =
+  pub memory_timed : IsInputSteady input → (clock : Clock) (read : List ℕ) (moment : ℕ) → Agrees input.before.left read → IsTimed command clock false read moment bytes → HasActed command input clock (both file mid) (Err fault_is.Memory)
+  memory_timed input_steady clock read moment told timed =
       let o = some_said_outcome (is_modelled file) command read moment bytes loads.alone in (
         read,
         moment,
         bytes,
         o.0,
         memory_by command loads input file mid read moment bytes o.0 told file_told o.1
-            (loaded_touches command loads file mid bytes o.0 (unreadable mid) opened.any_moment opened.keeps) opened.contents,
+            (loaded_touches command loads file mid bytes o.0 (unreadable mid) opened.any_moment opened.keeps) opened.faults input_steady opened.contents,
         timed,
       )
 
   -- and before one is
-  pub memory_acted : (told : Option (List ℕ)) → HasActed command input (still told) (both file mid) (Err fault_is.Memory)
-  memory_acted told =
+  pub memory_acted : IsInputSteady input → (told : Option (List ℕ)) → HasActed command input (still told) (both file mid) (Err fault_is.Memory)
+  memory_acted input_steady told =
       let read = some_bytes input.before.left in
-      memory_timed (still told) read.0 0 read.1 (fault_still command told read.0 0 bytes)
+      memory_timed input_steady (still told) read.0 0 read.1 (fault_still command told read.0 0 bytes)
 
   module _ (clock : Clock) (after : Loaded) (answer : Printed) (run : IsAppended command input clock bytes l after answer) where
     abbrev outcome : Outcome
@@ -154,7 +155,7 @@ module _ (command : Option Command) (loads : Loads command) (input : Input) (fil
         run.moment,
         bytes,
         outcome,
-        disk_by command loads input file left run.read run.moment bytes outcome run.told file_told is_outcome touches (subst (λ (n : ℕ). Rose n left.faults) opened.faults rose) (inr (has_commit due))
+        disk_by command loads input file left run.read run.moment bytes outcome run.told file_told is_outcome touches (subst (λ (n : ℕ). Rose n left.faults) opened.faults rose) run.input_steady (inr (has_commit due))
             (λ old held told left_told are known.
             let modelled : IsModelled file = record { tells = ap is_some told; model = (known refl).0 } in
             some_stand old held (old_is bytes old told (loads.old old bytes are))
@@ -189,7 +190,8 @@ module _ (command : Option Command) (loads : Loads command) (input : Input) (fil
             durable = λ last opens modelled told old are c image. all_stand old c (old_is bytes old told (loads.old old bytes are)) (durable (modelled_after file mid opened.keeps modelled) c image);
             trimmed = λ last opens begun held told. (after.journal.records, settled.0 held told);
             spared = λ nine begun. absurd (loads.begun begun);
-            steady = settled.1 ∙ opened.faults;
+            steady = λ other. settled.1 ∙ opened.faults;
+            input_steady = λ other. run.input_steady;
           },
           run.timed opened.stands.2,
         )

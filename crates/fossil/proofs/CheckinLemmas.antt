@@ -122,6 +122,7 @@ module _ (a : NewCheckin) where
       records = records;
       stable = stable;
       end = λ z reads. is.1;
+      input_steady = is.3;
     }
 
   module _ {D : Type 0} (input : Input) (clock : Clock) (receipt : Brought) (bytes text : List ℕ) (before : Whole D) (t : List TreeItem) (over : Option (List ℕ)) (made : Arriving) (taken : IsPutReceipt clock.before clock.after receipt)
@@ -205,4 +206,5 @@ module _ (a : NewCheckin) where
       records = sym (append-nil before.journal.records);
       stable = refl;
       end = λ z reads. absurd (let three = ap (λ (p : Printed). p.status) long in cc);
+      input_steady = is.3;
     }

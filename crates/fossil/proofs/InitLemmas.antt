@@ -102,9 +102,9 @@ module _ (config : Config) (source : SourceState) (clock : Option (List ℕ)) (f
     touches = record { kept = quiet_file; any_moment = whole_by (is_empty bytes); keeps = keeps }
 
     -- a fault after which the contents are as they were, or the disk failed
-    pub fault_acted : (fault : Fault) → (fault ≡ fault_is.Input → ⊥) → IsCaused command input (both file left) bytes (outcome bytes) fault → IsFileLeft command (both file left) ((printed (Err fault)).status) bytes (outcome bytes)
+    pub fault_acted : (fault : Fault) → (fault ≢ fault_is.Disk → left.faults ≡ file.faults) → IsCaused command input (both file left) bytes (outcome bytes) fault → IsFileLeft command (both file left) ((printed (Err fault)).status) bytes (outcome bytes)
         → IsSpared command (both file left) ((printed (Err fault)).status) → ActsBy command input (both file left) (Err fault) (some_bytes source.left).0 0 bytes (outcome bytes)
-    fault_acted fault other cause contents spared = record {
+    fault_acted fault same cause contents spared = record {
       input_told = (some_bytes source.left).1;
       file_told = file_told;
       outcome = refl;
@@ -117,7 +117,8 @@ module _ (config : Config) (source : SourceState) (clock : Option (List ℕ)) (f
       durable = λ last. absurd (fault_fades command fault last);
       trimmed = λ last opened begun. absurd (cc);
       spared = spared;
-      steady = tt;
+      steady = λ other. same (λ is. other (ap (λ (f : Fault). Err f) is));
+      input_steady = λ other. refl;
     }
 
   abbrev Acted : Due → Type 0
@@ -151,7 +152,8 @@ module _ (config : Config) (source : SourceState) (clock : Option (List ℕ)) (f
           durable = λ last opened modelled file_told old are c image. all_stand old (outcome []).commits c (old_none old [] refl are) refl (durable modelled c image);
           trimmed = λ last opened begun. absurd (cc);
           spared = λ nine begun. absurd (cc);
-          steady = made.faults;
+          steady = λ other. made.faults;
+          input_steady = λ other. refl;
         },
         unasked true read.0 [],
       )
@@ -186,15 +188,16 @@ module _ (config : Config) (source : SourceState) (clock : Option (List ℕ)) (f
           durable = λ last. absurd (let none = subst (λ (n : ℕ). IsTrue (lasts command n)) three last in cc);
           trimmed = λ last opened begun. absurd (cc);
           spared = λ nine begun. absurd (omega (arith, three, nine));
-          steady = same.faults;
+          steady = λ other. same.faults;
+          input_steady = λ other. refl;
         },
         unasked true read.0 bytes.0,
       )
 
-  pub memory_acted : left.contents ≡ file.contents → Quiet file left → Acted (Err fault_is.Memory)
+  pub memory_acted : IsLeft file left → Quiet file left → Acted (Err fault_is.Memory)
   memory_acted same quiet =
       let bytes = some_bytes file.contents in
-      ((some_bytes source.left).0, 0, bytes.0, outcome bytes.0, fault_acted bytes.0 bytes.1 fault_is.Memory (λ e. cc) tt (left_same command file left bytes.0 (outcome bytes.0) 9 (λ done. absurd (cc)) same) (λ nine begun. quiet), unasked false (some_bytes source.left).0 bytes.0)
+      ((some_bytes source.left).0, 0, bytes.0, outcome bytes.0, fault_acted bytes.0 bytes.1 fault_is.Memory (λ other. same.faults) tt (left_same command file left bytes.0 (outcome bytes.0) 9 (λ done. absurd (cc)) same.contents) (λ nine begun. quiet), unasked false (some_bytes source.left).0 bytes.0)
 
   pub disk_acted : ((held : List ℕ) → IsTrue left.is_model → left.contents ≡ Some held → left.images held) → Rose file.faults left.faults → Acted (Err fault_is.Disk)
   disk_acted reads rose =
@@ -203,7 +206,7 @@ module _ (config : Config) (source : SourceState) (clock : Option (List ℕ)) (f
         0,
         bytes.0,
         outcome bytes.0,
-        fault_acted bytes.0 bytes.1 fault_is.Disk (λ e. cc) (record { opened = refl; rose = rose; moment = inl refl })
+        fault_acted bytes.0 bytes.1 fault_is.Disk (λ other. absurd (other refl)) (record { opened = refl; rose = rose; moment = inl refl })
             (left_failed command file left bytes.0 (outcome bytes.0) refl keeps reads (touches bytes.0 bytes.1).any_moment) (λ nine begun. absurd (cc)),
         inl (refl, refl),
       )

@@ -4,7 +4,7 @@ use Rattle.std.specs.Prelude.{nat_lt, IfSome, IfNone}
 use Rattle.std.specs.Io.KnownBytes.{Consumes, IsAtEnd}
 use Rattle.std.proofs.lemmas.List.{append-nil}
 use Rattle.fsl_outside.specs.Whole.{ConsumesMore}
-use Rattle.fossil.specs.Run.{Input, Agrees}
+use Rattle.fossil.specs.Run.{Input, IsInputSteady, Agrees}
 use Rattle.fossil.specs.Acts.{IsInput}
 
 -- some bytes, where none are told
@@ -34,6 +34,6 @@ shorter : (n limit : ℕ) → n ≤ limit → nat_lt limit n ≡ false
 shorter n limit h = grind (arith)
 
 pub input_read : (input : Input) (o : Option (List ℕ)) → IfSome o (λ text. Consumes input.before.left input.after.left text) → IfSome o (λ _. IsAtEnd input.after.left) → IfSome o (λ text. length text ≤ 2 ^ 27)
-    → IfNone o (ConsumesMore (2 ^ 27) input.before.left input.after.left) → IsInput input o
-input_read input None whole end within long = long_input input.before.left input.after.left long
-input_read input (Some text) whole end within long = (whole_input input.before.left input.after.left text whole end, end, shorter (length text) (2 ^ 27) within)
+    → IfNone o (ConsumesMore (2 ^ 27) input.before.left input.after.left) → IsInputSteady input → IsInput input o
+input_read input None whole end within long input_steady = let far = long_input input.before.left input.after.left long in (far.0, far.1, far.2, input_steady)
+input_read input (Some text) whole end within long input_steady = (whole_input input.before.left input.after.left text whole end, end, shorter (length text) (2 ^ 27) within, input_steady)

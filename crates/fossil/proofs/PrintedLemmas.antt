@@ -1,6 +1,6 @@
 -- What a run says once the text of what it did is written.
-use Rattle.std.proofs.Common.{◌≡◌, ◌⊎◌, inl, inr, ⊎_elim, ℕ, Bool, true, false, cond, List, Ok, Err, Option, Some, None, IsTrue, refl, sym, ap, subst, ◌∙◌, arith}
-use Rattle.std.specs.Prelude.{◌==◌, ◌&&◌, is_ok, IfOk}
+use Rattle.std.proofs.Common.{◌≡◌, ◌≢◌, ◌⊎◌, inl, inr, ⊎_elim, ℕ, Bool, true, false, cond, List, Ok, Err, Option, Some, None, IsTrue, refl, sym, ap, subst, ◌∙◌, arith}
+use Rattle.std.specs.Prelude.{◌==◌, ◌&&◌, is_ok}
 use Rattle.fsl_order.specs.Causes.{Rose}
 use Rattle.fsl_disk.specs.Disk.{DiskState, IsModelled}
 use Rattle.fsl_repo.specs.Whole.{is_modelled}
@@ -11,7 +11,7 @@ use Rattle.fossil.specs.declared.answers.fault.Fault.{Fault}
 use Rattle.fossil.specs.declared.answers.fault.Fault.TheVariants as fault_is
 use Rattle.fossil.specs.Printed.{Printed}
 use Rattle.fossil.specs.Outcome.{Outcome, printed_of}
-use Rattle.fossil.specs.Run.{Input, Clock, Output, File, is_answered, TakesNone, IsTimed, IsCutTimed, IsWritten, all, front, IsDamaged, IsFaulted, IsFileLeft, IsLeft, lasts, IsDurable, IsSpared, RunsBy, HasRun, trims, IsTrimmed}
+use Rattle.fossil.specs.Run.{Input, IsInputSteady, Clock, Output, File, is_answered, TakesNone, IsTimed, IsCutTimed, IsWritten, all, front, IsDamaged, IsFaulted, IsFileLeft, IsLeft, lasts, IsDurable, IsSpared, RunsBy, HasRun, trims, IsTrimmed}
 use Rattle.fossil.specs.Acts.{ActsBy, HasActed, IsTimedBy, IsCaused}
 
 -- what is answered is due
@@ -98,10 +98,6 @@ module _ (command : Option Command) (input : Input) (file : File) (read : List �
   no_fault (Ok answer) status out acts e answered = refl
   no_fault (Err fault) status out acts (inl e) answered = absurd (fault_answered fault acts.cause (subst (λ (n : ℕ). IsTrue (is_answered n)) e answered))
   no_fault (Err fault) status out acts (inr cut) answered = absurd (no_zero fault cut.0)
-
-  steady_of : (result : Due) → IsTrue (is_ok result) → IfOk result (λ _. file.after.faults ≡ file.before.faults) → file.after.faults ≡ file.before.faults
-  steady_of (Ok answer) ok same = same
-  steady_of (Err fault) ok same = absurd (cc)
 
   -- a status of a fault is that of this fault
   of_disk : (fault : Fault) → (printed_fault fault).status ≡ 4 → IsCaused command input file bytes o fault → Rose file.before.faults file.after.faults
@@ -225,9 +221,16 @@ module _ (command : Option Command) (input : Input) (file : File) (read : List �
       undamaged_by (inl e) modelled twelve = undamaged_of result acts modelled (sym e ∙ twelve)
       undamaged_by (inr cut) modelled twelve = let six = cut.1 in cc
 
-      -- a status of no fault is one of an answer
-      steady_by : Ends (printed result) status out → IsTrue (is_answered status) → file.after.faults ≡ file.before.faults
-      steady_by e answered = steady_of result (no_fault result status out acts e answered) acts.steady
+      -- another status is that of no such fault
+      not_of : Ends (printed result) status out → (fault : Fault) → status ≢ (printed_fault fault).status → result ≢ Err fault
+      not_of (inl e) fault other is = other (e ∙ ap (λ (d : Due). (printed d).status) is)
+      not_of (inr cut) fault other is = no_zero fault (sym (ap (λ (d : Due). (printed d).status) is) ∙ cut.0)
+
+      steady_by : Ends (printed result) status out → status ≢ 4 → file.after.faults ≡ file.before.faults
+      steady_by e other = acts.steady (not_of e fault_is.Disk other)
+
+      input_steady_by : Ends (printed result) status out → status ≢ 5 → IsInputSteady input
+      input_steady_by e other = acts.input_steady (not_of e fault_is.Input other)
 
       timed_by : Ends (printed result) status out → IsTimed command clock (is_answered status) read moment bytes
       timed_by e = answered_timed command clock result status read moment bytes (no_fault result status out acts e) (plain_timed command input clock result read moment bytes timed)
@@ -260,6 +263,7 @@ module _ (command : Option Command) (input : Input) (file : File) (read : List �
             spared = spared_by end;
             keeps = acts.touches.keeps;
             steady = steady_by end;
+            input_steady = input_steady_by end;
             disk_fault = disk_by end;
             input_fault = input_by end;
             output_fault = output_by end;

@@ -46,6 +46,7 @@ module _ (input : Input) (clock : Clock) (moment : ℕ) (bytes : List ℕ) (befo
     records = records;
     stable = stable;
     end = λ z reads. is.1;
+    input_steady = is.3;
   }
 
 -- all files were taken
@@ -96,4 +97,5 @@ module _ (input : Input) (clock : Option (List ℕ)) (bytes : List ℕ) (before 
     records = sym (append-nil before.journal.records);
     stable = refl;
     end = λ z reads. absurd (let three = ap (λ (a : Printed). a.status) long in cc);
+    input_steady = is.3;
   }

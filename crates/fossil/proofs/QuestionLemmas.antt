@@ -71,11 +71,11 @@ module _ (question : Question) (source : SourceState) (clock : Option (List ℕ)
     kept : KeepsContents file left
     kept told is_told old are held left_told = opened.contents told is_told old are held (sym quiet.contents ∙ left_told)
 
-    pub no_memory : Acted (Err fault_is.Memory)
-    no_memory =
+    pub no_memory : left.faults ≡ mid.faults → Acted (Err fault_is.Memory)
+    no_memory same =
         let read = some_bytes source.left in
         let o = some_said_outcome (is_modelled file) command read.0 0 bytes refl in
-        (read.0, 0, bytes, o.0, memory_by command (ask_loads question) input file left read.0 0 bytes o.0 read.1 file_told o.1 (touches o.0) kept, unasked false read.0 bytes)
+        (read.0, 0, bytes, o.0, memory_by command (ask_loads question) input file left read.0 0 bytes o.0 read.1 file_told o.1 (touches o.0) (same ∙ opened.faults) refl kept, unasked false read.0 bytes)
 
     result_acted : (result : Result (List ℕ) Refused) → left.faults ≡ mid.faults → IsReport (is_modelled file) (contents l.journal.records) question result → Acted (Ok (printed_of (report_outcome result)))
     result_acted result same is =
@@ -101,7 +101,8 @@ module _ (question : Question) (source : SourceState) (clock : Option (List ℕ)
                 (quiet.images (opened.keeps.model ∙ modelled.model) c image));
             trimmed = λ last opens begun held told. (l.journal.records, idle_just l.journal mid opened.belongs opened.is_open.runs opened.is_open.stable held (sym quiet.contents ∙ told));
             spared = λ nine begun. absurd (cc);
-            steady = same ∙ opened.faults;
+            steady = λ other. same ∙ opened.faults;
+            input_steady = λ other. refl;
           },
           unasked true read.0 bytes,
         )
@@ -117,7 +118,7 @@ module _ (question : Question) (source : SourceState) (clock : Option (List ℕ)
           0,
           bytes,
           o.0,
-          disk_by command (ask_loads question) input file left read.0 0 bytes o.0 read.1 file_told o.1 (touches o.0) (subst (λ (n : ℕ). Rose n left.faults) opened.faults rose) (inl refl)
+          disk_by command (ask_loads question) input file left read.0 0 bytes o.0 read.1 file_told o.1 (touches o.0) (subst (λ (n : ℕ). Rose n left.faults) opened.faults rose) refl (inl refl)
               (λ old held told left_told are known. none_committed old (o.0).commits held (stands old held (kept bytes told old are held left_told))),
           inl (refl, refl),
         )
@@ -132,7 +133,7 @@ module _ (question : Question) (source : SourceState) (clock : Option (List ℕ)
           bytes,
           o.0,
           damaged_by command (ask_loads question) input file left read.0 0 bytes o.0 read.1 file_told o.1 (touches o.0) name found
-              (l.journal.records, opened.stands.2, asked, spoilt) (same ∙ opened.faults) kept,
+              (l.journal.records, opened.stands.2, asked, spoilt) (same ∙ opened.faults) refl kept,
           unasked false read.0 bytes,
         )
 
@@ -143,7 +144,7 @@ module _ (question : Question) (source : SourceState) (clock : Option (List ℕ)
     by_answer (Err fault_is.Input) is = absurd is
     by_answer (Err fault_is.Link) is = absurd is
     by_answer (Err (fault_is.Damaged name found)) is = damaged_acted name found is.0 is.1 is.2
-    by_answer (Err fault_is.Memory) is = no_memory
+    by_answer (Err fault_is.Memory) is = no_memory is
 
     -- what was found of the loaded records is answered
     pub found_acted : (found : Result (List ℕ) QueryFault) (made : Due) → IsReportedOn mid l.records question left found → IsAnswerOf found made → Acted made
@@ -161,8 +162,12 @@ text_answer text honest records question before after is = ((Ok text, is.0, refl
 pub refused_answer : (refused : Refused) (a : Printed) → a ≡ printing.refused (refusal_text refused) → IsAnswerOf (Err (query_fault.Refused refused)) (Ok a)
 refused_answer refused a same honest records question before after is = ((Err refused, is.0, ap without_commit same), is.1)
 
-pub memory_answer : (found : Result (List ℕ) QueryFault) → IsAnswerOf found (Err fault_is.Memory)
-memory_answer found honest records question before after is = tt
+-- there was no memory for the report, or for the refusal
+pub memory_answer : IsAnswerOf (Err query_fault.Memory) (Err fault_is.Memory)
+memory_answer honest records question before after is = is
+
+pub short_answer : (refused : Refused) → IsAnswerOf (Err (query_fault.Refused refused)) (Err fault_is.Memory)
+short_answer refused honest records question before after is = is.1
 
 pub disk_answer : IsAnswerOf (Err query_fault.Disk) (Err fault_is.Disk)
 disk_answer honest records question before after is = is.2
@@ -174,6 +179,12 @@ damaged_answer name found honest records question before after is = is
 
 pub disk_told : (fault : QueryFault) → fault ≡ query_fault.Disk → IsAnswerOf (Err fault) (Err fault_is.Disk)
 disk_told fault same = subst (λ (f : QueryFault). IsAnswerOf (Err f) (Err fault_is.Disk)) (sym same) disk_answer
+
+pub memory_told : (fault : QueryFault) → fault ≡ query_fault.Memory → IsAnswerOf (Err fault) (Err fault_is.Memory)
+memory_told fault same = subst (λ (f : QueryFault). IsAnswerOf (Err f) (Err fault_is.Memory)) (sym same) memory_answer
+
+pub short_told : (refused : Refused) (fault : QueryFault) → fault ≡ query_fault.Refused refused → IsAnswerOf (Err fault) (Err fault_is.Memory)
+short_told refused fault same = subst (λ (f : QueryFault). IsAnswerOf (Err f) (Err fault_is.Memory)) (sym same) (short_answer refused)
 
 pub damaged_told : (name found : List ℕ) (fault : QueryFault) → fault ≡ query_fault.Damaged name found → IsAnswerOf (Err fault) (Err (fault_is.Damaged name found))
 damaged_told name found fault same = subst (λ (f : QueryFault). IsAnswerOf (Err f) (Err (fault_is.Damaged name found))) (sym same) (damaged_answer name found)

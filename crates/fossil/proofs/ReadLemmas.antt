@@ -53,11 +53,11 @@ module _ (command : Option Command) (only : OnlyReads command) (source : SourceS
     kept : KeepsContents file left
     kept told is_told old are held left_told = opened.contents told is_told old are held (sym quiet.contents ∙ left_told)
 
-    pub read_memory : Acted (Err fault_is.Memory)
-    read_memory =
+    pub read_memory : left.faults ≡ mid.faults → Acted (Err fault_is.Memory)
+    read_memory same =
         let read = some_bytes source.left in
         let o = some_said_outcome (is_modelled file) command read.0 0 bytes only.loads.alone in
-        (read.0, 0, bytes, o.0, memory_by command only.loads input file left read.0 0 bytes o.0 read.1 file_told o.1 (touches o.0) kept, unasked false read.0 bytes)
+        (read.0, 0, bytes, o.0, memory_by command only.loads input file left read.0 0 bytes o.0 read.1 file_told o.1 (touches o.0) (same ∙ opened.faults) refl kept, unasked false read.0 bytes)
 
     pub read_answer : (a : Printed) → a.status ≤ 3 → left.faults ≡ mid.faults → ((read : List ℕ) → IsSaidOutcome (is_modelled file) command read 0 bytes (without_commit a)) → Acted (Ok a)
     read_answer a small same is =
@@ -83,7 +83,8 @@ module _ (command : Option Command) (only : OnlyReads command) (source : SourceS
                 (quiet.images (opened.keeps.model ∙ modelled.model) c image));
             trimmed = λ last opens begun held told. (l.journal.records, idle_just l.journal mid opened.belongs opened.is_open.runs opened.is_open.stable held (sym quiet.contents ∙ told));
             spared = λ nine begun. absurd (only.loads.begun begun);
-            steady = same ∙ opened.faults;
+            steady = λ other. same ∙ opened.faults;
+            input_steady = λ other. refl;
           },
           unasked true read.0 bytes,
         )
@@ -96,7 +97,7 @@ module _ (command : Option Command) (only : OnlyReads command) (source : SourceS
           0,
           bytes,
           o.0,
-          disk_by command only.loads input file left read.0 0 bytes o.0 read.1 file_told o.1 (touches o.0) (subst (λ (n : ℕ). Rose n left.faults) opened.faults rose) (inl refl)
+          disk_by command only.loads input file left read.0 0 bytes o.0 read.1 file_told o.1 (touches o.0) (subst (λ (n : ℕ). Rose n left.faults) opened.faults rose) refl (inl refl)
               (λ old held told left_told are known. none_committed old (o.0).commits held (stands old held (kept bytes told old (only.loads.old old bytes are) held left_told))),
           inl (refl, refl),
         )
@@ -109,6 +110,6 @@ module _ (command : Option Command) (only : OnlyReads command) (source : SourceS
           0,
           bytes,
           o.0,
-          damaged_by command only.loads input file left read.0 0 bytes o.0 read.1 file_told o.1 (touches o.0) name found damaged (same ∙ opened.faults) kept,
+          damaged_by command only.loads input file left read.0 0 bytes o.0 read.1 file_told o.1 (touches o.0) name found damaged (same ∙ opened.faults) refl kept,
           unasked false read.0 bytes,
         )

@@ -110,6 +110,7 @@ shun_appended name source clock bytes before after done answer line has =
       records = has.records;
       stable = has.committed;
       end = λ z reads. absurd (cc);
+      input_steady = refl;
     }
 
 -- ---- what is committed

@@ -45,16 +45,23 @@ spoilt_in : {D : Type 0} (disk : D → DiskState) (r : Whole D) (name found : Li
 spoilt_in disk r name found whole h = record { artifact = h.artifact; held = h.held; bytes = h.bytes; sized = h.sized; named = h.named; other = h.other; never = sym whole.honest ∙ h.never }
 
 module _ {X D : Type 0} (way : Reading X) (name : List ℕ) (disk : D → DiskState) (before after : Whole D) (whole : IsWholeOn (disk before.disk) before) where
+  named_steady : IsWholeOn (disk after.disk) after → after.seen.state ≡ before.seen.state → (disk after.disk).faults ≡ (disk before.disk).faults
+  named_steady left stays = sym left.faults ∙ ap (λ (s : State). s.faults) stays ∙ whole.faults
+
+  -- there was no memory for the answer
+  pub named_short : IsWholeOn (disk after.disk) after → after.seen.state ≡ before.seen.state → IsNamedAnswer way name (disk, before, after) (Err fault_is.Memory)
+  named_short left stays = named_steady left stays
+
   pub named_ok : IsWholeOn (disk after.disk) after → after.seen.state ≡ before.seen.state → (answer : X) (a : Printed) → way.Reads before.seen.state.honest (now before.seen.state).held before.seen.items name answer → a ≡ way.print name answer
       → IsNamedAnswer way name (disk, before, after) (Ok a)
   named_ok left stays answer a is same =
-      (answer, subst (λ (b : Bool). way.Reads b (now before.seen.state).held before.seen.items name answer) whole.honest is, same, sym left.faults ∙ ap (λ (s : State). s.faults) stays ∙ whole.faults)
+      (answer, subst (λ (b : Bool). way.Reads b (now before.seen.state).held before.seen.items name answer) whole.honest is, same, named_steady left stays)
 
   named_fault : IsWholeOn (disk after.disk) after → (why : ExportFault) → AskFails (way.Asks before.seen.state.honest (now before.seen.state).held before.seen.items name) why before.seen.state after.seen.state → IsNamedAnswer way name (disk, before, after) (Err (fault_as why))
   named_fault left unread.Disk h = subst (λ (n : ℕ). Rose n (disk after.disk).faults) whole.faults (subst (λ (n : ℕ). Rose before.seen.state.faults n) left.faults h.2)
   named_fault left (unread.Damaged damaged found) h =
       (subst (λ (b : Bool). way.Asks b (now before.seen.state).held before.seen.items name damaged) whole.honest h.0, spoilt_in disk before damaged found whole h.1, sym left.faults ∙ h.2 ∙ whole.faults)
-  named_fault left unread.Memory h = tt
+  named_fault left unread.Memory h = sym left.faults ∙ h ∙ whole.faults
 
   pub named_err : IsWholeOn (disk after.disk) after → (why : ExportFault) (fault : Fault) → AskFails (way.Asks before.seen.state.honest (now before.seen.state).held before.seen.items name) why before.seen.state after.seen.state → fault ≡ fault_as why
       → IsNamedAnswer way name (disk, before, after) (Err fault)
@@ -89,7 +96,7 @@ module _ {X D : Type 0} (way : Reading X) (prefix : List ℕ) (command : Command
       (λ refused. a ≡ printing.refused (refusal_text refused))) found same))
 
   pub memory_acted : Acted before.disk (Err fault_is.Memory)
-  memory_acted = read_memory (Some command) is_way.only source clock (disk of) (disk before.disk) (disk before.disk) no_other (loaded_of before) opened (quiet_none (disk before.disk))
+  memory_acted = read_memory (Some command) is_way.only source clock (disk of) (disk before.disk) (disk before.disk) no_other (loaded_of before) opened (quiet_none (disk before.disk)) refl
 
   -- the prefix finds a name
   module _ (each : AreItems (now before.seen.state).held before.seen.items) (read : IsOnlyRead disk before after) (name : List ℕ) (found : Ok name ≡ name_found (now before.seen.state) prefix) where
@@ -113,7 +120,7 @@ module _ {X D : Type 0} (way : Reading X) (prefix : List ℕ) (command : Command
         read_damaged (Some command) is_way.only source clock (disk of) (disk before.disk) (disk after.disk) no_other (loaded_of before) opened read.quiet damaged wrong
         (is_way.damaged (is_modelled (disk of)) opened.stands.0 before.seen.state.records opened.stands.2 damaged wrong
         ((name, before.seen.items, sym found, each, subst (λ (b : Bool). way.Asks b (now before.seen.state).held before.seen.items name damaged) (same_kind (disk of) (disk before.disk) opened.keeps) is.0), subst (λ (b : Bool). IsSpoiltIn b (now before.seen.state) damaged wrong) (same_kind (disk of) (disk before.disk) opened.keeps) is.1)) is.2
-    named_acted (Err fault_is.Memory) is = read_memory (Some command) is_way.only source clock (disk of) (disk before.disk) (disk after.disk) no_other (loaded_of before) opened read.quiet
+    named_acted (Err fault_is.Memory) is = read_memory (Some command) is_way.only source clock (disk of) (disk before.disk) (disk after.disk) no_other (loaded_of before) opened read.quiet is
 
 -- ---- the two commands
 

@@ -109,6 +109,7 @@ module _ (name : List ℕ) (source : SourceState) (clock : Option (List ℕ)) (b
         records = has.records;
         stable = has.committed;
         end = λ z reads. absurd (cc);
+        input_steady = refl;
       }
 
   -- too many names would be wanted
@@ -128,4 +129,5 @@ module _ (name : List ℕ) (source : SourceState) (clock : Option (List ℕ)) (b
         records = sym (append-nil before.seen.state.records);
         stable = refl;
         end = λ z reads. absurd (cc);
+        input_steady = refl;
       }

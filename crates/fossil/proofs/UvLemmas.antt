@@ -48,7 +48,7 @@ use Rattle.fossil.specs.UvUses.{uv_use}
 use Rattle.fossil.specs.Uses.{command_opens, command_meets}
 use Rattle.fossil.specs.UvCalls.{loaded_store, IsNoStoreDue, IsPutAnswer, IsPutDone, HasPut, putting, IsPutDue, IsToldAs}
 use Rattle.fossil.specs.Outcome.{Outcome, with_commit, uv_outcome, IsUvOf, IsUvOutcome, IsLoaded, IsSaidOutcome}
-use Rattle.fossil.specs.Run.{Input, Clock, File, Agrees, reads, TakesMoment, TakesOne, IsTimed, IsJust}
+use Rattle.fossil.specs.Run.{Input, IsInputSteady, Clock, File, Agrees, reads, TakesMoment, TakesOne, IsTimed, IsJust}
 use Rattle.fossil.specs.Acts.{ActsBy, HasActed, IsTimedBy, IsCaused, IsOpened, IsUnopened, IsNotLoaded, IsInput, KeepsContents, KeepsUnreadable}
 use Rattle.fossil.proofs.InputLemmas.{some_bytes}
 use Rattle.fossil.proofs.FileLemmas.{both, Loads, agrees, loaded_left, loaded_touches, loaded_durable}
@@ -140,7 +140,8 @@ module _ (asked : Unversioned) (loads : Loads (asks asked)) (entry : (honest : B
           durable = λ last. loaded_durable (asks asked) loads file left bytes o refl failed.1 failed.2.2 failed.4;
           trimmed = λ last. absurd (cc);
           spared = λ nine begun. absurd (loads.begun begun);
-          steady = failed.0.faults;
+          steady = λ other. failed.0.faults;
+          input_steady = λ other. refl;
         },
         none_due (asks asked) clock true read.0 0 bytes (unasked read.0 bytes failed.1 name failed.2.2 failed.3),
       )
@@ -175,9 +176,9 @@ said_plain (report.refused text) = inr (refl, refl)
 module _ (asked : Unversioned) (input : Input) (clock : Clock) (bytes : List ℕ) where
   pub told_appended : {D : Type 0} (s : Whole D) (read : List ℕ) (moment : ℕ) (said : Said) (answer : Printed) → answer ≡ said_printed said → Agrees input.before.left read
       → (IsFileOf bytes s.seen.log.records → (honest : Bool) → IsSaidOutcome honest (asks asked) read moment bytes (uv_outcome (says said)))
-      → (IsFileOf bytes s.seen.log.records → IsTimed (asks asked) clock true read moment bytes) → ((said_printed said).status ≡ 0 → IsTrue (reads (asks asked)) → IsAtEnd input.after.left)
+      → (IsFileOf bytes s.seen.log.records → IsTimed (asks asked) clock true read moment bytes) → ((said_printed said).status ≡ 0 → IsTrue (reads (asks asked)) → IsAtEnd input.after.left) → IsInputSteady input
       → IsAppended (asks asked) input clock bytes (loaded_store s) (loaded_store s) answer
-  told_appended s read moment said answer is told outcome timed end = record {
+  told_appended s read moment said answer is told outcome timed end input_steady = record {
     read = read;
     moment = moment;
     appended = [];
@@ -188,6 +189,7 @@ module _ (asked : Unversioned) (input : Input) (clock : Clock) (bytes : List ℕ
     records = sym (append-nil s.seen.log.records);
     stable = refl;
     end = λ z reads_it. end (sym (ap (λ (a : Printed). a.status) is) ∙ z) reads_it;
+    input_steady = input_steady;
   }
 
 -- ---- what is put in
@@ -285,6 +287,7 @@ module _ {D : Type 0} (before mid : Whole D) (input : Input) (clock : Clock) (by
         records = has.records;
         stable = has.stable;
         end = λ z reads_it. due.1;
+        input_steady = due.3;
       }
   appended_of path moment None due asked has =
       let d = put_done before.seen.map (record { path = path; moment = moment; bytes = None }) in
@@ -295,24 +298,30 @@ module _ {D : Type 0} (before mid : Whole D) (input : Input) (clock : Clock) (by
         appended = map blob_of d.here;
         told = read.1;
         outcome = λ file honest. subst (λ (a : Printed). IsLoaded (IsUvOf (λ m. remove_done m path moment)) bytes (with_commit a (map blob_of d.here))) (sym has.said)
-            (done_of (λ m. remove_done m path moment) bytes before.seen.log.records before.seen.map d (there path before.seen.map moment (file_in (value_at before.seen.map path)) refl due) file map_is);
-        timed = λ file. inl ((before.seen.map, (before.seen.log.records, file, map_is), due), asked);
+            (done_of (λ m. remove_done m path moment) bytes before.seen.log.records before.seen.map d (there path before.seen.map moment (file_in (value_at before.seen.map path)) refl due.1) file map_is);
+        timed = λ file. inl ((before.seen.map, (before.seen.log.records, file, map_is), due.1), asked);
         plain = subst (λ (a : Printed). IsPlain a (map blob_of d.here)) (sym has.said) (put_plain before.seen.map (record { path = path; moment = moment; bytes = None }));
         records = has.records;
         stable = has.stable;
         end = λ z reads_it. absurd (cc);
+        input_steady = due.0;
       }
 
   pub put_appended : (e : Entry) → IsPutDue e.path e.bytes before.seen.map input → TakesOne clock e.moment → HasPut e before.seen mid.seen answer
       → IsAppended (asks (putting e.path e.bytes)) input clock bytes (loaded_store before) (loaded_store mid) answer
   put_appended e due asked has = appended_of e.path e.moment e.bytes due asked has
 
+-- behind an entry that is due no read has failed
+pub put_steady : (path : List ℕ) (held : Option (List ℕ)) (m : Map) (input : Input) → IsPutDue path held m input → IsInputSteady input
+put_steady path (Some content) m input due = due.3
+put_steady path None m input due = due.0
+
 -- the moment of an entry that is due was taken
 pub put_timed : {D : Type 0} (before : Whole D) (given : Input) (clock : Clock) (bytes : List ℕ) (answered : Bool) (path : List ℕ) (moment : ℕ) (held : Option (List ℕ)) → IsUv before.seen.log.records before.seen.map → IsFileOf bytes before.seen.log.records
     → IsPutDue path held before.seen.map given → TakesOne clock moment → (read : List ℕ) × Agrees given.before.left read × IsTimed (asks (putting path held)) clock answered read moment bytes
 put_timed before given clock bytes answered path moment (Some content) map_is file due asked = (content, due.0, inl (((before.seen.map, (before.seen.log.records, file, map_is)), due.2), asked))
 put_timed before given clock bytes answered path moment None map_is file due asked =
-    let read = some_bytes given.before.left in (read.0, read.1, inl ((before.seen.map, (before.seen.log.records, file, map_is), due), asked))
+    let read = some_bytes given.before.left in (read.0, read.1, inl ((before.seen.map, (before.seen.log.records, file, map_is), due.1), asked))
 
 -- ---- what is committed
 
@@ -365,6 +374,7 @@ module _ (project server : List ℕ) (input : Input) (file : File) (bytes : List
     trimmed = λ last opened begun. absurd (cc);
     spared = h.spared;
     steady = h.steady;
+    input_steady = h.input_steady;
   }
   begun_by (Err fault) read moment h = record {
     input_told = h.input_told;
@@ -380,6 +390,7 @@ module _ (project server : List ℕ) (input : Input) (file : File) (bytes : List
     trimmed = λ last opened begun. absurd (cc);
     spared = h.spared;
     steady = h.steady;
+    input_steady = h.input_steady;
   }
 
 timed_as : (project server : List ℕ) (clock : Clock) (answered : Bool) (read : List ℕ) (moment : ℕ) (bytes : List ℕ) → IsTimed (Some (command_of.Init project server [])) clock answered read moment bytes → IsTimed (asks (uv.Init project server)) clock answered read moment bytes
@@ -415,7 +426,7 @@ pub long_appended : {D : Type 0} (path : List ℕ) (input : Input) (clock : Opti
 long_appended path input clock bytes before map_is answer long is =
     told_appended (uv.Add path) input (still clock) bytes before long.0 0 (report.refused (codes "input too long")) answer is long.1
     (λ file honest. done_of (λ m. add_done m path 0 long.0) bytes before.seen.log.records before.seen.map (says (report.refused (codes "input too long"))) (too_long_done path before.seen.map 0 long.0 long.2) file map_is)
-    (λ file. none_due (asks (uv.Add path)) clock true long.0 0 bytes (λ due. no_both _ long.2 due.1)) (λ z reads_it. absurd (cc))
+    (λ file. none_due (asks (uv.Add path)) clock true long.0 0 bytes (λ due. no_both _ long.2 due.1)) (λ z reads_it. absurd (cc)) long.3
 
 -- ---- a path that isn't there
 
@@ -434,7 +445,7 @@ absent_appended path source clock bytes before map_is answer none is =
     let read = some_bytes source.left in
     told_appended (uv.Remove path) (record { before = source; after = source }) (still clock) bytes before read.0 0 (report.no_file path) answer is read.1
     (λ file honest. done_of (λ m. remove_done m path 0) bytes before.seen.log.records before.seen.map (says (report.no_file path)) (absent path before.seen.map 0 (file_in (value_at before.seen.map path)) refl none) file map_is)
-    (λ file. none_due (asks (uv.Remove path)) clock true read.0 0 bytes (λ due. not_there bytes before.seen.log.records due.1.0 before.seen.map due.0 path file map_is none due.1.1 due.1.2 due.2)) (λ z reads_it. absurd (cc))
+    (λ file. none_due (asks (uv.Remove path)) clock true read.0 0 bytes (λ due. not_there bytes before.seen.log.records due.1.0 before.seen.map due.0 path file map_is none due.1.1 due.1.2 due.2)) (λ z reads_it. absurd (cc)) refl
 
 -- ---- what is shown
 
@@ -462,11 +473,11 @@ module _ {D : Type 0} (asked : Unversioned) (loads : Loads (asks asked)) (does :
       let bytes = opened_is.stands.0 in
       told_appended asked shown_input (still clock) bytes s read.0 0 (does s.seen.map).said answer is read.1
       (λ file honest. is_outcome read.0 0 bytes (uv_outcome (says (does s.seen.map).said)) (done_of does bytes s.seen.log.records s.seen.map (says (does s.seen.map).said) (stores_none s.seen.map) file map_is))
-      (λ file. none_due (asks asked) clock true read.0 0 bytes (unasked read.0 bytes)) (λ z reads_it. absurd (no_both _ reads_it unread))
+      (λ file. none_due (asks asked) clock true read.0 0 bytes (unasked read.0 bytes)) (λ z reads_it. absurd (no_both _ reads_it unread)) refl
 
   pub shown_acted : (result : Due) → IsToldAs (does s.seen.map) result → HasActed (asks asked) shown_input (still clock) (both file left) result
   shown_acted (Ok answer) is = idle_acted (asks asked) loads shown_input (still clock) file left (loaded_store s) opened_is answer (shown_appended answer is) moments file_reads
-  shown_acted (Err fault) is = subst (λ (f : Fault). HasActed (asks asked) shown_input (still clock) (both file left) (Err f)) (sym is) (memory_acted (asks asked) loads shown_input file left (loaded_store s) opened_is clock)
+  shown_acted (Err fault) is = subst (λ (f : Fault). HasActed (asks asked) shown_input (still clock) (both file left) (Err f)) (sym is) (memory_acted (asks asked) loads shown_input file left (loaded_store s) opened_is refl clock)
 
 -- ---- what is used
 

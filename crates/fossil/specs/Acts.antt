@@ -27,7 +27,7 @@ use Rattle.fsl_query.specs.declared.QueryFault.{QueryFault}
 use Rattle.fsl_query.specs.Answers.{content_asked, IsReported, IsSpoiltIn}
 use Rattle.fossil.specs.Unversioned.{IsUvObeyable}
 use Rattle.fossil.specs.Outcome.{Outcome, without_commit, printed_of, IsAnswered, IsSaidOutcome}
-use Rattle.fossil.specs.Run.{Input, Clock, Output, File, Agrees, reads, TakesNone, IsTimed, IsCutTimed, IsDiskFault, IsInputFault, IsDamaged, IsFileLeft, IsRefusedKept, IsWholeAtAnyMoment, lasts, IsDurable, IsSpared, trims, IsTrimmed}
+use Rattle.fossil.specs.Run.{Input, IsInputSteady, Clock, Output, File, Agrees, reads, TakesNone, IsTimed, IsCutTimed, IsDiskFault, IsInputFault, IsDamaged, IsFileLeft, IsRefusedKept, IsWholeAtAnyMoment, lasts, IsDurable, IsSpared, trims, IsTrimmed}
 
 -- ---- objects before and after
 
@@ -58,13 +58,13 @@ IsCaused command input file bytes o fault = ⊥
 
 -- the whole input, up to its end; or it is too long
 abbrev pub IsInput : Input → Option (List ℕ) → Type 0
-IsInput input None = (read : List ℕ) × Agrees input.before.left read × (nat_lt most_of_message (length read) ≡ true)
-IsInput input (Some text) = Agrees input.before.left text × IsAtEnd input.after.left × (nat_lt most_of_message (length text) ≡ false)
+IsInput input None = (read : List ℕ) × Agrees input.before.left read × (nat_lt most_of_message (length read) ≡ true) × IsInputSteady input
+IsInput input (Some text) = Agrees input.before.left text × IsAtEnd input.after.left × (nat_lt most_of_message (length text) ≡ false) × IsInputSteady input
 
--- the input wasn't read
+-- why an input isn't read, or comes to no answer: a read failed; or none did, and there was no memory
 abbrev pub IsUnread : Fault → Input → Type 0
 IsUnread fault_is.Input input = Rose input.before.faults input.after.faults
-IsUnread fault_is.Memory input = ⊤
+IsUnread fault_is.Memory input = IsInputSteady input
 IsUnread fault input = ⊥
 
 -- ---- the file
@@ -157,7 +157,9 @@ pub record ActsBy (command : Option Command) (input : Input) (file : File) (resu
   pub durable : IsTrue (lasts command (printed result).status) → IsDurable command file bytes o
   pub trimmed : IsTrue (trims command (printed result).status) → IsTrimmed command file
   pub spared : IsSpared command file (printed result).status
-  pub steady : IfOk result (λ _. file.after.faults ≡ file.before.faults)
+  -- no call of the disk failed but that with which the command ended, and no read of the input
+  pub steady : result ≢ Err fault_is.Disk → file.after.faults ≡ file.before.faults
+  pub input_steady : result ≢ Err fault_is.Input → IsInputSteady input
 
 -- the moment by what is answered: where no fault ended the command, or the disk failed in its commit, one was taken where the command takes one, and else none;
 -- where the file wasn't loaded or made, or the input failed, none; and behind another fault one that the command takes may be taken
@@ -203,13 +205,13 @@ IsObeyable (Unversioned asked) = IsUvObeyable asked
 -- ---- questions
 
 -- what is answered to a question, by the records, and by the disk's count of faults before and after: the report or its refusal, and no call failed; or why
--- there is none. Want of memory has no cause
+-- there is none. Want of memory has no cause, and no call failed then
 abbrev pub IsAnsweredBy : Bool → List Record → Question → ℕ → ℕ → Due → Type 0
 IsAnsweredBy honest records question before after (Ok a) = IsAnswered honest question records (without_commit a) × (after ≡ before)
 IsAnsweredBy honest records question before after (Err fault_is.Disk) = Rose before after
 IsAnsweredBy honest records question before after (Err (fault_is.Damaged name found)) =
     (content_asked (contents records) question ≡ Some name) × IsSpoiltIn honest (contents records) name found × (after ≡ before)
-IsAnsweredBy honest records question before after (Err fault_is.Memory) = ⊤
+IsAnsweredBy honest records question before after (Err fault_is.Memory) = after ≡ before
 IsAnsweredBy honest records question before after (Err fault) = ⊥
 
 -- each question that found this is answered so
@@ -226,3 +228,4 @@ pub record IsIngestRun (input : Input) (answer : Printed) : Type 0 where
   pub told : Agrees input.before.left read
   pub ingested : IsIngested read answer
   pub end : answer.status ≡ 0 → IsAtEnd input.after.left
+  pub input_steady : IsInputSteady input

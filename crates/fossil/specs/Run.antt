@@ -32,6 +32,10 @@ pub record Input : Type 0 where
   pub before : SourceState
   pub after : SourceState
 
+-- no read of it failed
+abbrev pub IsInputSteady : Input → Type 0
+IsInputSteady input = input.after.faults ≡ input.before.faults
+
 -- the sink of the output
 pub record Output : Type 0 where
   pub before : SinkState
@@ -321,8 +325,9 @@ pub record RunsBy (command : Option Command) (input : Input) (clock : Clock) (ou
   pub trimmed : IsTrue (trims command status) → IsTrimmed command file
   pub spared : IsSpared command file status
   pub keeps : Keeps file.before file.after
-  -- no call of the disk failed where no fault ended the run
-  pub steady : IsTrue (is_answered status) → file.after.faults ≡ file.before.faults
+  -- no call of the disk failed but that with which the run ended, and no read of the input
+  pub steady : status ≢ 4 → file.after.faults ≡ file.before.faults
+  pub input_steady : status ≢ 5 → IsInputSteady input
   pub disk_fault : status ≡ 4 → Rose file.before.faults file.after.faults
   pub input_fault : status ≡ 5 → Rose input.before.faults input.after.faults
   pub output_fault : status ≡ 6 → Rose out.before.faults out.after.faults

@@ -31,7 +31,7 @@ pub record Reading (X : Type 0) : Type 1 where
   pub Asks : Bool → HeldSet → List Item → List ℕ → List ℕ → Type 0
 
 -- what is answered of a name, by a repository before it was read and after it: an answer, and no call of its disk failed; or why there is none. Want of memory
--- has no cause
+-- has no cause, and no call failed then
 abbrev pub IsNamedAnswer : {X D : Type 0} → Reading X → List ℕ → (D → DiskState) × Whole D × Whole D → Due → Type 0
 IsNamedAnswer {X} way name repo (Ok a) =
     (answer : X) × way.Reads (is_modelled (repo.0 repo.1.disk)) (now repo.1.seen.state).held repo.1.seen.items name answer × (a ≡ way.print name answer)
@@ -41,7 +41,7 @@ IsNamedAnswer way name repo (Err (fault_is.Damaged damaged found)) =
     way.Asks (is_modelled (repo.0 repo.1.disk)) (now repo.1.seen.state).held repo.1.seen.items name damaged
     × IsSpoiltIn (is_modelled (repo.0 repo.1.disk)) (now repo.1.seen.state) damaged found
     × ((repo.0 repo.2.disk).faults ≡ (repo.0 repo.1.disk).faults)
-IsNamedAnswer way name repo (Err fault_is.Memory) = ⊤
+IsNamedAnswer way name repo (Err fault_is.Memory) = (repo.0 repo.2.disk).faults ≡ (repo.0 repo.1.disk).faults
 IsNamedAnswer way name repo (Err fault) = ⊥
 
 -- of `export` and of `verify`

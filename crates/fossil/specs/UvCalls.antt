@@ -24,7 +24,7 @@ use Rattle.fossil.specs.Due.{Due, IsAnsweredWith}
 use Rattle.fossil.specs.Printed.{Printed, refused}
 use Rattle.fossil.specs.Unversioned.{said_printed}
 use Rattle.fossil.specs.Outcome.{printed_of, not_repository}
-use Rattle.fossil.specs.Run.{Input}
+use Rattle.fossil.specs.Run.{Input, IsInputSteady}
 use Rattle.fossil.specs.Acts.{Loaded, input_of, IsInput, IsOpened, Acts}
 use Rattle.fossil.specs.RunCall.{Moments, states}
 
@@ -70,10 +70,10 @@ abbrev pub putting : List ℕ → Option (List ℕ) → Unversioned
 putting path (Some content) = Add path
 putting path None = Remove path
 
--- the content is the whole input; none is due where the path is there
+-- the content is the whole input; none is due where the path is there, and then no read failed either
 abbrev pub IsPutDue : List ℕ → Option (List ℕ) → List (List ℕ × Version) → Input → Type 0
 IsPutDue path (Some content) m input = IsInput input (Some content)
-IsPutDue path None m input = IsTrue (is_some (file_in (value_at m path)))
+IsPutDue path None m input = IsInputSteady input × IsTrue (is_some (file_in (value_at m path)))
 
 -- what a command did that puts an entry into a store that was opened, from whatever file, under whatever input and clock
 abbrev pub PutsEntry : {D : Type 0} → Entry → (D → DiskState) × Whole D × Whole D → Due → Type 0

@@ -240,7 +240,8 @@ fn start<S: Source, K: Sink, D: Disk, P: Disk, N: Dial, C: Clock>(
 /// damaged. A command that reads no input leaves it, and so `ingest` leaves the disk; `gen` and words outside the grammar
 /// leave both. Only `pull-local`, `uv-sync` and `scrub` use the peer's disk, only `pull`, `push` and `clone` use the dial,
 /// and only `put`, `checkin`, `uv-add` and `uv-remove` ask the clock. Where the line of a refusal or of a fault can't be
-/// written, the status stays.
+/// written, the status stays. A call of a disk, of the input or of the dial failed only where the status is 4, 5 or 7: behind
+/// 9 none did.
 ///
 /// The file is loaded first, then the input is read, then its form, then `put` or `checkin` takes its one moment, then what
 /// it appends is committed, then the text is printed. A `put` takes no moment over a file that is no repository, nor where

@@ -1,4 +1,4 @@
-use Rattle.std.proofs.Common.{◌≡◌, false, Some, sym, subst}
+use Rattle.std.proofs.Common.{◌≡◌, false, Some, refl, sym, subst}
 use Rattle.fsl_disk.specs.Disk.{DiskState}
 use Rattle.fsl_outside.specs.Streams.{SourceState, SinkState}
 use Rattle.fsl_words.specs.declared.Command.{Command}
@@ -77,7 +77,7 @@ returns-in-Serve-clause-runs g c =
     let out : SinkState × SinkState = (g.K.Sink.state c.args.out.now, g.K.Sink.state c.print_due-status-in-Serve.new.out) in
     let file : DiskState × DiskState = (g.D.Disk.state c.args.repo, g.D.Disk.state c.args.repo) in
     subst (λ (x : Command). HasRun (Some x) (input_of input) (clock_of clock) (output_of out) (file_of file) c.print_due-status-in-Serve.result) (sym c.in-Serve.is)
-    (serve_run _ _ _ _ (input_of input) clock.0 (g.D.Disk.state c.args.repo) (λ model f left. g.met.D.Disk.only_now c.args.repo f model left) (output_of out) c.print_due-status-in-Serve.result
+    (serve_run _ _ _ _ (input_of input) refl clock.0 (g.D.Disk.state c.args.repo) (λ model f left. g.met.D.Disk.only_now c.args.repo f model left) (output_of out) c.print_due-status-in-Serve.result
     c.print_due-status-in-Serve.ensures)
 
 pub unversioned-answer-requires-clause-obeyable : goal.unversioned-answer-requires-clause-obeyable
@@ -115,7 +115,7 @@ returns-in-Gen-clause-runs g c =
     let file : DiskState × DiskState = (g.D.Disk.state c.args.repo, g.D.Disk.state c.args.repo) in
     subst (λ (x : Command). HasRun (Some x) (input_of input) (clock_of clock) (output_of out) (file_of file) c.print_due-status-in-Gen.result) (sym c.in-Gen.is)
     (written (Some (command_of.Gen c.in-Gen.count c.in-Gen.reversed)) (input_of input) (clock_of clock) (file_of file) c.answered.result (output_of out) c.print_due-status-in-Gen.result
-    (gen_acted c.in-Gen.count c.in-Gen.reversed (input_of input) clock.0 (g.D.Disk.state c.args.repo) (λ model f left. g.met.D.Disk.only_now c.args.repo f model left) c.generate.result c.answered.result c.generate.ensures c.answered.ensures.ok c.answered.ensures.err)
+    (gen_acted c.in-Gen.count c.in-Gen.reversed (input_of input) refl clock.0 (g.D.Disk.state c.args.repo) (λ model f left. g.met.D.Disk.only_now c.args.repo f model left) c.generate.result c.answered.result c.generate.ensures c.answered.ensures.ok c.answered.ensures.err)
     c.print_due-status-in-Gen.ensures)
 
 pub returns-in-Export-clause-runs : goal.returns-in-Export-clause-runs

@@ -64,7 +64,7 @@ returns-in-Err-Usage g c =
     record {
       runs = λ alone.
           subst (λ (o : Option Command). HasRun o input (still clock) out file c.print_due-status.result) (sym none)
-          (usage_run input clock (g.D.Disk.state c.args.repo) (λ model f left. g.met.D.Disk.only_now c.args.repo f model left) out c.print_due-status.result c.print_due-status.ensures);
+          (usage_run input refl clock (g.D.Disk.state c.args.repo) (λ model f left. g.met.D.Disk.only_now c.args.repo f model left) out c.print_due-status.result c.print_due-status.ensures);
       synced = λ command is asks. absurd (none_or_some command (sym none ∙ is));
       cloned = λ address server fields is. absurd (none_or_some (command_of.Clone address server fields) (sym none ∙ is));
       merged = λ path is. absurd (none_or_some (command_of.Unversioned (uv.Sync path)) (sym none ∙ is));
@@ -86,7 +86,7 @@ returns-in-Err-Memory g c =
     record {
       runs = λ alone.
           written (said words) input (still clock) file (Err fault_is.Memory) out c.print_due-status-in-Err-Memory.result
-          (idle_memory (said words) input clock (g.D.Disk.state c.args.repo) (λ model f left. g.met.D.Disk.only_now c.args.repo f model left) alone) c.print_due-status-in-Err-Memory.ensures;
+          (idle_memory (said words) input clock (g.D.Disk.state c.args.repo) (λ model f left. g.met.D.Disk.only_now c.args.repo f model left) refl alone) c.print_due-status-in-Err-Memory.ensures;
       synced = λ command is asks.
           idle_synced command (g.D.Disk.state c.args.repo) (g.P.Disk.state c.args.peer) (g.N.Link.state c.args.dial.now) out c.print_due-status-in-Err-Memory.result (λ model f left. g.met.D.Disk.only_now c.args.repo f model left)
           (λ model f left. g.met.P.Disk.only_now c.args.peer f model left) c.print_due-status-in-Err-Memory.ensures;

@@ -17,7 +17,7 @@ returns-in_err-made g c = λ text clock tree parent taken disk input is opened.
     let p = err_from_is_err_and c.from_residual.result c.from_residual.ensures.1 in
     let a = c.args.asked.now in
     rw (p.1, p.2)
-    (memory_timed (Some (asked_for a)) (checkin_loads a) (input_of input) (g.D.Disk.state disk) (g.D.Disk.state c.args.repo.now.disk) (loaded_of c.args.repo.now) opened (clock_of clock) text c.args.receipt.now.moment is.0
+    (memory_timed (Some (asked_for a)) (checkin_loads a) (input_of input) (g.D.Disk.state disk) (g.D.Disk.state c.args.repo.now.disk) (loaded_of c.args.repo.now) opened is.3 (clock_of clock) text c.args.receipt.now.moment is.0
     (checkin_timed a (clock_of clock) c.args.receipt.now false text opened.stands.0 c.args.repo.now.seen.state.records c.args.items.now c.args.repo.now.seen.items c.args.parent taken opened.stands.2 is.2 tree c.is_whole.ensures.seen.items parent))
 
 pub returns-in_err-text : goal.returns-in_err-text
@@ -29,7 +29,7 @@ returns-in_err-text g c = λ text clock tree parent taken disk input is opened.
     let same : g.D.Disk.state mid.disk ≡ g.D.Disk.state before.disk = λ i. g.D.Disk.state (c.arrive.ensures.disk i) in
     rw (p.1, p.2)
     (subst (λ (s : DiskState). Acts (asked_for a) input clock (g.D.Disk.state disk, s) (Err fault_is.Memory)) (sym same)
-    (memory_timed (Some (asked_for a)) (checkin_loads a) (input_of input) (g.D.Disk.state disk) (g.D.Disk.state c.args.repo.now.disk) (loaded_of c.args.repo.now) opened (clock_of clock) text c.args.receipt.now.moment is.0
+    (memory_timed (Some (asked_for a)) (checkin_loads a) (input_of input) (g.D.Disk.state disk) (g.D.Disk.state c.args.repo.now.disk) (loaded_of c.args.repo.now) opened is.3 (clock_of clock) text c.args.receipt.now.moment is.0
     (checkin_timed a (clock_of clock) c.args.receipt.now false text opened.stands.0 c.args.repo.now.seen.state.records c.args.items.now c.args.repo.now.seen.items c.args.parent taken opened.stands.2 is.2 tree c.is_whole.ensures.seen.items parent)))
 
 pub returns-in_err-add_line : goal.returns-in_err-add_line
@@ -41,7 +41,7 @@ returns-in_err-add_line g c = λ text clock tree parent taken disk input is open
     let same : g.D.Disk.state mid.disk ≡ g.D.Disk.state before.disk = λ i. g.D.Disk.state (c.arrive.ensures.disk i) in
     rw (p.1, p.2)
     (subst (λ (s : DiskState). Acts (asked_for a) input clock (g.D.Disk.state disk, s) (Err fault_is.Memory)) (sym same)
-    (memory_timed (Some (asked_for a)) (checkin_loads a) (input_of input) (g.D.Disk.state disk) (g.D.Disk.state c.args.repo.now.disk) (loaded_of c.args.repo.now) opened (clock_of clock) text c.args.receipt.now.moment is.0
+    (memory_timed (Some (asked_for a)) (checkin_loads a) (input_of input) (g.D.Disk.state disk) (g.D.Disk.state c.args.repo.now.disk) (loaded_of c.args.repo.now) opened is.3 (clock_of clock) text c.args.receipt.now.moment is.0
     (checkin_timed a (clock_of clock) c.args.receipt.now false text opened.stands.0 c.args.repo.now.seen.state.records c.args.items.now c.args.repo.now.seen.items c.args.parent taken opened.stands.2 is.2 tree c.is_whole.ensures.seen.items parent)))
 
 pub returns-in-Refused : goal.returns-in-Refused

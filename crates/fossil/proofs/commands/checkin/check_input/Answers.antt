@@ -38,4 +38,4 @@ returns-in_err-too_long-in-None g c = λ disk opened.
     let p = err_from_is_err_and c.from_residual-in_err-too_long-in-None.result c.from_residual-in_err-too_long-in-None.ensures.1 in
     let a = c.args.asked.now in
     rw (p.1, p.2)
-    (memory_acted (Some (asked_for a)) (checkin_loads a) (input_of (g.S.Source.state c.args.input.now, g.S.Source.state c.read_input.new.input)) (g.D.Disk.state disk) (g.D.Disk.state c.args.repo.now.disk) (loaded_of c.args.repo.now) opened (g.C.Clock.told c.args.clock.now))
+    (memory_acted (Some (asked_for a)) (checkin_loads a) (input_of (g.S.Source.state c.args.input.now, g.S.Source.state c.read_input.new.input)) (g.D.Disk.state disk) (g.D.Disk.state c.args.repo.now.disk) (loaded_of c.args.repo.now) opened (subst (IsInput (input_of (g.S.Source.state c.args.input.now, g.S.Source.state c.read_input.new.input))) c.in-None.is c.in_ok-text.ensures.ok).3 (g.C.Clock.told c.args.clock.now))

@@ -30,9 +30,9 @@ pub returns-in_err-numbered_refusal-in-Err-Item : goal.returns-in_err-numbered_r
 returns-in_err-numbered_refusal-in-Err-Item g c = λ disk input is opened.
     let p = err_from_is_err_and c.from_residual.result c.from_residual.ensures.1 in
     let a = c.args.asked.now in
-    rw (p.1, p.2) (memory_acted (Some (asked_for a)) (checkin_loads a) (input_of input) (g.D.Disk.state disk) (g.D.Disk.state c.args.repo.now.disk) (loaded_of c.args.repo.now) opened (g.C.Clock.told c.args.clock.now))
+    rw (p.1, p.2) (memory_acted (Some (asked_for a)) (checkin_loads a) (input_of input) (g.D.Disk.state disk) (g.D.Disk.state c.args.repo.now.disk) (loaded_of c.args.repo.now) opened is.3 (g.C.Clock.told c.args.clock.now))
 
 pub returns-in-Err-Memory : goal.returns-in-Err-Memory
 returns-in-Err-Memory g c = λ disk input is opened.
     let a = c.args.asked.now in
-    memory_acted (Some (asked_for a)) (checkin_loads a) (input_of input) (g.D.Disk.state disk) (g.D.Disk.state c.args.repo.now.disk) (loaded_of c.args.repo.now) opened (g.C.Clock.told c.args.clock.now)
+    memory_acted (Some (asked_for a)) (checkin_loads a) (input_of input) (g.D.Disk.state disk) (g.D.Disk.state c.args.repo.now.disk) (loaded_of c.args.repo.now) opened is.3 (g.C.Clock.told c.args.clock.now)

@@ -13,7 +13,7 @@ pub returns-in_err-parent : goal.returns-in_err-parent
 returns-in_err-parent g c = λ text tree disk input is opened.
     let p = err_from_is_err_and c.from_residual.result c.from_residual.ensures.1 in
     let a = c.args.asked.now in
-    rw (p.1, p.2) (memory_acted (Some (asked_for a)) (checkin_loads a) (input_of input) (g.D.Disk.state disk) (g.D.Disk.state c.args.repo.now.disk) (loaded_of c.args.repo.now) opened (g.C.Clock.told c.args.clock.now))
+    rw (p.1, p.2) (memory_acted (Some (asked_for a)) (checkin_loads a) (input_of input) (g.D.Disk.state disk) (g.D.Disk.state c.args.repo.now.disk) (loaded_of c.args.repo.now) opened is.3 (g.C.Clock.told c.args.clock.now))
 
 pub returns-in-Ok : goal.returns-in-Ok
 returns-in-Ok g c = λ text tree disk input is opened. c.check_over.ensures (sym c.in_ok-parent.ensures ∙ c.in-Ok.is) text tree disk input is opened
@@ -32,4 +32,4 @@ pub returns-in_err-question_refusal-in-Err : goal.returns-in_err-question_refusa
 returns-in_err-question_refusal-in-Err g c = λ text tree disk input is opened.
     let p = err_from_is_err_and c.from_residual-in_err-question_refusal-in-Err.result c.from_residual-in_err-question_refusal-in-Err.ensures.1 in
     let a = c.args.asked.now in
-    rw (p.1, p.2) (memory_acted (Some (asked_for a)) (checkin_loads a) (input_of input) (g.D.Disk.state disk) (g.D.Disk.state c.args.repo.now.disk) (loaded_of c.args.repo.now) opened (g.C.Clock.told c.args.clock.now))
+    rw (p.1, p.2) (memory_acted (Some (asked_for a)) (checkin_loads a) (input_of input) (g.D.Disk.state disk) (g.D.Disk.state c.args.repo.now.disk) (loaded_of c.args.repo.now) opened is.3 (g.C.Clock.told c.args.clock.now))

@@ -12,7 +12,7 @@ returns-in_err-numbered_refusal-in-Err-NotEmpty g c = λ input clock.
     let p = err_from_is_err_and c.from_residual.result c.from_residual.ensures.1 in
     rw (p.1, p.2)
     (memory_acted c.args.config.now input clock (g.D.Disk.state c.args.disk.now) (g.D.Disk.state c.create.new.disk) c.create.ensures.keeps c.create.ensures.any_moment
-    (λ held model told. g.met.D.Disk.reads_as_image c.args.disk.now held model told) c.create.ensures.untouched (λ model f left. g.met.D.Disk.only_now c.args.disk.now f model left) (rw c.in-Err-NotEmpty.field-0-is at c.in-Err-NotEmpty.ensures.fault).0.contents (rw c.in-Err-NotEmpty.field-0-is at c.in-Err-NotEmpty.ensures.fault).3)
+    (λ held model told. g.met.D.Disk.reads_as_image c.args.disk.now held model told) c.create.ensures.untouched (λ model f left. g.met.D.Disk.only_now c.args.disk.now f model left) (rw c.in-Err-NotEmpty.field-0-is at c.in-Err-NotEmpty.ensures.fault).0 (rw c.in-Err-NotEmpty.field-0-is at c.in-Err-NotEmpty.ensures.fault).3)
 
 pub returns-in_ok-numbered_refusal-in-Err-NotEmpty : goal.returns-in_ok-numbered_refusal-in-Err-NotEmpty
 returns-in_ok-numbered_refusal-in-Err-NotEmpty g c = λ input clock.
@@ -28,4 +28,4 @@ returns-in-Err-Disk g c = λ input clock.
 pub returns-in-Err-Memory : goal.returns-in-Err-Memory
 returns-in-Err-Memory g c = λ input clock.
     memory_acted c.args.config.now input clock (g.D.Disk.state c.args.disk.now) (g.D.Disk.state c.create.new.disk) c.create.ensures.keeps c.create.ensures.any_moment
-    (λ held model told. g.met.D.Disk.reads_as_image c.args.disk.now held model told) c.create.ensures.untouched (λ model f left. g.met.D.Disk.only_now c.args.disk.now f model left) (rw c.in-Err-Memory.field-0-is at c.in-Err-Memory.ensures.fault).0.contents (rw c.in-Err-Memory.field-0-is at c.in-Err-Memory.ensures.fault).2
+    (λ held model told. g.met.D.Disk.reads_as_image c.args.disk.now held model told) c.create.ensures.untouched (λ model f left. g.met.D.Disk.only_now c.args.disk.now f model left) (rw c.in-Err-Memory.field-0-is at c.in-Err-Memory.ensures.fault).0 (rw c.in-Err-Memory.field-0-is at c.in-Err-Memory.ensures.fault).2

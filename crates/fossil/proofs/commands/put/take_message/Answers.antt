@@ -13,7 +13,7 @@ use Rattle.fossil.proofs.commands.put.take_message.Goals as goal
 pub returns-in_err-files : goal.returns-in_err-files
 returns-in_err-files g c = λ disk input is opened.
     let p = err_from_is_err_and c.from_residual.result c.from_residual.ensures.1 in
-    rw (p.1, p.2) (memory_acted (Some command_of.Put) put_loads (input_of input) (g.D.Disk.state disk) (g.D.Disk.state c.args.repo.now.disk) (loaded_of c.args.repo.now) opened (g.C.Clock.told c.args.clock.now))
+    rw (p.1, p.2) (memory_acted (Some command_of.Put) put_loads (input_of input) (g.D.Disk.state disk) (g.D.Disk.state c.args.repo.now.disk) (loaded_of c.args.repo.now) opened is.3 (g.C.Clock.told c.args.clock.now))
 
 pub returns-in-Files : goal.returns-in-Files
 returns-in-Files g c = λ disk input is opened.

@@ -19,7 +19,7 @@ returns-in_err-text g c = λ message clock list taken disk input is opened.
     let same : g.D.Disk.state c.arrive.new.repo.disk ≡ g.D.Disk.state c.args.repo.now.disk = λ i. g.D.Disk.state (c.arrive.ensures.disk i) in
     rw (p.1, p.2)
     (subst (λ (s : DiskState). Acts command_of.Put input clock (g.D.Disk.state disk, s) (Err fault_is.Memory)) (sym same)
-    (memory_timed (Some command_of.Put) put_loads (input_of input) (g.D.Disk.state disk) (g.D.Disk.state c.args.repo.now.disk) (loaded_of c.args.repo.now) opened (clock_of clock) message c.args.receipt.now.moment is.0
+    (memory_timed (Some command_of.Put) put_loads (input_of input) (g.D.Disk.state disk) (g.D.Disk.state c.args.repo.now.disk) (loaded_of c.args.repo.now) opened is.3 (clock_of clock) message c.args.receipt.now.moment is.0
     (form_timed (clock_of clock) c.args.receipt.now false message opened.stands.0 c.args.repo.now.seen.state.records c.args.files taken opened.stands.2 is.2 list)))
 
 pub returns-in-Refused : goal.returns-in-Refused

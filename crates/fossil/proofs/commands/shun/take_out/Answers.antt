@@ -1,4 +1,4 @@
-use Rattle.std.proofs.Common.{◌≡◌, Some, Err, sym, subst}
+use Rattle.std.proofs.Common.{◌≡◌, Some, Err, refl, sym, subst}
 use Rattle.std.proofs.lemmas.Result.{err_from_is_err_and}
 use Rattle.fsl_disk.specs.Disk.{DiskState}
 use Rattle.fsl_words.specs.declared.Command.TheVariants as command_of
@@ -13,7 +13,7 @@ pub returns-in-Err : goal.returns-in-Err
 returns-in-Err g c = λ disk input clock opened.
     let same : g.D.Disk.state c.shun.new.self.disk ≡ g.D.Disk.state c.args.repo.now.disk = λ i. g.D.Disk.state (c.shun.ensures.disk i) in
     subst (λ (s : DiskState). Acts (command_of.Shun c.args.name) (input, input) (clock, clock) (g.D.Disk.state disk, s) (Err fault_is.Memory)) (sym same)
-    (memory_acted (Some (command_of.Shun c.args.name)) (shun_loads c.args.name) (input_of (input, input)) (g.D.Disk.state disk) (g.D.Disk.state c.args.repo.now.disk) (loaded_of c.args.repo.now) opened clock)
+    (memory_acted (Some (command_of.Shun c.args.name)) (shun_loads c.args.name) (input_of (input, input)) (g.D.Disk.state disk) (g.D.Disk.state c.args.repo.now.disk) (loaded_of c.args.repo.now) opened refl clock)
 
 pub returns-in_err-answer : goal.returns-in_err-answer
 returns-in_err-answer g c = λ disk input clock opened.
@@ -21,7 +21,7 @@ returns-in_err-answer g c = λ disk input clock opened.
     let same : g.D.Disk.state c.shun.new.self.disk ≡ g.D.Disk.state c.args.repo.now.disk = λ i. g.D.Disk.state (c.shun.ensures.disk i) in
     rw (p.1, p.2)
     (subst (λ (s : DiskState). Acts (command_of.Shun c.args.name) (input, input) (clock, clock) (g.D.Disk.state disk, s) (Err fault_is.Memory)) (sym same)
-    (memory_acted (Some (command_of.Shun c.args.name)) (shun_loads c.args.name) (input_of (input, input)) (g.D.Disk.state disk) (g.D.Disk.state c.args.repo.now.disk) (loaded_of c.args.repo.now) opened clock))
+    (memory_acted (Some (command_of.Shun c.args.name)) (shun_loads c.args.name) (input_of (input, input)) (g.D.Disk.state disk) (g.D.Disk.state c.args.repo.now.disk) (loaded_of c.args.repo.now) opened refl clock))
 
 pub returns-in-Err-committed : goal.returns-in-Err-committed
 returns-in-Err-committed g c = λ disk input clock opened.

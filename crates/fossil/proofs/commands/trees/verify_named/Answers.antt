@@ -1,6 +1,6 @@
 use Rattle.std.proofs.lemmas.Result.{err_from_is_err_and}
 use Rattle.fossil.specs.TreeCall.{verifying}
-use Rattle.fossil.proofs.TreeLemmas.{named_err, named_ok}
+use Rattle.fossil.proofs.TreeLemmas.{named_err, named_ok, named_short}
 use Rattle.fossil.proofs.commands.trees.verify_named.Goals as goal
 
 pub returns-in_ok-verdict_answer-in-Ok-clause-answer : goal.returns-in_ok-verdict_answer-in-Ok-clause-answer
@@ -10,7 +10,7 @@ returns-in_ok-verdict_answer-in-Ok-clause-answer g c =
 pub returns-in_err-verdict_answer-in-Ok-clause-answer : goal.returns-in_err-verdict_answer-in-Ok-clause-answer
 returns-in_err-verdict_answer-in-Ok-clause-answer g c =
     let p = err_from_is_err_and c.from_residual.result c.from_residual.ensures.1 in
-    rw (p.1, p.2) tt
+    rw (p.1, p.2) (named_short verifying c.args.name g.D.Disk.state c.args.repo.now c.verify-found.new.repo c.is_whole.ensures c.is_whole-2.ensures c.in-Ok.ensures.count)
 
 pub returns-in-Err-clause-answer : goal.returns-in-Err-clause-answer
 returns-in-Err-clause-answer g c =

@@ -36,4 +36,4 @@ pub returns-in_err-too_long-in-None : goal.returns-in_err-too_long-in-None
 returns-in_err-too_long-in-None g c = λ disk opened.
     let p = err_from_is_err_and c.from_residual-in_err-too_long-in-None.result c.from_residual-in_err-too_long-in-None.ensures.1 in
     rw (p.1, p.2)
-    (memory_acted (Some (command_of.Unversioned (uv.Add c.args.path))) (add_loads c.args.path) (input_of (g.S.Source.state c.args.input.now, g.S.Source.state c.read_input.new.input)) (g.D.Disk.state disk) (g.D.Disk.state c.args.store.now.disk) (loaded_store c.args.store.now) opened (g.C.Clock.told c.args.clock.now))
+    (memory_acted (Some (command_of.Unversioned (uv.Add c.args.path))) (add_loads c.args.path) (input_of (g.S.Source.state c.args.input.now, g.S.Source.state c.read_input.new.input)) (g.D.Disk.state disk) (g.D.Disk.state c.args.store.now.disk) (loaded_store c.args.store.now) opened (subst (IsInput (input_of (g.S.Source.state c.args.input.now, g.S.Source.state c.read_input.new.input))) c.in-None.is c.in_ok-content.ensures.ok).3 (g.C.Clock.told c.args.clock.now))

@@ -1,4 +1,4 @@
-use Rattle.std.proofs.Common.{◌∙◌, Some, sym}
+use Rattle.std.proofs.Common.{◌∙◌, Some, refl, sym}
 use Rattle.std.proofs.lemmas.Result.{err_from_is_err_and}
 use Rattle.fsl_journal.proofs.Belonging.{same_moments}
 use Rattle.fsl_words.specs.declared.Command.TheVariants as command_of
@@ -12,7 +12,7 @@ use Rattle.fossil.proofs.commands.unversioned.remove_from.Goals as goal
 
 pub returns-then-is_there : goal.returns-then-is_there
 returns-then-is_there g c = λ disk input opened.
-    c.store_entry-answer.ensures disk (input, input) (g.C.Clock.told c.args.clock.now, g.C.Clock.told c.now.new.self) (sym c.is_there.ensures ∙ c.if-is_there.true) (c.now.ensures.moment, c.now.ensures.tells) opened
+    c.store_entry-answer.ensures disk (input, input) (g.C.Clock.told c.args.clock.now, g.C.Clock.told c.now.new.self) (refl, sym c.is_there.ensures ∙ c.if-is_there.true) (c.now.ensures.moment, c.now.ensures.tells) opened
 
 pub returns-in_ok-no_file : goal.returns-in_ok-no_file
 returns-in_ok-no_file g c = λ disk input opened.
@@ -26,4 +26,4 @@ pub returns-in_err-no_file : goal.returns-in_err-no_file
 returns-in_err-no_file g c = λ disk input opened.
     let p = err_from_is_err_and c.from_residual.result c.from_residual.ensures.1 in
     rw (p.1, p.2)
-    (memory_acted (Some (command_of.Unversioned (uv.Remove c.args.path))) (remove_loads c.args.path) (input_of (input, input)) (g.D.Disk.state disk) (g.D.Disk.state c.args.store.now.disk) (loaded_store c.args.store.now) opened (g.C.Clock.told c.args.clock.now))
+    (memory_acted (Some (command_of.Unversioned (uv.Remove c.args.path))) (remove_loads c.args.path) (input_of (input, input)) (g.D.Disk.state disk) (g.D.Disk.state c.args.store.now.disk) (loaded_store c.args.store.now) opened refl (g.C.Clock.told c.args.clock.now))

@@ -8,7 +8,7 @@ use Rattle.fossil.specs.declared.answers.fault.Fault.TheVariants as fault_is
 use Rattle.fossil.specs.Acts.{input_of, clock_of, IsOpened, Acts}
 use Rattle.fossil.specs.UvCalls.{loaded_store, putting}
 use Rattle.fossil.proofs.AppendLemmas.{memory_timed, failed_acted, appended_acted}
-use Rattle.fossil.proofs.UvLemmas.{putting_loads, put_timed, put_appended, was_due, commit_rose, commit_settles}
+use Rattle.fossil.proofs.UvLemmas.{putting_loads, put_timed, put_steady, put_appended, was_due, commit_rose, commit_settles}
 use Rattle.fossil.proofs.commands.unversioned.store_entry.Goals as goal
 
 pub returns-in_err-answer : goal.returns-in_err-answer
@@ -20,7 +20,7 @@ returns-in_err-answer g c = λ disk input clock due asked opened.
     let timed = put_timed before (input_of input) (clock_of clock) opened.stands.0 false e.path e.moment e.bytes c.is_store.ensures.map opened.stands.2 due asked in
     rw (p.1, p.2)
     (subst (λ (s : DiskState). Acts (command_of.Unversioned (putting e.path e.bytes)) input clock (g.D.Disk.state disk, s) (Err fault_is.Memory)) (sym same)
-    (memory_timed (Some (command_of.Unversioned (putting e.path e.bytes))) (putting_loads e.path e.bytes) (input_of input) (g.D.Disk.state disk) (g.D.Disk.state before.disk) (loaded_store before) opened (clock_of clock) timed.0 e.moment timed.1 timed.2))
+    (memory_timed (Some (command_of.Unversioned (putting e.path e.bytes))) (putting_loads e.path e.bytes) (input_of input) (g.D.Disk.state disk) (g.D.Disk.state before.disk) (loaded_store before) opened (put_steady e.path e.bytes before.seen.map (input_of input) due) (clock_of clock) timed.0 e.moment timed.1 timed.2))
 
 pub returns-in-Err : goal.returns-in-Err
 returns-in-Err g c = λ disk input clock due asked opened.
