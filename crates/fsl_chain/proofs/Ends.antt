@@ -2,7 +2,7 @@
 use Rattle.std.specs.Prelude.{◌≡◌, ℕ, Bool, true, false, if◌then◌else◌, ◌&&◌, List, [], ◌∷◌, ◌++◌, reverse}
 use Rattle.std.proofs.Common.{refl, sym, ap, subst, ◌∙◌}
 use Rattle.std.proofs.lemmas.List.{reverse-append}
-use Rattle.fsl_disk.specs.Disk.{DiskState, IsModelled}
+use Rattle.fsl_disk.specs.Disk.{DiskState, IsModelled, Keeps}
 use Rattle.fsl_record.specs.declared.Record.{Record}
 use Rattle.fsl_chain.specs.declared.reopening.Opening.{Opening}
 use Rattle.fsl_chain.specs.declared.surviving.Lived.{Lived}
@@ -61,10 +61,11 @@ told_done false waits told is so = sym is ∙ so
 
 -- a life and its end
 pub heard_life : {D W : Type 0} (state : D → DiskState) (does : Does W) (work : W) (first ended heard : D) (l : Lived D) (left : D) → l.began.value ≡ first
-    → l.ended.value ≡ ended → heard ≡ ended → HasEnded (does.puts work) (state first) (state ended) l.ending → l.is_heard ≡ (is_done l.ending && does.heard work) → l.is_heard ≡ true
+    → l.ended.value ≡ ended → heard ≡ ended → Keeps (state first) (state ended) → HasEnded (does.puts work) (state first) (state ended) l.ending → l.is_heard ≡ (is_done l.ending && does.heard work) → l.is_heard ≡ true
     → IsLeftBy (state heard) (state ended) (state left) → IsLifeOf state does work first l left
-heard_life state does work first ended heard l left is_first is_ended is_heard end told waited crash = record {
+heard_life state does work first ended heard l left is_first is_ended is_heard keeps end told waited crash = record {
   began = is_first;
+  keeps = subst (λ d. Keeps (state d) (state l.ended.value)) (sym is_first) (subst (λ d. Keeps (state first) (state d)) (sym is_ended) keeps);
   ended =
       subst (λ d. HasEnded (does.puts work) (state d) (state l.ended.value) l.ending) (sym is_first)
       (subst (λ d. HasEnded (does.puts work) (state first) (state d) l.ending) (sym is_ended) end);
@@ -75,10 +76,11 @@ heard_life state does work first ended heard l left is_first is_ended is_heard e
 }
 
 pub unheard_life : {D W : Type 0} (state : D → DiskState) (does : Does W) (work : W) (first : D) (began ended : D) (l : Lived D) (left : D) → l.began.value ≡ first
-    → l.ended.value ≡ ended → began ≡ first → HasEnded (does.puts work) (state first) (state ended) l.ending → l.is_heard ≡ (is_done l.ending && does.heard work) → l.is_heard ≡ false
+    → l.ended.value ≡ ended → began ≡ first → Keeps (state first) (state ended) → HasEnded (does.puts work) (state first) (state ended) l.ending → l.is_heard ≡ (is_done l.ending && does.heard work) → l.is_heard ≡ false
     → IsLeftBy (state began) (state ended) (state left) → IsLifeOf state does work first l left
-unheard_life state does work first began ended l left is_first is_ended is_began end told unheard crash = record {
+unheard_life state does work first began ended l left is_first is_ended is_began keeps end told unheard crash = record {
   began = is_first;
+  keeps = subst (λ d. Keeps (state d) (state l.ended.value)) (sym is_first) (subst (λ d. Keeps (state first) (state d)) (sym is_ended) keeps);
   ended =
       subst (λ d. HasEnded (does.puts work) (state d) (state l.ended.value) l.ending) (sym is_first)
       (subst (λ d. HasEnded (does.puts work) (state first) (state d) l.ending) (sym is_ended) end);

@@ -1,4 +1,5 @@
 mod Commits
 mod Ends
+mod Loads
 mod Tried
 mod Tries

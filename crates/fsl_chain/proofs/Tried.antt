@@ -13,7 +13,7 @@ use Rattle.fsl_repo.specs.Whole.{Whole, IsWholeOn, log_of}
 use Rattle.fsl_chain.specs.declared.living.Put.{Put}
 use Rattle.fsl_chain.specs.declared.living.Ending.{Ending}
 use Rattle.fsl_chain.specs.declared.living.Ending.TheVariants as ending
-use Rattle.fsl_chain.specs.Lives.{IsWork, IsFresh, IsCommitOf, IsTried, HasWorked, HasEnded, group_of, group_in, is_done, opened_records}
+use Rattle.fsl_chain.specs.Lives.{IsWork, IsFresh, IsCommitOf, IsTried, IsPut, HasPut, HasWorked, HasEnded, group_of, group_in, is_done, opened_records, worked_records}
 
 -- some work, and a commit behind it
 module _ {D : Type 0} (state : D → DiskState) (puts : List Record → List Record → Type 0) (repo worked : Whole D) (put : Put D)
@@ -59,21 +59,20 @@ module _ {D : Type 0} (state : D → DiskState) (puts : List Record → List Rec
         one_of c (inl file) = inl (subst (λ rs. IsFileOf c rs) committed_are_old file)
         one_of c (inr file) = inr (fits, subst (λ rs. IsFileOf c rs) all file)
 
+    has_put : (p : Put D) → p ≡ put → HasPut puts old p
+    has_put p same = record {
+      opened = ap opened_records same ∙ ap (λ r. r.seen.state.records) first;
+      fits = subst (λ g. puts old g) (sym (ap group_of same ∙ grouped)) work.fits;
+      records = ap worked_records same ∙ ap (λ r. r.seen.state.records) second ∙ work.records ∙ ap (λ g. old ++ g) (sym (ap group_of same ∙ grouped));
+    }
+
     pub tried : (e : Ending D) → IsCommitOf put (state worked.disk) left e
         → (IsTrue (is_done e) → IsModelled (state worked.disk) → (c : List ℕ) → left.images c → IsFileOf c worked.seen.state.records)
         → IsTried puts old e (state repo.disk) left
     tried (ending.Done p) by durable =
-        by_group (ending.Done p) (ap group_of by.0 ∙ grouped) (
-          ap opened_records by.0 ∙ ap (λ r. r.seen.state.records) first,
-          subst (λ g. puts old g) (sym (ap group_of by.0 ∙ grouped)) work.fits,
-          subst (λ d. left.faults ≡ (state d).faults) work.disk by.1,
-        ) durable
+        by_group (ending.Done p) (ap group_of by.0 ∙ grouped) (has_put p by.0, subst (λ d. left.faults ≡ (state d).faults) work.disk by.1) durable
     tried (ending.Cut p) by durable =
-        by_group (ending.Cut p) (ap group_of by.0 ∙ grouped) (
-          ap opened_records by.0 ∙ ap (λ r. r.seen.state.records) first,
-          subst (λ g. puts old g) (sym (ap group_of by.0 ∙ grouped)) work.fits,
-          subst (λ d. Rose (state d).faults left.faults) work.disk by.1,
-        ) durable
+        by_group (ending.Cut p) (ap group_of by.0 ∙ grouped) (has_put p by.0, subst (λ d. Rose (state d).faults left.faults) work.disk by.1) durable
     tried ending.Unworked by durable = absurd by
     tried (ending.Unopened fault) by durable = absurd by
 
@@ -91,16 +90,20 @@ unworked {D = D} state puts repo fresh only whole = record {
   ended = refl;
 }
 
+-- what was put behind the records that the file stood for
+is_put : {D : Type 0} (puts : List Record → List Record → Type 0) (loaded : List Record) (before : DiskState) (p : Put D) → OfBytes before (λ bytes. IsFileOf bytes loaded)
+    → HasPut puts loaded p → IsPut puts before p
+is_put puts loaded before p stands put = record {
+  stands = subst (λ rs. OfBytes before (λ bytes. IsFileOf bytes rs)) (sym put.opened) stands;
+  fits = subst (λ rs. puts rs (group_of p)) (sym put.opened) put.fits;
+  records = put.records ∙ ap (λ rs. rs ++ group_of p) (sym put.opened);
+}
+
 -- how a life ended, by how it did behind its opening
 pub ended : {D : Type 0} (puts : List Record → List Record → Type 0) (loaded : List Record) (before mid after : DiskState) (e : Ending D)
     → OfBytes before (λ bytes. IsFileOf bytes loaded) → mid.faults ≡ before.faults → HasWorked puts loaded mid after e → HasEnded puts before after e
-ended puts loaded before mid after (ending.Done put) stands faults worked = (
-  record { stands = subst (λ rs. OfBytes before (λ bytes. IsFileOf bytes rs)) (sym worked.0) stands; fits = subst (λ rs. puts rs (group_of put)) (sym worked.0) worked.1 },
-  worked.2 ∙ faults,
-)
-ended puts loaded before mid after (ending.Cut put) stands faults worked = (
-  record { stands = subst (λ rs. OfBytes before (λ bytes. IsFileOf bytes rs)) (sym worked.0) stands; fits = subst (λ rs. puts rs (group_of put)) (sym worked.0) worked.1 },
-  subst (λ f. Rose f after.faults) faults worked.2,
-)
+ended puts loaded before mid after (ending.Done put) stands faults worked = (is_put puts loaded before put stands worked.0, worked.1 ∙ faults)
+ended puts loaded before mid after (ending.Cut put) stands faults worked =
+    (is_put puts loaded before put stands worked.0, subst (λ f. Rose f after.faults) faults worked.1)
 ended puts loaded before mid after ending.Unworked stands faults worked = ((loaded, stands), worked ∙ faults)
 ended puts loaded before mid after (ending.Unopened fault) stands faults worked = absurd worked

@@ -25,12 +25,15 @@ pub record IsWork {D : Type 0} (puts : List Record → List Record → Type 0) (
   pub fits : puts old.seen.state.records group
   pub records : new.seen.state.records ≡ old.seen.state.records ++ group
 
--- the records that were opened, and those that the work put behind them
+-- the records that were opened, those that stood there behind the work, and those that this put there
 abbrev pub opened_records : {D : Type 0} → Put D → List Record
 opened_records p = p.opened.value.seen.state.records
 
+abbrev pub worked_records : {D : Type 0} → Put D → List Record
+worked_records p = p.worked.value.seen.state.records
+
 abbrev pub group_of : {D : Type 0} → Put D → List Record
-group_of p = drop (length (opened_records p)) p.worked.value.seen.state.records
+group_of p = drop (length (opened_records p)) (worked_records p)
 
 -- ---- how a life ends
 
@@ -45,10 +48,11 @@ abbrev pub is_done : {D : Type 0} → Ending D → Bool
 is_done (ending.Done put) = true
 is_done _ = false
 
--- the bytes that were read stand for what was opened, and the work puts the group behind it
+-- the bytes that were read stand for what was opened, and the work put the group behind it, which is one that it puts there
 pub record IsPut {D : Type 0} (puts : List Record → List Record → Type 0) (before : DiskState) (p : Put D) : Type 0 where
   pub stands : OfBytes before (λ bytes. IsFileOf bytes (opened_records p))
   pub fits : puts (opened_records p) (group_of p)
+  pub records : worked_records p ≡ opened_records p ++ group_of p
 
 -- how a life ended is so of the disk before and behind it: the work is committed, and no call failed; a call failed in the commit; there was no memory for the
 -- work, over a file that stands for records; or it wasn't opened, as a repository isn't
@@ -71,10 +75,16 @@ IsCommitOf put before after (ending.Done p) = (p ≡ put) × (after.faults ≡ b
 IsCommitOf put before after (ending.Cut p) = (p ≡ put) × Rose before.faults after.faults
 IsCommitOf put before after _ = ⊥
 
+-- a work put the group behind these records, which were opened
+pub record HasPut {D : Type 0} (puts : List Record → List Record → Type 0) (old : List Record) (p : Put D) : Type 0 where
+  pub opened : opened_records p ≡ old
+  pub fits : puts old (group_of p)
+  pub records : worked_records p ≡ old ++ group_of p
+
 -- how a life ended whose repository was opened with these records
 abbrev pub HasWorked : {D : Type 0} → (List Record → List Record → Type 0) → List Record → DiskState → DiskState → Ending D → Type 0
-HasWorked puts old before after (ending.Done put) = (opened_records put ≡ old) × puts old (group_of put) × (after.faults ≡ before.faults)
-HasWorked puts old before after (ending.Cut put) = (opened_records put ≡ old) × puts old (group_of put) × Rose before.faults after.faults
+HasWorked puts old before after (ending.Done put) = HasPut puts old put × (after.faults ≡ before.faults)
+HasWorked puts old before after (ending.Cut put) = HasPut puts old put × Rose before.faults after.faults
 HasWorked puts old before after ending.Unworked = after.faults ≡ before.faults
 HasWorked puts old before after (ending.Unopened fault) = ⊥
 
@@ -100,10 +110,11 @@ does_of puts heard = record { puts = puts; heard = heard }
 abbrev pub try_in : {D W : Type 0} → W → Lived D → Try W
 try_in work l = try_of work l.is_heard (group_in l.ending)
 
--- a life of a work over such a disk, and its end: how it ended is so of its disk; it was heard where somebody waited and it was done; and a crash came at some
--- moment since it began or, where it was heard, behind it
+-- a life of a work over such a disk, and its end: how it ended is so of its disk, of which it changes neither whether it tells its contents nor whether it
+-- meets the disk model; it was heard where somebody waited and it was done; and a crash came at some moment since it began or, where it was heard, behind it
 pub record IsLifeOf {D W : Type 0} (state : D → DiskState) (does : Does W) (work : W) (first : D) (l : Lived D) (left : D) : Type 0 where
   pub began : l.began.value ≡ first
+  pub keeps : Keeps (state l.began.value) (state l.ended.value)
   pub ended : HasEnded (does.puts work) (state l.began.value) (state l.ended.value) l.ending
   pub heard : l.is_heard ≡ (is_done l.ending && does.heard work)
   pub crash : IsLeftBy (state (if l.is_heard then l.ended.value else l.began.value)) (state l.ended.value) (state left)

@@ -24,7 +24,7 @@ pub returns-then-is_told-clause-life : goal.returns-then-is_told-clause-life
 returns-then-is_told-clause-life g c =
     heard_life (λ d. g.D.Disk.state d) (does_of (λ w. g.W.Work.puts w) (λ w. g.W.Work.heard w)) c.args.work.now c.args.disk c.live-disk.result.disk c.of-heard.result.value
     (record { began = c.of-began.result; ended = c.of-ended.result; ending = c.live-disk.result.ending; is_heard = true }) c.strike.result c.of-began.ensures c.of-ended.ensures
-    c.of-heard.ensures c.live-disk.ensures.ended (sym c.if-is_told.true ∙ c.is_told.ensures) refl c.strike.ensures
+    c.of-heard.ensures c.live-disk.ensures.keeps c.live-disk.ensures.ended (sym c.if-is_told.true ∙ c.is_told.ensures) refl c.strike.ensures
 
 pub returns-else-is_told-clause-has : goal.returns-else-is_told-clause-has
 returns-else-is_told-clause-has g c =
@@ -38,4 +38,4 @@ pub returns-else-is_told-clause-life : goal.returns-else-is_told-clause-life
 returns-else-is_told-clause-life g c =
     unheard_life (λ d. g.D.Disk.state d) (does_of (λ w. g.W.Work.puts w) (λ w. g.W.Work.heard w)) c.args.work.now c.args.disk c.of-first.result.value c.live-disk.result.disk
     (record { began = c.of-began.result; ended = c.of-ended.result; ending = c.live-disk.result.ending; is_heard = false }) c.strike-else-is_told.result c.of-began.ensures
-    c.of-ended.ensures c.of-first.ensures c.live-disk.ensures.ended (sym c.if-is_told.false ∙ c.is_told.ensures) refl c.strike-else-is_told.ensures
+    c.of-ended.ensures c.of-first.ensures c.live-disk.ensures.keeps c.live-disk.ensures.ended (sym c.if-is_told.false ∙ c.is_told.ensures) refl c.strike-else-is_told.ensures
