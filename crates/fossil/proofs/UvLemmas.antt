@@ -312,9 +312,9 @@ module _ {D : Type 0} (before mid : Whole D) (input : Input) (clock : Clock) (by
   put_appended e due asked has = appended_of e.path e.moment e.bytes due asked has
 
 -- behind an entry that is due no read has failed
-pub put_steady : (path : List ℕ) (held : Option (List ℕ)) (m : Map) (input : Input) → IsPutDue path held m input → IsInputSteady input
-put_steady path (Some content) m input due = due.3
-put_steady path None m input due = due.0
+pub put_steady : (path : List ℕ) (held : Option (List ℕ)) (m : Map) (given : Input) → IsPutDue path held m given → IsInputSteady given
+put_steady path (Some content) m given due = due.3
+put_steady path None m given due = due.0
 
 -- the moment of an entry that is due was taken
 pub put_timed : {D : Type 0} (before : Whole D) (given : Input) (clock : Clock) (bytes : List ℕ) (answered : Bool) (path : List ℕ) (moment : ℕ) (held : Option (List ℕ)) → IsUv before.seen.log.records before.seen.map → IsFileOf bytes before.seen.log.records
