@@ -157,7 +157,7 @@ pub record ActsBy (command : Option Command) (input : Input) (file : File) (resu
   pub durable : IsTrue (lasts command (printed result).status) → IsDurable command file bytes o
   pub trimmed : IsTrue (trims command (printed result).status) → IsTrimmed command file
   pub spared : IsSpared command file (printed result).status
-  -- no call of the disk failed but that with which the command ended, and no read of the input
+  -- no call of the disk failed but where it ends with that, and no read of the input
   pub steady : result ≢ Err fault_is.Disk → file.after.faults ≡ file.before.faults
   pub input_steady : result ≢ Err fault_is.Input → IsInputSteady input
 

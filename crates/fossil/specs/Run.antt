@@ -325,7 +325,7 @@ pub record RunsBy (command : Option Command) (input : Input) (clock : Clock) (ou
   pub trimmed : IsTrue (trims command status) → IsTrimmed command file
   pub spared : IsSpared command file status
   pub keeps : Keeps file.before file.after
-  -- no call of the disk failed but that with which the run ended, and no read of the input
+  -- no call of the disk failed but where the run ends with that, by 4, and no read of the input but by 5
   pub steady : status ≢ 4 → file.after.faults ≡ file.before.faults
   pub input_steady : status ≢ 5 → IsInputSteady input
   pub disk_fault : status ≡ 4 → Rose file.before.faults file.after.faults
