@@ -6,7 +6,7 @@ use std::thread::yield_now;
 /// How often a pass that stands back looks whether others wait.
 const LOOKS: u64 = 400;
 
-/// How many turns of each that waits it lets go first: no fewer than a session makes that brings one artifact.
+/// How many turns for each that waits it lets go first: no fewer than a session makes that brings one artifact and announces none.
 const TURNS_OF_EACH: u64 = 4;
 
 /// The lock, how many wait for it, and how often it was taken. No clause speaks of the two numbers: they tell when to stand back alone.
@@ -36,7 +36,8 @@ impl Lane {
         guard
     }
 
-    /// Lets those who wait take the lock first, and each make the few turns of a session; but no longer than 400 looks take.
+    /// Lets those who wait take the lock first: until none waits, or it was taken as often as they have turns to begin, but for 400
+    /// looks at most. Between two looks other threads run.
     pub(crate) fn stand_back(&self) {
         let before = self.taken.load(Ordering::Relaxed);
         let due = self

@@ -187,7 +187,7 @@ fn conclusion(built: Answer, committed: Answer) -> Said
     }
 }
 
-/// The build and the commit. A message that pushes stands back before its commit, so that the commit serves the arrivals of those
+/// The build and the commit. A message that pushes stands back before its commit, so that the commit may serve the arrivals of those
 /// who wait too, and theirs find nothing left to do.
 fn conclude<T: Turns<Repo<D>>, D: Disk, R: Wait>(
     serving: &Serving<T, R>,
