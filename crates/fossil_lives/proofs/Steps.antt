@@ -3,7 +3,7 @@ use Rattle.std.proofs.Common.{◌≡◌, ◌≢◌, ◌⊎◌, inl, inr, ℕ, �
 use Rattle.std.specs.Prelude.{◌||◌, ◌&&◌, ◌==◌, not, MatchBool}
 use Rattle.std.proofs.lemmas.List.{append-nil}
 use Rattle.fsl_record.specs.declared.Record.{Record}
-use Rattle.fsl_disk.specs.Disk.{DiskState, IsModelled, Quiet, LeavesOnly, Only}
+use Rattle.fsl_disk.specs.Disk.{DiskState, IsModelled, Told, Quiet, LeavesOnly, Only}
 use Rattle.fsl_disk.proofs.Moments.{quiet_moments, told_contents}
 use Rattle.fsl_journal.specs.File.{IsFileOf}
 use Rattle.fsl_journal.specs.Log.{IsNoFile}
@@ -15,9 +15,9 @@ use Rattle.fossil.specs.Run.{Input, Output, Clock, Agrees, opens, begins, Stands
 use Rattle.fossil.specs.Acts.{file_of}
 use Rattle.fossil_lives.specs.declared.session.End.{End}
 use Rattle.fossil_lives.specs.declared.session.End.TheVariants as end_is
-use Rattle.fossil_lives.specs.Reboot.{IsRebooted}
-use Rattle.fossil_lives.specs.Stands.{IsSettled}
-use Rattle.fossil_lives.specs.Runs.{IsEndedBy, is_sure}
+use Rattle.fossil_lives.specs.Reboot.{IsRebooted, IsKilled}
+use Rattle.fossil_lives.specs.Stands.{Stands, IsSettled}
+use Rattle.fossil_lives.specs.Runs.{IsEndedBy, is_sure, is_killed}
 use Rattle.fossil_lives.proofs.Commits.{closed_commits, refused_commits, refused_file, begun_commits}
 
 -- ---- records and files
@@ -70,6 +70,11 @@ stands_file : (records : List Record) (c : List ℕ) → records ≢ [] → Stan
 stands_file [] c some none = absurd (some refl)
 stands_file (r ∷ records) c some file = file
 
+-- what reads as a repository, and stands for these, is their file
+pub is_its_file : (records : List Record) (held : List ℕ) → StandsFor records held → (other : List Record) × IsFileOf held other → IsFileOf held records
+is_its_file [] held none file = absurd (none file.0 file.1)
+is_its_file (r ∷ records) held file other = file
+
 nothing_more : (old : List Record) → after_commits old [] (length {A = List Record} []) ≡ old
 nothing_more old = append-nil old
 
@@ -84,11 +89,15 @@ nothing_quiet file = record {
 
 -- ---- what a run did to its file
 
--- at each moment each image stands for the old records and some first commits; where the run was done, for all, and so the file is settled
+-- behind a run that was done each image stands for the old records and all commits, and so the file is settled
+pub record Lasts (old : List Record) (commits : List (List Record)) (after : DiskState) : Type 0 where
+  pub all : (c : List ℕ) → after.images c → StandsForAll old commits c
+  pub settled : IsSettled (after_commits old commits (length commits)) after.images
+
+-- at each moment each image stands for the old records and some first commits; where the run was done, this lasts
 pub record Passes (old : List Record) (commits : List (List Record)) (done : Bool) (before after : DiskState) : Type 0 where
   pub moments : LeavesOnly before after (StandsForSome old commits)
-  pub all : done ≡ true → (c : List ℕ) → after.images c → StandsForAll old commits c
-  pub settled : done ≡ true → IsSettled (after_commits old commits (length commits)) after.images
+  pub lasts : done ≡ true → Lasts old commits after
 
 -- one that left its file as it was, and appended nothing
 pub idle_passes : (old : List Record) (commits : List (List Record)) (done : Bool) (before after : DiskState) → commits ≡ [] → Quiet before after → IsTrue before.is_model
@@ -97,8 +106,7 @@ pub idle_passes : (old : List Record) (commits : List (List Record)) (done : Boo
 idle_passes old commits done before after none quiet model only stands settled =
     subst (λ cs. Passes old cs done before after) (sym none) (record {
       moments = quiet_moments before after (StandsForSome old []) quiet model only (λ c image. (0, omega arith, kept c image));
-      all = λ is c image. kept c (quiet.images model c image);
-      settled = λ is. still settled;
+      lasts = λ is. record { all = λ c image. kept c (quiet.images model c image); settled = still settled };
     })
   where
     kept : (c : List ℕ) → before.images c → StandsFor (after_commits old [] 0) c
@@ -134,18 +142,26 @@ module _ {D : Type 0} (disk : D → DiskState)
       idle_passes old o.commits (is_done status) (disk began) (disk ended) (closed_commits command (is_modelled (disk began)) read moment bytes o closed runs.outcome) (closed_quiet closed)
       modelled.model (λ c since. only_now began c modelled.model since) stands settled
 
+  -- one that is done over what reads as old records, whatever a crash might have left before
+  open_lasts : (old : List Record) → opens command ≡ true → AreOldBy (begins command) old bytes
+      → (is_done status ≡ true → after_commits old o.commits (length o.commits) ≢ []) → is_done status ≡ true → Lasts old o.commits (disk ended)
+  open_lasts old opened at some done = record { all = all; settled = settled_some (after_commits old o.commits (length o.commits)) (disk ended).images (some done) all }
+    where
+      all : (c : List ℕ) → (disk ended).images c → StandsForAll old o.commits c
+      all c image = runs.durable (done_lasts command status done) opened modelled told_bytes old at c image
+
+  pub run_lasts : (old : List Record) → Told (disk began) (λ held. IsFileOf held old) → opens command ≡ true → is_done status ≡ true → Lasts old o.commits (disk ended)
+  run_lasts old file opened done =
+      open_lasts old opened (by_begins (begins command) old bytes (file bytes told_bytes)) (λ d. has_record old _ bytes (file bytes told_bytes)) done
+
   -- one over old records, or over an empty file that it begins
   open_passes : (old : List Record) → opens command ≡ true → AreImages command old (disk began).images
       → (is_done status ≡ true → after_commits old o.commits (length o.commits) ≢ [])
       → Passes old o.commits (is_done status) (disk began) (disk ended)
   open_passes old opened images some = record {
     moments = runs.any_moment modelled old images;
-    all = λ done. all done;
-    settled = λ done. settled_some (after_commits old o.commits (length o.commits)) (disk ended).images (some done) (all done);
+    lasts = λ done. open_lasts old opened (images bytes is_image) some done;
   }
-    where
-      all : is_done status ≡ true → (c : List ℕ) → (disk ended).images c → StandsForAll old o.commits c
-      all done c image = runs.durable (done_lasts command status done) opened modelled told_bytes old (images bytes is_image) c image
 
   file_passes : (old : List Record) → ((c : List ℕ) → (disk began).images c → IsFileOf c old) → Passes old o.commits (is_done status) (disk began) (disk ended)
   file_passes old files = by_open (opens command) refl
@@ -192,44 +208,87 @@ module _ {D : Type 0} (disk : D → DiskState)
 
 -- ---- its end
 
--- some first commits, all where it is known that the run was done, and the file is settled with these
-abbrev pub Steps : List Record → List (List Record) → Bool → DiskState → Type 0
-Steps old commits sure left = (n : ℕ) × (n ≤ length commits) × (IsTrue sure → n ≡ length commits) × IsSettled (after_commits old commits n) left.images
+-- some first commits, all where it is known that the run was done; and what is known of the disk by these
+abbrev pub Steps : List Record → List (List Record) → End → ℕ → DiskState → Type 0
+Steps old commits e status left =
+    (n : ℕ) × (n ≤ length commits) × (IsTrue (is_sure e status) → n ≡ length commits) × Stands (is_killed e) (after_commits old commits n) left
+
+-- somebody knows it of a run that was done alone
+pub sure_done : (e : End) (status : ℕ) → IsTrue (is_sure e status) → is_done status ≡ true
+sure_done end_is.Cut status sure = let wrong : false ≡ true = sure in absurd (cc)
+sure_done end_is.Killed status sure = let wrong : false ≡ true = sure in absurd (cc)
+sure_done end_is.Heard status sure = sure
+sure_done end_is.Spared status sure = sure
 
 module _ {D : Type 0} (disk : D → DiskState)
     (only_now : (d : D) (c : List ℕ) → IsTrue (disk d).is_model → (disk d).since (disk d).moment c → (disk d).images c) (old : List Record)
-    (commits : List (List Record)) (status : ℕ) (began ended left : D) (modelled : IsModelled (disk ended))
-    (passes : Passes old commits (is_done status) (disk began) (disk ended)) where
-  -- the power fails at some moment since it began
-  cut_steps : IsRebooted (disk began) (disk ended) (disk left) → Steps old commits false (disk left)
-  cut_steps struck =
-      let one = struck modelled passes.moments.later in
-      let some = passes.moments.each one.0 one.1 in
-      (some.0, some.1, (λ wrong. absurd (cc)), settled_one (after_commits old commits some.0) (disk left).images one.0 one.2 some.2)
+    (commits : List (List Record)) (status : ℕ) (began ended left : D) (modelled : IsModelled (disk ended)) where
+  -- the power fails behind it
+  struck_one : IsRebooted (disk ended) (disk ended) (disk left) → (held : List ℕ) × (disk ended).images held × Only held (disk left).images
+  struck_one struck =
+      let one = struck modelled (omega arith) in
+      (one.0, only_now ended one.0 modelled.model one.1, one.2)
 
-  -- it fails behind it
-  behind_steps : IsRebooted (disk ended) (disk ended) (disk left) → Steps old commits (is_done status) (disk left)
-  behind_steps struck = by_done (is_done status) refl
-    where
-      one : (held : List ℕ) × (disk ended).since (disk ended).moment held × Only held (disk left).images
-      one = struck modelled (omega arith)
+  struck_lasts : Lasts old commits (disk ended) → IsRebooted (disk ended) (disk ended) (disk left)
+      → IsSettled (after_commits old commits (length commits)) (disk left).images
+  struck_lasts lasts struck =
+      let one = struck_one struck in
+      settled_one (after_commits old commits (length commits)) (disk left).images one.0 one.2 (lasts.all one.0 one.1)
 
-      image : (disk ended).images one.0
-      image = only_now ended one.0 modelled.model one.1
+  -- a run of which somebody knows that it was done
+  pub firm_steps : (e : End) → IsTrue (is_sure e status) → Lasts old commits (disk ended) → IsEndedBy disk e status began ended left → Steps old commits e status (disk left)
+  firm_steps end_is.Cut sure lasts struck = let wrong : false ≡ true = sure in absurd (cc)
+  firm_steps end_is.Killed sure lasts struck = let wrong : false ≡ true = sure in absurd (cc)
+  firm_steps end_is.Heard sure lasts struck = (length commits, omega arith, (λ known. refl), struck_lasts lasts struck)
+  firm_steps end_is.Spared sure lasts spared =
+      let same : left ≡ ended = subst (λ b. MatchBool b (left ≡ ended) (IsRebooted (disk ended) (disk ended) (disk left))) sure spared in
+      (length commits, omega arith, (λ known. refl), subst (λ d. IsSettled (after_commits old commits (length commits)) (disk d).images) (sym same) lasts.settled)
 
-      by_done : (b : Bool) → is_done status ≡ b → Steps old commits (is_done status) (disk left)
-      by_done true done =
-          (length commits, omega arith, (λ sure. refl), settled_one (after_commits old commits (length commits)) (disk left).images one.0 one.2 (passes.all done one.0 image))
-      by_done false failed =
-          let some = passes.moments.now one.0 image in
-          (some.0, some.1, (λ sure. let wrong : true ≡ false = sym sure ∙ failed in absurd (cc)), settled_one (after_commits old commits some.0) (disk left).images one.0 one.2 some.2)
+  module _ (passes : Passes old commits (is_done status) (disk began) (disk ended)) where
+    -- the power fails at some moment since it began
+    cut_steps : IsRebooted (disk began) (disk ended) (disk left) → Steps old commits end_is.Cut status (disk left)
+    cut_steps struck =
+        let one = struck modelled passes.moments.later in
+        let some = passes.moments.each one.0 one.1 in
+        (some.0, some.1, (λ known. let wrong : false ≡ true = known in absurd (cc)), settled_one (after_commits old commits some.0) (disk left).images one.0 one.2 some.2)
 
-  pub ended_steps : (e : End) → IsEndedBy disk e status began ended left → Steps old commits (is_sure e status) (disk left)
-  ended_steps end_is.Cut struck = cut_steps struck
-  ended_steps end_is.Heard struck = behind_steps struck
-  ended_steps end_is.Spared spared = by_done (is_done status) refl spared
-    where
-      by_done : (b : Bool) → is_done status ≡ b → MatchBool b (left ≡ ended) (IsRebooted (disk ended) (disk ended) (disk left)) → Steps old commits (is_done status) (disk left)
-      by_done true done same =
-          (length commits, omega arith, (λ sure. refl), subst (λ d. IsSettled (after_commits old commits (length commits)) (disk d).images) (sym same) (passes.settled done))
-      by_done false failed struck = behind_steps struck
+    -- its process is killed then
+    killed_steps : IsKilled (disk began) (disk ended) (disk left) → Steps old commits end_is.Killed status (disk left)
+    killed_steps struck =
+        let one = struck modelled passes.moments.later in
+        let some = passes.moments.each one.0 one.1 in (
+          some.0,
+          some.1,
+          (λ known. let wrong : false ≡ true = known in absurd (cc)),
+          λ held told.
+              subst (λ b. StandsFor (after_commits old commits some.0) b)
+              (agreed (disk left).contents held one.0 told (subst (λ t. Agrees t one.0) (sym one.2) refl)) some.2,
+        )
+
+    -- the power fails behind one that wasn't done
+    failed_steps : (e : End) → is_killed e ≡ false → is_done status ≡ false → IsRebooted (disk ended) (disk ended) (disk left) → Steps old commits e status (disk left)
+    failed_steps e ended_so failed struck =
+        let one = struck_one struck in
+        let some = passes.moments.now one.0 one.1 in (
+          some.0,
+          some.1,
+          (λ sure. let wrong : true ≡ false = sym (sure_done e status sure) ∙ failed in absurd (cc)),
+          subst (λ b. Stands b (after_commits old commits some.0) (disk left)) (sym ended_so)
+              (settled_one (after_commits old commits some.0) (disk left).images one.0 one.2 some.2),
+        )
+
+    heard_steps : (b : Bool) → is_done status ≡ b → IsRebooted (disk ended) (disk ended) (disk left) → Steps old commits end_is.Heard status (disk left)
+    heard_steps true done struck = firm_steps end_is.Heard done (passes.lasts done) struck
+    heard_steps false failed struck = failed_steps end_is.Heard refl failed struck
+
+    spared_steps : (b : Bool) → is_done status ≡ b → MatchBool (is_done status) (left ≡ ended) (IsRebooted (disk ended) (disk ended) (disk left))
+        → Steps old commits end_is.Spared status (disk left)
+    spared_steps true done spared = firm_steps end_is.Spared done (passes.lasts done) spared
+    spared_steps false failed spared =
+        failed_steps end_is.Spared refl failed (subst (λ b. MatchBool b (left ≡ ended) (IsRebooted (disk ended) (disk ended) (disk left))) failed spared)
+
+    pub ended_steps : (e : End) → IsEndedBy disk e status began ended left → Steps old commits e status (disk left)
+    ended_steps end_is.Cut struck = cut_steps struck
+    ended_steps end_is.Killed struck = killed_steps struck
+    ended_steps end_is.Heard struck = heard_steps (is_done status) refl struck
+    ended_steps end_is.Spared spared = spared_steps (is_done status) refl spared

@@ -5,7 +5,7 @@ use Rattle.std.proofs.lemmas.List.{length-append}
 use Rattle.std.proofs.Math.Seq.{take-append_seam, take-length}
 use Rattle.fsl_outside.specs.Connections.{Connection, LinkState}
 use Rattle.fsl_record.specs.declared.Record.{Record}
-use Rattle.fsl_disk.specs.Disk.{DiskState, IsModelled, Only}
+use Rattle.fsl_disk.specs.Disk.{DiskState, IsModelled, Told, Only}
 use Rattle.fsl_disk.proofs.Moments.{weaker, told_contents}
 use Rattle.fsl_journal.specs.File.{IsFileOf}
 use Rattle.fsl_journal.specs.Log.{IsNoFile}
@@ -20,7 +20,7 @@ use Rattle.fossil.specs.Outcome.{Outcome}
 use Rattle.fossil.specs.Run.{File, StandsFor, StandsForAll, StandsForSome, after_commits, is_done}
 use Rattle.fossil.specs.Synced.{Read, IsSyncOutcome, AreCommits, AreCommitsSoFar, AreCutOff, AreMade, StandsOrWasLeft, MayBeUnloaded, Far, SyncsBy, reached, objects_of}
 use Rattle.fossil_lives.specs.Stands.{IsSettled}
-use Rattle.fossil_lives.proofs.Steps.{Passes, idle_passes, settled_some, has_record, file_stands, agreed, fails_there}
+use Rattle.fossil_lives.proofs.Steps.{Lasts, Passes, idle_passes, settled_some, has_record, file_stands, agreed, fails_there}
 
 -- ---- commits of a file that is no repository
 
@@ -137,7 +137,7 @@ module _ (command : Command) (before after : DiskState) (peer : DiskState × Dis
   is_image : before.images r.file
   is_image = reads r.file told_bytes
 
-  module _ (old : List Record) (files : (c : List ℕ) → before.images c → IsFileOf c old) where
+  module _ (old : List Record) where
     some_of : (c : List ℕ) → kept.StandsForSome old commits c → StandsForSome old commits c
     some_of c x = (
       length x.0,
@@ -154,13 +154,17 @@ module _ (command : Command) (before after : DiskState) (peer : DiskState × Dis
     all_of done c (inl (inr failed)) = absurd (done_is_no status 4 done refl failed.0)
     all_of done c (inr unloaded) = absurd (not_unloaded (record { before = before; after = after }) status done unloaded.0)
 
-    sync_file : Passes old commits (is_done status) before after
-    sync_file = record {
+    -- one that is done over what reads as old records, whatever a crash might have left before
+    pub sync_lasts : Told before (λ held. IsFileOf held old) → is_done status ≡ true → Lasts old commits after
+    sync_lasts file done = record { all = behind; settled = settled_some (after_commits old commits (length commits)) after.images (has_record old _ r.file (file r.file told_bytes)) behind }
+      where
+        behind : (c : List ℕ) → after.images c → StandsForAll old commits c
+        behind c image = all_of done c (s.durable modelled told_bytes old (file r.file told_bytes) c image)
+
+    sync_file : ((c : List ℕ) → before.images c → IsFileOf c old) → Passes old commits (is_done status) before after
+    sync_file files = record {
       moments = weaker before after (kept.StandsForSome old commits) (StandsForSome old commits) some_of (s.any_moment modelled old files);
-      all = λ done c image. all_of done c (s.durable modelled told_bytes old (files r.file is_image) c image);
-      settled = λ done.
-          settled_some (after_commits old commits (length commits)) after.images (has_record old _ r.file (files r.file is_image))
-          (λ c image. all_of done c (s.durable modelled told_bytes old (files r.file is_image) c image));
+      lasts = λ done. sync_lasts (λ held told. files held (reads held told)) done;
     }
 
   sync_bare : (held : List ℕ) → Only held before.images → IsNoFile held → Passes [] commits (is_done status) before after

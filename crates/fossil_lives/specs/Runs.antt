@@ -1,16 +1,17 @@
 -- Runs over one disk, one after the other, and what its file stands for behind them.
-use Rattle.std.specs.Prelude.{◌≡◌, ◌⊎◌, ℕ, Bool, false, List, [], ◌∷◌, Option, Some, IsTrue, MatchBool, ⊤}
+use Rattle.std.specs.Prelude.{◌≡◌, ◌⊎◌, ℕ, ◌≤◌, Bool, true, false, List, [], ◌∷◌, length, Option, Some, IsTrue, MatchBool, ⊤}
 use Rattle.std.specs.List.{AllByRecursion}
 use Rattle.fsl_outside.specs.Connections.{LinkState}
 use Rattle.fsl_outside.specs.Streams.{SourceState, SinkState}
-use Rattle.fsl_disk.specs.Disk.{DiskState, IsModelled}
+use Rattle.fsl_disk.specs.Disk.{DiskState, IsModelled, Told, Only}
 use Rattle.fsl_record.specs.declared.Record.{Record}
+use Rattle.fsl_journal.specs.File.{IsFileOf}
 use Rattle.fsl_pull.specs.Dialled.{HasRounds}
 use Rattle.fsl_words.specs.declared.Command.{Command}
 use Rattle.fossil.specs.declared.ran.Ran.{Ran}
 use Rattle.fossil.specs.Uses.{command_syncs}
 use Rattle.fossil.specs.Outcome.{Outcome, said, meets}
-use Rattle.fossil.specs.Run.{RunsBy, IsWritten, is_done, reads_input, opens_file, asks_clock}
+use Rattle.fossil.specs.Run.{RunsBy, IsWritten, after_commits, is_done, reads_input, opens_file, asks_clock}
 use Rattle.fossil.specs.Synced.{Read, Objects, SyncsBy, asks_peer, dials, reached, objects_of}
 use Rattle.fossil.specs.Acts.{input_of, clock_of, output_of, file_of}
 use Rattle.fossil.specs.RunCall.{texts, RunsAlone, SyncsAs, ClonesAs}
@@ -20,8 +21,8 @@ use Rattle.fossil_lives.specs.declared.session.End.{End}
 use Rattle.fossil_lives.specs.declared.session.End.TheVariants as end_is
 use Rattle.fossil_lives.specs.declared.session.Session.{Session}
 use Rattle.fossil_lives.specs.declared.session.Past.{Past}
-use Rattle.fossil_lives.specs.Reboot.{IsRebooted}
-use Rattle.fossil_lives.specs.Stands.{Step, IsSettled, IsBehind}
+use Rattle.fossil_lives.specs.Reboot.{IsRebooted, IsKilled}
+use Rattle.fossil_lives.specs.Stands.{Step, Stands, IsSettled, IsBehind}
 
 -- what tells the state of each object
 pub record States (S K P N C D : Type 0) : Type 1 where
@@ -65,16 +66,24 @@ ran_of p = record { status = p.status; repo = p.ended.value; peer = p.session.pe
 
 -- ---- its end
 
--- the disk behind it: as a power failure at some moment since it began leaves it, or one behind it; or as the run left it, where it was done and nothing failed
+-- the disk behind it: as a power failure at some moment since it began leaves it, or the end of its process alone, or a power failure behind it; or as the run
+-- left it, where it was done and nothing failed
 abbrev pub IsEndedBy : {D : Type 0} → (D → DiskState) → End → ℕ → D → D → D → Type 0
 IsEndedBy disk end_is.Cut status began ended left = IsRebooted (disk began) (disk ended) (disk left)
+IsEndedBy disk end_is.Killed status began ended left = IsKilled (disk began) (disk ended) (disk left)
 IsEndedBy disk end_is.Heard status began ended left = IsRebooted (disk ended) (disk ended) (disk left)
 IsEndedBy disk end_is.Spared status began ended left = MatchBool (is_done status) (left ≡ ended) (IsRebooted (disk ended) (disk ended) (disk left))
 
--- whether somebody knows that it was done: the power didn't fail before its status was heard
+-- whether somebody knows that it was done: the power didn't fail before its status was heard, and its process ended by itself
 abbrev pub is_sure : End → ℕ → Bool
 is_sure end_is.Cut status = false
+is_sure end_is.Killed status = false
 is_sure _ status = is_done status
+
+-- whether its process was killed while the system went on
+abbrev pub is_killed : End → Bool
+is_killed end_is.Killed = true
+is_killed _ = false
 
 -- a run of this session over such a disk, and its end
 pub record IsRunOf {S K P N C D : Type 0} (states : States S K P N C D) (first : D) (s : Session S K P N C) (p : Past S K P N C D) (left : D) : Type 0 where
@@ -137,10 +146,40 @@ IsCovered command = (meets command ≡ false) ⊎ ((c : Command) × (command ≡
 abbrev pub AreCovered : {S K P N C : Type 0} → List (Session S K P N C) → Type 0
 AreCovered sessions = AllByRecursion (λ s. IsCovered (said (words_of s))) sessions
 
--- each run has commits, by what it was handed; and where the first disk stood for old records, the last one stands for these followed by first commits of the runs
+-- ---- what stands through them
+
+-- a run over what a process left that was killed makes this stable again: the system had made it so before; or it reads as a repository, which the run opens,
+-- and somebody knows that the run was done. Behind each other end this is no question
+abbrev pub IsFirm : {S K P N C D : Type 0} → States S K P N C D → Bool → Past S K P N C D → Type 0
+IsFirm states false p = ⊤
+IsFirm states true p =
+    ((held : List ℕ) × Only held (states.disk p.began.value).images)
+    ⊎ (Told (states.disk p.began.value) (λ held. (records : List Record) × IsFileOf held records)
+    × IsTrue (opens_file (words_of p.handed.value)) × IsTrue (is_sure p.handed.value.end p.status))
+
+-- so is each run behind one whose process was killed, which isn't the last one
+abbrev pub AreFirm : {S K P N C D : Type 0} → States S K P N C D → Bool → List (Past S K P N C D) → Type 0
+AreFirm states killed [] = killed ≡ false
+AreFirm states killed (p ∷ pasts) = IsFirm states killed p × AreFirm states (is_killed p.handed.value.end) pasts
+
+-- the disk before each run, and the last one, stands for the old records followed by none, some or all of the commits of each run before it, whole and in
+-- order; all of those of a run of which somebody knows that it was done. So each that was acknowledged stands from then on. Where a process was killed this
+-- goes on behind the next run that makes it stable
+abbrev pub StandThrough : {S K P N C D : Type 0} → States S K P N C D → Bool → List Record → List (Past S K P N C D) → List Step → D → Type 0
+StandThrough states killed old [] [] last = Stands killed old (states.disk last)
+StandThrough states killed old (p ∷ pasts) (step ∷ steps) last =
+    Stands killed old (states.disk p.began.value)
+    × (IsFirm states killed p →
+    (n : ℕ) × (n ≤ length step.commits) × (IsTrue step.sure → n ≡ length step.commits)
+    × StandThrough states (is_killed p.handed.value.end) (after_commits old step.commits n) pasts steps last)
+StandThrough states killed old _ _ last = ⊥
+
+-- each run has commits, by what it was handed; and where the first disk stood for old records, each disk behind it stands for these followed by first commits of
+-- the runs before it; so does the last one, if each end of a process alone was mended
 abbrev pub AllSurvive : {S K P N C D : Type 0} → States S K P N C D → D → List (Session S K P N C) → List (Past S K P N C D) → D → Type 0
 AllSurvive states first sessions pasts last =
     AreCovered sessions →
     (steps : List Step) × AreSteps states pasts steps
     × ((old : List Record) → IsModelled (states.disk first) → IsSettled old (states.disk first).images →
-    (records : List Record) × IsBehind old steps records × IsSettled records (states.disk last).images)
+    StandThrough states false old pasts steps last
+    × (AreFirm states false pasts → (records : List Record) × IsBehind old steps records × IsSettled records (states.disk last).images))

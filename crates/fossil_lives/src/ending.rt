@@ -40,6 +40,7 @@ pub(crate) fn end_run<D: Disk, R: Reboot<D>>(
 {
     match end {
         End::Cut => reboot.strike(began, disk),
+        End::Killed => reboot.kill(began, disk),
         End::Heard => strike_behind(disk, reboot),
         End::Spared => {
             if is_done(status) {

@@ -1,5 +1,6 @@
-//! Runs of the program over one disk, one after the other, each of which the power may cut off at any moment: behind all of them the
-//! file stands for what it stood for before, followed by some first commits of each run, whole and in order.
+//! Runs of the program over one disk, one after the other, each of which the power or the end of its process may cut off at any
+//! moment: before each of them, and behind all, the file stands for what it stood for first, followed by some first commits of each
+//! run before, whole and in order.
 #![tactic(auto)]
 
 mod ending;

@@ -106,10 +106,11 @@ pub struct Lives<S, K, P, N, C, D> {
 /// Makes runs of the program over one disk, one after the other, each over what the end of the one before it left. `Memory` is the
 /// only error, of the list of what is known of each and of a power failure; a run's own want of memory is its status 9.
 ///
-/// Where each command meets no peer or is a `pull`, a `push` or a `pull-local`, and each image of the disk stood for old records before, or was one content that is no repository
-/// (as an empty file, where the first command begins one), each image stands behind them for the old records followed by, for each run
-/// in order, none, some or all of the commits of its outcome, whole and in order: all, where it was done and the power didn't fail
-/// before its status was heard.
+/// Where each command meets no peer or is a `pull`, a `push` or a `pull-local`, and each image of the disk stood for old records
+/// before, or was one content that is no repository (as an empty file, where the first command begins one), each image stands before
+/// each run, and behind them all, for the old records followed by, for each run before, in order, none, some or all of the commits of
+/// its outcome, whole and in order: all, where it was done and the power didn't fail before its status was heard. Behind a process
+/// that was killed the disk reads so; and each image stands so again behind the next run, where this makes it stable.
 pub fn run_all<
     S: Source + Drop,
     K: Sink + Drop,

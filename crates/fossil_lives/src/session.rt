@@ -6,6 +6,8 @@ use std::snapshot::Snapshot;
 pub enum End {
     /// The power fails at some moment since the run began.
     Cut,
+    /// Its process is killed at some moment since the run began, and the system goes on.
+    Killed,
     /// It fails behind the run, whose status somebody heard.
     Heard,
     /// Nothing fails behind a run that was done, and the next one finds the disk as this one left it. A run that wasn't done ends

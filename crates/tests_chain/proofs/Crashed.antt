@@ -1,10 +1,10 @@
 -- What a crash of a disk in memory leaves, behind a fuse.
-use Rattle.std.specs.Prelude.{◌≡◌, ℕ, List, []}
+use Rattle.std.specs.Prelude.{◌≡◌, ℕ, List, [], Some}
 use Rattle.std.proofs.Common.{refl, sym, ap, subst, ◌∙◌}
 use Rattle.fsl_disk.specs.Change.{Leaves}
 use Rattle.fsl_disk.specs.Fuse.{Fused}
-use Rattle.fsl_disk.specs.Memory.{InMemory, held, memory_state, memory_counts}
-use Rattle.tests_chain.specs.Crashes.{IsCrashOf, IsImageOf, state_of}
+use Rattle.fsl_disk.specs.Memory.{InMemory, held, memory_state, memory_counts, reads_left}
+use Rattle.tests_chain.specs.Crashes.{IsCrashOf, IsImageOf, IsKeptOf, state_of}
 
 -- a disk with one of the images, all of it stable
 pub image_left : (ended left : Fused InMemory) (inner image : InMemory) (calls : ℕ) → inner ≡ ended.disk
@@ -39,3 +39,18 @@ let_be ended left inner calls same new = record {
       memory_counts ended.disk.first ended.disk.past t c
       (subst (λ (d : InMemory). Leaves d.first d.past c) (ap (λ (f : Fused InMemory). f.disk) new ∙ same) found);
 }
+
+-- it reads as one of the contents
+pub kept : (ended left : Fused InMemory) (inner : InMemory) (calls : ℕ) → inner ≡ ended.disk → left ≡ record { disk = inner; calls = calls; blown = 0 }
+    → IsKeptOf (state_of ended) (state_of left)
+kept ended left inner calls same new =
+    let stays = let_be ended left inner calls same new in
+    record {
+      modelled = stays.modelled;
+      kept = λ t. (
+        held ended.disk,
+        memory_counts ended.disk.first ended.disk.past t (held ended.disk) (reads_left ended.disk.first ended.disk.past),
+        ap (λ (d : InMemory). Some (held d)) (ap (λ (f : Fused InMemory). f.disk) new ∙ same),
+        stays.images t,
+      );
+    }

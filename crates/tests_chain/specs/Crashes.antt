@@ -16,3 +16,8 @@ pub record IsCrashOf (ended left : DiskState) : Type 0 where
 pub record IsImageOf (ended left : DiskState) : Type 0 where
   pub modelled : IsModelled ended → IsModelled left
   pub image : (t : ℕ) → (held : List ℕ) × ended.since t held × Only held left.images
+
+-- a disk of its kind that reads as one of these contents, and of which a crash leaves nothing but such
+pub record IsKeptOf (ended left : DiskState) : Type 0 where
+  pub modelled : IsModelled ended → IsModelled left
+  pub kept : (t : ℕ) → (held : List ℕ) × ended.since t held × (left.contents ≡ Some held) × ((c : List ℕ) → left.images c → ended.since t c)

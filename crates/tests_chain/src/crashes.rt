@@ -1,7 +1,7 @@
 //! What ends a step of a disk in memory that stops after so many calls.
 ghost use Rattle.std.specs.Prelude.{◌≡◌};
 ghost use Rattle.fsl_chain.specs.Chain.{IsLeftBy, IsSince};
-ghost use Rattle.tests_chain.specs.Crashes.{IsCrashOf, state_of};
+ghost use Rattle.tests_chain.specs.Crashes.{IsCrashOf, IsKeptOf, state_of};
 
 use fsl_chain::Outage;
 use fsl_disk::{FuseDisk, MemoryDisk};
@@ -23,8 +23,9 @@ pub fn stopping_after(alloc: Global, calls: u64) -> Result<Fused, Memory> {
 }
 
 /// The disk as it stands, with each of the images that a crash may leave, which stops after so many calls.
-fn all_of(disk: Fused, calls: u64) -> Fused
-    ensures { IsCrashOf (state_of disk) (state_of result) }
+pub fn all_of(disk: Fused, calls: u64) -> Fused
+    ensures crash { IsCrashOf (state_of disk) (state_of result) }
+    ensures kept { IsKeptOf (state_of disk) (state_of result) }
 {
     FuseDisk::new(disk.inner(), calls)
 }

@@ -8,4 +8,8 @@ mod lives;
 #[cfg(test)]
 mod openings;
 #[cfg(test)]
+mod reboots;
+#[cfg(test)]
+mod runs;
+#[cfg(test)]
 mod works;

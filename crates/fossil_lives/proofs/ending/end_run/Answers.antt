@@ -4,6 +4,10 @@ use Rattle.fossil_lives.specs.Reboot.{IsRebooted}
 use Rattle.fossil_lives.specs.Runs.{IsEndedBy}
 use Rattle.fossil_lives.proofs.ending.end_run.Goals as goal
 
+pub returns-in-Killed-clause-ended : goal.returns-in-Killed-clause-ended
+returns-in-Killed-clause-ended g c =
+    subst (λ e. IfOk c.kill.result (λ left. IsEndedBy (λ d. g.D.Disk.state d) e c.args.status c.args.began.value c.args.disk left)) (sym c.in-Killed.is) c.kill.ensures.killed
+
 pub returns-in-Heard-clause-ended : goal.returns-in-Heard-clause-ended
 returns-in-Heard-clause-ended g c =
     subst (λ e. IfOk c.strike_behind.result (λ left. IsEndedBy (λ d. g.D.Disk.state d) e c.args.status c.args.began.value c.args.disk left)) (sym c.in-Heard.is) c.strike_behind.ensures.rebooted
