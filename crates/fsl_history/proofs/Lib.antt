@@ -1,2 +1,4 @@
 pub mod Lists
+pub mod Beside
 pub mod Keeps
+pub mod Keeper

@@ -4,7 +4,7 @@ use mathlib.Core.Option.{some-injective}
 use Rattle.fsl_history.specs.Rule.{back_in}
 use Rattle.fsl_history.specs.Entries.{IsClosed}
 use Rattle.fsl_history.proofs.Lists.{unset, some_or}
-use Rattle.fsl_history.proofs.Keeps.{closes_at}
+use Rattle.fsl_history.proofs.Keeper.{closes_at}
 use Rattle.fsl_history.proofs.housed.emptied.Goals as goal
 
 pub close_with-closed-requires : goal.close_with-closed-requires

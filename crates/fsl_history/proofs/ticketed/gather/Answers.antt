@@ -1,7 +1,7 @@
 use Rattle.std.proofs.Common.{arith, sym, ap, ◌∙◌, [], ◌∷◌, ◌++◌}
 use Rattle.fsl_history.specs.declared.view.View.TheVariants as view
 use Rattle.fsl_history.specs.Plays.{gathered}
-use Rattle.fsl_history.proofs.Keeps.{joins_at}
+use Rattle.fsl_history.proofs.Keeper.{joins_at}
 use Rattle.fsl_history.proofs.ticketed.gather.Goals as goal
 
 pub join_seat-requires : goal.join_seat-requires

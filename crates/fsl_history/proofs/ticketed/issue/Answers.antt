@@ -2,7 +2,7 @@ use Rattle.std.proofs.Common.{arith, sym, ap, ◌∙◌, []}
 use Rattle.fsl_history.specs.Rule.{tale_in, most_turns}
 use Rattle.fsl_history.specs.Plays.{issued, after_issue}
 use Rattle.fsl_history.specs.Entries.{newcomer}
-use Rattle.fsl_history.proofs.Keeps.{splits_at, settled}
+use Rattle.fsl_history.proofs.Keeper.{splits_at, settled}
 use Rattle.fsl_history.proofs.ticketed.issue.Goals as goal
 
 pub split_seat-chair-requires : goal.split_seat-chair-requires

@@ -2,7 +2,7 @@ use Rattle.std.proofs.Common.{arith, sym, ap, subst, refl, ◌∙◌, ◌++◌, 
 use Rattle.std.specs.Prelude.{IsSome}
 use Rattle.atomic_table.specs.Table.{opening}
 use Rattle.fsl_history.specs.Rule.{Ruled, keeper}
-use Rattle.fsl_history.proofs.Keeps.{begins}
+use Rattle.fsl_history.proofs.Keeper.{begins}
 use Rattle.fsl_history.proofs.Lists.{some_or}
 use Rattle.fsl_history.proofs.housed.Housed.new.Goals as goal
 

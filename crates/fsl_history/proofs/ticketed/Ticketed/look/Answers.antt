@@ -1,7 +1,7 @@
 use Rattle.std.proofs.Common.{sym, ap, subst, ◌∙◌}
 use Rattle.fsl_history.specs.Rule.{tale_in}
 use Rattle.fsl_history.specs.Plays.{IsShown}
-use Rattle.fsl_history.proofs.Keeps.{settled}
+use Rattle.fsl_history.proofs.Keeper.{settled}
 use Rattle.fsl_history.proofs.ticketed.Ticketed.look.Goals as goal
 
 pub count-requires-clause-table : goal.count-requires-clause-table

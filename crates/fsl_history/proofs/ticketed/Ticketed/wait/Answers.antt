@@ -1,6 +1,7 @@
 use Rattle.std.proofs.Common.{arith, subst, sym, ap, ◌∙◌}
 use Rattle.fsl_history.specs.Plays.{Awaits, sat}
-use Rattle.fsl_history.proofs.Keeps.{awaits, its_turn, not_yet}
+use Rattle.fsl_history.proofs.Keeps.{awaits}
+use Rattle.fsl_history.proofs.Beside.{its_turn, not_yet}
 use Rattle.fsl_history.proofs.ticketed.Ticketed.wait.Goals as goal
 
 pub load-turn-requires : goal.load-turn-requires

@@ -1,7 +1,8 @@
 use Rattle.std.proofs.Common.{arith, sym, ap, subst, ◌∙◌, ◌++◌, ◌∷◌, [], Some}
 use Rattle.fsl_history.specs.Rule.{tale_in}
 use Rattle.fsl_history.specs.Plays.{IsCalled}
-use Rattle.fsl_history.proofs.Keeps.{settled, called_grows}
+use Rattle.fsl_history.proofs.Keeper.{settled}
+use Rattle.fsl_history.proofs.Beside.{called_grows}
 use Rattle.fsl_history.proofs.ticketed.TicketedTurns.turn.Goals as goal
 
 pub step-answer-requires-clause-table : goal.step-answer-requires-clause-table
