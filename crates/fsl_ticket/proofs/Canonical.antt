@@ -16,7 +16,6 @@ use Rattle.fsl_table.proofs.Facts.{same_facts}
 use Rattle.fsl_table.proofs.Finding.{same_found, same_units}
 use Rattle.fsl_table.proofs.Leading.{leads_back}
 use Rattle.fsl_table.proofs.Steps.{undoes-none, good_chain}
-use Rattle.fsl_ticket.specs.declared.entry.Entry.{Entry}
 use Rattle.fsl_ticket.specs.declared.field.TicketField.{TicketField}
 use Rattle.fsl_ticket.specs.declared.maps.Maps.{Maps}
 use Rattle.fsl_ticket.specs.declared.maps.Logs.{Logs}
@@ -24,7 +23,7 @@ use Rattle.fsl_ticket.specs.Seen.{Seen, IsAsBefore}
 use Rattle.fsl_ticket.specs.Newest.{newest_cmp}
 use Rattle.fsl_ticket.specs.NewestOrder.{newest_cmp-IsTotalOrder, newest_cmp-IsAntisymmetric}
 use Rattle.fsl_ticket.specs.FieldOrder.{field_cmp, exact_field}
-use Rattle.fsl_ticket.specs.Kept.{Lines, Spot, spot_cmp, Setting, Settings, setting_cmp, IsLaid, AreSets, IsKept, AreUndone, AreAsGood, TakesBack, rows_in, undone_maps, seen_of, fact_of, facts_of, entry_of, is_spot, is_setting}
+use Rattle.fsl_ticket.specs.Kept.{Lines, Spot, spot_cmp, Setting, setting_cmp, IsLaid, AreSets, IsKept, AreUndone, AreAsGood, TakesBack, undone_maps, seen_of, fact_of, facts_of, entry_of, is_spot, is_setting}
 
 pub spot_cmp-IsTotalOrder : IsTotalOrder spot_cmp
 spot_cmp-IsTotalOrder = within-IsTotalOrder bytes_cmp newest_cmp bytes_cmp-IsTotalOrder newest_cmp-IsTotalOrder

@@ -23,7 +23,7 @@ use Rattle.fsl_ticket.specs.declared.maps.Maps.{Maps}
 use Rattle.fsl_ticket.specs.Newest.{newest_cmp}
 use Rattle.fsl_ticket.specs.NewestOrder.{newest_cmp-IsTotalOrder, newest_cmp-IsAntisymmetric}
 use Rattle.fsl_ticket.specs.FieldOrder.{field_cmp, exact_field}
-use Rattle.fsl_ticket.specs.Kept.{Lines, Setting, Settings, setting, setting_cmp, AreSets, IsKept, rows_in, is_of, is_set, is_set_at, is_setting, is_kept_set, is_keyed, is_card_set, is_set_of, replaces}
+use Rattle.fsl_ticket.specs.Kept.{Lines, Setting, Settings, setting, setting_cmp, AreSets, IsKept, rows_in, is_of, is_set, is_set_at, is_setting, is_kept_set, is_keyed, is_card_set, is_set_of}
 use Rattle.fsl_ticket.specs.Walked.{Down, is_masked, is_newer}
 use Rattle.fsl_ticket.proofs.Canonical.{field_cmp-IsTotalOrder, setting_cmp-IsTotalOrder, setting_cmp-exact}
 use Rattle.fsl_ticket.proofs.Placing.{same_place}

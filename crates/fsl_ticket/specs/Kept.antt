@@ -9,7 +9,8 @@ use Rattle.std.specs.List.Sorted.{IsStrictlySortedBy}
 use Rattle.std.specs.Map.{keys_of}
 use Rattle.std.specs.declared.cmp.Ordering.{Ordering}
 use Rattle.fsl_order.specs.Names.{bytes_cmp, has}
-use Rattle.fsl_table.specs.Contents.{Contents, value_at}
+use Rattle.fsl_order.specs.Rows.{ListsChanged}
+use Rattle.fsl_table.specs.Contents.{Contents, value_at, with_entry}
 use Rattle.fsl_table.specs.Within.{within_cmp, is_second}
 use Rattle.fsl_table.specs.declared.within.Within.{Within}
 use Rattle.fsl_table.specs.Undo.{undone, CanUndo, IsAsGood, Undoes}
@@ -21,7 +22,7 @@ use Rattle.fsl_ticket.specs.declared.maps.Maps.{Maps}
 use Rattle.fsl_ticket.specs.declared.maps.Logs.{Logs}
 use Rattle.fsl_ticket.specs.declared.rows.Row.{Row}
 use Rattle.fsl_ticket.specs.Seen.{Seen, IsAsBefore}
-use Rattle.fsl_ticket.specs.Tickets.{fields}
+use Rattle.fsl_ticket.specs.Tickets.{fields, tickets_row}
 use Rattle.fsl_ticket.specs.Newest.{newest_cmp}
 use Rattle.fsl_ticket.specs.FieldOrder.{field_cmp}
 
@@ -62,6 +63,14 @@ entry_of f = record { date = f.date; id = f.id; changes = f.changes }
 
 abbrev pub facts_of : Lines → List Fact
 facts_of es = map fact_of es
+
+-- the changes with one more, or with another in the place of that of its name
+abbrev pub with_fact : Fact → Lines → Lines
+with_fact f es = with_entry bytes_cmp f.name (entry_of f) es
+
+-- a list has just the ids whose rows differ, ascending, where that change is put
+abbrev pub ListsOthers : List (List ℕ) → Lines → Fact → List (List ℕ) → Type 0
+ListsOthers configured es f = ListsChanged (tickets_row configured (facts_of es)) (tickets_row configured (facts_of (with_fact f es)))
 
 -- the changes, and the keys of their tickets
 pub record Rows : Type 0 where

@@ -5,8 +5,11 @@ use Rattle.std.specs.Str.{bytes_eq}
 use Rattle.std.specs.Ordering.{is_lt}
 use Rattle.fsl_order.specs.Names.{bytes_cmp}
 use Rattle.fsl_table.specs.Contents.{value_at, entries_after}
+use Rattle.fsl_table.specs.Within.{within}
+use Rattle.fsl_ticket.specs.declared.Fact.{Fact}
 use Rattle.fsl_ticket.specs.declared.FieldChange.{FieldChange}
 use Rattle.fsl_ticket.specs.declared.entry.Entry.{Entry}
+use Rattle.fsl_ticket.specs.declared.maps.Maps.{Maps}
 use Rattle.fsl_ticket.specs.Tickets.{after}
 use Rattle.fsl_ticket.specs.Newest.{newest_cmp}
 use Rattle.fsl_ticket.specs.Kept.{Lines, is_set_at}
@@ -64,3 +67,11 @@ is_other es cards p ws field = not (is_masked es p field ws) && not (bytes_eq (v
 abbrev pub is_row_other : List (List ℕ) → Lines → List FieldChange → ℕ × List ℕ → Down → Bool
 is_row_other configured es cards p [] = true
 is_row_other configured es cards p (w ∷ ws) = list_any (is_other es cards p (w ∷ ws)) configured
+
+-- the changes of the ticket of a change
+abbrev pub ticket_of : Maps → Fact → Down
+ticket_of m f = within bytes_cmp f.id m.spots.entries
+
+-- whether a change that isn't there makes another value of a field
+abbrev pub is_other_by : Maps → Fact → List ℕ → Bool
+is_other_by m f = is_other m.facts.entries f.changes (f.date, f.name) (ticket_of m f)

@@ -11,7 +11,7 @@ ghost use Rattle.fsl_table.proofs.Walk.{from};
 ghost use Rattle.fsl_ticket.specs.Kept.{IsKept, spot_cmp};
 ghost use Rattle.fsl_ticket.specs.Newest.{newest_cmp};
 ghost use Rattle.fsl_ticket.specs.Seen.{value_in};
-ghost use Rattle.fsl_ticket.specs.Walked.{made, is_other, is_row_other, names_of, value_below, value_down};
+ghost use Rattle.fsl_ticket.specs.Walked.{made, is_other_by, is_row_other, names_of, ticket_of, value_below, value_down};
 
 use crate::entry::Entry;
 use crate::maps::Maps;
@@ -89,7 +89,7 @@ fn is_other<L: Ledger>(
 ) -> Result<bool, Memory>
     requires kept { IsKept maps.now }
     requires own { (q : List ℕ) → value_in own.now.entries q ≡ made fact.now.changes q [] }
-    ensures { IfOk result (λ b. b ≡ is_other maps.now.facts.entries fact.now.changes (fact.now.date, fact.now.name) (within bytes_cmp fact.now.id maps.now.spots.entries) field.now) }
+    ensures { IfOk result (λ b. b ≡ is_other_by maps.now fact.now field.now) }
 {
     let place = Place::new(fact.date, fact.name);
     let value = values::value_of(own, field);
@@ -132,7 +132,7 @@ fn any_other<L: Ledger>(
 ) -> Result<bool, Memory>
     requires kept { IsKept maps.now }
     requires own { (q : List ℕ) → value_in own.now.entries q ≡ made fact.now.changes q [] }
-    ensures { IfOk result (λ b. b ≡ list_any (is_other maps.now.facts.entries fact.now.changes (fact.now.date, fact.now.name) (within bytes_cmp fact.now.id maps.now.spots.entries)) configured.now) }
+    ensures { IfOk result (λ b. b ≡ list_any (is_other_by maps.now fact.now) configured.now) }
 {
     for field in configured {
         if is_other(alloc, maps, fact, own, field, steps)? {
@@ -153,7 +153,7 @@ pub(crate) fn is_row_other<L: Ledger>(
     steps: &mut Steps<L>,
 ) -> Result<bool, Memory>
     requires { IsKept maps.now }
-    ensures { IfOk result (λ b. b ≡ is_row_other configured.now maps.now.facts.entries fact.now.changes (fact.now.date, fact.now.name) (within bytes_cmp fact.now.id maps.now.spots.entries)) }
+    ensures { IfOk result (λ b. b ≡ is_row_other configured.now maps.now.facts.entries fact.now.changes (fact.now.date, fact.now.name) (ticket_of maps.now fact.now)) }
 {
     if next_place(&maps.spots, fact.id, None, steps).is_none() {
         return Ok(true);

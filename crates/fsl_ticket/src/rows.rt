@@ -6,11 +6,10 @@ ghost use Rattle.std.specs.List.Sorted.{IsStrictlySortedBy};
 ghost use Rattle.std.specs.Map.{keys_of};
 ghost use Rattle.std.specs.Str.{bytes_eq};
 ghost use Rattle.fsl_order.specs.Names.{bytes_cmp, has};
-ghost use Rattle.fsl_order.specs.Rows.{by_name, AreDistinct, ListsChanged};
-ghost use Rattle.fsl_table.specs.Contents.{Contents, value_at, with_entry, without_key};
+ghost use Rattle.fsl_order.specs.Rows.{by_name, AreDistinct};
+ghost use Rattle.fsl_table.specs.Contents.{Contents, value_at, without_key};
 ghost use Rattle.fsl_table.specs.Undo.{Undoes};
-ghost use Rattle.fsl_ticket.specs.Kept.{AreTouched, AreUndone, IsKept, IsLaid, Spot, spot_cmp, entry_of, facts_of, if_other, is_id, is_same, row_of, is_spot};
-ghost use Rattle.fsl_ticket.specs.Tickets.{tickets_row};
+ghost use Rattle.fsl_ticket.specs.Kept.{AreTouched, AreUndone, IsKept, IsLaid, ListsOthers, Spot, spot_cmp, facts_of, if_other, is_id, is_same, row_of, is_spot, with_fact};
 ghost use Rattle.fsl_ticket.specs.declared.entry.Entry as entry_type;
 ghost use Rattle.fsl_ticket.specs.declared.maps.Maps as maps_type;
 
@@ -47,7 +46,7 @@ fn lay<L: Ledger>(
 ) -> Result<(), Memory>
     requires laid { IsLaid (record { facts = facts.old; spots = spots.old }) }
     requires absent { value_at bytes_cmp fact.name facts.old.entries ≡ None }
-    ensures entries { OnOk result (facts.new.entries ≡ with_entry bytes_cmp fact.name (entry_of fact) facts.old.entries) }
+    ensures entries { OnOk result (facts.new.entries ≡ with_fact fact facts.old.entries) }
     ensures laid { OnOk result (IsLaid (record { facts = facts.new; spots = spots.new })) }
     ensures undoes_facts { (before : Contents (List ℕ) entry_type.Entry) → Undoes bytes_cmp facts_log.old facts.old before → Undoes bytes_cmp facts_log.new facts.new before }
     ensures undoes_spots { (before : Contents Spot Unit) → Undoes spot_cmp spots_log.old spots.old before → Undoes spot_cmp spots_log.new spots.new before }
@@ -76,7 +75,7 @@ pub(crate) fn put_fact<L: Ledger>(
 ) -> Result<(), Memory>
     requires kept { IsKept maps.old }
     requires absent { value_at bytes_cmp fact.name maps.old.facts.entries ≡ None }
-    ensures entries { OnOk result (maps.new.facts.entries ≡ with_entry bytes_cmp fact.name (entry_of fact) maps.old.facts.entries) }
+    ensures entries { OnOk result (maps.new.facts.entries ≡ with_fact fact maps.old.facts.entries) }
     ensures kept { OnOk result (IsKept maps.new) }
     ensures undoes { (before : maps_type.Maps) → AreUndone logs.old maps.old before → AreUndone logs.new maps.new before }
 {
@@ -111,7 +110,7 @@ fn put_copy<L: Ledger>(
 ) -> Result<(), Memory>
     requires kept { IsKept maps.old }
     requires absent { value_at bytes_cmp fact.now.name maps.old.facts.entries ≡ None }
-    ensures entries { OnOk result (maps.new.facts.entries ≡ with_entry bytes_cmp fact.now.name (entry_of fact.now) maps.old.facts.entries) }
+    ensures entries { OnOk result (maps.new.facts.entries ≡ with_fact fact.now maps.old.facts.entries) }
     ensures kept { OnOk result (IsKept maps.new) }
 {
     let Ok(copy) = fact.copied(alloc) else {
@@ -358,7 +357,7 @@ fn replace_fact<L: Ledger>(
     steps: &mut Steps<L>,
 ) -> Result<(), Memory>
     requires kept { IsKept maps.old }
-    ensures entries { OnOk result (maps.new.facts.entries ≡ with_entry bytes_cmp fact.name (entry_of fact) maps.old.facts.entries) }
+    ensures entries { OnOk result (maps.new.facts.entries ≡ with_fact fact maps.old.facts.entries) }
     ensures kept { OnOk result (IsKept maps.new) }
     ensures undoes { (before : maps_type.Maps) → AreUndone logs.old maps.old before → AreUndone logs.new maps.new before }
 {
@@ -391,9 +390,9 @@ fn put_new<L: Ledger>(
 ) -> Result<List<Name>, Memory>
     requires kept { IsKept maps.old }
     requires absent { value_at bytes_cmp fact.name maps.old.facts.entries ≡ None }
-    ensures entries { OnOk result (maps.new.facts.entries ≡ with_entry bytes_cmp fact.name (entry_of fact) maps.old.facts.entries) }
+    ensures entries { OnOk result (maps.new.facts.entries ≡ with_fact fact maps.old.facts.entries) }
     ensures kept { OnOk result (IsKept maps.new) }
-    ensures changed { IfOk result (ListsChanged (tickets_row configured.now (facts_of maps.old.facts.entries)) (tickets_row configured.now (facts_of (with_entry bytes_cmp fact.name (entry_of fact) maps.old.facts.entries)))) }
+    ensures changed { IfOk result (ListsOthers configured.now maps.old.facts.entries fact) }
     ensures undoes { (before : maps_type.Maps) → AreUndone logs.old maps.old before → AreUndone logs.new maps.new before }
 {
     let id = fact.id;
@@ -417,9 +416,9 @@ fn put_again<L: Ledger>(
     steps: &mut Steps<L>,
 ) -> Result<List<Name>, Memory>
     requires kept { IsKept maps.old }
-    ensures entries { OnOk result (maps.new.facts.entries ≡ with_entry bytes_cmp fact.name (entry_of fact) maps.old.facts.entries) }
+    ensures entries { OnOk result (maps.new.facts.entries ≡ with_fact fact maps.old.facts.entries) }
     ensures kept { OnOk result (IsKept maps.new) }
-    ensures changed { IfOk result (ListsChanged (tickets_row configured.now (facts_of maps.old.facts.entries)) (tickets_row configured.now (facts_of (with_entry bytes_cmp fact.name (entry_of fact) maps.old.facts.entries)))) }
+    ensures changed { IfOk result (ListsOthers configured.now maps.old.facts.entries fact) }
     ensures undoes { (before : maps_type.Maps) → AreUndone logs.old maps.old before → AreUndone logs.new maps.new before }
 {
     let Ok(before) = rows_touched(
@@ -461,9 +460,9 @@ pub(crate) fn put_either<L: Ledger>(
     steps: &mut Steps<L>,
 ) -> Result<List<Name>, Memory>
     requires kept { IsKept maps.old }
-    ensures entries { OnOk result (maps.new.facts.entries ≡ with_entry bytes_cmp fact.name (entry_of fact) maps.old.facts.entries) }
+    ensures entries { OnOk result (maps.new.facts.entries ≡ with_fact fact maps.old.facts.entries) }
     ensures kept { OnOk result (IsKept maps.new) }
-    ensures changed { IfOk result (ListsChanged (tickets_row configured.now (facts_of maps.old.facts.entries)) (tickets_row configured.now (facts_of (with_entry bytes_cmp fact.name (entry_of fact) maps.old.facts.entries)))) }
+    ensures changed { IfOk result (ListsOthers configured.now maps.old.facts.entries fact) }
     ensures undoes { (before : maps_type.Maps) → AreUndone logs.old maps.old before → AreUndone logs.new maps.new before }
 {
     if maps.facts.get(&fact.name, steps).is_none() {
