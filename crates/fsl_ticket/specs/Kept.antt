@@ -89,7 +89,7 @@ replaces card field = bytes_eq card.field field && not card.append
 
 -- whether J cards replace a field
 abbrev pub is_set : List FieldChange → List ℕ → Bool
-is_set cards field = list_any (λ card. bytes_eq card.field field && not card.append) cards
+is_set cards field = list_any (λ card. replaces card field) cards
 
 -- whether a change replaces a field, where it is there
 abbrev pub is_set_at : Option Entry → List ℕ → Bool

@@ -127,8 +127,8 @@ impl Tickets {
         }
     }
 
-    /// Adds a change whose name isn't there, which is moved. It takes time by the logarithm of all changes for each of its cards and each
-    /// configured field. Where it replaces such a field and no newer change of the ticket does, it also passes the older ones down to
+    /// Adds a change whose name isn't there, which is moved. It looks at its cards once for each configured field, and takes time by the
+    /// logarithm of all changes for each of its cards and of these fields. Where it replaces such a field and no newer change of the ticket does, it also passes the older ones down to
     /// the last that did: as long as none is changed or taken back, each is passed so once for a field, and once more as the last, so
     /// n changes take time by n log n in whatever order they come, as far as the number of their cards and of the configured fields
     /// stays the same. `Memory` is the only error, and the table then holds what it held.
