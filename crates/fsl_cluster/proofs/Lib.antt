@@ -1,3 +1,4 @@
+pub mod Crossing
 pub mod FactLemmas
 pub mod Turning
 pub mod Listing

@@ -1,5 +1,5 @@
 -- What the maps keep: with one fact more, with one less, and with one that becomes public.
-use Rattle.std.proofs.Common.{◌≡◌, ℕ, List, true, false, not, ◌||◌, ◌&&◌, Some, None, is_some, option_and_then, sym, ap, subst, ◌∙◌}
+use Rattle.std.proofs.Common.{◌≡◌, ℕ, List, true, false, not, ◌||◌, ◌&&◌, Some, None, option_and_then, sym, ap, subst, ◌∙◌}
 use Rattle.std.specs.Str.{bytes_eq}
 use Rattle.std.specs.BTreeMap.{is_at}
 use Rattle.std.specs.List.Sorted.{IsStrictlySortedBy}
@@ -9,26 +9,14 @@ use Rattle.fsl_order.proofs.Orders.{bytes_cmp-IsTotalOrder}
 use Rattle.fsl_table.specs.declared.key.Pair.{Pair}
 use Rattle.fsl_table.specs.Exact.{pair_cmp}
 use Rattle.fsl_table.specs.Contents.{value_at, with_entry, without_key}
-use Rattle.fsl_table.specs.Pairs.{is_name}
 use Rattle.fsl_table.proofs.Entries.{sorted-insert_entry, sorted-remove_entry}
 use Rattle.fsl_cluster.specs.declared.entry.Entry.{Entry}
 use Rattle.fsl_cluster.specs.declared.tables.Tables.{Tables}
-use Rattle.fsl_cluster.specs.Kept.{Entries, ArePairs, AreLaid, IsKept, lists, is_listed, is_named, is_public, is_in, is_free, is_absent, is_unheld, is_freed}
+use Rattle.fsl_cluster.specs.Kept.{AreFewer, AreMore, Entries, ArePairs, AreLaid, IsKept, lists, is_listed, is_named, is_public, is_in, is_free, is_absent, is_unheld, is_freed}
 use Rattle.fsl_cluster.proofs.Listing.{named_is, pairs_with, pairs_without, pairs_over}
 use Rattle.fsl_cluster.proofs.Laying.{free_with, absent_with, free_less, absent_less, free_over, absent_over}
 
-abbrev Pairs : Type 0
-Pairs = List (Pair × Unit {0})
-
--- the pairs of a list after its names were put in
-abbrev pub AreMore : Pairs → Pairs → List ℕ → List (List ℕ) → Type 0
-AreMore ps rs name l = (k : Pair) → is_some (value_at pair_cmp k rs) ≡ (is_some (value_at pair_cmp k ps) || (is_name k.second name && has l k.first))
-
--- and after they were taken out
-abbrev pub AreFewer : Pairs → Pairs → List ℕ → List (List ℕ) → Type 0
-AreFewer ps rs name l = (k : Pair) → is_some (value_at pair_cmp k rs) ≡ (not (is_name k.second name && has l k.first) && is_some (value_at pair_cmp k ps))
-
-moved : (f : Entry → List (List ℕ)) (es fs : Entries) (ps : Pairs) → fs ≡ es → ArePairs f es ps → ArePairs f fs ps
+moved : (f : Entry → List (List ℕ)) (es fs : Entries) (ps : List (Pair × Unit {0})) → fs ≡ es → ArePairs f es ps → ArePairs f fs ps
 moved f es fs ps e pairs k = pairs k ∙ ap (λ es. lists f (option_and_then (λ c. value_at bytes_cmp c es) k.second) k.first) (sym e)
 
 pub laid_with : (t s : Tables) (name : List ℕ) (v : Entry) → AreLaid t → value_at bytes_cmp name t.facts.entries ≡ None → s.facts.entries ≡ with_entry bytes_cmp name v t.facts.entries

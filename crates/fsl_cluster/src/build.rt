@@ -1,15 +1,13 @@
 //! The maps of many facts at once.
-ghost use Rattle.std.specs.Prelude.{ℕ, List, ◌≡◌, ◌||◌, ◌&&◌, [], map, is_some, IfOk, OnOk, None, IsPermutation};
+ghost use Rattle.std.specs.Prelude.{ℕ, List, ◌≡◌, ◌||◌, [], map, IfOk, OnOk, None, IsPermutation};
 ghost use Rattle.std.specs.List.Sorted.{IsStrictlySortedBy};
 ghost use Rattle.std.specs.Map.{keys_of};
 ghost use Rattle.fsl_order.specs.Names.{bytes_cmp, has};
 ghost use Rattle.fsl_order.specs.Rows.{by_name, AreDistinct};
 ghost use Rattle.fsl_table.specs.Contents.{value_at, with_entry};
 ghost use Rattle.fsl_table.specs.Exact.{pair_cmp};
-ghost use Rattle.fsl_table.specs.Pairs.{is_name};
-ghost use Rattle.fsl_table.specs.declared.key.Pair as pair;
 ghost use Rattle.fsl_cluster.specs.Clusters as table;
-ghost use Rattle.fsl_cluster.specs.Kept.{AreLaid, IsKept, entry_of, facts_of, is_in};
+ghost use Rattle.fsl_cluster.specs.Kept.{AreLaid, AreMore, IsKept, entry_of, facts_of, is_in};
 
 use crate::Fact;
 use crate::entry::{Entry, entry_from};
@@ -69,7 +67,7 @@ fn lay_pairs<L: Ledger>(
     others: &[Name],
     steps: &mut Steps<L>,
 ) -> Result<(), Memory>
-    ensures pairs { OnOk result ((k : pair.Pair) → is_some (value_at pair_cmp k pairs.new.entries) ≡ (is_some (value_at pair_cmp k pairs.old.entries) || (is_name k.second name && has others.now k.first))) }
+    ensures pairs { OnOk result (AreMore pairs.old.entries pairs.new.entries name others.now) }
     ensures ordered { OnOk result (IsStrictlySortedBy pair_cmp (keys_of pairs.old.entries) → IsStrictlySortedBy pair_cmp (keys_of pairs.new.entries)) }
 {
     let mut log = Log::new(alloc);

@@ -8,55 +8,52 @@ ghost use Rattle.fsl_cluster.specs.Clusters as table;
 
 use super::Fact;
 use super::build::{copies, tables_of};
+use super::maps::{Maps, Ways};
 use super::rows::{put_new, put_over};
-use super::tables::{Logs, Tables, undo_all};
+use super::tables::Tables;
 use fsl_name::Name;
 use fsl_table::keys::keys;
 use fsl_text::{List, Memory, Steps};
 use std::alloc::Global;
 use std::marker::{Brand, Model};
-use std::snapshot::Snapshot;
 use std::sync::ledger::{Blank, Ledger};
 
 /// The unclustered and the missing names of held artifacts. Contracts see it as the facts by name, and the room that its maps have
 /// to spare.
 #[derive(Drop)]
 pub struct Clusters {
-    pub(crate) tables: Tables,
+    pub(crate) maps: Maps,
 }
 
 impl Model for Clusters {
     ghost use Rattle.fsl_order.specs.TableState.{TableState};
     ghost use Rattle.fsl_cluster.specs.declared.Fact.{Fact};
-    ghost use Rattle.fsl_cluster.specs.Kept.{held_of, IsKept};
+    ghost use Rattle.fsl_cluster.specs.Kept.{held_of, tables_in, IsKept};
 
     ghost Value = { TableState Fact };
 
-    ghost view = { λ c. held_of c.tables };
+    ghost view = { λ c. held_of (tables_in c.maps) };
 
-    ghost invariant = { λ c. IsKept c.tables };
+    ghost invariant = { λ c. IsKept (tables_in c.maps) };
 }
 
 /// What takes a change back, and the names whose rows it changed. Contracts see it as both, with the table before and after.
 #[derive(Drop)]
 pub struct Undo {
-    logs: Logs,
+    ways: Ways,
     changed: List<Name>,
-    before: Snapshot<Clusters>,
-    after: Snapshot<Clusters>,
 }
 
 impl Model for Undo {
-    ghost use Rattle.fsl_order.specs.TableState.{Change, IsAsBefore};
+    ghost use Rattle.fsl_order.specs.TableState.{Change};
     ghost use Rattle.fsl_cluster.specs.declared.Fact.{Fact};
-    ghost use Rattle.fsl_cluster.specs.declared.tables.Tables as maps;
-    ghost use Rattle.fsl_cluster.specs.Kept.{IsKept, held_of, TakesBack};
+    ghost use Rattle.fsl_cluster.specs.Kept.{IsKept, ends_of, held_of, starts_of};
 
     ghost Value = { Change Fact };
 
-    ghost view = { λ u. record { before = u.before.value; after = u.after.value; changed = u.changed } };
+    ghost view = { λ u. record { before = held_of (starts_of u.ways); after = held_of (ends_of u.ways); changed = u.changed } };
 
-    ghost invariant = { λ u. (now : maps.Tables) → IsKept now → IsAsBefore u.after.value (held_of now) → TakesBack u.logs u.before.value now };
+    ghost invariant = { λ u. IsKept (starts_of u.ways) × IsKept (ends_of u.ways) };
 }
 
 impl Undo {
@@ -74,7 +71,7 @@ impl Clusters {
         ensures { result.facts ≡ [] }
     {
         Clusters {
-            tables: Tables::new(alloc),
+            maps: Maps::of(alloc, Tables::new(alloc)),
         }
     }
 
@@ -108,7 +105,9 @@ impl Clusters {
     {
         let mut steps: Steps<L> = Steps::new(blank);
         let tables = tables_of(alloc, facts, &mut steps)?;
-        Ok(Clusters { tables })
+        Ok(Clusters {
+            maps: Maps::of(alloc, tables),
+        })
     }
 
     /// Adds an artifact whose name isn't there. `Memory` is the only error, and the table then holds what it held. It takes at most
@@ -127,20 +126,14 @@ impl Clusters {
         ensures err { OnErr result (IsAsBefore self.old self.new) }
         ensures cost { steps.new ≤ steps.old + 6 * (1 + length fact.members + length fact.refs) }
     {
-        let before = Snapshot::of(&*self);
-        let mut logs = Logs::new(alloc);
-        match put_new(alloc, &mut self.tables, &mut logs, fact, steps) {
-            Ok(changed) => {
-                let after = Snapshot::of(&*self);
-                Ok(Undo {
-                    logs,
-                    changed,
-                    before,
-                    after,
-                })
-            }
+        self.maps.begin();
+        match put_new(alloc, &mut self.maps, fact, steps) {
+            Ok(changed) => Ok(Undo {
+                ways: self.maps.ways(alloc),
+                changed,
+            }),
             Err(Memory) => {
-                undo_all(&mut self.tables, logs, steps);
+                self.maps.turn_back(steps);
                 Err(Memory)
             }
         }
@@ -162,20 +155,14 @@ impl Clusters {
         ensures err { OnErr result (IsAsBefore self.old self.new) }
         ensures cost { named (λ f. f.name) self.old.facts fact.name ≡ Some (record fact { private = true }) → fact.private ≡ false → steps.new ≤ steps.old + 6 }
     {
-        let before = Snapshot::of(&*self);
-        let mut logs = Logs::new(alloc);
-        match put_over(alloc, &mut self.tables, &mut logs, fact, steps) {
-            Ok(changed) => {
-                let after = Snapshot::of(&*self);
-                Ok(Undo {
-                    logs,
-                    changed,
-                    before,
-                    after,
-                })
-            }
+        self.maps.begin();
+        match put_over(alloc, &mut self.maps, fact, steps) {
+            Ok(changed) => Ok(Undo {
+                ways: self.maps.ways(alloc),
+                changed,
+            }),
             Err(Memory) => {
-                undo_all(&mut self.tables, logs, steps);
+                self.maps.turn_back(steps);
                 Err(Memory)
             }
         }
@@ -197,8 +184,8 @@ impl Clusters {
         ensures { IsAsBefore undo.before self.new }
     {
         let mut steps: Steps<L> = Steps::new(blank);
-        let Undo { logs, .. } = undo;
-        undo_all(&mut self.tables, logs, &mut steps);
+        let Undo { ways, .. } = undo;
+        self.maps.undo(ways, &mut steps);
     }
 
     /// The names of the public artifacts that stand in no M card of a held cluster, ascending. `Memory` is the only
@@ -220,7 +207,7 @@ impl Clusters {
         ensures { IfOk result (λ names. names ≡ table.unclustered self.now.facts) }
     {
         let mut steps: Steps<L> = Steps::new(blank);
-        keys(alloc, &self.tables.unclustered, &mut steps)
+        keys(alloc, self.maps.unclustered.map(), &mut steps)
     }
 
     /// The names that a held artifact refers to and that aren't held, ascending. `Memory` is the only error.
@@ -237,6 +224,6 @@ impl Clusters {
         ensures { IfOk result (λ names. names ≡ table.missing self.now.facts) }
     {
         let mut steps: Steps<L> = Steps::new(blank);
-        keys(alloc, &self.tables.missing, &mut steps)
+        keys(alloc, self.maps.missing.map(), &mut steps)
     }
 }

@@ -15,14 +15,14 @@ impl Clusters {
     pub fn unclustered_count(&self) -> u64
         ensures { result ≡ length (table.unclustered self.now.facts) }
     {
-        self.tables.unclustered.len()
+        self.maps.unclustered.map().len()
     }
 
     /// How many names a held artifact refers to that aren't held.
     pub fn missing_count(&self) -> u64
         ensures { result ≡ length (table.missing self.now.facts) }
     {
-        self.tables.missing.len()
+        self.maps.missing.map().len()
     }
 
     /// Whether a held artifact refers to this name, and it isn't held.
@@ -39,6 +39,6 @@ impl Clusters {
         ensures { result ≡ has (table.missing self.now.facts) name }
     {
         let mut steps: Steps<L> = Steps::new(blank);
-        is_entered(&self.tables.missing, &name, &mut steps)
+        is_entered(&self.maps.missing, &name, &mut steps)
     }
 }

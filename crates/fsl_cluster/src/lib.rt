@@ -9,6 +9,7 @@ mod clusters;
 mod counts;
 mod entry;
 mod gather;
+mod maps;
 mod name_set;
 mod rows;
 mod sets;

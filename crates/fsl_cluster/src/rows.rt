@@ -1,5 +1,5 @@
 //! The rows of clusters: a fact put into the maps and taken out of them.
-ghost use Rattle.std.specs.Prelude.{ℕ, List, Bool, ◌≡◌, ◌+◌, ◌*◌, ◌≤◌, length, OnOk, OnErr, IfOk, None, true, false, not, is_some, ◌&&◌, ◌||◌};
+ghost use Rattle.std.specs.Prelude.{ℕ, List, ◌≡◌, ◌+◌, ◌*◌, ◌≤◌, length, OnOk, OnErr, IfOk, None, true, false, not, is_some, ◌&&◌, ◌||◌};
 ghost use Rattle.std.specs.Str.{bytes_eq};
 ghost use Rattle.std.specs.List.Sorted.{IsStrictlySortedBy};
 ghost use Rattle.std.specs.Map.{keys_of};
@@ -7,24 +7,20 @@ ghost use Rattle.std.specs.Cmp.Lexicographic.{pointwise};
 ghost use Rattle.fsl_order.specs.Names.{bytes_cmp, has};
 ghost use Rattle.fsl_order.specs.Rows.{ListsChanged};
 ghost use Rattle.fsl_table.specs.Exact.{pair_cmp};
-ghost use Rattle.fsl_table.specs.Contents.{Contents, with_entry, without_key, value_at};
-ghost use Rattle.fsl_table.specs.Pairs.{is_name};
-ghost use Rattle.fsl_table.specs.Undo.{Undoes};
-ghost use Rattle.fsl_table.specs.declared.key.Pair as pair;
-ghost use Rattle.fsl_cluster.specs.declared.tables.Tables as maps;
-ghost use Rattle.fsl_cluster.specs.Kept.{AreFlipped, AreTurned, AreUndone, IsKept, entry_of, facts_of, is_freed, is_in, is_named, is_unheld, logged, publishes};
+ghost use Rattle.fsl_table.specs.Contents.{with_entry, without_key, value_at};
+ghost use Rattle.fsl_cluster.specs.Kept.{AreFewer, AreFreed, AreLost, AreMissed, AreMore, IsKept, StayFlipped, StayTurned, entry_of, facts_of, is_named, is_publication, stands, steps_back, tables_before, tables_in};
 ghost use Rattle.fsl_cluster.specs.Clusters.{clusters_row};
 
 use crate::Fact;
 use crate::entry::{Entry, entry_from};
+use crate::maps::Maps;
 use crate::sets::{
     enter_wanted, flip_wanted, is_first, put_missing, put_unclustered, take_missing, take_names,
 };
-use crate::tables::{Flips, Logs, Tables};
+use crate::tables::Flips;
 use fsl_name::Name;
 use fsl_table::names::{listed, note_all};
-use fsl_table::pairs::{link_each, unlink_each};
-use fsl_table::{Log, Pair, Table, log};
+use fsl_table::{Pair, Tracked};
 use fsl_text::{List, Memory, Steps};
 use std::alloc::Global;
 use std::collections::BTreeSet;
@@ -44,43 +40,42 @@ fn all_turned(alloc: Global, flips: &Flips) -> Result<List<Name>, Memory>
 }
 
 /// Makes a name unclustered that isn't, where it is wanted, and tells all names that were turned over. The list is made before the
-/// name is put in, so that after `Memory` the log is as before.
+/// name is put in, so that after `Memory` the set is as before.
 fn enter_last<L: Ledger>(
     alloc: Global,
-    unclustered: &mut Table<Name, ()>,
-    log: &mut Log<Name, ()>,
+    unclustered: &mut Tracked<Name, ()>,
     flips: &mut Flips,
     name: Name,
     wanted: bool,
     steps: &mut Steps<L>,
 ) -> Result<List<Name>, Memory>
-    requires ordered { IsStrictlySortedBy bytes_cmp (keys_of unclustered.old.entries) }
-    requires absent { is_in unclustered.old.entries name ≡ false }
-    ensures names { OnOk result ((q : List ℕ) → is_in unclustered.new.entries q ≡ (is_in unclustered.old.entries q || (bytes_eq q name && wanted))) }
-    ensures turned { OnOk result ((before : List ℕ → Bool) → AreTurned before flips.old.unclustered.keys unclustered.old.entries → AreTurned before flips.new.unclustered.keys unclustered.new.entries) }
+    requires ordered { IsStrictlySortedBy bytes_cmp (keys_of unclustered.old.held.entries) }
+    requires absent { stands unclustered.old.held name ≡ false }
+    ensures names { OnOk result ((q : List ℕ) → stands unclustered.new.held q ≡ (stands unclustered.old.held q || (bytes_eq q name && wanted))) }
+    ensures turned { OnOk result (StayTurned flips.old.unclustered.keys unclustered.old.held flips.new.unclustered.keys unclustered.new.held) }
     ensures missing { flips.new.missing ≡ flips.old.missing }
     ensures list { IfOk result (λ list. (q : List ℕ) → has list q ≡ (has flips.new.missing.keys q || has flips.new.unclustered.keys q)) }
     ensures rising { IfOk result (λ list. IsStrictlySortedBy bytes_cmp list) }
-    ensures ordered { OnOk result (IsStrictlySortedBy bytes_cmp (keys_of unclustered.new.entries)) }
-    ensures undoes { (before : Contents (List ℕ) Unit) → Undoes bytes_cmp log.old unclustered.old before → Undoes bytes_cmp log.new unclustered.new before }
+    ensures ordered { OnOk result (IsStrictlySortedBy bytes_cmp (keys_of unclustered.new.held.entries)) }
+    ensures was { unclustered.new.was ≡ unclustered.old.was }
     ensures most { steps.new ≤ steps.old + 1 }
-    ensures kept { OnErr result (log.new ≡ log.old) }
+    ensures err { OnErr result (unclustered.new ≡ unclustered.old) }
 {
     flip_wanted(&mut flips.unclustered, name, wanted)?;
     let list = all_turned(alloc, flips)?;
-    enter_wanted(unclustered, log, name, wanted, steps)?;
+    enter_wanted(unclustered, name, wanted, steps)?;
     Ok(list)
 }
 
 /// Whether a new fact is unclustered, once its members are in the pairs.
 fn is_unclustered<L: Ledger>(
     private: bool,
-    members: &Table<Pair, ()>,
+    members: &Tracked<Pair, ()>,
     name: Name,
     steps: &mut Steps<L>,
 ) -> bool
-    requires { IsStrictlySortedBy pair_cmp (keys_of members.now.entries) }
-    ensures is { result ≡ (not private && not (is_named members.now.entries name)) }
+    requires { IsStrictlySortedBy pair_cmp (keys_of members.now.held.entries) }
+    ensures is { result ≡ (not private && not (is_named members.now.held.entries name)) }
     ensures most { steps.new ≤ steps.old + 1 }
 {
     if private {
@@ -89,73 +84,60 @@ fn is_unclustered<L: Ledger>(
     !is_first(members, name, steps)
 }
 
-/// Puts the pairs of a new fact in. After `Memory` a part may be done; the logs have it.
+/// Puts the pairs of a new fact in. After `Memory` a part may be done.
 fn link_both<L: Ledger>(
-    members: &mut Table<Pair, ()>,
-    members_log: &mut Log<Pair, ()>,
-    refs: &mut Table<Pair, ()>,
-    refs_log: &mut Log<Pair, ()>,
+    members: &mut Tracked<Pair, ()>,
+    refs: &mut Tracked<Pair, ()>,
     fact: &Fact,
     steps: &mut Steps<L>,
 ) -> Result<(), Memory>
-    requires members_ordered { IsStrictlySortedBy pair_cmp (keys_of members.old.entries) }
-    requires refs_ordered { IsStrictlySortedBy pair_cmp (keys_of refs.old.entries) }
-    ensures members { OnOk result ((k : pair.Pair) → is_some (value_at pair_cmp k members.new.entries) ≡ (is_some (value_at pair_cmp k members.old.entries) || (is_name k.second fact.now.name && has fact.now.members k.first))) }
-    ensures refs { OnOk result ((k : pair.Pair) → is_some (value_at pair_cmp k refs.new.entries) ≡ (is_some (value_at pair_cmp k refs.old.entries) || (is_name k.second fact.now.name && has fact.now.refs k.first))) }
-    ensures members_ordered { OnOk result (IsStrictlySortedBy pair_cmp (keys_of members.new.entries)) }
-    ensures refs_ordered { OnOk result (IsStrictlySortedBy pair_cmp (keys_of refs.new.entries)) }
-    ensures undoes_members { (before : Contents pair.Pair Unit) → Undoes pair_cmp members_log.old members.old before → Undoes pair_cmp members_log.new members.new before }
-    ensures undoes_refs { (before : Contents pair.Pair Unit) → Undoes pair_cmp refs_log.old refs.old before → Undoes pair_cmp refs_log.new refs.new before }
+    requires members_ordered { IsStrictlySortedBy pair_cmp (keys_of members.old.held.entries) }
+    requires refs_ordered { IsStrictlySortedBy pair_cmp (keys_of refs.old.held.entries) }
+    ensures members { OnOk result (AreMore members.old.held.entries members.new.held.entries fact.now.name fact.now.members) }
+    ensures refs { OnOk result (AreMore refs.old.held.entries refs.new.held.entries fact.now.name fact.now.refs) }
+    ensures members_ordered { OnOk result (IsStrictlySortedBy pair_cmp (keys_of members.new.held.entries)) }
+    ensures refs_ordered { OnOk result (IsStrictlySortedBy pair_cmp (keys_of refs.new.held.entries)) }
+    ensures members_was { members.new.was ≡ members.old.was }
+    ensures refs_was { refs.new.was ≡ refs.old.was }
     ensures cost { steps.new ≤ steps.old + (length fact.now.members + length fact.now.refs) }
-    ensures logged { length members_log.new + length refs_log.new ≤ length members_log.old + length refs_log.old + (length fact.now.members + length fact.now.refs) }
+    ensures back { members.new.back + refs.new.back ≤ members.old.back + refs.old.back + (length fact.now.members + length fact.now.refs) }
 {
-    link_each(members, members_log, fact.name, fact.members.items(), steps)?;
-    link_each(refs, refs_log, fact.name, fact.refs.items(), steps)
+    members.link_each(fact.name, fact.members.items(), steps)?;
+    refs.link_each(fact.name, fact.refs.items(), steps)
 }
 
-/// Puts the names of a new fact into the pairs and into the sets. After `Memory` a part may be done; the logs have it.
+/// Puts the names of a new fact into the pairs and into the sets. After `Memory` a part may be done.
 fn spread<L: Ledger>(
-    tables: &mut Tables,
-    logs: &mut Logs,
+    maps: &mut Maps,
     flips: &mut Flips,
     fact: &Fact,
     steps: &mut Steps<L>,
 ) -> Result<(), Memory>
-    requires kept { IsKept tables.old }
-    ensures facts { tables.new.facts ≡ tables.old.facts }
-    ensures facts_log { logs.new.facts ≡ logs.old.facts }
-    ensures members { OnOk result ((k : pair.Pair) → is_some (value_at pair_cmp k tables.new.members.entries) ≡ (is_some (value_at pair_cmp k tables.old.members.entries) || (is_name k.second fact.now.name && has fact.now.members k.first))) }
-    ensures refs { OnOk result ((k : pair.Pair) → is_some (value_at pair_cmp k tables.new.refs.entries) ≡ (is_some (value_at pair_cmp k tables.old.refs.entries) || (is_name k.second fact.now.name && has fact.now.refs k.first))) }
-    ensures unclustered { OnOk result ((q : List ℕ) → is_in tables.new.unclustered.entries q ≡ (is_in tables.old.unclustered.entries q && not (has fact.now.members q))) }
-    ensures missing { OnOk result ((q : List ℕ) → is_in tables.new.missing.entries q ≡ ((is_in tables.old.missing.entries q || (has fact.now.refs q && is_unheld tables.old.facts.entries fact.now.name q)) && not (bytes_eq q fact.now.name))) }
-    ensures flips { OnOk result ((before : maps.Tables) → AreFlipped before flips.old tables.old → AreFlipped before flips.new tables.new) }
-    ensures members_ordered { OnOk result (IsStrictlySortedBy pair_cmp (keys_of tables.new.members.entries)) }
-    ensures refs_ordered { OnOk result (IsStrictlySortedBy pair_cmp (keys_of tables.new.refs.entries)) }
-    ensures unclustered_ordered { OnOk result (IsStrictlySortedBy bytes_cmp (keys_of tables.new.unclustered.entries)) }
-    ensures missing_ordered { OnOk result (IsStrictlySortedBy bytes_cmp (keys_of tables.new.missing.entries)) }
-    ensures undoes { (before : maps.Tables) → AreUndone logs.old tables.old before → AreUndone logs.new tables.new before }
+    requires kept { IsKept (tables_in maps.old) }
+    ensures facts { maps.new.facts ≡ maps.old.facts }
+    ensures members { OnOk result (AreMore maps.old.members.held.entries maps.new.members.held.entries fact.now.name fact.now.members) }
+    ensures refs { OnOk result (AreMore maps.old.refs.held.entries maps.new.refs.held.entries fact.now.name fact.now.refs) }
+    ensures unclustered { OnOk result ((q : List ℕ) → stands maps.new.unclustered.held q ≡ (stands maps.old.unclustered.held q && not (has fact.now.members q))) }
+    ensures missing { OnOk result (AreMissed maps.old.facts.held fact.now.name fact.now.refs maps.old.missing.held maps.new.missing.held) }
+    ensures flips { OnOk result (StayFlipped flips.old maps.old flips.new maps.new) }
+    ensures members_ordered { OnOk result (IsStrictlySortedBy pair_cmp (keys_of maps.new.members.held.entries)) }
+    ensures refs_ordered { OnOk result (IsStrictlySortedBy pair_cmp (keys_of maps.new.refs.held.entries)) }
+    ensures unclustered_ordered { OnOk result (IsStrictlySortedBy bytes_cmp (keys_of maps.new.unclustered.held.entries)) }
+    ensures missing_ordered { OnOk result (IsStrictlySortedBy bytes_cmp (keys_of maps.new.missing.held.entries)) }
+    ensures was { tables_before maps.new ≡ tables_before maps.old }
     ensures cost { steps.new ≤ steps.old + (1 + 2 * length fact.now.members + 3 * length fact.now.refs) }
-    ensures logged { logged logs.new ≤ logged logs.old + (1 + 2 * length fact.now.members + 2 * length fact.now.refs) }
+    ensures back { steps_back maps.new ≤ steps_back maps.old + (1 + 2 * length fact.now.members + 2 * length fact.now.refs) }
 {
-    link_both(
-        &mut tables.members,
-        &mut logs.members,
-        &mut tables.refs,
-        &mut logs.refs,
-        fact,
-        steps,
-    )?;
+    link_both(&mut maps.members, &mut maps.refs, fact, steps)?;
     take_names(
-        &mut tables.unclustered,
-        &mut logs.unclustered,
+        &mut maps.unclustered,
         &mut flips.unclustered,
         fact.members.items(),
         steps,
     )?;
     put_missing(
-        &tables.facts,
-        &mut tables.missing,
-        &mut logs.missing,
+        &maps.facts,
+        &mut maps.missing,
         &mut flips.missing,
         fact.name,
         fact.refs.items(),
@@ -164,188 +146,144 @@ fn spread<L: Ledger>(
 }
 
 /// Puts what is kept of a fact in, and makes its name unclustered, where it is wanted there and isn't, and tells all names that were
-/// turned over. After `Memory` a part may be done; the logs have it.
+/// turned over. After `Memory` a part may be done.
 fn enter_fact<L: Ledger>(
     alloc: Global,
-    tables: &mut Tables,
-    logs: &mut Logs,
+    maps: &mut Maps,
     flips: &mut Flips,
     fact: Fact,
     wanted: bool,
     steps: &mut Steps<L>,
 ) -> Result<List<Name>, Memory>
-    requires ordered { IsStrictlySortedBy bytes_cmp (keys_of tables.old.unclustered.entries) }
-    requires absent { is_in tables.old.unclustered.entries fact.name ≡ false }
-    ensures entries { OnOk result (tables.new.facts.entries ≡ with_entry bytes_cmp fact.name (entry_of fact) tables.old.facts.entries) }
-    ensures names { OnOk result ((q : List ℕ) → is_in tables.new.unclustered.entries q ≡ (is_in tables.old.unclustered.entries q || (bytes_eq q fact.name && wanted))) }
-    ensures unclustered_ordered { OnOk result (IsStrictlySortedBy bytes_cmp (keys_of tables.new.unclustered.entries)) }
-    ensures members { tables.new.members ≡ tables.old.members }
-    ensures refs { tables.new.refs ≡ tables.old.refs }
-    ensures missing { tables.new.missing ≡ tables.old.missing }
-    ensures flips { OnOk result ((before : maps.Tables) → AreFlipped before flips.old tables.old → AreFlipped before flips.new tables.new) }
+    requires ordered { IsStrictlySortedBy bytes_cmp (keys_of maps.old.unclustered.held.entries) }
+    requires absent { stands maps.old.unclustered.held fact.name ≡ false }
+    ensures entries { OnOk result (maps.new.facts.held.entries ≡ with_entry bytes_cmp fact.name (entry_of fact) maps.old.facts.held.entries) }
+    ensures names { OnOk result ((q : List ℕ) → stands maps.new.unclustered.held q ≡ (stands maps.old.unclustered.held q || (bytes_eq q fact.name && wanted))) }
+    ensures unclustered_ordered { OnOk result (IsStrictlySortedBy bytes_cmp (keys_of maps.new.unclustered.held.entries)) }
+    ensures members { maps.new.members ≡ maps.old.members }
+    ensures refs { maps.new.refs ≡ maps.old.refs }
+    ensures missing { maps.new.missing ≡ maps.old.missing }
+    ensures flips { OnOk result (StayFlipped flips.old maps.old flips.new maps.new) }
     ensures list { IfOk result (λ list. (q : List ℕ) → has list q ≡ (has flips.new.missing.keys q || has flips.new.unclustered.keys q)) }
     ensures rising { IfOk result (λ list. IsStrictlySortedBy bytes_cmp list) }
-    ensures undoes { (before : maps.Tables) → AreUndone logs.old tables.old before → AreUndone logs.new tables.new before }
+    ensures was { tables_before maps.new ≡ tables_before maps.old }
     ensures cost { steps.new ≤ steps.old + 2 }
-    ensures logged { OnErr result (logged logs.new ≤ logged logs.old + 1) }
+    ensures back { OnErr result (steps_back maps.new ≤ steps_back maps.old + 1) }
 {
     let name = fact.name;
     let entry = entry_from(fact);
-    log::put(&mut tables.facts, &mut logs.facts, name, name, entry, steps)?;
-    enter_last(
-        alloc,
-        &mut tables.unclustered,
-        &mut logs.unclustered,
-        flips,
-        name,
-        wanted,
-        steps,
-    )
+    maps.facts.put(name, name, entry, steps)?;
+    enter_last(alloc, &mut maps.unclustered, flips, name, wanted, steps)
 }
 
-/// Puts a new fact, logs what takes it out again, and tells all names that were turned over. After `Memory` a part may be done; the
-/// logs have it.
+/// Puts a new fact, and tells all names that were turned over. After `Memory` a part may be done.
 fn put_fact<L: Ledger>(
     alloc: Global,
-    tables: &mut Tables,
-    logs: &mut Logs,
+    maps: &mut Maps,
     flips: &mut Flips,
     fact: Fact,
     steps: &mut Steps<L>,
 ) -> Result<List<Name>, Memory>
-    requires kept { IsKept tables.old }
-    requires absent { value_at bytes_cmp fact.name tables.old.facts.entries ≡ None }
-    ensures entries { OnOk result (tables.new.facts.entries ≡ with_entry bytes_cmp fact.name (entry_of fact) tables.old.facts.entries) }
-    ensures kept { OnOk result (IsKept tables.new) }
-    ensures flips { OnOk result ((before : maps.Tables) → AreFlipped before flips.old tables.old → AreFlipped before flips.new tables.new) }
+    requires kept { IsKept (tables_in maps.old) }
+    requires absent { value_at bytes_cmp fact.name maps.old.facts.held.entries ≡ None }
+    ensures entries { OnOk result (maps.new.facts.held.entries ≡ with_entry bytes_cmp fact.name (entry_of fact) maps.old.facts.held.entries) }
+    ensures kept { OnOk result (IsKept (tables_in maps.new)) }
+    ensures flips { OnOk result (StayFlipped flips.old maps.old flips.new maps.new) }
     ensures list { IfOk result (λ list. (q : List ℕ) → has list q ≡ (has flips.new.missing.keys q || has flips.new.unclustered.keys q)) }
     ensures rising { IfOk result (λ list. IsStrictlySortedBy bytes_cmp list) }
-    ensures undoes { (before : maps.Tables) → AreUndone logs.old tables.old before → AreUndone logs.new tables.new before }
+    ensures was { tables_before maps.new ≡ tables_before maps.old }
     ensures cost { steps.new ≤ steps.old + (4 + 2 * length fact.members + 3 * length fact.refs) }
-    ensures logged { OnErr result (logged logs.new ≤ logged logs.old + (2 + 2 * length fact.members + 2 * length fact.refs)) }
+    ensures back { OnErr result (steps_back maps.new ≤ steps_back maps.old + (2 + 2 * length fact.members + 2 * length fact.refs)) }
 {
-    spread(tables, logs, flips, &fact, steps)?;
-    let free = is_unclustered(fact.private, &tables.members, fact.name, steps);
-    enter_fact(alloc, tables, logs, flips, fact, free, steps)
+    spread(maps, flips, &fact, steps)?;
+    let free = is_unclustered(fact.private, &maps.members, fact.name, steps);
+    enter_fact(alloc, maps, flips, fact, free, steps)
 }
 
-/// Takes the pairs of a fact out. After `Memory` a part may be done; the logs have it.
-fn unlink_both<L: Ledger>(
-    members: &mut Table<Pair, ()>,
-    members_log: &mut Log<Pair, ()>,
-    refs: &mut Table<Pair, ()>,
-    refs_log: &mut Log<Pair, ()>,
+/// Takes the members of a fact that is there out of the pairs, and puts those in the set that become unclustered, but for the fact
+/// itself. After `Memory` a part may be done.
+fn take_members<L: Ledger>(
+    facts: &Tracked<Name, Entry>,
+    members: &mut Tracked<Pair, ()>,
+    unclustered: &mut Tracked<Name, ()>,
+    turned: &mut BTreeSet<Name>,
     name: Name,
-    entry: &Entry,
+    some: &[Name],
     steps: &mut Steps<L>,
 ) -> Result<(), Memory>
-    requires members_ordered { IsStrictlySortedBy pair_cmp (keys_of members.old.entries) }
-    requires refs_ordered { IsStrictlySortedBy pair_cmp (keys_of refs.old.entries) }
-    ensures members { OnOk result ((k : pair.Pair) → is_some (value_at pair_cmp k members.new.entries) ≡ (not (is_name k.second name && has entry.now.members k.first) && is_some (value_at pair_cmp k members.old.entries))) }
-    ensures refs { OnOk result ((k : pair.Pair) → is_some (value_at pair_cmp k refs.new.entries) ≡ (not (is_name k.second name && has entry.now.refs k.first) && is_some (value_at pair_cmp k refs.old.entries))) }
-    ensures members_ordered { OnOk result (IsStrictlySortedBy pair_cmp (keys_of members.new.entries)) }
-    ensures refs_ordered { OnOk result (IsStrictlySortedBy pair_cmp (keys_of refs.new.entries)) }
-    ensures undoes_members { (before : Contents pair.Pair Unit) → Undoes pair_cmp members_log.old members.old before → Undoes pair_cmp members_log.new members.new before }
-    ensures undoes_refs { (before : Contents pair.Pair Unit) → Undoes pair_cmp refs_log.old refs.old before → Undoes pair_cmp refs_log.new refs.new before }
+    requires members { IsStrictlySortedBy pair_cmp (keys_of members.old.held.entries) }
+    requires unclustered { IsStrictlySortedBy bytes_cmp (keys_of unclustered.old.held.entries) }
+    ensures members { OnOk result (AreFewer members.old.held.entries members.new.held.entries name some.now) }
+    ensures names { OnOk result (AreFreed facts.now.held members.new.held name some.now unclustered.old.held unclustered.new.held) }
+    ensures turned { OnOk result (StayTurned turned.old.keys unclustered.old.held turned.new.keys unclustered.new.held) }
+    ensures members_ordered { OnOk result (IsStrictlySortedBy pair_cmp (keys_of members.new.held.entries)) }
+    ensures unclustered_ordered { OnOk result (IsStrictlySortedBy bytes_cmp (keys_of unclustered.new.held.entries)) }
+    ensures members_was { members.new.was ≡ members.old.was }
+    ensures unclustered_was { unclustered.new.was ≡ unclustered.old.was }
 {
-    unlink_each(members, members_log, name, entry.members.items(), steps)?;
-    unlink_each(refs, refs_log, name, entry.refs.items(), steps)
+    members.unlink_each(name, some, steps)?;
+    put_unclustered(facts, members, unclustered, turned, name, some, steps)
 }
 
-/// Takes the names of a fact that is there out of the pairs and of the sets. After `Memory` a part may be done; the logs have it.
-fn gather<L: Ledger>(
-    facts: &Table<Name, Entry>,
-    members: &mut Table<Pair, ()>,
-    refs: &mut Table<Pair, ()>,
-    unclustered: &mut Table<Name, ()>,
-    missing: &mut Table<Name, ()>,
-    logs: &mut Logs,
+/// Takes the names that a fact refers to out of the pairs, and those out of the set that nothing refers to any more, and puts the
+/// fact itself in where something refers to it. After `Memory` a part may be done.
+fn take_refs<L: Ledger>(
+    refs: &mut Tracked<Pair, ()>,
+    missing: &mut Tracked<Name, ()>,
+    turned: &mut BTreeSet<Name>,
+    name: Name,
+    some: &[Name],
+    steps: &mut Steps<L>,
+) -> Result<(), Memory>
+    requires refs { IsStrictlySortedBy pair_cmp (keys_of refs.old.held.entries) }
+    requires missing { IsStrictlySortedBy bytes_cmp (keys_of missing.old.held.entries) }
+    ensures refs { OnOk result (AreFewer refs.old.held.entries refs.new.held.entries name some.now) }
+    ensures names { OnOk result (AreLost refs.new.held name some.now missing.old.held missing.new.held) }
+    ensures turned { OnOk result (StayTurned turned.old.keys missing.old.held turned.new.keys missing.new.held) }
+    ensures refs_ordered { OnOk result (IsStrictlySortedBy pair_cmp (keys_of refs.new.held.entries)) }
+    ensures missing_ordered { OnOk result (IsStrictlySortedBy bytes_cmp (keys_of missing.new.held.entries)) }
+    ensures refs_was { refs.new.was ≡ refs.old.was }
+    ensures missing_was { missing.new.was ≡ missing.old.was }
+{
+    refs.unlink_each(name, some, steps)?;
+    take_missing(refs, missing, turned, name, some, steps)
+}
+
+/// Takes a fact that is there out. After `Memory` a part may be done.
+fn take_out<L: Ledger>(
+    maps: &mut Maps,
     flips: &mut Flips,
     name: Name,
-    entry: &Entry,
     steps: &mut Steps<L>,
 ) -> Result<(), Memory>
-    requires members_ordered { IsStrictlySortedBy pair_cmp (keys_of members.old.entries) }
-    requires refs_ordered { IsStrictlySortedBy pair_cmp (keys_of refs.old.entries) }
-    requires unclustered_ordered { IsStrictlySortedBy bytes_cmp (keys_of unclustered.old.entries) }
-    requires missing_ordered { IsStrictlySortedBy bytes_cmp (keys_of missing.old.entries) }
-    ensures facts_log { logs.new.facts ≡ logs.old.facts }
-    ensures members { OnOk result ((k : pair.Pair) → is_some (value_at pair_cmp k members.new.entries) ≡ (not (is_name k.second name && has entry.now.members k.first) && is_some (value_at pair_cmp k members.old.entries))) }
-    ensures refs { OnOk result ((k : pair.Pair) → is_some (value_at pair_cmp k refs.new.entries) ≡ (not (is_name k.second name && has entry.now.refs k.first) && is_some (value_at pair_cmp k refs.old.entries))) }
-    ensures unclustered { OnOk result ((q : List ℕ) → is_in unclustered.new.entries q ≡ ((is_in unclustered.old.entries q || (has entry.now.members q && is_freed facts.now.entries members.new.entries name q)) && not (bytes_eq q name))) }
-    ensures missing { OnOk result ((q : List ℕ) → is_in missing.new.entries q ≡ ((is_in missing.old.entries q && not (has entry.now.refs q && not (is_named refs.new.entries q))) || (bytes_eq q name && is_named refs.new.entries name))) }
-    ensures turned_unclustered { OnOk result ((before : List ℕ → Bool) → AreTurned before flips.old.unclustered.keys unclustered.old.entries → AreTurned before flips.new.unclustered.keys unclustered.new.entries) }
-    ensures turned_missing { OnOk result ((before : List ℕ → Bool) → AreTurned before flips.old.missing.keys missing.old.entries → AreTurned before flips.new.missing.keys missing.new.entries) }
-    ensures members_ordered { OnOk result (IsStrictlySortedBy pair_cmp (keys_of members.new.entries)) }
-    ensures refs_ordered { OnOk result (IsStrictlySortedBy pair_cmp (keys_of refs.new.entries)) }
-    ensures unclustered_ordered { OnOk result (IsStrictlySortedBy bytes_cmp (keys_of unclustered.new.entries)) }
-    ensures missing_ordered { OnOk result (IsStrictlySortedBy bytes_cmp (keys_of missing.new.entries)) }
-    ensures undoes_members { (before : Contents pair.Pair Unit) → Undoes pair_cmp logs.old.members members.old before → Undoes pair_cmp logs.new.members members.new before }
-    ensures undoes_refs { (before : Contents pair.Pair Unit) → Undoes pair_cmp logs.old.refs refs.old before → Undoes pair_cmp logs.new.refs refs.new before }
-    ensures undoes_unclustered { (before : Contents (List ℕ) Unit) → Undoes bytes_cmp logs.old.unclustered unclustered.old before → Undoes bytes_cmp logs.new.unclustered unclustered.new before }
-    ensures undoes_missing { (before : Contents (List ℕ) Unit) → Undoes bytes_cmp logs.old.missing missing.old before → Undoes bytes_cmp logs.new.missing missing.new before }
+    requires kept { IsKept (tables_in maps.old) }
+    requires there { is_some (value_at bytes_cmp name maps.old.facts.held.entries) ≡ true }
+    ensures entries { OnOk result (maps.new.facts.held.entries ≡ without_key bytes_cmp name maps.old.facts.held.entries) }
+    ensures kept { OnOk result (IsKept (tables_in maps.new)) }
+    ensures flips { OnOk result (StayFlipped flips.old maps.old flips.new maps.new) }
+    ensures was { tables_before maps.new ≡ tables_before maps.old }
 {
-    unlink_both(
-        members,
-        &mut logs.members,
-        refs,
-        &mut logs.refs,
-        name,
-        entry,
-        steps,
-    )?;
-    put_unclustered(
-        facts,
-        members,
-        unclustered,
-        &mut logs.unclustered,
+    let Some(entry) = maps.facts.get(&name, steps) else {
+        return Ok(());
+    };
+    take_members(
+        &maps.facts,
+        &mut maps.members,
+        &mut maps.unclustered,
         &mut flips.unclustered,
         name,
         entry.members.items(),
         steps,
     )?;
-    take_missing(
-        refs,
-        missing,
-        &mut logs.missing,
+    take_refs(
+        &mut maps.refs,
+        &mut maps.missing,
         &mut flips.missing,
         name,
         entry.refs.items(),
         steps,
-    )
-}
-
-/// Takes a fact that is there out, and logs what puts it back. After `Memory` a part may be done; the logs have it.
-fn take_out<L: Ledger>(
-    tables: &mut Tables,
-    logs: &mut Logs,
-    flips: &mut Flips,
-    name: Name,
-    steps: &mut Steps<L>,
-) -> Result<(), Memory>
-    requires kept { IsKept tables.old }
-    requires there { is_some (value_at bytes_cmp name tables.old.facts.entries) ≡ true }
-    ensures entries { OnOk result (tables.new.facts.entries ≡ without_key bytes_cmp name tables.old.facts.entries) }
-    ensures kept { OnOk result (IsKept tables.new) }
-    ensures flips { OnOk result ((before : maps.Tables) → AreFlipped before flips.old tables.old → AreFlipped before flips.new tables.new) }
-    ensures undoes { (before : maps.Tables) → AreUndone logs.old tables.old before → AreUndone logs.new tables.new before }
-{
-    let Some(entry) = tables.facts.get(&name, steps) else {
-        return Ok(());
-    };
-    gather(
-        &tables.facts,
-        &mut tables.members,
-        &mut tables.refs,
-        &mut tables.unclustered,
-        &mut tables.missing,
-        logs,
-        flips,
-        name,
-        entry,
-        steps,
     )?;
-    log::remove(&mut tables.facts, &mut logs.facts, name, steps)
+    maps.facts.remove(name, steps)
 }
 
 /// Whether two lists of names are the same.
@@ -356,8 +294,12 @@ fn is_same(a: &List<Name>, b: &List<Name>) -> bool
 }
 
 /// Whether a fact is there, and private, and another is the same but for that.
-fn is_publication<L: Ledger>(facts: &Table<Name, Entry>, fact: &Fact, steps: &mut Steps<L>) -> bool
-    ensures is { result ≡ publishes (value_at bytes_cmp fact.now.name facts.now.entries) (entry_of fact.now) }
+fn is_publication<L: Ledger>(
+    facts: &Tracked<Name, Entry>,
+    fact: &Fact,
+    steps: &mut Steps<L>,
+) -> bool
+    ensures is { result ≡ is_publication facts.now.held fact.now }
     ensures cost { steps.new ≡ steps.old + 1 }
 {
     let Some(old) = facts.get(&fact.name, steps) else {
@@ -369,119 +311,113 @@ fn is_publication<L: Ledger>(facts: &Table<Name, Entry>, fact: &Fact, steps: &mu
     is_same(&old.members, &fact.members) && is_same(&old.refs, &fact.refs)
 }
 
-/// Makes a private fact public, and tells all names that were turned over. After `Memory` a part may be done; the logs have it.
+/// Makes a private fact public, and tells all names that were turned over. After `Memory` a part may be done.
 fn publish<L: Ledger>(
     alloc: Global,
-    tables: &mut Tables,
-    logs: &mut Logs,
+    maps: &mut Maps,
     flips: &mut Flips,
     fact: Fact,
     steps: &mut Steps<L>,
 ) -> Result<List<Name>, Memory>
-    requires kept { IsKept tables.old }
-    requires private { publishes (value_at bytes_cmp fact.name tables.old.facts.entries) (entry_of fact) ≡ true }
-    ensures entries { OnOk result (tables.new.facts.entries ≡ with_entry bytes_cmp fact.name (entry_of fact) tables.old.facts.entries) }
-    ensures kept { OnOk result (IsKept tables.new) }
-    ensures flips { OnOk result ((before : maps.Tables) → AreFlipped before flips.old tables.old → AreFlipped before flips.new tables.new) }
+    requires kept { IsKept (tables_in maps.old) }
+    requires private { is_publication maps.old.facts.held fact ≡ true }
+    ensures entries { OnOk result (maps.new.facts.held.entries ≡ with_entry bytes_cmp fact.name (entry_of fact) maps.old.facts.held.entries) }
+    ensures kept { OnOk result (IsKept (tables_in maps.new)) }
+    ensures flips { OnOk result (StayFlipped flips.old maps.old flips.new maps.new) }
     ensures list { IfOk result (λ list. (q : List ℕ) → has list q ≡ (has flips.new.missing.keys q || has flips.new.unclustered.keys q)) }
     ensures rising { IfOk result (λ list. IsStrictlySortedBy bytes_cmp list) }
-    ensures undoes { (before : maps.Tables) → AreUndone logs.old tables.old before → AreUndone logs.new tables.new before }
+    ensures was { tables_before maps.new ≡ tables_before maps.old }
     ensures cost { steps.new ≤ steps.old + 3 }
-    ensures logged { OnErr result (logged logs.new ≤ logged logs.old + 1) }
+    ensures back { OnErr result (steps_back maps.new ≤ steps_back maps.old + 1) }
 {
-    let named = is_first(&tables.members, fact.name, steps);
-    enter_fact(alloc, tables, logs, flips, fact, !named, steps)
+    let named = is_first(&maps.members, fact.name, steps);
+    enter_fact(alloc, maps, flips, fact, !named, steps)
 }
 
 /// Puts a fact in the place of that of its name by taking the old one out, and tells all names that were turned over. After `Memory`
-/// a part may be done; the logs have it.
+/// a part may be done.
 fn put_anew<L: Ledger>(
     alloc: Global,
-    tables: &mut Tables,
-    logs: &mut Logs,
+    maps: &mut Maps,
     flips: &mut Flips,
     fact: Fact,
     steps: &mut Steps<L>,
 ) -> Result<List<Name>, Memory>
-    requires kept { IsKept tables.old }
-    requires there { is_some (value_at bytes_cmp fact.name tables.old.facts.entries) ≡ true }
-    ensures entries { OnOk result (tables.new.facts.entries ≡ with_entry bytes_cmp fact.name (entry_of fact) tables.old.facts.entries) }
-    ensures kept { OnOk result (IsKept tables.new) }
-    ensures flips { OnOk result ((before : maps.Tables) → AreFlipped before flips.old tables.old → AreFlipped before flips.new tables.new) }
+    requires kept { IsKept (tables_in maps.old) }
+    requires there { is_some (value_at bytes_cmp fact.name maps.old.facts.held.entries) ≡ true }
+    ensures entries { OnOk result (maps.new.facts.held.entries ≡ with_entry bytes_cmp fact.name (entry_of fact) maps.old.facts.held.entries) }
+    ensures kept { OnOk result (IsKept (tables_in maps.new)) }
+    ensures flips { OnOk result (StayFlipped flips.old maps.old flips.new maps.new) }
     ensures list { IfOk result (λ list. (q : List ℕ) → has list q ≡ (has flips.new.missing.keys q || has flips.new.unclustered.keys q)) }
     ensures rising { IfOk result (λ list. IsStrictlySortedBy bytes_cmp list) }
-    ensures undoes { (before : maps.Tables) → AreUndone logs.old tables.old before → AreUndone logs.new tables.new before }
+    ensures was { tables_before maps.new ≡ tables_before maps.old }
 {
-    take_out(tables, logs, flips, fact.name, steps)?;
-    put_fact(alloc, tables, logs, flips, fact, steps)
+    take_out(maps, flips, fact.name, steps)?;
+    put_fact(alloc, maps, flips, fact, steps)
 }
 
 /// Puts a fact in the place of that of its name.
 fn put_other<L: Ledger>(
     alloc: Global,
-    tables: &mut Tables,
-    logs: &mut Logs,
+    maps: &mut Maps,
     flips: &mut Flips,
     fact: Fact,
     steps: &mut Steps<L>,
 ) -> Result<List<Name>, Memory>
-    requires kept { IsKept tables.old }
-    requires there { is_some (value_at bytes_cmp fact.name tables.old.facts.entries) ≡ true }
-    ensures entries { OnOk result (tables.new.facts.entries ≡ with_entry bytes_cmp fact.name (entry_of fact) tables.old.facts.entries) }
-    ensures kept { OnOk result (IsKept tables.new) }
-    ensures flips { OnOk result ((before : maps.Tables) → AreFlipped before flips.old tables.old → AreFlipped before flips.new tables.new) }
+    requires kept { IsKept (tables_in maps.old) }
+    requires there { is_some (value_at bytes_cmp fact.name maps.old.facts.held.entries) ≡ true }
+    ensures entries { OnOk result (maps.new.facts.held.entries ≡ with_entry bytes_cmp fact.name (entry_of fact) maps.old.facts.held.entries) }
+    ensures kept { OnOk result (IsKept (tables_in maps.new)) }
+    ensures flips { OnOk result (StayFlipped flips.old maps.old flips.new maps.new) }
     ensures list { IfOk result (λ list. (q : List ℕ) → has list q ≡ (has flips.new.missing.keys q || has flips.new.unclustered.keys q)) }
     ensures rising { IfOk result (λ list. IsStrictlySortedBy bytes_cmp list) }
-    ensures undoes { (before : maps.Tables) → AreUndone logs.old tables.old before → AreUndone logs.new tables.new before }
-    ensures cost { publishes (value_at bytes_cmp fact.name tables.old.facts.entries) (entry_of fact) ≡ true → steps.new ≤ steps.old + 4 }
-    ensures logged { publishes (value_at bytes_cmp fact.name tables.old.facts.entries) (entry_of fact) ≡ true → OnErr result (logged logs.new ≤ logged logs.old + 1) }
+    ensures was { tables_before maps.new ≡ tables_before maps.old }
+    ensures cost { is_publication maps.old.facts.held fact ≡ true → steps.new ≤ steps.old + 4 }
+    ensures back { is_publication maps.old.facts.held fact ≡ true → OnErr result (steps_back maps.new ≤ steps_back maps.old + 1) }
 {
-    if is_publication(&tables.facts, &fact, steps) {
-        publish(alloc, tables, logs, flips, fact, steps)
+    if is_publication(&maps.facts, &fact, steps) {
+        publish(alloc, maps, flips, fact, steps)
     } else {
-        put_anew(alloc, tables, logs, flips, fact, steps)
+        put_anew(alloc, maps, flips, fact, steps)
     }
 }
 
-/// Puts a new fact, and tells the names whose rows differ. After `Memory` a part may be done; the logs have it.
+/// Puts a new fact, and tells the names whose rows differ. After `Memory` a part may be done.
 pub(crate) fn put_new<L: Ledger>(
     alloc: Global,
-    tables: &mut Tables,
-    logs: &mut Logs,
+    maps: &mut Maps,
     fact: Fact,
     steps: &mut Steps<L>,
 ) -> Result<List<Name>, Memory>
-    requires kept { IsKept tables.old }
-    requires absent { value_at bytes_cmp fact.name tables.old.facts.entries ≡ None }
-    ensures entries { OnOk result (tables.new.facts.entries ≡ with_entry bytes_cmp fact.name (entry_of fact) tables.old.facts.entries) }
-    ensures kept { OnOk result (IsKept tables.new) }
-    ensures changed { IfOk result (ListsChanged (clusters_row (facts_of tables.old.facts.entries)) (clusters_row (facts_of tables.new.facts.entries))) }
-    ensures undoes { (before : maps.Tables) → AreUndone logs.old tables.old before → AreUndone logs.new tables.new before }
+    requires kept { IsKept (tables_in maps.old) }
+    requires absent { value_at bytes_cmp fact.name maps.old.facts.held.entries ≡ None }
+    ensures entries { OnOk result (maps.new.facts.held.entries ≡ with_entry bytes_cmp fact.name (entry_of fact) maps.old.facts.held.entries) }
+    ensures kept { OnOk result (IsKept (tables_in maps.new)) }
+    ensures changed { IfOk result (ListsChanged (clusters_row (facts_of maps.old.facts.held.entries)) (clusters_row (facts_of maps.new.facts.held.entries))) }
+    ensures was { tables_before maps.new ≡ tables_before maps.old }
     ensures cost { steps.new ≤ steps.old + (4 + 2 * length fact.members + 3 * length fact.refs) }
-    ensures logged { OnErr result (logged logs.new ≤ logged logs.old + (2 + 2 * length fact.members + 2 * length fact.refs)) }
+    ensures back { OnErr result (steps_back maps.new ≤ steps_back maps.old + (2 + 2 * length fact.members + 2 * length fact.refs)) }
 {
     let mut flips = Flips::new(alloc);
-    put_fact(alloc, tables, logs, &mut flips, fact, steps)
+    put_fact(alloc, maps, &mut flips, fact, steps)
 }
 
-/// Puts a fact in the place of that of its name, and tells the names whose rows differ. After `Memory` a part may be done; the logs
-/// have it.
+/// Puts a fact in the place of that of its name, and tells the names whose rows differ. After `Memory` a part may be done.
 pub(crate) fn put_over<L: Ledger>(
     alloc: Global,
-    tables: &mut Tables,
-    logs: &mut Logs,
+    maps: &mut Maps,
     fact: Fact,
     steps: &mut Steps<L>,
 ) -> Result<List<Name>, Memory>
-    requires kept { IsKept tables.old }
-    requires there { is_some (value_at bytes_cmp fact.name tables.old.facts.entries) ≡ true }
-    ensures entries { OnOk result (tables.new.facts.entries ≡ with_entry bytes_cmp fact.name (entry_of fact) tables.old.facts.entries) }
-    ensures kept { OnOk result (IsKept tables.new) }
-    ensures changed { IfOk result (ListsChanged (clusters_row (facts_of tables.old.facts.entries)) (clusters_row (facts_of tables.new.facts.entries))) }
-    ensures undoes { (before : maps.Tables) → AreUndone logs.old tables.old before → AreUndone logs.new tables.new before }
-    ensures cost { publishes (value_at bytes_cmp fact.name tables.old.facts.entries) (entry_of fact) ≡ true → steps.new ≤ steps.old + 4 }
-    ensures logged { publishes (value_at bytes_cmp fact.name tables.old.facts.entries) (entry_of fact) ≡ true → OnErr result (logged logs.new ≤ logged logs.old + 1) }
+    requires kept { IsKept (tables_in maps.old) }
+    requires there { is_some (value_at bytes_cmp fact.name maps.old.facts.held.entries) ≡ true }
+    ensures entries { OnOk result (maps.new.facts.held.entries ≡ with_entry bytes_cmp fact.name (entry_of fact) maps.old.facts.held.entries) }
+    ensures kept { OnOk result (IsKept (tables_in maps.new)) }
+    ensures changed { IfOk result (ListsChanged (clusters_row (facts_of maps.old.facts.held.entries)) (clusters_row (facts_of maps.new.facts.held.entries))) }
+    ensures was { tables_before maps.new ≡ tables_before maps.old }
+    ensures cost { is_publication maps.old.facts.held fact ≡ true → steps.new ≤ steps.old + 4 }
+    ensures back { is_publication maps.old.facts.held fact ≡ true → OnErr result (steps_back maps.new ≤ steps_back maps.old + 1) }
 {
     let mut flips = Flips::new(alloc);
-    put_other(alloc, tables, logs, &mut flips, fact, steps)
+    put_other(alloc, maps, &mut flips, fact, steps)
 }

@@ -1,26 +1,24 @@
 //! Sets of names as maps: names put in and taken out, with the names at which a set differs from what it was.
-ghost use Rattle.std.specs.Prelude.{ℕ, List, Bool, ◌≡◌, ◌+◌, ◌*◌, ◌≤◌, length, OnOk, OnErr, not, is_some, ◌&&◌, ◌||◌, if◌then◌else◌};
+ghost use Rattle.std.specs.Prelude.{ℕ, List, ◌≡◌, ◌+◌, ◌*◌, ◌≤◌, length, OnOk, OnErr, not, is_some, ◌&&◌, ◌||◌, if◌then◌else◌};
 ghost use Rattle.std.specs.Str.{bytes_eq};
 ghost use Rattle.std.specs.List.Sorted.{IsStrictlySortedBy};
 ghost use Rattle.std.specs.Map.{keys_of};
 ghost use Rattle.fsl_order.specs.Names.{bytes_cmp, has};
 ghost use Rattle.fsl_table.specs.Exact.{pair_cmp};
-ghost use Rattle.fsl_table.specs.Contents.{Contents, value_at};
-ghost use Rattle.fsl_table.specs.Undo.{Undoes};
-ghost use Rattle.fsl_cluster.specs.Kept.{AreTurned, is_in, is_public, is_named, is_unheld, is_freed};
+ghost use Rattle.fsl_table.specs.Contents.{value_at};
+ghost use Rattle.fsl_cluster.specs.Kept.{AreFreed, AreLost, AreMissed, StayTurned, is_freed, is_named, is_public, is_unheld, stands};
 
 use crate::entry::Entry;
 use fsl_name::Name;
 use fsl_table::names::flip;
-use fsl_table::pairs::second_after;
-use fsl_table::{Log, Pair, Table, log};
+use fsl_table::{Pair, Tracked};
 use fsl_text::{Memory, Steps};
 use std::collections::BTreeSet;
 use std::sync::ledger::Ledger;
 
 /// Whether a fact is there.
-fn is_there<L: Ledger>(facts: &Table<Name, Entry>, name: &Name, steps: &mut Steps<L>) -> bool
-    ensures there { result ≡ is_some (value_at bytes_cmp name.now facts.now.entries) }
+fn is_there<L: Ledger>(facts: &Tracked<Name, Entry>, name: &Name, steps: &mut Steps<L>) -> bool
+    ensures there { result ≡ is_some (value_at bytes_cmp name.now facts.now.held.entries) }
     ensures cost { steps.new ≡ steps.old + 1 }
 {
     match facts.get(name, steps) {
@@ -31,11 +29,11 @@ fn is_there<L: Ledger>(facts: &Table<Name, Entry>, name: &Name, steps: &mut Step
 
 /// Whether a name is in a set.
 pub(crate) fn is_entered<L: Ledger>(
-    names: &Table<Name, ()>,
+    names: &Tracked<Name, ()>,
     name: &Name,
     steps: &mut Steps<L>,
 ) -> bool
-    ensures { result ≡ is_in names.now.entries name.now }
+    ensures { result ≡ stands names.now.held name.now }
 {
     match names.get(name, steps) {
         None => false,
@@ -44,8 +42,12 @@ pub(crate) fn is_entered<L: Ledger>(
 }
 
 /// Whether a fact is there, and public.
-fn is_there_public<L: Ledger>(facts: &Table<Name, Entry>, name: &Name, steps: &mut Steps<L>) -> bool
-    ensures { result ≡ is_public (value_at bytes_cmp name.now facts.now.entries) }
+fn is_there_public<L: Ledger>(
+    facts: &Tracked<Name, Entry>,
+    name: &Name,
+    steps: &mut Steps<L>,
+) -> bool
+    ensures { result ≡ is_public (value_at bytes_cmp name.now facts.now.held.entries) }
 {
     match facts.get(name, steps) {
         None => false,
@@ -54,54 +56,56 @@ fn is_there_public<L: Ledger>(facts: &Table<Name, Entry>, name: &Name, steps: &m
 }
 
 /// Whether a pair has the name first.
-pub(crate) fn is_first<L: Ledger>(pairs: &Table<Pair, ()>, name: Name, steps: &mut Steps<L>) -> bool
-    requires { IsStrictlySortedBy pair_cmp (keys_of pairs.now.entries) }
-    ensures named { result ≡ is_named pairs.now.entries name }
+pub(crate) fn is_first<L: Ledger>(
+    pairs: &Tracked<Pair, ()>,
+    name: Name,
+    steps: &mut Steps<L>,
+) -> bool
+    requires { IsStrictlySortedBy pair_cmp (keys_of pairs.now.held.entries) }
+    ensures named { result ≡ is_named pairs.now.held.entries name }
     ensures cost { steps.new ≡ steps.old + 1 }
 {
-    second_after(pairs, name, None, steps).is_some()
+    pairs.second_after(name, None, steps).is_some()
 }
 
-/// Puts a name in, and turns it over where it wasn't there. After `Memory` the log has what was done.
+/// Puts a name in, and turns it over where it wasn't there. After `Memory` a part may be done.
 fn put_name<L: Ledger>(
-    names: &mut Table<Name, ()>,
-    log: &mut Log<Name, ()>,
+    names: &mut Tracked<Name, ()>,
     turned: &mut BTreeSet<Name>,
     name: Name,
     steps: &mut Steps<L>,
 ) -> Result<(), Memory>
-    requires { IsStrictlySortedBy bytes_cmp (keys_of names.old.entries) }
-    ensures names { OnOk result ((q : List ℕ) → is_in names.new.entries q ≡ (bytes_eq q name || is_in names.old.entries q)) }
-    ensures turned { OnOk result ((before : List ℕ → Bool) → AreTurned before turned.old.keys names.old.entries → AreTurned before turned.new.keys names.new.entries) }
-    ensures ordered { OnOk result (IsStrictlySortedBy bytes_cmp (keys_of names.new.entries)) }
-    ensures undoes { (before : Contents (List ℕ) Unit) → Undoes bytes_cmp log.old names.old before → Undoes bytes_cmp log.new names.new before }
+    requires { IsStrictlySortedBy bytes_cmp (keys_of names.old.held.entries) }
+    ensures names { OnOk result ((q : List ℕ) → stands names.new.held q ≡ (bytes_eq q name || stands names.old.held q)) }
+    ensures turned { OnOk result (StayTurned turned.old.keys names.old.held turned.new.keys names.new.held) }
+    ensures ordered { OnOk result (IsStrictlySortedBy bytes_cmp (keys_of names.new.held.entries)) }
+    ensures was { names.new.was ≡ names.old.was }
     ensures most { steps.new ≤ steps.old + 1 }
-    ensures logged { length log.new ≤ length log.old + 1 }
+    ensures back { names.new.back ≤ names.old.back + 1 }
 {
-    let there = log::insert(names, log, name, name, (), steps)?;
+    let there = names.insert(name, name, (), steps)?;
     if there {
         return Ok(());
     }
     flip(turned, name)
 }
 
-/// Takes a name out, and turns it over where it was there. After `Memory` the log has what was done.
+/// Takes a name out, and turns it over where it was there. After `Memory` a part may be done.
 fn take_name<L: Ledger>(
-    names: &mut Table<Name, ()>,
-    log: &mut Log<Name, ()>,
+    names: &mut Tracked<Name, ()>,
     turned: &mut BTreeSet<Name>,
     name: Name,
     steps: &mut Steps<L>,
 ) -> Result<(), Memory>
-    requires { IsStrictlySortedBy bytes_cmp (keys_of names.old.entries) }
-    ensures names { OnOk result ((q : List ℕ) → is_in names.new.entries q ≡ (is_in names.old.entries q && not (bytes_eq q name))) }
-    ensures turned { OnOk result ((before : List ℕ → Bool) → AreTurned before turned.old.keys names.old.entries → AreTurned before turned.new.keys names.new.entries) }
-    ensures ordered { OnOk result (IsStrictlySortedBy bytes_cmp (keys_of names.new.entries)) }
-    ensures undoes { (before : Contents (List ℕ) Unit) → Undoes bytes_cmp log.old names.old before → Undoes bytes_cmp log.new names.new before }
+    requires { IsStrictlySortedBy bytes_cmp (keys_of names.old.held.entries) }
+    ensures names { OnOk result ((q : List ℕ) → stands names.new.held q ≡ (stands names.old.held q && not (bytes_eq q name))) }
+    ensures turned { OnOk result (StayTurned turned.old.keys names.old.held turned.new.keys names.new.held) }
+    ensures ordered { OnOk result (IsStrictlySortedBy bytes_cmp (keys_of names.new.held.entries)) }
+    ensures was { names.new.was ≡ names.old.was }
     ensures most { steps.new ≤ steps.old + 1 }
-    ensures logged { length log.new ≤ length log.old + 1 }
+    ensures back { names.new.back ≤ names.old.back + 1 }
 {
-    let there = log::take(names, log, name, steps)?;
+    let there = names.take(name, steps)?;
     if !there {
         return Ok(());
     }
@@ -110,78 +114,75 @@ fn take_name<L: Ledger>(
 
 /// Puts a name in where it is wanted, and turns it over where it wasn't there.
 fn put_wanted<L: Ledger>(
-    names: &mut Table<Name, ()>,
-    log: &mut Log<Name, ()>,
+    names: &mut Tracked<Name, ()>,
     turned: &mut BTreeSet<Name>,
     name: Name,
     wanted: bool,
     steps: &mut Steps<L>,
 ) -> Result<(), Memory>
-    requires { IsStrictlySortedBy bytes_cmp (keys_of names.old.entries) }
-    ensures names { OnOk result ((q : List ℕ) → is_in names.new.entries q ≡ (is_in names.old.entries q || (bytes_eq q name && wanted))) }
-    ensures turned { OnOk result ((before : List ℕ → Bool) → AreTurned before turned.old.keys names.old.entries → AreTurned before turned.new.keys names.new.entries) }
-    ensures ordered { OnOk result (IsStrictlySortedBy bytes_cmp (keys_of names.new.entries)) }
-    ensures undoes { (before : Contents (List ℕ) Unit) → Undoes bytes_cmp log.old names.old before → Undoes bytes_cmp log.new names.new before }
+    requires { IsStrictlySortedBy bytes_cmp (keys_of names.old.held.entries) }
+    ensures names { OnOk result ((q : List ℕ) → stands names.new.held q ≡ (stands names.old.held q || (bytes_eq q name && wanted))) }
+    ensures turned { OnOk result (StayTurned turned.old.keys names.old.held turned.new.keys names.new.held) }
+    ensures ordered { OnOk result (IsStrictlySortedBy bytes_cmp (keys_of names.new.held.entries)) }
+    ensures was { names.new.was ≡ names.old.was }
     ensures most { steps.new ≤ steps.old + 1 }
-    ensures logged { length log.new ≤ length log.old + 1 }
+    ensures back { names.new.back ≤ names.old.back + 1 }
 {
     if !wanted {
         return Ok(());
     }
-    put_name(names, log, turned, name, steps)
+    put_name(names, turned, name, steps)
 }
 
 /// Takes a name out unless it is kept, and turns it over where it was there.
 fn take_unless<L: Ledger>(
-    names: &mut Table<Name, ()>,
-    log: &mut Log<Name, ()>,
+    names: &mut Tracked<Name, ()>,
     turned: &mut BTreeSet<Name>,
     name: Name,
     kept: bool,
     steps: &mut Steps<L>,
 ) -> Result<(), Memory>
-    requires { IsStrictlySortedBy bytes_cmp (keys_of names.old.entries) }
-    ensures names { OnOk result ((q : List ℕ) → is_in names.new.entries q ≡ (is_in names.old.entries q && not (bytes_eq q name && not kept))) }
-    ensures turned { OnOk result ((before : List ℕ → Bool) → AreTurned before turned.old.keys names.old.entries → AreTurned before turned.new.keys names.new.entries) }
-    ensures ordered { OnOk result (IsStrictlySortedBy bytes_cmp (keys_of names.new.entries)) }
-    ensures undoes { (before : Contents (List ℕ) Unit) → Undoes bytes_cmp log.old names.old before → Undoes bytes_cmp log.new names.new before }
+    requires { IsStrictlySortedBy bytes_cmp (keys_of names.old.held.entries) }
+    ensures names { OnOk result ((q : List ℕ) → stands names.new.held q ≡ (stands names.old.held q && not (bytes_eq q name && not kept))) }
+    ensures turned { OnOk result (StayTurned turned.old.keys names.old.held turned.new.keys names.new.held) }
+    ensures ordered { OnOk result (IsStrictlySortedBy bytes_cmp (keys_of names.new.held.entries)) }
+    ensures was { names.new.was ≡ names.old.was }
 {
     if kept {
         return Ok(());
     }
-    take_name(names, log, turned, name, steps)
+    take_name(names, turned, name, steps)
 }
 
-/// Takes some names out. After `Memory` some may be out; the log has them.
+/// Takes some names out. After `Memory` some may be out.
 pub(crate) fn take_names<L: Ledger>(
-    names: &mut Table<Name, ()>,
-    log: &mut Log<Name, ()>,
+    names: &mut Tracked<Name, ()>,
     turned: &mut BTreeSet<Name>,
     some: &[Name],
     steps: &mut Steps<L>,
 ) -> Result<(), Memory>
-    requires { IsStrictlySortedBy bytes_cmp (keys_of names.old.entries) }
-    ensures names { OnOk result ((q : List ℕ) → is_in names.new.entries q ≡ (is_in names.old.entries q && not (has some.now q))) }
-    ensures turned { OnOk result ((before : List ℕ → Bool) → AreTurned before turned.old.keys names.old.entries → AreTurned before turned.new.keys names.new.entries) }
-    ensures ordered { OnOk result (IsStrictlySortedBy bytes_cmp (keys_of names.new.entries)) }
-    ensures undoes { (before : Contents (List ℕ) Unit) → Undoes bytes_cmp log.old names.old before → Undoes bytes_cmp log.new names.new before }
+    requires { IsStrictlySortedBy bytes_cmp (keys_of names.old.held.entries) }
+    ensures names { OnOk result ((q : List ℕ) → stands names.new.held q ≡ (stands names.old.held q && not (has some.now q))) }
+    ensures turned { OnOk result (StayTurned turned.old.keys names.old.held turned.new.keys names.new.held) }
+    ensures ordered { OnOk result (IsStrictlySortedBy bytes_cmp (keys_of names.new.held.entries)) }
+    ensures was { names.new.was ≡ names.old.was }
     ensures most { steps.new ≤ steps.old + length some.now }
-    ensures logged { length log.new ≤ length log.old + length some.now }
+    ensures back { names.new.back ≤ names.old.back + length some.now }
 {
     for one in some {
-        take_name(names, log, turned, *one, steps)?;
+        take_name(names, turned, *one, steps)?;
     }
     Ok(())
 }
 
 /// Whether a name is neither a given one nor held.
 fn is_wanting<L: Ledger>(
-    facts: &Table<Name, Entry>,
+    facts: &Tracked<Name, Entry>,
     name: Name,
     one: &Name,
     steps: &mut Steps<L>,
 ) -> bool
-    ensures is { result ≡ is_unheld facts.now.entries name one.now }
+    ensures is { result ≡ is_unheld facts.now.held.entries name one.now }
     ensures most { steps.new ≤ steps.old + 1 }
 {
     if *one == name {
@@ -190,63 +191,61 @@ fn is_wanting<L: Ledger>(
     !is_there(facts, one, steps)
 }
 
-/// Puts those of some names in that are neither a given one nor held. After `Memory` some may be in; the log has them.
+/// Puts those of some names in that are neither a given one nor held. After `Memory` some may be in.
 fn put_unheld<L: Ledger>(
-    facts: &Table<Name, Entry>,
-    names: &mut Table<Name, ()>,
-    log: &mut Log<Name, ()>,
+    facts: &Tracked<Name, Entry>,
+    names: &mut Tracked<Name, ()>,
     turned: &mut BTreeSet<Name>,
     name: Name,
     some: &[Name],
     steps: &mut Steps<L>,
 ) -> Result<(), Memory>
-    requires { IsStrictlySortedBy bytes_cmp (keys_of names.old.entries) }
-    ensures names { OnOk result ((q : List ℕ) → is_in names.new.entries q ≡ (is_in names.old.entries q || (has some.now q && is_unheld facts.now.entries name q))) }
-    ensures turned { OnOk result ((before : List ℕ → Bool) → AreTurned before turned.old.keys names.old.entries → AreTurned before turned.new.keys names.new.entries) }
-    ensures ordered { OnOk result (IsStrictlySortedBy bytes_cmp (keys_of names.new.entries)) }
-    ensures undoes { (before : Contents (List ℕ) Unit) → Undoes bytes_cmp log.old names.old before → Undoes bytes_cmp log.new names.new before }
+    requires { IsStrictlySortedBy bytes_cmp (keys_of names.old.held.entries) }
+    ensures names { OnOk result ((q : List ℕ) → stands names.new.held q ≡ (stands names.old.held q || (has some.now q && is_unheld facts.now.held.entries name q))) }
+    ensures turned { OnOk result (StayTurned turned.old.keys names.old.held turned.new.keys names.new.held) }
+    ensures ordered { OnOk result (IsStrictlySortedBy bytes_cmp (keys_of names.new.held.entries)) }
+    ensures was { names.new.was ≡ names.old.was }
     ensures most { steps.new ≤ steps.old + 2 * length some.now }
-    ensures logged { length log.new ≤ length log.old + length some.now }
+    ensures back { names.new.back ≤ names.old.back + length some.now }
 {
     for one in some {
         let wanted = is_wanting(facts, name, one, steps);
-        put_wanted(names, log, turned, *one, wanted, steps)?;
+        put_wanted(names, turned, *one, wanted, steps)?;
     }
     Ok(())
 }
 
 /// Puts those of some names in that are neither this one nor held, and then takes this one out.
 pub(crate) fn put_missing<L: Ledger>(
-    facts: &Table<Name, Entry>,
-    names: &mut Table<Name, ()>,
-    log: &mut Log<Name, ()>,
+    facts: &Tracked<Name, Entry>,
+    names: &mut Tracked<Name, ()>,
     turned: &mut BTreeSet<Name>,
     name: Name,
     some: &[Name],
     steps: &mut Steps<L>,
 ) -> Result<(), Memory>
-    requires { IsStrictlySortedBy bytes_cmp (keys_of names.old.entries) }
-    ensures names { OnOk result ((q : List ℕ) → is_in names.new.entries q ≡ ((is_in names.old.entries q || (has some.now q && is_unheld facts.now.entries name q)) && not (bytes_eq q name))) }
-    ensures turned { OnOk result ((before : List ℕ → Bool) → AreTurned before turned.old.keys names.old.entries → AreTurned before turned.new.keys names.new.entries) }
-    ensures ordered { OnOk result (IsStrictlySortedBy bytes_cmp (keys_of names.new.entries)) }
-    ensures undoes { (before : Contents (List ℕ) Unit) → Undoes bytes_cmp log.old names.old before → Undoes bytes_cmp log.new names.new before }
+    requires { IsStrictlySortedBy bytes_cmp (keys_of names.old.held.entries) }
+    ensures names { OnOk result (AreMissed facts.now.held name some.now names.old.held names.new.held) }
+    ensures turned { OnOk result (StayTurned turned.old.keys names.old.held turned.new.keys names.new.held) }
+    ensures ordered { OnOk result (IsStrictlySortedBy bytes_cmp (keys_of names.new.held.entries)) }
+    ensures was { names.new.was ≡ names.old.was }
     ensures most { steps.new ≤ steps.old + (1 + 2 * length some.now) }
-    ensures logged { length log.new ≤ length log.old + (1 + length some.now) }
+    ensures back { names.new.back ≤ names.old.back + (1 + length some.now) }
 {
-    put_unheld(facts, names, log, turned, name, some, steps)?;
-    take_name(names, log, turned, name, steps)
+    put_unheld(facts, names, turned, name, some, steps)?;
+    take_name(names, turned, name, steps)
 }
 
 /// Whether another name than a given one is that of a public fact, and first in no pair.
 fn is_left<L: Ledger>(
-    facts: &Table<Name, Entry>,
-    pairs: &Table<Pair, ()>,
+    facts: &Tracked<Name, Entry>,
+    pairs: &Tracked<Pair, ()>,
     name: Name,
     one: &Name,
     steps: &mut Steps<L>,
 ) -> bool
-    requires { IsStrictlySortedBy pair_cmp (keys_of pairs.now.entries) }
-    ensures { result ≡ is_freed facts.now.entries pairs.now.entries name one.now }
+    requires { IsStrictlySortedBy pair_cmp (keys_of pairs.now.held.entries) }
+    ensures { result ≡ is_freed facts.now.held.entries pairs.now.held.entries name one.now }
 {
     if *one == name {
         return false;
@@ -257,96 +256,92 @@ fn is_left<L: Ledger>(
     !is_first(pairs, *one, steps)
 }
 
-/// Puts those of some names in that are left of public facts and first in no pair. After `Memory` some may be in; the log has them.
+/// Puts those of some names in that are left of public facts and first in no pair. After `Memory` some may be in.
 fn put_freed<L: Ledger>(
-    facts: &Table<Name, Entry>,
-    pairs: &Table<Pair, ()>,
-    names: &mut Table<Name, ()>,
-    log: &mut Log<Name, ()>,
+    facts: &Tracked<Name, Entry>,
+    pairs: &Tracked<Pair, ()>,
+    names: &mut Tracked<Name, ()>,
     turned: &mut BTreeSet<Name>,
     name: Name,
     some: &[Name],
     steps: &mut Steps<L>,
 ) -> Result<(), Memory>
-    requires pairs { IsStrictlySortedBy pair_cmp (keys_of pairs.now.entries) }
-    requires names { IsStrictlySortedBy bytes_cmp (keys_of names.old.entries) }
-    ensures names { OnOk result ((q : List ℕ) → is_in names.new.entries q ≡ (is_in names.old.entries q || (has some.now q && is_freed facts.now.entries pairs.now.entries name q))) }
-    ensures turned { OnOk result ((before : List ℕ → Bool) → AreTurned before turned.old.keys names.old.entries → AreTurned before turned.new.keys names.new.entries) }
-    ensures ordered { OnOk result (IsStrictlySortedBy bytes_cmp (keys_of names.new.entries)) }
-    ensures undoes { (before : Contents (List ℕ) Unit) → Undoes bytes_cmp log.old names.old before → Undoes bytes_cmp log.new names.new before }
+    requires pairs { IsStrictlySortedBy pair_cmp (keys_of pairs.now.held.entries) }
+    requires names { IsStrictlySortedBy bytes_cmp (keys_of names.old.held.entries) }
+    ensures names { OnOk result ((q : List ℕ) → stands names.new.held q ≡ (stands names.old.held q || (has some.now q && is_freed facts.now.held.entries pairs.now.held.entries name q))) }
+    ensures turned { OnOk result (StayTurned turned.old.keys names.old.held turned.new.keys names.new.held) }
+    ensures ordered { OnOk result (IsStrictlySortedBy bytes_cmp (keys_of names.new.held.entries)) }
+    ensures was { names.new.was ≡ names.old.was }
 {
     for one in some {
         let wanted = is_left(facts, pairs, name, one, steps);
-        put_wanted(names, log, turned, *one, wanted, steps)?;
+        put_wanted(names, turned, *one, wanted, steps)?;
     }
     Ok(())
 }
 
-/// Takes those of some names out that are first in no pair. After `Memory` some may be out; the log has them.
+/// Takes those of some names out that are first in no pair. After `Memory` some may be out.
 fn take_unnamed<L: Ledger>(
-    pairs: &Table<Pair, ()>,
-    names: &mut Table<Name, ()>,
-    log: &mut Log<Name, ()>,
+    pairs: &Tracked<Pair, ()>,
+    names: &mut Tracked<Name, ()>,
     turned: &mut BTreeSet<Name>,
     some: &[Name],
     steps: &mut Steps<L>,
 ) -> Result<(), Memory>
-    requires pairs { IsStrictlySortedBy pair_cmp (keys_of pairs.now.entries) }
-    requires names { IsStrictlySortedBy bytes_cmp (keys_of names.old.entries) }
-    ensures names { OnOk result ((q : List ℕ) → is_in names.new.entries q ≡ (is_in names.old.entries q && not (has some.now q && not (is_named pairs.now.entries q)))) }
-    ensures turned { OnOk result ((before : List ℕ → Bool) → AreTurned before turned.old.keys names.old.entries → AreTurned before turned.new.keys names.new.entries) }
-    ensures ordered { OnOk result (IsStrictlySortedBy bytes_cmp (keys_of names.new.entries)) }
-    ensures undoes { (before : Contents (List ℕ) Unit) → Undoes bytes_cmp log.old names.old before → Undoes bytes_cmp log.new names.new before }
+    requires pairs { IsStrictlySortedBy pair_cmp (keys_of pairs.now.held.entries) }
+    requires names { IsStrictlySortedBy bytes_cmp (keys_of names.old.held.entries) }
+    ensures names { OnOk result ((q : List ℕ) → stands names.new.held q ≡ (stands names.old.held q && not (has some.now q && not (is_named pairs.now.held.entries q)))) }
+    ensures turned { OnOk result (StayTurned turned.old.keys names.old.held turned.new.keys names.new.held) }
+    ensures ordered { OnOk result (IsStrictlySortedBy bytes_cmp (keys_of names.new.held.entries)) }
+    ensures was { names.new.was ≡ names.old.was }
 {
     for one in some {
         let kept = is_first(pairs, *one, steps);
-        take_unless(names, log, turned, *one, kept, steps)?;
+        take_unless(names, turned, *one, kept, steps)?;
     }
     Ok(())
 }
 
 /// Puts those of some names in that are another's than this, public and in no pair, and then takes this one out.
 pub(crate) fn put_unclustered<L: Ledger>(
-    facts: &Table<Name, Entry>,
-    pairs: &Table<Pair, ()>,
-    names: &mut Table<Name, ()>,
-    log: &mut Log<Name, ()>,
+    facts: &Tracked<Name, Entry>,
+    pairs: &Tracked<Pair, ()>,
+    names: &mut Tracked<Name, ()>,
     turned: &mut BTreeSet<Name>,
     name: Name,
     some: &[Name],
     steps: &mut Steps<L>,
 ) -> Result<(), Memory>
-    requires pairs { IsStrictlySortedBy pair_cmp (keys_of pairs.now.entries) }
-    requires names { IsStrictlySortedBy bytes_cmp (keys_of names.old.entries) }
-    ensures names { OnOk result ((q : List ℕ) → is_in names.new.entries q ≡ ((is_in names.old.entries q || (has some.now q && is_freed facts.now.entries pairs.now.entries name q)) && not (bytes_eq q name))) }
-    ensures turned { OnOk result ((before : List ℕ → Bool) → AreTurned before turned.old.keys names.old.entries → AreTurned before turned.new.keys names.new.entries) }
-    ensures ordered { OnOk result (IsStrictlySortedBy bytes_cmp (keys_of names.new.entries)) }
-    ensures undoes { (before : Contents (List ℕ) Unit) → Undoes bytes_cmp log.old names.old before → Undoes bytes_cmp log.new names.new before }
+    requires pairs { IsStrictlySortedBy pair_cmp (keys_of pairs.now.held.entries) }
+    requires names { IsStrictlySortedBy bytes_cmp (keys_of names.old.held.entries) }
+    ensures names { OnOk result (AreFreed facts.now.held pairs.now.held name some.now names.old.held names.new.held) }
+    ensures turned { OnOk result (StayTurned turned.old.keys names.old.held turned.new.keys names.new.held) }
+    ensures ordered { OnOk result (IsStrictlySortedBy bytes_cmp (keys_of names.new.held.entries)) }
+    ensures was { names.new.was ≡ names.old.was }
 {
-    put_freed(facts, pairs, names, log, turned, name, some, steps)?;
-    take_name(names, log, turned, name, steps)
+    put_freed(facts, pairs, names, turned, name, some, steps)?;
+    take_name(names, turned, name, steps)
 }
 
 /// Takes those of some names out that are in no pair, and then puts this one in where it is in a pair.
 pub(crate) fn take_missing<L: Ledger>(
-    pairs: &Table<Pair, ()>,
-    names: &mut Table<Name, ()>,
-    log: &mut Log<Name, ()>,
+    pairs: &Tracked<Pair, ()>,
+    names: &mut Tracked<Name, ()>,
     turned: &mut BTreeSet<Name>,
     name: Name,
     some: &[Name],
     steps: &mut Steps<L>,
 ) -> Result<(), Memory>
-    requires pairs { IsStrictlySortedBy pair_cmp (keys_of pairs.now.entries) }
-    requires names { IsStrictlySortedBy bytes_cmp (keys_of names.old.entries) }
-    ensures names { OnOk result ((q : List ℕ) → is_in names.new.entries q ≡ ((is_in names.old.entries q && not (has some.now q && not (is_named pairs.now.entries q))) || (bytes_eq q name && is_named pairs.now.entries name))) }
-    ensures turned { OnOk result ((before : List ℕ → Bool) → AreTurned before turned.old.keys names.old.entries → AreTurned before turned.new.keys names.new.entries) }
-    ensures ordered { OnOk result (IsStrictlySortedBy bytes_cmp (keys_of names.new.entries)) }
-    ensures undoes { (before : Contents (List ℕ) Unit) → Undoes bytes_cmp log.old names.old before → Undoes bytes_cmp log.new names.new before }
+    requires pairs { IsStrictlySortedBy pair_cmp (keys_of pairs.now.held.entries) }
+    requires names { IsStrictlySortedBy bytes_cmp (keys_of names.old.held.entries) }
+    ensures names { OnOk result (AreLost pairs.now.held name some.now names.old.held names.new.held) }
+    ensures turned { OnOk result (StayTurned turned.old.keys names.old.held turned.new.keys names.new.held) }
+    ensures ordered { OnOk result (IsStrictlySortedBy bytes_cmp (keys_of names.new.held.entries)) }
+    ensures was { names.new.was ≡ names.old.was }
 {
-    take_unnamed(pairs, names, log, turned, some, steps)?;
+    take_unnamed(pairs, names, turned, some, steps)?;
     let named = is_first(pairs, name, steps);
-    put_wanted(names, log, turned, name, named, steps)
+    put_wanted(names, turned, name, named, steps)
 }
 
 /// Turns a name over where it is wanted.
@@ -365,21 +360,20 @@ pub(crate) fn flip_wanted(
 
 /// Puts a name in where it is wanted.
 pub(crate) fn enter_wanted<L: Ledger>(
-    names: &mut Table<Name, ()>,
-    log: &mut Log<Name, ()>,
+    names: &mut Tracked<Name, ()>,
     name: Name,
     wanted: bool,
     steps: &mut Steps<L>,
 ) -> Result<(), Memory>
-    requires { IsStrictlySortedBy bytes_cmp (keys_of names.old.entries) }
-    ensures names { OnOk result ((q : List ℕ) → is_in names.new.entries q ≡ (is_in names.old.entries q || (bytes_eq q name && wanted))) }
-    ensures ordered { OnOk result (IsStrictlySortedBy bytes_cmp (keys_of names.new.entries)) }
-    ensures undoes { (before : Contents (List ℕ) Unit) → Undoes bytes_cmp log.old names.old before → Undoes bytes_cmp log.new names.new before }
+    requires { IsStrictlySortedBy bytes_cmp (keys_of names.old.held.entries) }
+    ensures names { OnOk result ((q : List ℕ) → stands names.new.held q ≡ (stands names.old.held q || (bytes_eq q name && wanted))) }
+    ensures ordered { OnOk result (IsStrictlySortedBy bytes_cmp (keys_of names.new.held.entries)) }
+    ensures was { names.new.was ≡ names.old.was }
     ensures most { steps.new ≤ steps.old + 1 }
-    ensures kept { OnErr result (log.new ≡ log.old) }
+    ensures err { OnErr result (names.new ≡ names.old) }
 {
     if !wanted {
         return Ok(());
     }
-    log::put(names, log, name, name, (), steps)
+    names.put(name, name, (), steps)
 }

@@ -1,19 +1,13 @@
-//! The maps in which the facts are held, what takes them back, and the names whose rows change.
-ghost use Rattle.std.specs.Prelude.{◌≡◌, ◌+◌, []};
-ghost use Rattle.fsl_order.specs.Names.{bytes_cmp};
-ghost use Rattle.fsl_table.specs.Exact.{pair_cmp};
-ghost use Rattle.fsl_table.specs.Undo.{CanUndo};
-ghost use Rattle.fsl_cluster.specs.Kept.{AreAsGood, undone_tables, logged};
+//! The maps of a table as it is filled, and the names whose rows change.
+ghost use Rattle.std.specs.Prelude.{◌≡◌, []};
 
 use crate::entry::Entry;
 use fsl_name::Name;
-use fsl_table::{Log, Pair, Table, log};
-use fsl_text::Steps;
+use fsl_table::{Pair, Table};
 use std::alloc::Global;
 use std::collections::BTreeSet;
-use std::sync::ledger::Ledger;
 
-/// The maps of a table of facts.
+/// The maps of a table of facts as they are filled, with no way back.
 #[derive(Drop)]
 pub struct Tables {
     /// What is kept of each fact, by its name.
@@ -45,59 +39,6 @@ impl Tables {
             missing: Table::new(alloc),
         }
     }
-}
-
-/// What takes each of the maps back.
-#[derive(Drop)]
-pub struct Logs {
-    pub facts: Log<Name, Entry>,
-    pub members: Log<Pair, ()>,
-    pub refs: Log<Pair, ()>,
-    pub unclustered: Log<Name, ()>,
-    pub missing: Log<Name, ()>,
-}
-
-impl Logs {
-    /// Logs without steps. Takes no memory.
-    pub fn new(alloc: Global) -> Logs
-        ensures facts { result.facts ≡ [] }
-        ensures members { result.members ≡ [] }
-        ensures refs { result.refs ≡ [] }
-        ensures unclustered { result.unclustered ≡ [] }
-        ensures missing { result.missing ≡ [] }
-    {
-        Logs {
-            facts: Log::new(alloc),
-            members: Log::new(alloc),
-            refs: Log::new(alloc),
-            unclustered: Log::new(alloc),
-            missing: Log::new(alloc),
-        }
-    }
-}
-
-/// Takes each map back. It takes no memory.
-pub(crate) fn undo_all<L: Ledger>(tables: &mut Tables, logs: Logs, steps: &mut Steps<L>)
-    requires facts { CanUndo bytes_cmp logs.facts tables.old.facts }
-    requires members { CanUndo pair_cmp logs.members tables.old.members }
-    requires refs { CanUndo pair_cmp logs.refs tables.old.refs }
-    requires unclustered { CanUndo bytes_cmp logs.unclustered tables.old.unclustered }
-    requires missing { CanUndo bytes_cmp logs.missing tables.old.missing }
-    ensures good { AreAsGood (undone_tables logs tables.old) tables.new }
-    ensures cost { steps.new ≡ steps.old + logged logs }
-{
-    let Logs {
-        facts,
-        members,
-        refs,
-        unclustered,
-        missing,
-    } = logs;
-    log::undo(&mut tables.facts, facts, steps);
-    log::undo(&mut tables.members, members, steps);
-    log::undo(&mut tables.refs, refs, steps);
-    log::undo(&mut tables.unclustered, unclustered, steps);
-    log::undo(&mut tables.missing, missing, steps);
 }
 
 /// The names that became unclustered or ceased to be, and those that became missing or ceased to be.

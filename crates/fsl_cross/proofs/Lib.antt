@@ -1,3 +1,4 @@
+pub mod Crossing
 pub mod Mapped
 pub mod Moved
 pub mod Sets

@@ -22,6 +22,7 @@ mod tables;
 mod targets;
 mod timeline;
 mod tip;
+mod told;
 mod undos;
 
 pub use back::Back;

@@ -75,6 +75,13 @@ impl Tables {
         Tables::of_set(alloc, fields, items)
     }
 
+    /// The artifacts.
+    pub fn items(&self) -> &Items
+        ensures { result.now ≡ self.now.items }
+    {
+        &self.items
+    }
+
     /// The tables of no artifacts, and of the configured fields of tickets. `Memory` is the only error.
     pub fn new(alloc: Global, fields: &List<Text>) -> Result<Tables, Memory>
         ensures fields { IfOk result (λ t. t.fields ≡ fields.now) }

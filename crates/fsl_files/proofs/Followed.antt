@@ -12,7 +12,7 @@ use Rattle.fsl_table.specs.Contents.{value_at}
 use Rattle.fsl_table.specs.Pairs.{is_name, seconds}
 use Rattle.fsl_files.specs.declared.Fact.{Fact}
 use Rattle.fsl_files.specs.declared.entry.Entry.{Entry}
-use Rattle.fsl_files.specs.Kept.{Lines, Pairs, Rows, IsKept, baseline_at, parent_at, facts_of, held_of, is_touched}
+use Rattle.fsl_files.specs.Kept.{Lines, Pairs, Rows, IsKept, IsUnfollowed, baseline_at, parent_at, facts_of, held_of, is_touched}
 use Rattle.fsl_files.specs.Touches.{is_followed}
 use Rattle.fsl_files.proofs.Linked.{has-of}
 use Rattle.fsl_files.proofs.Staying.{or_left, or_right}
@@ -44,15 +44,13 @@ none_has : (ns : List (List ℕ)) → ((q : List ℕ) → has ns q ≡ false) �
 none_has [] h = refl
 none_has (x ∷ ns) h = absurd (true≢false (sym (ap (λ b. b || has ns x) (nat_list_eq_equiv.refl x)) ∙ h x))
 
-pub no_deltas : (r : Rows) (h : TableState Fact) (name : List ℕ) → IsKept r → held_of r ≡ h → is_followed h.facts name ≡ false → length (seconds name r.deltas.entries) ≡ 0
-no_deltas r h name kept is none =
-    ap length (none_has (seconds name r.deltas.entries)
-    (λ q. has-of (baseline_at r.facts.entries) r.deltas.entries name q kept.deltas ∙ no_baseline r.facts.entries name q (ap (λ h. is_followed h.facts name) is ∙ none)))
-
-pub no_children : (r : Rows) (h : TableState Fact) (name : List ℕ) → IsKept r → held_of r ≡ h → is_followed h.facts name ≡ false → length (seconds name r.children.entries) ≡ 0
-no_children r h name kept is none =
-    ap length (none_has (seconds name r.children.entries)
-    (λ q. has-of (parent_at r.facts.entries) r.children.entries name q kept.children ∙ no_parent r.facts.entries name q (ap (λ h. is_followed h.facts name) is ∙ none)))
+pub unfollowed : (r : Rows) (h : TableState Fact) (name : List ℕ) → IsKept r → held_of r ≡ h → is_followed h.facts name ≡ false → IsUnfollowed r name
+unfollowed r h name kept is none =
+    let es = r.facts.entries in
+    let alone : is_followed (facts_of es) name ≡ false = ap (λ h. is_followed h.facts name) is ∙ none in (
+      ap length (none_has (seconds name r.deltas.entries) (λ q. has-of (baseline_at es) r.deltas.entries name q kept.deltas ∙ no_baseline es name q alone)),
+      ap length (none_has (seconds name r.children.entries) (λ q. has-of (parent_at es) r.children.entries name q kept.children ∙ no_parent es name q alone)),
+    )
 
 nothing : (ns : List (List ℕ)) → length ns ≡ 0 → ns ≡ []
 nothing [] h = refl

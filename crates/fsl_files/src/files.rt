@@ -6,66 +6,57 @@ ghost use Rattle.fsl_order.specs.Rows.{by_name, AreDistinct, ListsChanged};
 ghost use Rattle.fsl_files.specs.Conditions.{IsFilesFact};
 ghost use Rattle.fsl_files.specs.Files as table;
 ghost use Rattle.fsl_files.specs.Files.{files_row};
-ghost use Rattle.fsl_files.specs.Kept.{IsKept, facts_of};
+ghost use Rattle.fsl_files.specs.Kept.{IsKept, facts_of, rows_of};
 ghost use Rattle.fsl_files.specs.Touches.{is_followed, file_most};
 
-use super::entry::{Entry, line_of};
+use super::entry::line_of;
 use super::found::{Found, find, find_both};
 use super::lookup::Lookup;
+use super::maps::{Maps, Ways};
 use super::put::{put_either, put_new};
 use super::{Change, Fact, Listing, changes, rows};
 use fsl_name::Name;
 use fsl_rows::Named;
-use fsl_table::{Log, Pair, Table, log};
 use fsl_text::{List, Memory, Steps};
 use std::alloc::Global;
 use std::marker::{Brand, Model};
-use std::snapshot::Snapshot;
 use std::sync::ledger::{Blank, Ledger};
 
 /// The files of check-ins. Contracts see it as the facts by name, and the room that its maps have to spare.
 #[derive(Drop)]
 pub struct Files {
-    facts: Table<Name, Entry>,
-    /// A pair for each baseline and the check-in that has it; the baseline need not be there.
-    deltas: Table<Pair, ()>,
-    /// A pair for each primary parent and the check-in that has it; the parent need not be there.
-    children: Table<Pair, ()>,
+    maps: Maps,
 }
 
 impl Model for Files {
     ghost use Rattle.fsl_order.specs.TableState.{TableState};
     ghost use Rattle.fsl_files.specs.declared.Fact.{Fact};
-    ghost use Rattle.fsl_files.specs.Kept.{held_of, IsKept};
+    ghost use Rattle.fsl_files.specs.Kept.{held_of, rows_of, IsKept};
 
     ghost Value = { TableState Fact };
 
-    ghost view = { λ t. held_of (record { facts = t.facts; deltas = t.deltas; children = t.children }) };
+    ghost view = { λ t. held_of (rows_of t.maps) };
 
-    ghost invariant = { λ t. IsKept (record { facts = t.facts; deltas = t.deltas; children = t.children }) };
+    ghost invariant = { λ t. IsKept (rows_of t.maps) };
 }
 
 /// What takes a change back, and the names whose rows it changed. Contracts see it as both, with the table before and after.
 #[derive(Drop)]
 pub struct Undo {
-    facts: Log<Name, Entry>,
-    deltas: Log<Pair, ()>,
-    children: Log<Pair, ()>,
+    ways: Ways,
     changed: List<Name>,
-    before: Snapshot<Files>,
-    after: Snapshot<Files>,
 }
 
 impl Model for Undo {
-    ghost use Rattle.fsl_order.specs.TableState.{Change, IsAsBefore};
+    ghost use Rattle.fsl_order.specs.TableState.{Change};
     ghost use Rattle.fsl_files.specs.declared.Fact.{Fact};
-    ghost use Rattle.fsl_files.specs.Kept.{Rows, IsKept, held_of, TakesBack};
+    ghost use Rattle.fsl_files.specs.Kept.{IsKept, ends_of, held_of, starts_of};
 
     ghost Value = { Change Fact };
 
-    ghost view = { λ u. record { before = u.before.value; after = u.after.value; changed = u.changed } };
+    ghost view = { λ u. record { before = held_of (starts_of u.ways); after = held_of (ends_of u.ways); changed = u.changed } };
 
-    ghost invariant = { λ u. (now : Rows) → IsKept now → IsAsBefore u.after.value (held_of now) → TakesBack (record { facts = u.facts; deltas = u.deltas; children = u.children }) u.before.value now };
+    ghost invariant = { λ u. IsKept (starts_of u.ways) × IsKept (ends_of u.ways) };
 }
 
 impl Undo {
@@ -77,28 +68,27 @@ impl Undo {
     }
 }
 
-/// Puts some check-ins into tables that have none, the last one first.
+/// Puts some check-ins into maps that have none, the last one first.
 fn fill<L: Ledger>(
     alloc: Global,
-    entries: &mut Table<Name, Entry>,
-    deltas: &mut Table<Pair, ()>,
-    children: &mut Table<Pair, ()>,
+    maps: &mut Maps,
     facts: &[Fact],
     steps: &mut Steps<L>,
 ) -> Result<(), Memory>
-    requires entries { entries.old.entries ≡ [] }
-    requires deltas { deltas.old.entries ≡ [] }
-    requires children { children.old.entries ≡ [] }
+    requires entries { maps.old.facts.held.entries ≡ [] }
+    requires deltas { maps.old.deltas.held.entries ≡ [] }
+    requires children { maps.old.children.held.entries ≡ [] }
     requires distinct { AreDistinct (map (λ f. f.name) facts.now) }
     requires fit { All IsFilesFact facts.now }
-    ensures facts { OnOk result (facts_of entries.new.entries ≡ by_name (λ f. f.name) facts.now) }
-    ensures kept { OnOk result (IsKept (record { facts = entries.new; deltas = deltas.new; children = children.new })) }
+    ensures facts { OnOk result (facts_of maps.new.facts.held.entries ≡ by_name (λ f. f.name) facts.now) }
+    ensures kept { OnOk result (IsKept (rows_of maps.new)) }
 {
     let mut left = facts.len();
     while left > 0 {
         left -= 1;
         let fact = facts[left].copied(alloc)?;
-        put_new(alloc, entries, deltas, children, line_of(fact), steps)?;
+        maps.begin();
+        put_new(maps, line_of(fact), steps)?;
     }
     Ok(())
 }
@@ -108,13 +98,8 @@ impl Files {
     pub fn new(alloc: Global) -> Files
         ensures { result.facts ≡ [] }
     {
-        let facts = Table::new(alloc);
-        let deltas = Table::new(alloc);
-        let children = Table::new(alloc);
         Files {
-            facts,
-            deltas,
-            children,
+            maps: Maps::new(alloc),
         }
     }
 
@@ -142,26 +127,11 @@ impl Files {
         ensures facts { IfOk result (λ t. t.facts ≡ by_name (λ f. f.name) facts.now) }
     {
         let mut steps: Steps<L> = Steps::new(blank);
-        let mut entries = Table::new(alloc);
-        let mut deltas = Table::new(alloc);
-        let mut children = Table::new(alloc);
-        match fill(
-            alloc,
-            &mut entries,
-            &mut deltas,
-            &mut children,
-            facts,
-            &mut steps,
-        ) {
-            Ok(()) => Ok(Files {
-                facts: entries,
-                deltas,
-                children,
-            }),
+        let mut maps = Maps::new(alloc);
+        match fill(alloc, &mut maps, facts, &mut steps) {
+            Ok(()) => Ok(Files { maps }),
             Err(Memory) => {
-                drop(entries);
-                drop(deltas);
-                drop(children);
+                drop(maps);
                 Err(Memory)
             }
         }
@@ -222,36 +192,14 @@ impl Files {
         ensures err { OnErr result (IsAsBefore self.old self.new) }
         ensures cost { has (map (λ f. f.name) self.old.facts) fact.name ≡ false → is_followed self.old.facts fact.name ≡ false → steps.new ≤ steps.old + 10 }
     {
-        let before = Snapshot::of(&*self);
-        let mut facts = Log::new(alloc);
-        let mut deltas = Log::new(alloc);
-        let mut children = Log::new(alloc);
-        match put_either(
-            alloc,
-            &mut self.facts,
-            &mut self.deltas,
-            &mut self.children,
-            &mut facts,
-            &mut deltas,
-            &mut children,
-            line_of(fact),
-            steps,
-        ) {
-            Ok(changed) => {
-                let after = Snapshot::of(&*self);
-                Ok(Undo {
-                    facts,
-                    deltas,
-                    children,
-                    changed,
-                    before,
-                    after,
-                })
-            }
+        self.maps.begin();
+        match put_either(alloc, &mut self.maps, line_of(fact), steps) {
+            Ok(changed) => Ok(Undo {
+                ways: self.maps.ways(alloc),
+                changed,
+            }),
             Err(Memory) => {
-                log::undo(&mut self.facts, facts, steps);
-                log::undo(&mut self.deltas, deltas, steps);
-                log::undo(&mut self.children, children, steps);
+                self.maps.turn_back(steps);
                 Err(Memory)
             }
         }
@@ -273,15 +221,8 @@ impl Files {
         ensures { IsAsBefore undo.before self.new }
     {
         let mut steps: Steps<L> = Steps::new(blank);
-        let Undo {
-            facts,
-            deltas,
-            children,
-            ..
-        } = undo;
-        log::undo(&mut self.facts, facts, &mut steps);
-        log::undo(&mut self.deltas, deltas, &mut steps);
-        log::undo(&mut self.children, children, &mut steps);
+        let Undo { ways, .. } = undo;
+        self.maps.undo(ways, &mut steps);
     }
 
     /// The files of a check-in, by rising path. Without a baseline they are its own. With one they are those of the baseline, each
@@ -306,7 +247,7 @@ impl Files {
         ensures { IfOk result (λ l. l ≡ table.files self.now.facts name) }
     {
         let mut steps: Steps<L> = Steps::new(blank);
-        match find(&Lookup::of(&self.facts), name, &mut steps) {
+        match find(&Lookup::of(&self.maps.facts), name, &mut steps) {
             Found::NotCheckin => Ok(Listing::NotCheckin),
             Found::NoBaseline => Ok(Listing::NoBaseline),
             Found::Known(files) => Ok(Listing::Known(rows::collected(alloc, files)?)),
@@ -334,7 +275,7 @@ impl Files {
         ensures { IfOk result (λ c. c ≡ table.changes self.now.facts name) }
     {
         let mut steps: Steps<L> = Steps::new(blank);
-        match find_both(&Lookup::of(&self.facts), name, &mut steps) {
+        match find_both(&Lookup::of(&self.maps.facts), name, &mut steps) {
             None => Ok(None),
             Some((old, new)) => Ok(Some(changes::differences(alloc, old, new)?)),
         }

@@ -11,6 +11,7 @@ mod entry;
 mod files;
 mod found;
 mod lookup;
+mod maps;
 mod overlay;
 mod put;
 mod rows;

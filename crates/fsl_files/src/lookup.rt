@@ -6,7 +6,7 @@ ghost use Rattle.fsl_table.specs.Contents.{value_at, with_entry};
 
 use crate::entry::Entry;
 use fsl_name::Name;
-use fsl_table::Table;
+use fsl_table::Tracked;
 use fsl_text::Steps;
 use std::marker::Model;
 use std::sync::ledger::Ledger;
@@ -14,7 +14,7 @@ use std::sync::ledger::Ledger;
 /// The check-ins of a table, with one in the place of that of its name where there is one. Contracts see them beside their names.
 #[derive(Drop)]
 pub(crate) struct Lookup<'a> {
-    table: &'a Table<Name, Entry>,
+    table: &'a Tracked<Name, Entry>,
     line: Option<&'a (Name, Entry)>,
 }
 
@@ -24,20 +24,20 @@ impl<'a> Model for Lookup<'a> {
 
     ghost Value = { Lines };
 
-    ghost view = { λ l. with_line (option_copied l.line) l.table.now.entries };
+    ghost view = { λ l. with_line (option_copied l.line) l.table.now.held.entries };
 }
 
 impl<'a> Lookup<'a> {
     /// The check-ins of a table.
-    pub(crate) fn of(table: &'a Table<Name, Entry>) -> Lookup<'a>
-        ensures { result ≡ table.now.entries }
+    pub(crate) fn of(table: &'a Tracked<Name, Entry>) -> Lookup<'a>
+        ensures { result ≡ table.now.held.entries }
     {
         Lookup { table, line: None }
     }
 
     /// The check-ins of a table with one more, or with one in the place of that of its name.
-    pub(crate) fn with(table: &'a Table<Name, Entry>, line: &'a (Name, Entry)) -> Lookup<'a>
-        ensures { result ≡ with_entry bytes_cmp line.now.0 line.now.1 table.now.entries }
+    pub(crate) fn with(table: &'a Tracked<Name, Entry>, line: &'a (Name, Entry)) -> Lookup<'a>
+        ensures { result ≡ with_entry bytes_cmp line.now.0 line.now.1 table.now.held.entries }
     {
         Lookup {
             table,

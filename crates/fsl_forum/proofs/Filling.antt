@@ -13,12 +13,11 @@ use Rattle.fsl_order.proofs.NamedLemmas.{named-by_name}
 use Rattle.fsl_order.proofs.RowLemmas.{is_some-named}
 use Rattle.fsl_order.proofs.Orders.{bytes_cmp-IsTotalOrder}
 use Rattle.fsl_rows.proofs.Built.{by_name-again}
-use Rattle.fsl_table.specs.declared.key.Pair.{Pair}
 use Rattle.fsl_table.specs.Contents.{value_at, with_entry}
 use Rattle.fsl_table.proofs.Entries.{sorted-insert_entry}
 use Rattle.fsl_table.proofs.Facts.{facts_with, absent_before}
 use Rattle.fsl_forum.specs.declared.Fact.{Fact}
-use Rattle.fsl_forum.specs.Held.{Nodes, Rows, IsKept, AreOf, fact_of, facts_of, node_of}
+use Rattle.fsl_forum.specs.Held.{AreMoved, AreOf, IsEnded, IsKept, Rows, fact_of, facts_of, node_of}
 use Rattle.fsl_forum.specs.Kept.{place_by}
 use Rattle.fsl_forum.specs.Threads.{post, next, next_of, end, place}
 use Rattle.fsl_forum.proofs.ChainLaw.{end_by_next, end-alike}
@@ -36,13 +35,13 @@ abbrev pub end_among : List Fact → List Fact → List ℕ → Option (List ℕ
 end_among all facts x = option_and_then (λ f. end all f.name) (post facts x)
 
 -- some posts are in
-pub record IsFilled (all facts : List Fact) (posts : Nodes) (followers : List (Pair × Unit {0})) (ends : List (List ℕ × List ℕ)) (placed : List (Pair × Unit {0})) : Type 0 where
-  pub are : facts_of posts ≡ by_name (λ f. f.name) facts
-  pub ordered : IsStrictlySortedBy bytes_cmp (keys_of posts)
-  pub following : AreOf (next_of facts) followers
-  pub ends_ordered : IsStrictlySortedBy bytes_cmp (keys_of ends)
-  pub ended : (x : List ℕ) → value_at bytes_cmp x ends ≡ end_among all facts x
-  pub standing : AreOf (place_among all facts) placed
+pub record IsFilled (all facts : List Fact) (r : Rows) : Type 0 where
+  pub are : facts_of r.posts.entries ≡ by_name (λ f. f.name) facts
+  pub ordered : IsStrictlySortedBy bytes_cmp (keys_of r.posts.entries)
+  pub following : AreOf (next_of facts) r.followers.entries
+  pub ends_ordered : IsStrictlySortedBy bytes_cmp (keys_of r.ends.entries)
+  pub ended : (x : List ℕ) → value_at bytes_cmp x r.ends.entries ≡ end_among all facts x
+  pub standing : AreOf (place_among all facts) r.placed.entries
 
 none-named : (facts : List Fact) (f : Fact) → AreDistinct (map (λ f. f.name) (f ∷ facts)) → post facts f.name ≡ None
 none-named facts f d = sym (named-by_name (λ f. f.name) facts f.name) ∙ none (post (by_name (λ f. f.name) facts) f.name) (is_some-named (λ f. f.name) (by_name (λ f. f.name) facts) f.name ∙ absent_before (λ f. f.name) f facts d)
@@ -60,27 +59,27 @@ module _ {B : Type 0} (g : Fact → Option B) (f : Fact) (facts : List Fact) whe
   pub none-more : AreDistinct (map (λ f. f.name) (f ∷ facts)) → option_and_then g (post facts f.name) ≡ None
   none-more d = ap (option_and_then g) (none-named facts f d)
 
-pub filled-more : (all facts : List Fact) (f : Fact) (posts posts' : Nodes) (followers followers' : List (Pair × Unit {0})) (ends ends' : List (List ℕ × List ℕ)) (placed placed' : List (Pair × Unit {0})) (found : Option (List ℕ))
-    → AreDistinct (map (λ f. f.name) (f ∷ facts)) → found ≡ end all f.name → IsFilled all facts posts followers ends placed
-    → posts' ≡ with_entry bytes_cmp f.name (node_of f) posts
-    → ((first : List ℕ → Option (List ℕ)) → AreOf first followers → first f.name ≡ None → AreOf (λ x. cond (bytes_eq x f.name) (next f) (first x)) followers')
-    → IsStrictlySortedBy bytes_cmp (keys_of ends')
-    → ((x : List ℕ) → value_at bytes_cmp x ends' ≡ cond (bytes_eq x f.name) found (value_at bytes_cmp x ends))
-    → ((first : List ℕ → Option (List ℕ)) → AreOf first placed → first f.name ≡ None → AreOf (λ x. cond (bytes_eq x f.name) (place_by found f) (first x)) placed')
-    → IsFilled all (f ∷ facts) posts' followers' ends' placed'
-filled-more all facts f posts posts' followers followers' ends ends' placed placed' found d known is put follow sorted ended stand = record {
-  are = ap facts_of put ∙ facts_with fact_of (λ f. f.name) (λ e. refl) f.name (node_of f) posts is.ordered ∙ ap (λ fs. by_name (λ f. f.name) (f ∷ fs)) is.are ∙ by_name-again (λ f. f.name) f facts d;
-  ordered = subst (λ es. IsStrictlySortedBy bytes_cmp (keys_of es)) (sym put) (sorted-insert_entry bytes_cmp-IsTotalOrder f.name (node_of f) posts is.ordered);
-  following = of-alike (λ x. cond (bytes_eq x f.name) (next f) (next_of facts x)) (next_of (f ∷ facts)) followers' (one-more next f facts) (follow (next_of facts) is.following (none-more next f facts d));
+pub filled-more : (all facts : List Fact) (f : Fact) (r s : Rows) (found : Option (List ℕ))
+    → AreDistinct (map (λ f. f.name) (f ∷ facts)) → found ≡ end all f.name → IsFilled all facts r
+    → s.posts.entries ≡ with_entry bytes_cmp f.name (node_of f) r.posts.entries
+    → AreMoved f.name None (next f) r.followers.entries s.followers.entries
+    → IsStrictlySortedBy bytes_cmp (keys_of s.ends.entries)
+    → IsEnded f.name found r.ends.entries s.ends.entries
+    → AreMoved f.name None (place_by found f) r.placed.entries s.placed.entries
+    → IsFilled all (f ∷ facts) s
+filled-more all facts f r s found d known is put follow sorted ended stand = record {
+  are = ap facts_of put ∙ facts_with fact_of (λ f. f.name) (λ e. refl) f.name (node_of f) r.posts.entries is.ordered ∙ ap (λ fs. by_name (λ f. f.name) (f ∷ fs)) is.are ∙ by_name-again (λ f. f.name) f facts d;
+  ordered = subst (λ es. IsStrictlySortedBy bytes_cmp (keys_of es)) (sym put) (sorted-insert_entry bytes_cmp-IsTotalOrder f.name (node_of f) r.posts.entries is.ordered);
+  following = of-alike (λ x. cond (bytes_eq x f.name) (next f) (next_of facts x)) (next_of (f ∷ facts)) s.followers.entries (one-more next f facts) (follow (next_of facts) is.following (none-more next f facts d));
   ends_ordered = sorted;
   ended = λ x. ended x ∙ (λ i. cond (bytes_eq x f.name) (known i) (is.ended x i)) ∙ one-more (λ f. end all f.name) f facts x;
-  standing = of-alike (λ x. cond (bytes_eq x f.name) (place_by found f) (place_among all facts x)) (place_among all (f ∷ facts)) placed'
+  standing = of-alike (λ x. cond (bytes_eq x f.name) (place_by found f) (place_among all facts x)) (place_among all (f ∷ facts)) s.placed.entries
       (λ x. ap (λ e. cond (bytes_eq x f.name) (place_by e f) (place_among all facts x)) known ∙ one-more (λ f. place_by (end all f.name) f) f facts x)
       (stand (place_among all facts) is.standing (none-more (λ f. place_by (end all f.name) f) f facts d));
 }
 
 -- all are in
-pub filled-all : (all : List Fact) (r : Rows) → IsFilled all all r.posts.entries r.followers.entries r.ends.entries r.placed.entries → IsKept r
+pub filled-all : (all : List Fact) (r : Rows) → IsFilled all all r → IsKept r
 filled-all all r is =
     let same : (x : List ℕ) → post all x ≡ post (facts_of r.posts.entries) x = λ x. sym (ap (λ fs. post fs x) is.are ∙ named-by_name (λ f. f.name) all x) in
     let ends : (x : List ℕ) → end all x ≡ end (facts_of r.posts.entries) x = end-alike all (facts_of r.posts.entries) same in
@@ -100,9 +99,14 @@ filled-all all r is =
         ] refl
 
 -- none are in
-pub filled-none : (all facts : List Fact) (posts : Nodes) (followers : List (Pair × Unit {0})) (ends : List (List ℕ × List ℕ)) (placed : List (Pair × Unit {0})) → facts ≡ [] → posts ≡ [] → followers ≡ [] → ends ≡ [] → placed ≡ []
-    → IsFilled all facts posts followers ends placed
+pub filled-none : (all facts : List Fact) (r : Rows) → facts ≡ [] → r.posts.entries ≡ [] → r.followers.entries ≡ [] → r.ends.entries ≡ [] → r.placed.entries ≡ [] → IsFilled all facts r
 unfolding IsStrictlySortedBy
-filled-none all facts posts followers ends placed d p f e w =
-    transport (λ i. IsFilled all (sym d i) (sym p i) (sym f i) (sym e i) (sym w i))
+filled-none all facts r d p f e w =
+    transport
+    (λ i. IsFilled all (sym d i) (record {
+      posts = record { entries = sym p i; spare = r.posts.spare };
+      followers = record { entries = sym f i; spare = r.followers.spare };
+      ends = record { entries = sym e i; spare = r.ends.spare };
+      placed = record { entries = sym w i; spare = r.placed.spare };
+    }))
     (record { are = refl; ordered = tt; following = of-none (next_of []) (λ x. refl); ends_ordered = tt; ended = λ x. refl; standing = of-none (place_among all []) (λ x. refl) })

@@ -1,3 +1,4 @@
+pub mod Crossing
 pub mod ChainLaw
 pub mod Climbs
 pub mod Changing

@@ -19,10 +19,7 @@ use Rattle.fsl_order.proofs.RowLemmas.{has-filter}
 use Rattle.fsl_forum.specs.declared.PostKind.{PostKind}
 use Rattle.fsl_forum.specs.declared.PostKind.TheVariants.{Start, Edit, Reply}
 use Rattle.fsl_forum.specs.declared.rows.Noted.{Noted}
-use Rattle.fsl_forum.specs.Rows.{Row, same_kind, same_row, differing}
-
-abbrev pub noted_in : (List ℕ → Row) → List ℕ → Noted
-noted_in rows x = record { name = x; row = rows x }
+use Rattle.fsl_forum.specs.Rows.{Row, differing, noted_in, same_kind, same_row}
 
 -- ---- rows that are one
 

@@ -17,12 +17,12 @@ use Rattle.fsl_forum.specs.declared.Fact.{Fact}
 use Rattle.fsl_forum.specs.declared.node.Node.{Node}
 use Rattle.fsl_forum.specs.Held.{Nodes, Rows, IsKept, AreOf, fact_of, facts_of, node_of}
 use Rattle.fsl_forum.specs.Kept.{place_by}
-use Rattle.fsl_forum.specs.Rows.{Row, row_by, row_in, place_of, differing}
+use Rattle.fsl_forum.specs.Rows.{Row, differing, noted_in, place_of, row_by, row_in}
 use Rattle.fsl_forum.specs.Reached.{IsStep}
 use Rattle.fsl_forum.specs.Threads.{post, next, next_of, end, place, kind, threads_row}
 use Rattle.fsl_forum.proofs.Climbs.{named_so}
 use Rattle.fsl_forum.proofs.Linked.{of-alike}
-use Rattle.fsl_forum.proofs.Noting.{noted_in, lists_changed}
+use Rattle.fsl_forum.proofs.Noting.{lists_changed}
 
 -- the post of a name is that of its entry
 pub post-is : (es : Nodes) (x : List ℕ) → post (facts_of es) x ≡ option_map (λ n. fact_of (x, n)) (value_at bytes_cmp x es)

@@ -48,6 +48,14 @@ pub record IsClimbed (facts : List Fact) (ends : Nexts) (path : List (List ℕ))
   pub path_is : (name : List ℕ) → has path name ≡ true → found ≡ end facts name
   pub begun_is : found ≡ end facts begun
 
+-- of whatever posts these are the next ones: where the ends were right, it is such a climb
+abbrev pub Climbs : Nexts → Nexts → Nexts → List (List ℕ) → List ℕ → Option (List ℕ) → Type 0
+Climbs nexts old new path begun found = (facts : List Fact) → AreNexts facts nexts → AreRight facts old → IsClimbed facts new path begun found
+
+-- and where they were right, they are
+abbrev pub StayRight : Nexts → Nexts → Nexts → Type 0
+StayRight nexts old new = (facts : List Fact) → AreNexts facts nexts → AreRight facts old → AreRight facts new
+
 -- where a post stands, by the end of its chain: none where it isn't valid
 abbrev pub place_by : Option (List ℕ) → Fact → Option (List ℕ)
 place_by end f =

@@ -4,9 +4,8 @@ ghost use Rattle.std.specs.Str.{bytes_eq};
 ghost use Rattle.std.specs.Map.{keys_of};
 ghost use Rattle.std.specs.List.Sorted.{IsStrictlySortedBy};
 ghost use Rattle.fsl_order.specs.Names.{bytes_cmp, has};
-ghost use Rattle.fsl_forum.specs.declared.Fact as fact_type;
 ghost use Rattle.fsl_order.specs.Maps.{value_at};
-ghost use Rattle.fsl_forum.specs.Kept.{known_end, AreNexts, AreRight, AreEnds, IsWithin, IsClimbed};
+ghost use Rattle.fsl_forum.specs.Kept.{AreEnds, AreNexts, Climbs, IsWithin, StayRight, known_end};
 
 use super::Fact;
 use fsl_name::Name;
@@ -85,7 +84,7 @@ fn follow(alloc: Global, nexts: &Nexts, ends: &mut Ends, from: Name) -> Result<C
     ensures within { OnOk result (IsWithin ends.new.entries nexts.now.entries) }
     ensures passed { IfOk result (λ climb. (q : List ℕ) → has climb.path.items q ≡ true → is_some (value_at ends.new.entries q) ≡ true) }
     ensures stays { OnOk result (IsWithin ends.old.entries ends.new.entries) }
-    ensures climbed { IfOk result (λ climb. (facts : List fact_type.Fact) → AreNexts facts nexts.now.entries → AreRight facts ends.old.entries → IsClimbed facts ends.new.entries climb.path.items from climb.end) }
+    ensures climbed { IfOk result (λ climb. Climbs nexts.now.entries ends.old.entries ends.new.entries climb.path.items from climb.end) }
 {
     let mut path = Vec::new(alloc);
     let mut at = from;
@@ -113,7 +112,7 @@ fn settle(alloc: Global, nexts: &Nexts, ends: &mut Ends, name: Name) -> Result<(
     requires within { IsWithin ends.old.entries nexts.now.entries }
     requires there { is_some (value_at nexts.now.entries name) ≡ true }
     ensures within { OnOk result (IsWithin ends.new.entries nexts.now.entries) }
-    ensures right { OnOk result ((facts : List fact_type.Fact) → AreNexts facts nexts.now.entries → AreRight facts ends.old.entries → AreRight facts ends.new.entries) }
+    ensures right { OnOk result (StayRight nexts.now.entries ends.old.entries ends.new.entries) }
     ensures known { OnOk result ((q : List ℕ) → (bytes_eq name q || is_some (value_at ends.old.entries q)) ≡ true → is_some (value_at ends.new.entries q) ≡ true) }
 {
     let climb = follow(alloc, nexts, ends, name)?;

@@ -1,17 +1,15 @@
 //! The posts of a thread.
-ghost use Rattle.std.specs.Prelude.{◌≡◌, ◌∷◌, [], IfOk, OnOk, MatchOption, map, filter_map};
+ghost use Rattle.std.specs.Prelude.{◌≡◌, ◌∷◌, [], IfOk, OnOk, MatchOption, map};
 ghost use Rattle.std.specs.Map.{values_of};
-ghost use Rattle.fsl_order.specs.Names.{dated_cmp};
-ghost use Rattle.fsl_order.specs.Rows.{keyed};
 ghost use Rattle.fsl_forum.specs.Held.{facts_of};
-ghost use Rattle.fsl_forum.specs.Rows.{with_post};
+ghost use Rattle.fsl_forum.specs.Rows.{by_date, with_post};
 ghost use Rattle.fsl_forum.specs.Threads.{post as post_named, shown};
 
 use super::Post;
 use super::node::Node;
 use fsl_date::Moment;
 use fsl_name::Name;
-use fsl_table::Table;
+use fsl_table::Tracked;
 use fsl_text::{List, Memory, Steps};
 use std::alloc::Global;
 use std::collections::BTreeMap;
@@ -23,12 +21,12 @@ type Thread = BTreeMap<(Moment, Name), Post>;
 /// Puts the post of a name in, where it is there.
 fn gather_one<L: Ledger>(
     alloc: Global,
-    posts: &Table<Name, Node>,
+    posts: &Tracked<Name, Node>,
     thread: &mut Thread,
     name: Name,
     steps: &mut Steps<L>,
 ) -> Result<(), Memory>
-    ensures { OnOk result (thread.new.entries ≡ with_post (post_named (facts_of posts.now.entries) name) thread.old.entries) }
+    ensures { OnOk result (thread.new.entries ≡ with_post (post_named (facts_of posts.now.held.entries) name) thread.old.entries) }
 {
     let Some(node) = posts.get(&name, steps) else {
         return Ok(());
@@ -43,11 +41,11 @@ fn gather_one<L: Ledger>(
 /// The posts of some names, by date and name.
 fn gathered<L: Ledger>(
     alloc: Global,
-    posts: &Table<Name, Node>,
+    posts: &Tracked<Name, Node>,
     names: &[Name],
     steps: &mut Steps<L>,
 ) -> Result<Thread, Memory>
-    ensures { IfOk result (λ thread. thread.entries ≡ map (λ e. (e.0, shown e.1)) (keyed dated_cmp (λ f. (f.date, f.name)) (filter_map (post_named (facts_of posts.now.entries)) names.now))) }
+    ensures { IfOk result (λ thread. thread.entries ≡ map (λ e. (e.0, shown e.1)) (by_date posts.now.held.entries names.now)) }
 {
     let mut thread = BTreeMap::new(alloc);
     let mut left = names.len();
@@ -80,11 +78,11 @@ fn listed(alloc: Global, thread: Thread) -> Result<List<Post>, Memory>
 /// The posts of some names by date, and at one date by name.
 pub(crate) fn posts_of<L: Ledger>(
     alloc: Global,
-    posts: &Table<Name, Node>,
+    posts: &Tracked<Name, Node>,
     names: &[Name],
     steps: &mut Steps<L>,
 ) -> Result<List<Post>, Memory>
-    ensures { IfOk result (λ list. list ≡ map shown (map (λ e. e.1) (keyed dated_cmp (λ f. (f.date, f.name)) (filter_map (post_named (facts_of posts.now.entries)) names.now)))) }
+    ensures { IfOk result (λ list. list ≡ map shown (map (λ e. e.1) (by_date posts.now.held.entries names.now))) }
 {
     listed(alloc, gathered(alloc, posts, names, steps)?)
 }

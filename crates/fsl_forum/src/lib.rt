@@ -13,6 +13,7 @@ ghost use Rattle.fsl_forum.specs.Threads.{next, kind, EndByNext, WholeStays, Inv
 mod build;
 mod chains;
 mod gathered;
+mod maps;
 mod node;
 mod put;
 mod reached;

@@ -11,7 +11,7 @@ ghost use Rattle.fsl_forum.specs.Reached.{IsReached, IsVisited, AreAffected, sta
 use super::rows::end_of;
 use fsl_name::Name;
 use fsl_table::names::listed;
-use fsl_table::{Pair, Table, pairs};
+use fsl_table::{Pair, Tracked};
 use fsl_text::{List, Memory, Steps};
 use std::alloc::Global;
 use std::collections::BTreeSet;
@@ -52,18 +52,18 @@ fn visit_each(
 /// Lets the followers of a post wait that weren't seen yet.
 fn visit_followers<L: Ledger>(
     alloc: Global,
-    followers: &Table<Pair, ()>,
+    followers: &Tracked<Pair, ()>,
     seen: &mut BTreeSet<Name>,
     waiting: &mut Vec<Name>,
     at: Name,
     steps: &mut Steps<L>,
 ) -> Result<(), Memory>
-    requires followers { IsStrictlySortedBy pair_cmp (keys_of followers.now.entries) }
+    requires followers { IsStrictlySortedBy pair_cmp (keys_of followers.now.held.entries) }
     requires seen { IsStrictlySortedBy bytes_cmp seen.old.keys }
     ensures rising { OnOk result (IsStrictlySortedBy bytes_cmp seen.new.keys) }
-    ensures visited { OnOk result (IsVisited (seconds at followers.now.entries) seen.old.keys waiting.old.items seen.new.keys waiting.new.items) }
+    ensures visited { OnOk result (IsVisited (seconds at followers.now.held.entries) seen.old.keys waiting.old.items seen.new.keys waiting.new.items) }
 {
-    let names = pairs::seconds(alloc, followers, at, steps)?;
+    let names = followers.seconds(alloc, at, steps)?;
     visit_each(seen, waiting, names.items())
 }
 
@@ -77,12 +77,12 @@ fn pop(names: &mut Vec<Name>) -> Option<Name>
 /// A post and all whose chains lead to it. Each is seen once.
 fn reached<L: Ledger>(
     alloc: Global,
-    followers: &Table<Pair, ()>,
+    followers: &Tracked<Pair, ()>,
     root: Name,
     steps: &mut Steps<L>,
 ) -> Result<BTreeSet<Name>, Memory>
-    requires { IsStrictlySortedBy pair_cmp (keys_of followers.now.entries) }
-    ensures { IfOk result (λ names. IsReached followers.now.entries root names.keys) }
+    requires { IsStrictlySortedBy pair_cmp (keys_of followers.now.held.entries) }
+    ensures { IfOk result (λ names. IsReached followers.now.held.entries root names.keys) }
 {
     let mut seen = BTreeSet::new(alloc);
     let mut waiting = Vec::new(alloc);
@@ -104,12 +104,12 @@ fn alone(alloc: Global, name: Name) -> Result<List<Name>, Memory>
 
 /// The end of the chain that goes on at what may be there, else the post itself.
 pub(crate) fn end_above<L: Ledger>(
-    ends: &Table<Name, Name>,
+    ends: &Tracked<Name, Name>,
     name: Name,
     up: &Option<Name>,
     steps: &mut Steps<L>,
 ) -> Option<Name>
-    ensures { result ≡ end_over ends.now.entries name up.now }
+    ensures { result ≡ end_over ends.now.held.entries name up.now }
 {
     match up {
         Some(up) => end_of(ends, *up, steps),
@@ -121,14 +121,14 @@ pub(crate) fn end_above<L: Ledger>(
 /// gets one, since these have none either then.
 pub(crate) fn affected<L: Ledger>(
     alloc: Global,
-    followers: &Table<Pair, ()>,
-    ends: &Table<Name, Name>,
+    followers: &Tracked<Pair, ()>,
+    ends: &Tracked<Name, Name>,
     name: Name,
     near: &Option<Name>,
     steps: &mut Steps<L>,
 ) -> Result<List<Name>, Memory>
-    requires { IsStrictlySortedBy pair_cmp (keys_of followers.now.entries) }
-    ensures affected { IfOk result (λ names. AreAffected followers.now.entries ends.now.entries name near.now names) }
+    requires { IsStrictlySortedBy pair_cmp (keys_of followers.now.held.entries) }
+    ensures affected { IfOk result (λ names. AreAffected followers.now.held.entries ends.now.held.entries name near.now names) }
     ensures rising { IfOk result (λ names. IsStrictlySortedBy bytes_cmp names) }
 {
     if near.is_none() && end_of(ends, name, steps).is_none() {

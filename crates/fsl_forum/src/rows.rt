@@ -1,22 +1,17 @@
 //! The rows of names: how one is read and noted, and the threads of posts by rows that differ.
-ghost use Rattle.std.specs.Prelude.{◌≡◌, ◌++◌, ◌∷◌, [], List, ℕ, OnOk, IfOk, Option, Some, cond, map, take};
-ghost use Rattle.std.specs.Str.{bytes_eq};
-ghost use Rattle.std.specs.List.{AllByRecursion};
+ghost use Rattle.std.specs.Prelude.{◌≡◌, ◌++◌, OnOk, IfOk, map};
 ghost use Rattle.std.specs.List.Sorted.{IsStrictlySortedBy};
 ghost use Rattle.std.specs.Map.{keys_of};
-ghost use Rattle.fsl_order.specs.Names.{bytes_cmp, has};
-ghost use Rattle.fsl_table.specs.Contents.{Contents, value_at};
+ghost use Rattle.fsl_order.specs.Names.{bytes_cmp};
+ghost use Rattle.fsl_table.specs.Contents.{value_at};
 ghost use Rattle.fsl_table.specs.Exact.{pair_cmp};
-ghost use Rattle.fsl_table.specs.Undo.{Undoes};
-ghost use Rattle.fsl_table.specs.declared.key.Pair as pair;
-ghost use Rattle.fsl_forum.specs.Held.{AreOf};
-ghost use Rattle.fsl_forum.specs.Rows.{row_in, same_row, same_kind as kinds_alike, place_of as thread_of_row, differing};
+ghost use Rattle.fsl_forum.specs.Held.{AreMoved};
+ghost use Rattle.fsl_forum.specs.Rows.{AreAllMoved, IsMoved, differing, if_other, noted_in, place_of as thread_of_row, row_in, same_kind as kinds_alike, same_row};
 
 use super::PostKind;
 use super::node::{Node, Row};
 use fsl_name::Name;
-use fsl_table::pairs::{link, unlink};
-use fsl_table::{Log, Pair, Table};
+use fsl_table::{Pair, Tracked};
 use fsl_text::{List, Memory, Steps};
 use std::alloc::Global;
 use std::sync::ledger::Ledger;
@@ -30,11 +25,11 @@ pub(crate) struct Noted {
 
 /// The end of the chain of a name, where it is whole.
 pub(crate) fn end_of<L: Ledger>(
-    ends: &Table<Name, Name>,
+    ends: &Tracked<Name, Name>,
     name: Name,
     steps: &mut Steps<L>,
 ) -> Option<Name>
-    ensures { result ≡ value_at bytes_cmp name ends.now.entries }
+    ensures { result ≡ value_at bytes_cmp name ends.now.held.entries }
 {
     match ends.get(&name, steps) {
         Some(end) => Some(*end),
@@ -44,12 +39,12 @@ pub(crate) fn end_of<L: Ledger>(
 
 /// The row of a name.
 pub(crate) fn row_of<L: Ledger>(
-    posts: &Table<Name, Node>,
-    ends: &Table<Name, Name>,
+    posts: &Tracked<Name, Node>,
+    ends: &Tracked<Name, Name>,
     name: Name,
     steps: &mut Steps<L>,
 ) -> Option<Row>
-    ensures { result ≡ row_in posts.now.entries ends.now.entries name }
+    ensures { result ≡ row_in posts.now.held.entries ends.now.held.entries name }
 {
     match posts.get(&name, steps) {
         Some(node) => node.row(name, end_of(ends, name, steps)),
@@ -60,12 +55,12 @@ pub(crate) fn row_of<L: Ledger>(
 /// The rows of some names, beside these.
 pub(crate) fn note_rows<L: Ledger>(
     alloc: Global,
-    posts: &Table<Name, Node>,
-    ends: &Table<Name, Name>,
+    posts: &Tracked<Name, Node>,
+    ends: &Tracked<Name, Name>,
     names: &[Name],
     steps: &mut Steps<L>,
 ) -> Result<Vec<Noted>, Memory>
-    ensures { IfOk result (λ noted. noted.items ≡ map (λ x. record { name = x; row = row_in posts.now.entries ends.now.entries x }) names.now) }
+    ensures { IfOk result (λ noted. noted.items ≡ map (noted_in (row_in posts.now.held.entries ends.now.held.entries)) names.now) }
 {
     let mut noted = Vec::new(alloc);
     for name in names {
@@ -110,67 +105,64 @@ fn thread_of(row: &Option<Row>) -> Option<Name>
 
 /// Puts the pair of a name and of the one to which it belongs in the place of the old one.
 pub(crate) fn relink<L: Ledger>(
-    pairs: &mut Table<Pair, ()>,
-    log: &mut Log<Pair, ()>,
+    pairs: &mut Tracked<Pair, ()>,
     name: Name,
     old: Option<Name>,
     new: Option<Name>,
     steps: &mut Steps<L>,
 ) -> Result<(), Memory>
-    requires { IsStrictlySortedBy pair_cmp (keys_of pairs.old.entries) }
-    ensures pairs { OnOk result ((first : List ℕ → Option (List ℕ)) → AreOf first pairs.old.entries → first name ≡ old → AreOf (λ x. cond (bytes_eq x name) new (first x)) pairs.new.entries) }
-    ensures ordered { OnOk result (IsStrictlySortedBy pair_cmp (keys_of pairs.new.entries)) }
-    ensures undoes { (before : Contents pair.Pair Unit) → Undoes pair_cmp log.old pairs.old before → Undoes pair_cmp log.new pairs.new before }
+    requires { IsStrictlySortedBy pair_cmp (keys_of pairs.old.held.entries) }
+    ensures pairs { OnOk result (AreMoved name old new pairs.old.held.entries pairs.new.held.entries) }
+    ensures ordered { OnOk result (IsStrictlySortedBy pair_cmp (keys_of pairs.new.held.entries)) }
+    ensures was { pairs.new.was ≡ pairs.old.was }
 {
-    unlink(pairs, log, name, old, steps)?;
-    link(pairs, log, name, new, steps)
+    pairs.unlink(name, old, steps)?;
+    pairs.link(name, new, steps)
 }
 
 /// Where the row of a name isn't what was noted, puts the post from its old thread into its new one, and the name behind those that
 /// have changed.
 fn move_one<L: Ledger>(
-    posts: &Table<Name, Node>,
-    ends: &Table<Name, Name>,
-    placed: &mut Table<Pair, ()>,
-    log: &mut Log<Pair, ()>,
+    posts: &Tracked<Name, Node>,
+    ends: &Tracked<Name, Name>,
+    placed: &mut Tracked<Pair, ()>,
     changed: &mut List<Name>,
     noted: &Noted,
     steps: &mut Steps<L>,
 ) -> Result<(), Memory>
-    requires { IsStrictlySortedBy pair_cmp (keys_of placed.old.entries) }
-    ensures placed { OnOk result ((first : List ℕ → Option (List ℕ)) → AreOf first placed.old.entries → first noted.now.name ≡ thread_of_row noted.now.row → AreOf (λ x. cond (bytes_eq x noted.now.name) (thread_of_row (row_in posts.now.entries ends.now.entries x)) (first x)) placed.new.entries) }
-    ensures ordered { OnOk result (IsStrictlySortedBy pair_cmp (keys_of placed.new.entries)) }
-    ensures changed { OnOk result (changed.new ≡ changed.old ++ cond (same_row noted.now.row (row_in posts.now.entries ends.now.entries noted.now.name)) [] (noted.now.name ∷ [])) }
-    ensures undoes { (before : Contents pair.Pair Unit) → Undoes pair_cmp log.old placed.old before → Undoes pair_cmp log.new placed.new before }
+    requires { IsStrictlySortedBy pair_cmp (keys_of placed.old.held.entries) }
+    ensures placed { OnOk result (IsMoved (row_in posts.now.held.entries ends.now.held.entries) noted.now placed.old.held.entries placed.new.held.entries) }
+    ensures ordered { OnOk result (IsStrictlySortedBy pair_cmp (keys_of placed.new.held.entries)) }
+    ensures changed { OnOk result (changed.new ≡ changed.old ++ if_other (row_in posts.now.held.entries ends.now.held.entries) noted.now) }
+    ensures was { placed.new.was ≡ placed.old.was }
 {
     let row = row_of(posts, ends, noted.name, steps);
     if is_same(&noted.row, &row) {
         return Ok(());
     }
     let old = thread_of(&noted.row);
-    relink(placed, log, noted.name, old, thread_of(&row), steps)?;
+    relink(placed, noted.name, old, thread_of(&row), steps)?;
     changed.append(noted.name)
 }
 
 /// The same for each name; tells those that have changed.
 pub(crate) fn move_each<L: Ledger>(
     alloc: Global,
-    posts: &Table<Name, Node>,
-    ends: &Table<Name, Name>,
-    placed: &mut Table<Pair, ()>,
-    log: &mut Log<Pair, ()>,
+    posts: &Tracked<Name, Node>,
+    ends: &Tracked<Name, Name>,
+    placed: &mut Tracked<Pair, ()>,
     noted: &[Noted],
     steps: &mut Steps<L>,
 ) -> Result<List<Name>, Memory>
-    requires placed { IsStrictlySortedBy pair_cmp (keys_of placed.old.entries) }
+    requires placed { IsStrictlySortedBy pair_cmp (keys_of placed.old.held.entries) }
     requires rise { IsStrictlySortedBy bytes_cmp (map (λ n. n.name) noted.now) }
-    ensures placed { OnOk result ((first : List ℕ → Option (List ℕ)) → AreOf first placed.old.entries → AllByRecursion (λ n. first n.name ≡ thread_of_row n.row) noted.now → AreOf (λ x. cond (has (map (λ n. n.name) noted.now) x) (thread_of_row (row_in posts.now.entries ends.now.entries x)) (first x)) placed.new.entries) }
-    ensures changed { IfOk result (λ changed. changed ≡ differing (row_in posts.now.entries ends.now.entries) noted.now) }
-    ensures undoes { (before : Contents pair.Pair Unit) → Undoes pair_cmp log.old placed.old before → Undoes pair_cmp log.new placed.new before }
+    ensures placed { OnOk result (AreAllMoved (row_in posts.now.held.entries ends.now.held.entries) noted.now placed.old.held.entries placed.new.held.entries) }
+    ensures changed { IfOk result (λ changed. changed ≡ differing (row_in posts.now.held.entries ends.now.held.entries) noted.now) }
+    ensures was { placed.new.was ≡ placed.old.was }
 {
     let mut changed = List::new(alloc);
     for one in noted {
-        move_one(posts, ends, placed, log, &mut changed, one, steps)?;
+        move_one(posts, ends, placed, &mut changed, one, steps)?;
     }
     Ok(changed)
 }

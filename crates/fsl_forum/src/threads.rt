@@ -8,64 +8,51 @@ ghost use Rattle.fsl_forum.specs.Threads as table;
 
 use super::build::fill;
 use super::gathered::posts_of;
-use super::node::Node;
+use super::maps::{Maps, Ways};
 use super::put::put;
 use super::rows::end_of;
 use super::{Fact, Post};
 use fsl_name::Name;
-use fsl_table::{Log, Pair, Table, log, pairs};
 use fsl_text::{List, Memory, Steps};
 use std::alloc::Global;
 use std::marker::{Brand, Model};
-use std::snapshot::Snapshot;
 use std::sync::ledger::{Blank, Ledger};
 
 /// The posts of a forum in their threads. Contracts see it as the facts by name, and the room that its maps have to spare.
 #[derive(Drop)]
 pub struct Threads {
-    posts: Table<Name, Node>,
-    /// A pair for each next post and the post that has it; the next post need not be there.
-    followers: Table<Pair, ()>,
-    /// By the name of each post whose chain is whole the end of it.
-    ends: Table<Name, Name>,
-    /// A pair for each thread and each valid post in it.
-    placed: Table<Pair, ()>,
+    maps: Maps,
 }
 
 impl Model for Threads {
     ghost use Rattle.fsl_order.specs.TableState.{TableState};
     ghost use Rattle.fsl_forum.specs.declared.Fact.{Fact};
-    ghost use Rattle.fsl_forum.specs.Held.{held_of, IsKept};
+    ghost use Rattle.fsl_forum.specs.Held.{held_of, rows_of, IsKept};
 
     ghost Value = { TableState Fact };
 
-    ghost view = { λ t. held_of (record { posts = t.posts; followers = t.followers; ends = t.ends; placed = t.placed }) };
+    ghost view = { λ t. held_of (rows_of t.maps) };
 
-    ghost invariant = { λ t. IsKept (record { posts = t.posts; followers = t.followers; ends = t.ends; placed = t.placed }) };
+    ghost invariant = { λ t. IsKept (rows_of t.maps) };
 }
 
 /// What takes a change back, and the names whose rows it changed. Contracts see it as both, with the table before and after.
 #[derive(Drop)]
 pub struct Undo {
-    posts: Log<Name, Node>,
-    followers: Log<Pair, ()>,
-    ends: Log<Name, Name>,
-    placed: Log<Pair, ()>,
+    ways: Ways,
     changed: List<Name>,
-    before: Snapshot<Threads>,
-    after: Snapshot<Threads>,
 }
 
 impl Model for Undo {
-    ghost use Rattle.fsl_order.specs.TableState.{Change, IsAsBefore};
+    ghost use Rattle.fsl_order.specs.TableState.{Change};
     ghost use Rattle.fsl_forum.specs.declared.Fact.{Fact};
-    ghost use Rattle.fsl_forum.specs.Held.{Rows, IsKept, held_of, TakesBack};
+    ghost use Rattle.fsl_forum.specs.Held.{IsKept, ends_of, held_of, starts_of};
 
     ghost Value = { Change Fact };
 
-    ghost view = { λ u. record { before = u.before.value; after = u.after.value; changed = u.changed } };
+    ghost view = { λ u. record { before = held_of (starts_of u.ways); after = held_of (ends_of u.ways); changed = u.changed } };
 
-    ghost invariant = { λ u. (now : Rows) → IsKept now → IsAsBefore u.after.value (held_of now) → TakesBack (record { posts = u.posts; followers = u.followers; ends = u.ends; placed = u.placed }) u.before.value now };
+    ghost invariant = { λ u. IsKept (starts_of u.ways) × IsKept (ends_of u.ways) };
 }
 
 impl Undo {
@@ -82,15 +69,8 @@ impl Threads {
     pub fn new(alloc: Global) -> Threads
         ensures { result.facts ≡ [] }
     {
-        let posts = Table::new(alloc);
-        let followers = Table::new(alloc);
-        let ends = Table::new(alloc);
-        let placed = Table::new(alloc);
         Threads {
-            posts,
-            followers,
-            ends,
-            placed,
+            maps: Maps::new(alloc),
         }
     }
 
@@ -115,25 +95,14 @@ impl Threads {
         ensures { IfOk result (λ t. t.facts ≡ by_name (λ f. f.name) facts.now) }
     {
         let mut steps: Steps<L> = Steps::new(blank);
-        let mut posts = Table::new(alloc);
-        let mut followers = Table::new(alloc);
-        let mut ends = Table::new(alloc);
-        let mut placed = Table::new(alloc);
-        fill(
-            alloc,
-            facts,
-            &mut posts,
-            &mut followers,
-            &mut ends,
-            &mut placed,
-            &mut steps,
-        )?;
-        Ok(Threads {
-            posts,
-            followers,
-            ends,
-            placed,
-        })
+        let mut maps = Maps::new(alloc);
+        match fill(alloc, facts, &mut maps, &mut steps) {
+            Ok(()) => Ok(Threads { maps }),
+            Err(Memory) => {
+                drop(maps);
+                Err(Memory)
+            }
+        }
     }
 
     /// Adds a post whose name isn't there. `Memory` is the only error, and the table then holds what it held.
@@ -184,41 +153,14 @@ impl Threads {
         ensures changed { IfOk result (λ undo. ListsChanged (threads_row self.old.facts) (threads_row self.new.facts) undo.changed) }
         ensures err { OnErr result (IsAsBefore self.old self.new) }
     {
-        let before = Snapshot::of(&*self);
-        let mut posts = Log::new(alloc);
-        let mut followers = Log::new(alloc);
-        let mut ends = Log::new(alloc);
-        let mut placed = Log::new(alloc);
-        match put(
-            alloc,
-            &mut self.posts,
-            &mut self.followers,
-            &mut self.ends,
-            &mut self.placed,
-            &mut posts,
-            &mut followers,
-            &mut ends,
-            &mut placed,
-            fact,
-            steps,
-        ) {
-            Ok(changed) => {
-                let after = Snapshot::of(&*self);
-                Ok(Undo {
-                    posts,
-                    followers,
-                    ends,
-                    placed,
-                    changed,
-                    before,
-                    after,
-                })
-            }
+        self.maps.begin();
+        match put(alloc, &mut self.maps, fact, steps) {
+            Ok(changed) => Ok(Undo {
+                ways: self.maps.ways(alloc),
+                changed,
+            }),
             Err(Memory) => {
-                log::undo(&mut self.posts, posts, steps);
-                log::undo(&mut self.followers, followers, steps);
-                log::undo(&mut self.ends, ends, steps);
-                log::undo(&mut self.placed, placed, steps);
+                self.maps.turn_back(steps);
                 Err(Memory)
             }
         }
@@ -240,17 +182,8 @@ impl Threads {
         ensures { IsAsBefore undo.before self.new }
     {
         let mut steps: Steps<L> = Steps::new(blank);
-        let Undo {
-            posts,
-            followers,
-            ends,
-            placed,
-            ..
-        } = undo;
-        log::undo(&mut self.posts, posts, &mut steps);
-        log::undo(&mut self.followers, followers, &mut steps);
-        log::undo(&mut self.ends, ends, &mut steps);
-        log::undo(&mut self.placed, placed, &mut steps);
+        let Undo { ways, .. } = undo;
+        self.maps.undo(ways, &mut steps);
     }
 
     /// The thread of a valid post: the end of its chain of next posts; where a step of the chain leads to no post, or the chain goes in
@@ -269,8 +202,8 @@ impl Threads {
         ensures { result ≡ table.place self.now.facts name }
     {
         let mut steps: Steps<L> = Steps::new(blank);
-        match self.posts.get(&name, &mut steps) {
-            Some(node) => node.place(name, end_of(&self.ends, name, &mut steps)),
+        match self.maps.posts.get(&name, &mut steps) {
+            Some(node) => node.place(name, end_of(&self.maps.ends, name, &mut steps)),
             None => None,
         }
     }
@@ -294,7 +227,7 @@ impl Threads {
         ensures { IfOk result (λ posts. posts ≡ table.thread self.now.facts root) }
     {
         let mut steps: Steps<L> = Steps::new(blank);
-        let names = pairs::seconds(alloc, &self.placed, root, &mut steps)?;
-        posts_of(alloc, &self.posts, names.items(), &mut steps)
+        let names = self.maps.placed.seconds(alloc, root, &mut steps)?;
+        posts_of(alloc, &self.maps.posts, names.items(), &mut steps)
     }
 }

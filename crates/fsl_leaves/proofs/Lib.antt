@@ -1,3 +1,4 @@
+pub mod Crossing
 pub mod Canonical
 pub mod Counting
 pub mod Facts

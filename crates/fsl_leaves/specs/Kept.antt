@@ -1,17 +1,18 @@
 -- How the tables hold the facts: the parents and the branch by name, a key for each parent, branch and child, and the leaves.
-use Rattle.std.specs.Prelude.{◌≡◌, ℕ, List, [], ◌∷◌, Bool, true, false, not, ◌&&◌, Option, Some, None, map, is_some, option_and_then}
+use Rattle.std.specs.Prelude.{◌≡◌, ◌+◌, ℕ, List, [], ◌∷◌, Bool, true, false, not, ◌&&◌, Option, Some, None, map, is_some, option_and_then}
 use Rattle.std.specs.List.{list_any}
 use Rattle.std.specs.Str.{bytes_eq}
 use Rattle.std.specs.List.Sorted.{IsStrictlySortedBy}
 use Rattle.std.specs.Map.{keys_of}
 use Rattle.fsl_order.specs.Names.{bytes_cmp, has}
-use Rattle.fsl_order.specs.TableState.{TableState, IsAsBefore}
-use Rattle.fsl_table.specs.Contents.{Contents, value_at}
-use Rattle.fsl_table.specs.declared.step.Step.{Step}
-use Rattle.fsl_table.specs.Undo.{undone, CanUndo}
+use Rattle.fsl_order.specs.TableState.{TableState}
+use Rattle.fsl_table.specs.Contents.{Contents, value_at, with_entry}
+use Rattle.fsl_table.specs.Undo.{IsAsGood}
 use Rattle.fsl_leaves.specs.declared.Fact.{Fact}
 use Rattle.fsl_leaves.specs.Keys.{Kin, kin_cmp, walked}
 use Rattle.fsl_leaves.specs.declared.line.Line.{Line}
+use Rattle.fsl_leaves.specs.declared.maps.Maps.{Maps}
+use Rattle.fsl_leaves.specs.declared.maps.Ways.{Ways}
 
 abbrev pub Lines : Type 0
 Lines = List (List ℕ × Line)
@@ -21,6 +22,10 @@ fact_of e = record { name = e.0; parents = e.1.parents; branch = e.1.branch }
 
 abbrev pub facts_of : Lines → List Fact
 facts_of es = map fact_of es
+
+-- the lines, with that of a fact
+abbrev pub with_fact : Fact → Lines → Lines
+with_fact f es = with_entry bytes_cmp f.name (record { parents = f.parents; branch = f.branch }) es
 
 pub record Rows : Type 0 where
   pub facts : Contents (List ℕ) Line
@@ -79,6 +84,14 @@ differs false b = b
 abbrev pub AreFlipped : (List ℕ → Bool) → List (List ℕ) → List (List ℕ × Unit {0}) → Type 0
 AreFlipped before changed leaves = (q : List ℕ) → has changed q ≡ differs (before q) (is_some (value_at bytes_cmp q leaves))
 
+-- whatever was before, they are these names before a step and after it
+abbrev pub StayFlipped : List (List ℕ) → Contents (List ℕ) (Unit {0}) → List (List ℕ) → Contents (List ℕ) (Unit {0}) → Type 0
+StayFlipped changed leaves more now = (before : List ℕ → Bool) → AreFlipped before changed leaves.entries → AreFlipped before more now.entries
+
+-- whether a name is among the leaves
+abbrev pub stands : Contents (List ℕ) (Unit {0}) → List ℕ → Bool
+stands leaves q = is_some (value_at bytes_cmp q leaves.entries)
+
 pub record IsKept (r : Rows) : Type 0 where
   pub ordered : IsStrictlySortedBy bytes_cmp (keys_of r.facts.entries)
   pub pairs_ordered : IsStrictlySortedBy kin_cmp (keys_of r.children.entries)
@@ -86,14 +99,25 @@ pub record IsKept (r : Rows) : Type 0 where
   pub pairs : ArePairs r.facts.entries r.children.entries
   pub leaves : (q : List ℕ) → is_some (value_at bytes_cmp q r.leaves.entries) ≡ leaf r.facts.entries q
 
--- what the logs leave
-abbrev pub undone_rows : List (Step (List ℕ) Line) → List (Step Kin (Unit {0})) → List (Step (List ℕ) (Unit {0})) → Rows → Rows
-undone_rows facts children leaves r = record { facts = undone bytes_cmp facts r.facts; children = undone kin_cmp children r.children; leaves = undone bytes_cmp leaves r.leaves }
+-- the maps as they are, as they were where the change began, and the steps from there
+abbrev pub rows_of : Maps → Rows
+rows_of m = record { facts = m.facts.held; children = m.children.held; leaves = m.leaves.held }
 
--- the logs find their memory, and lead back
-pub record TakesBack (facts : List (Step (List ℕ) Line)) (children : List (Step Kin (Unit {0}))) (leaves : List (Step (List ℕ) (Unit {0}))) (before : TableState Fact) (now : Rows) : Type 0 where
-  pub facts_can : CanUndo bytes_cmp facts now.facts
-  pub children_can : CanUndo kin_cmp children now.children
-  pub leaves_can : CanUndo bytes_cmp leaves now.leaves
-  pub kept : IsKept (undone_rows facts children leaves now)
-  pub back : IsAsBefore before (held_of (undone_rows facts children leaves now))
+abbrev pub rows_before : Maps → Rows
+rows_before m = record { facts = m.facts.was; children = m.children.was; leaves = m.leaves.was }
+
+abbrev pub steps_back : Maps → ℕ
+steps_back m = m.facts.back + m.children.back + m.leaves.back
+
+-- where ways back end, and where they begin
+abbrev pub starts_of : Ways → Rows
+starts_of w = record { facts = w.facts.was; children = w.children.was; leaves = w.leaves.was }
+
+abbrev pub ends_of : Ways → Rows
+ends_of w = record { facts = w.facts.held; children = w.children.held; leaves = w.leaves.held }
+
+-- each map is as good
+pub record AreAsGood (before now : Rows) : Type 0 where
+  pub facts : IsAsGood before.facts now.facts
+  pub children : IsAsGood before.children now.children
+  pub leaves : IsAsGood before.leaves now.leaves

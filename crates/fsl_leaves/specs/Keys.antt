@@ -7,7 +7,7 @@ use Rattle.std.specs.declared.cmp.Ordering.{Ordering}
 use Rattle.std.specs.declared.cmp.Ordering.TheVariants.{Equal}
 use Rattle.std.proofs.lemmas.Map.Lookups.{exact_bytes, exact_pairs}
 use Rattle.fsl_order.specs.Names.{bytes_cmp, has}
-use Rattle.fsl_table.specs.Contents.{value_at, first_of}
+use Rattle.fsl_table.specs.Contents.{Contents, value_at, first_of}
 use Rattle.fsl_table.specs.Pairs.{is_name}
 use Rattle.fsl_table.specs.Within.{within, within_cmp}
 use Rattle.fsl_table.specs.declared.within.Within.{Within}
@@ -29,8 +29,8 @@ abbrev pub kin_cmp : Kin → Kin → Ordering
 kin_cmp = within_cmp twig_cmp bytes_cmp
 
 -- whether a key is there
-abbrev pub has_kin : List (Kin × Unit {0}) → Kin → Bool
-has_kin children k = is_some (value_at kin_cmp k children)
+abbrev pub has_kin : Contents Kin (Unit {0}) → Kin → Bool
+has_kin children k = is_some (value_at kin_cmp k children.entries)
 
 -- whether a key is that of a child of one of these names, in a branch
 abbrev pub is_kin : List ℕ → List (List ℕ) → List ℕ → Kin → Bool

@@ -8,62 +8,51 @@ ghost use Rattle.fsl_leaves.specs.Leaves.{leaves_row};
 ghost use Rattle.fsl_leaves.specs.Leaves as table;
 
 use super::Fact;
-use super::kin::Twig;
-use super::line::Line;
+use super::maps::{Maps, Ways};
 use super::rows::{put_all, put_listed};
 use fsl_name::Name;
 use fsl_rows::Named;
 use fsl_table::keys::keys;
-use fsl_table::{Log, Table, Within, log};
 use fsl_text::{List, Memory, Steps};
 use std::alloc::Global;
-use std::collections::BTreeSet;
 use std::marker::{Brand, Model};
-use std::snapshot::Snapshot;
 use std::sync::ledger::{Blank, Ledger};
 
 /// The leaves among check-ins. Contracts see it as the facts by name, and the room that its maps have to spare.
 #[derive(Drop)]
 pub struct Leaves {
-    facts: Table<Name, Line>,
-    /// A key for each name of a P card, with the branch of the check-in that has it, and that check-in.
-    children: Table<Within<Twig, Name>, ()>,
-    leaves: Table<Name, ()>,
+    maps: Maps,
 }
 
 impl Model for Leaves {
     ghost use Rattle.fsl_order.specs.TableState.{TableState};
     ghost use Rattle.fsl_leaves.specs.declared.Fact.{Fact};
-    ghost use Rattle.fsl_leaves.specs.Kept.{held_of, IsKept};
+    ghost use Rattle.fsl_leaves.specs.Kept.{held_of, rows_of, IsKept};
 
     ghost Value = { TableState Fact };
 
-    ghost view = { λ l. held_of (record { facts = l.facts; children = l.children; leaves = l.leaves }) };
+    ghost view = { λ l. held_of (rows_of l.maps) };
 
-    ghost invariant = { λ l. IsKept (record { facts = l.facts; children = l.children; leaves = l.leaves }) };
+    ghost invariant = { λ l. IsKept (rows_of l.maps) };
 }
 
 /// What takes a change back, and the names whose rows it changed. Contracts see it as both, with the table before and after.
 #[derive(Drop)]
 pub struct Undo {
-    facts: Log<Name, Line>,
-    children: Log<Within<Twig, Name>, ()>,
-    leaves: Log<Name, ()>,
+    ways: Ways,
     changed: List<Name>,
-    before: Snapshot<Leaves>,
-    after: Snapshot<Leaves>,
 }
 
 impl Model for Undo {
-    ghost use Rattle.fsl_order.specs.TableState.{Change, IsAsBefore};
+    ghost use Rattle.fsl_order.specs.TableState.{Change};
     ghost use Rattle.fsl_leaves.specs.declared.Fact.{Fact};
-    ghost use Rattle.fsl_leaves.specs.Kept.{Rows, IsKept, held_of, TakesBack};
+    ghost use Rattle.fsl_leaves.specs.Kept.{IsKept, ends_of, held_of, starts_of};
 
     ghost Value = { Change Fact };
 
-    ghost view = { λ u. record { before = u.before.value; after = u.after.value; changed = u.changed } };
+    ghost view = { λ u. record { before = held_of (starts_of u.ways); after = held_of (ends_of u.ways); changed = u.changed } };
 
-    ghost invariant = { λ u. (now : Rows) → IsKept now → IsAsBefore u.after.value (held_of now) → TakesBack u.facts u.children u.leaves u.before.value now };
+    ghost invariant = { λ u. IsKept (starts_of u.ways) × IsKept (ends_of u.ways) };
 }
 
 impl Undo {
@@ -92,9 +81,7 @@ impl Leaves {
         ensures { result.facts ≡ [] }
     {
         Leaves {
-            facts: Table::new(alloc),
-            children: Table::new(alloc),
-            leaves: Table::new(alloc),
+            maps: Maps::new(alloc),
         }
     }
 
@@ -139,15 +126,9 @@ impl Leaves {
         requires { AreDistinct (map (λ f. f.name) facts) }
         ensures facts { IfOk result (λ t. t.facts ≡ by_name (λ f. f.name) facts) }
     {
-        let mut rows = Table::new(alloc);
-        let mut children = Table::new(alloc);
-        let mut leaves = Table::new(alloc);
-        match put_all(alloc, &mut rows, &mut children, &mut leaves, facts, steps) {
-            Ok(()) => Ok(Leaves {
-                facts: rows,
-                children,
-                leaves,
-            }),
+        let mut maps = Maps::new(alloc);
+        match put_all(alloc, &mut maps, facts, steps) {
+            Ok(()) => Ok(Leaves { maps }),
             Err(Memory) => Err(Memory),
         }
     }
@@ -205,37 +186,14 @@ impl Leaves {
         ensures err { OnErr result (IsAsBefore self.old self.new) }
         ensures cost { new ≡ true → list_any (λ f. has f.parents fact.name) self.old.facts ≡ false → steps.new ≤ steps.old + 6 * (1 + length fact.parents) }
     {
-        let before = Snapshot::of(&*self);
-        let mut facts = Log::new(alloc);
-        let mut children = Log::new(alloc);
-        let mut leaves = Log::new(alloc);
-        match put_listed(
-            alloc,
-            &mut self.facts,
-            &mut self.children,
-            &mut self.leaves,
-            &mut facts,
-            &mut children,
-            &mut leaves,
-            fact,
-            new,
-            steps,
-        ) {
-            Ok(changed) => {
-                let after = Snapshot::of(&*self);
-                Ok(Undo {
-                    facts,
-                    children,
-                    leaves,
-                    changed,
-                    before,
-                    after,
-                })
-            }
+        self.maps.begin();
+        match put_listed(alloc, &mut self.maps, fact, new, steps) {
+            Ok(changed) => Ok(Undo {
+                ways: self.maps.ways(alloc),
+                changed,
+            }),
             Err(Memory) => {
-                log::undo(&mut self.facts, facts, steps);
-                log::undo(&mut self.children, children, steps);
-                log::undo(&mut self.leaves, leaves, steps);
+                self.maps.turn_back(steps);
                 Err(Memory)
             }
         }
@@ -257,15 +215,8 @@ impl Leaves {
         ensures { IsAsBefore undo.before self.new }
     {
         let mut steps: Steps<L> = Steps::new(blank);
-        let Undo {
-            facts,
-            children,
-            leaves,
-            ..
-        } = undo;
-        log::undo(&mut self.facts, facts, &mut steps);
-        log::undo(&mut self.children, children, &mut steps);
-        log::undo(&mut self.leaves, leaves, &mut steps);
+        let Undo { ways, .. } = undo;
+        self.maps.undo(ways, &mut steps);
     }
 
     /// The check-ins without a child in their own branch, ascending. `Memory` is the only error.
@@ -282,6 +233,6 @@ impl Leaves {
         ensures { IfOk result (λ names. names ≡ table.leaves self.now.facts) }
     {
         let mut steps: Steps<L> = Steps::new(blank);
-        keys(alloc, &self.leaves, &mut steps)
+        keys(alloc, self.maps.leaves.map(), &mut steps)
     }
 }

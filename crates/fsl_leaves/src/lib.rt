@@ -11,6 +11,7 @@ mod ends;
 mod kin;
 mod leaves;
 mod line;
+mod maps;
 mod rows;
 
 use fsl_name::Name;

@@ -1,3 +1,4 @@
+pub mod Crossing
 pub mod Canonical
 pub mod Changed
 pub mod Facts

@@ -1,17 +1,18 @@
 -- How the tables hold the facts: the parents by name, and a pair for each parent and child.
-use Rattle.std.specs.Prelude.{◌≡◌, ℕ, List, [], ◌∷◌, Bool, true, false, not, ◌&&◌, ◌||◌, Option, Some, None, map, is_some, option_and_then, option_map, slice_get}
+use Rattle.std.specs.Prelude.{◌≡◌, ◌+◌, ℕ, List, [], ◌∷◌, Bool, true, false, not, ◌&&◌, ◌||◌, Option, Some, None, map, is_some, option_and_then, option_map, slice_get}
 use Rattle.std.specs.Str.{bytes_eq}
 use Rattle.std.specs.List.Sorted.{IsStrictlySortedBy}
 use Rattle.std.specs.Map.{keys_of}
 use Rattle.fsl_order.specs.Names.{bytes_cmp, has}
-use Rattle.fsl_order.specs.TableState.{TableState, IsAsBefore}
+use Rattle.fsl_order.specs.TableState.{TableState}
 use Rattle.fsl_table.specs.Exact.{pair_cmp}
 use Rattle.fsl_table.specs.declared.key.Pair.{Pair}
 use Rattle.fsl_table.specs.Contents.{Contents, value_at, with_entry}
 use Rattle.fsl_table.specs.Pairs.{is_name}
-use Rattle.fsl_table.specs.declared.step.Step.{Step}
-use Rattle.fsl_table.specs.Undo.{undone, CanUndo}
+use Rattle.fsl_table.specs.Undo.{IsAsGood}
 use Rattle.fsl_links.specs.declared.Fact.{Fact}
+use Rattle.fsl_links.specs.declared.maps.Maps.{Maps}
+use Rattle.fsl_links.specs.declared.maps.Ways.{Ways}
 
 abbrev pub fact_of : List ℕ × List (List ℕ) → Fact
 fact_of e = record { name = e.0; parents = e.1 }
@@ -72,13 +73,24 @@ pub record IsKept (r : Rows) : Type 0 where
   pub pairs_ordered : IsStrictlySortedBy pair_cmp (keys_of r.children.entries)
   pub pairs : ArePairs r.facts.entries r.children.entries
 
--- what both logs leave
-abbrev pub undone_rows : List (Step (List ℕ) (List (List ℕ))) → List (Step Pair (Unit {0})) → Rows → Rows
-undone_rows facts children r = record { facts = undone bytes_cmp facts r.facts; children = undone pair_cmp children r.children }
+-- the maps as they are, as they were where the change began, and the steps from there
+abbrev pub rows_of : Maps → Rows
+rows_of m = record { facts = m.facts.held; children = m.children.held }
 
--- both logs find their memory, and lead back
-pub record TakesBack (facts : List (Step (List ℕ) (List (List ℕ)))) (children : List (Step Pair (Unit {0}))) (before : TableState Fact) (now : Rows) : Type 0 where
-  pub facts_can : CanUndo bytes_cmp facts now.facts
-  pub children_can : CanUndo pair_cmp children now.children
-  pub kept : IsKept (undone_rows facts children now)
-  pub back : IsAsBefore before (held_of (undone_rows facts children now))
+abbrev pub rows_before : Maps → Rows
+rows_before m = record { facts = m.facts.was; children = m.children.was }
+
+abbrev pub steps_back : Maps → ℕ
+steps_back m = m.facts.back + m.children.back
+
+-- where ways back end, and where they begin
+abbrev pub starts_of : Ways → Rows
+starts_of w = record { facts = w.facts.was; children = w.children.was }
+
+abbrev pub ends_of : Ways → Rows
+ends_of w = record { facts = w.facts.held; children = w.children.held }
+
+-- each map is as good
+pub record AreAsGood (before now : Rows) : Type 0 where
+  pub facts : IsAsGood before.facts now.facts
+  pub children : IsAsGood before.children now.children

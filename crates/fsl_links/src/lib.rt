@@ -7,6 +7,7 @@
 ghost use Rattle.std.specs.Prelude.{◌≡◌, IfOk};
 
 mod links;
+mod maps;
 mod rows;
 
 use fsl_name::Name;

@@ -6,57 +6,50 @@ ghost use Rattle.fsl_order.specs.TableState.{IsAsBefore};
 ghost use Rattle.fsl_links.specs.Links.{links_row, children as children_of, primary as primary_of};
 
 use super::Fact;
+use super::maps::{Maps, Ways};
 use super::rows::{first_parent, is_there, put_either, put_fact};
 use fsl_name::Name;
 use fsl_rows::Named;
-use fsl_table::{Log, Pair, Table, log, pairs};
 use fsl_text::{List, Memory, Steps};
 use std::alloc::Global;
 use std::marker::{Brand, Model};
-use std::snapshot::Snapshot;
 use std::sync::ledger::{Blank, Ledger};
 
 /// The parents and the children of check-ins. Contracts see it as the facts by name, and the room that its maps have to spare.
 #[derive(Drop)]
 pub struct Links {
-    /// The names of each P card, by the name of its check-in.
-    facts: Table<Name, List<Name>>,
-    /// A pair for each name of a P card and the check-in that has it.
-    children: Table<Pair, ()>,
+    maps: Maps,
 }
 
 impl Model for Links {
     ghost use Rattle.fsl_order.specs.TableState.{TableState};
     ghost use Rattle.fsl_links.specs.declared.Fact.{Fact};
-    ghost use Rattle.fsl_links.specs.Kept.{held_of, IsKept};
+    ghost use Rattle.fsl_links.specs.Kept.{held_of, rows_of, IsKept};
 
     ghost Value = { TableState Fact };
 
-    ghost view = { λ l. held_of (record { facts = l.facts; children = l.children }) };
+    ghost view = { λ l. held_of (rows_of l.maps) };
 
-    ghost invariant = { λ l. IsKept (record { facts = l.facts; children = l.children }) };
+    ghost invariant = { λ l. IsKept (rows_of l.maps) };
 }
 
 /// What takes a change back, and the names whose rows it changed. Contracts see it as both, with the table before and after.
 #[derive(Drop)]
 pub struct Undo {
-    facts: Log<Name, List<Name>>,
-    children: Log<Pair, ()>,
+    ways: Ways,
     changed: List<Name>,
-    before: Snapshot<Links>,
-    after: Snapshot<Links>,
 }
 
 impl Model for Undo {
-    ghost use Rattle.fsl_order.specs.TableState.{Change, IsAsBefore};
+    ghost use Rattle.fsl_order.specs.TableState.{Change};
     ghost use Rattle.fsl_links.specs.declared.Fact.{Fact};
-    ghost use Rattle.fsl_links.specs.Kept.{Rows, IsKept, held_of, TakesBack};
+    ghost use Rattle.fsl_links.specs.Kept.{IsKept, ends_of, held_of, starts_of};
 
     ghost Value = { Change Fact };
 
-    ghost view = { λ u. record { before = u.before.value; after = u.after.value; changed = u.changed } };
+    ghost view = { λ u. record { before = held_of (starts_of u.ways); after = held_of (ends_of u.ways); changed = u.changed } };
 
-    ghost invariant = { λ u. (now : Rows) → IsKept now → IsAsBefore u.after.value (held_of now) → TakesBack u.facts u.children u.before.value now };
+    ghost invariant = { λ u. IsKept (starts_of u.ways) × IsKept (ends_of u.ways) };
 }
 
 impl Undo {
@@ -74,8 +67,7 @@ impl Links {
         ensures { result.facts ≡ [] }
     {
         Links {
-            facts: Table::new(alloc),
-            children: Table::new(alloc),
+            maps: Maps::new(alloc),
         }
     }
 
@@ -100,25 +92,15 @@ impl Links {
         ensures facts { IfOk result (λ t. t.facts ≡ by_name (λ f. f.name) facts.now) }
     {
         let mut steps: Steps<L> = Steps::new(blank);
-        let mut rows = Table::new(alloc);
-        let mut children = Table::new(alloc);
+        let mut maps = Maps::new(alloc);
         let mut left = facts.len();
         while left > 0 {
             left -= 1;
             let fact = facts[left].copied(alloc)?;
-            put_fact(
-                &mut rows,
-                &mut children,
-                &mut Log::new(alloc),
-                &mut Log::new(alloc),
-                fact,
-                &mut steps,
-            )?;
+            maps.begin();
+            put_fact(&mut maps, fact, &mut steps)?;
         }
-        Ok(Links {
-            facts: rows,
-            children,
-        })
+        Ok(Links { maps })
     }
 
     /// Adds a check-in whose name isn't there. `Memory` is the only error, and the table then holds what it held.
@@ -172,31 +154,14 @@ impl Links {
         ensures err { OnErr result (IsAsBefore self.old self.new) }
         ensures cost { has (map (λ f. f.name) self.old.facts) fact.name ≡ false → children_of self.old.facts fact.name ≡ [] → steps.new ≤ steps.old + 6 * (1 + length fact.parents) }
     {
-        let before = Snapshot::of(&*self);
-        let mut facts = Log::new(alloc);
-        let mut children = Log::new(alloc);
-        match put_either(
-            alloc,
-            &mut self.facts,
-            &mut self.children,
-            &mut facts,
-            &mut children,
-            fact,
-            steps,
-        ) {
-            Ok(changed) => {
-                let after = Snapshot::of(&*self);
-                Ok(Undo {
-                    facts,
-                    children,
-                    changed,
-                    before,
-                    after,
-                })
-            }
+        self.maps.begin();
+        match put_either(alloc, &mut self.maps, fact, steps) {
+            Ok(changed) => Ok(Undo {
+                ways: self.maps.ways(alloc),
+                changed,
+            }),
             Err(Memory) => {
-                log::undo(&mut self.facts, facts, steps);
-                log::undo(&mut self.children, children, steps);
+                self.maps.turn_back(steps);
                 Err(Memory)
             }
         }
@@ -218,13 +183,8 @@ impl Links {
         ensures { IsAsBefore undo.before self.new }
     {
         let mut steps: Steps<L> = Steps::new(blank);
-        let Undo {
-            facts,
-            children,
-            ..
-        } = undo;
-        log::undo(&mut self.facts, facts, &mut steps);
-        log::undo(&mut self.children, children, &mut steps);
+        let Undo { ways, .. } = undo;
+        self.maps.undo(ways, &mut steps);
     }
 
     /// The primary parent of a check-in: the first name of its P card. None where there is no check-in of the given name, it
@@ -242,10 +202,10 @@ impl Links {
         ensures { result ≡ primary_of self.now.facts name }
     {
         let mut steps: Steps<L> = Steps::new(blank);
-        match first_parent(&self.facts, name, &mut steps) {
+        match first_parent(&self.maps.facts, name, &mut steps) {
             None => None,
             Some(first) => {
-                if is_there(&self.facts, &first, &mut steps) {
+                if is_there(&self.maps.facts, &first, &mut steps) {
                     Some(first)
                 } else {
                     None
@@ -273,6 +233,6 @@ impl Links {
         ensures { IfOk result (λ names. names ≡ children_of self.now.facts name) }
     {
         let mut steps: Steps<L> = Steps::new(blank);
-        pairs::seconds(alloc, &self.children, name, &mut steps)
+        self.maps.children.seconds(alloc, name, &mut steps)
     }
 }

@@ -1,3 +1,4 @@
+pub mod Crossing
 pub mod Belonging
 pub mod Entries
 pub mod Finding

@@ -9,3 +9,4 @@ pub mod Within
 pub mod ExactWithin
 pub mod Placed
 pub mod Put
+pub mod Tracked

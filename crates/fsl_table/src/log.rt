@@ -42,6 +42,16 @@ impl<K, V> Log<K, V> {
     {
         self.steps.pop()
     }
+
+    /// Forgets all steps.
+    pub(crate) fn clear(&mut self)
+    where
+        K: Drop,
+        V: Drop,
+        ensures { self.new ≡ [] }
+    {
+        self.steps.clear();
+    }
 }
 
 /// Does one step, which finds its memory.
@@ -65,6 +75,22 @@ fn step_back<K: Key + Drop, V: Drop, L: Ledger>(
     }
 }
 
+/// Takes the table back by all steps of a log. It takes no memory.
+pub(crate) fn unwind<K: Key + Drop, V: Drop, L: Ledger>(
+    table: &mut Table<K, V>,
+    log: &mut Log<K, V>,
+    steps: &mut Steps<L>,
+)
+    requires { CanUndo K.cmp log.old table.old }
+    ensures good { IsAsGood (undone K.cmp log.old table.old) table.new }
+    ensures empty { log.new ≡ [] }
+    ensures cost { steps.new ≡ steps.old + length log.old }
+{
+    while let Some(step) = log.pop() {
+        step_back(table, step, steps);
+    }
+}
+
 /// Takes the table back. It takes no memory.
 pub fn undo<K: Key + Drop, V: Drop, L: Ledger>(
     table: &mut Table<K, V>,
@@ -76,9 +102,7 @@ pub fn undo<K: Key + Drop, V: Drop, L: Ledger>(
     ensures cost { steps.new ≡ steps.old + length log }
 {
     let mut left = log;
-    while let Some(step) = left.pop() {
-        step_back(table, step, steps);
-    }
+    unwind(table, &mut left, steps);
 }
 
 /// The step that takes a put back, by what was at its key.

@@ -1,3 +1,4 @@
+pub mod Crossing
 pub mod Backward
 pub mod Canonical
 pub mod Changing

@@ -1,16 +1,13 @@
 -- A value taken out of a map, and put in again in another form.
-use Rattle.std.proofs.Common.{◌≡◌, ℕ, Bool, true, false, cond, List, Option, Some, None, refl, sym, ap, ◌∙◌}
-use Rattle.std.specs.Map.{lookup}
+use Rattle.std.proofs.Common.{◌≡◌, ℕ, Bool, true, false, cond, List, Some, None, refl, sym, ap, ◌∙◌}
 use Rattle.std.specs.BTreeMap.{is_at}
 use Rattle.std.specs.Str.{bytes_eq}
 use Rattle.std.specs.Cmp.Lexicographic.{texts_ties, bytes_decides}
 use Rattle.fsl_order.specs.Names.{bytes_cmp}
+use Rattle.fsl_ticket.specs.Seen.{look}
 
 abbrev pub Entries : Type 0 → Type 0
 Entries X = List (List ℕ × X)
-
-abbrev pub look : {X : Type 0} → List ℕ → Entries X → Option X
-look q es = lookup (is_at (bytes_cmp q)) es
 
 module _ {X : Type 0} where
   -- the value of the key is x, which is f of the key, and no other changes

@@ -23,7 +23,7 @@ use Rattle.fsl_order.proofs.Booleans.{or_false}
 use Rattle.fsl_ticket.proofs.Changing.{lists_others}
 use Rattle.fsl_ticket.specs.Newest.{newest_cmp}
 use Rattle.fsl_ticket.specs.NewestOrder.{newest_cmp-IsTotalOrder, newest_cmp-IsAntisymmetric}
-use Rattle.fsl_ticket.specs.Kept.{Lines, Rows, IsLaid, spot, spot_cmp, facts_of, is_id, is_same, is_set, is_set_at}
+use Rattle.fsl_ticket.specs.Kept.{Lines, Laid, IsLaid, spot, spot_cmp, facts_of, is_id, is_same, is_set, is_set_at}
 use Rattle.fsl_ticket.specs.Walked.{Down, made, made_at, names_of, value_down, is_masked, value_below, is_other, is_row_other}
 use Rattle.fsl_ticket.proofs.Canonical.{spot_cmp-IsTotalOrder}
 use Rattle.fsl_ticket.proofs.Placing.{spots_with}
@@ -118,7 +118,7 @@ module _ (es : Lines) (name : List ℕ) (e : Entry) where
       ∙ ap (λ row. not (is_same (row_down configured es (w ∷ ws)) row)) (sym (more_down configured (w ∷ ws)))
 
 -- a key more of a ticket
-within_more : (r s : Rows) (k : IsLaid r) (l : IsLaid s) (id : List ℕ) (at : ℕ × List ℕ) → s.spots.entries ≡ with_entry spot_cmp (spot id at.0 at.1) tt r.spots.entries
+within_more : (r s : Laid) (k : IsLaid r) (l : IsLaid s) (id : List ℕ) (at : ℕ × List ℕ) → s.spots.entries ≡ with_entry spot_cmp (spot id at.0 at.1) tt r.spots.entries
     → within bytes_cmp id s.spots.entries ≡ with_entry newest_cmp at tt (within bytes_cmp id r.spots.entries)
 within_more r s k l id at is =
     same_found newest_cmp newest_cmp-IsTotalOrder newest_cmp-IsAntisymmetric (within bytes_cmp id s.spots.entries) (with_entry newest_cmp at tt (within bytes_cmp id r.spots.entries))
@@ -143,7 +143,7 @@ apart_from es name none (w ∷ ws) h = (
 )
 
 -- the row of the ticket of a new change differs where that makes another one
-pub row_differs : (r s : Rows) (k : IsLaid r) (l : IsLaid s) (configured : List (List ℕ)) (name : List ℕ) (e : Entry) → value_at bytes_cmp name r.facts.entries ≡ None
+pub row_differs : (r s : Laid) (k : IsLaid r) (l : IsLaid s) (configured : List (List ℕ)) (name : List ℕ) (e : Entry) → value_at bytes_cmp name r.facts.entries ≡ None
     → s.facts.entries ≡ with_entry bytes_cmp name e r.facts.entries → s.spots.entries ≡ with_entry spot_cmp (spot e.id e.date name) tt r.spots.entries
     → is_row_other configured r.facts.entries e.changes (e.date, name) (within bytes_cmp e.id r.spots.entries)
     ≡ not (is_same (fields configured (facts_of r.facts.entries) e.id) (fields configured (facts_of (with_entry bytes_cmp name e r.facts.entries)) e.id))
@@ -158,7 +158,7 @@ row_differs r s k l configured name e none put spotted =
         ∙ sym (row_is s l configured e.id)
         ∙ ap (λ es. fields configured (facts_of es) e.id) put
 
-kept_with : (r : Rows) → IsLaid r → (name : List ℕ) (e : Entry) → value_at bytes_cmp name r.facts.entries ≡ None
+kept_with : (r : Laid) → IsLaid r → (name : List ℕ) (e : Entry) → value_at bytes_cmp name r.facts.entries ≡ None
     → IsLaid (record { facts = record { entries = with_entry bytes_cmp name e r.facts.entries; spare = 0 }; spots = record { entries = with_entry spot_cmp (spot e.id e.date name) tt r.spots.entries; spare = 0 } })
 kept_with r k name e none = record {
   ordered = sorted-insert_entry bytes_cmp-IsTotalOrder name e r.facts.entries k.ordered;
@@ -167,14 +167,14 @@ kept_with r k name e none = record {
 }
 
 -- of a new change the ticket is listed, where its row differs
-pub lists_new : (r : Rows) → IsLaid r → (configured : List (List ℕ)) (name : List ℕ) (e : Entry) → value_at bytes_cmp name r.facts.entries ≡ None
+pub lists_new : (r : Laid) → IsLaid r → (configured : List (List ℕ)) (name : List ℕ) (e : Entry) → value_at bytes_cmp name r.facts.entries ≡ None
     → (d : Bool) → d ≡ is_row_other configured r.facts.entries e.changes (e.date, name) (within bytes_cmp e.id r.spots.entries)
     → ListsChanged (tickets_row configured (facts_of r.facts.entries)) (tickets_row configured (facts_of (with_entry bytes_cmp name e r.facts.entries))) (if d then e.id ∷ [] else [])
 unfolding IsStrictlySortedBy
 lists_new r k configured name e none d is =
     let es = r.facts.entries in
     let other = is_same (fields configured (facts_of es) e.id) (fields configured (facts_of (with_entry bytes_cmp name e es)) e.id) in
-    let s : Rows = record { facts = record { entries = with_entry bytes_cmp name e es; spare = 0 }; spots = record { entries = with_entry spot_cmp (spot e.id e.date name) tt r.spots.entries; spare = 0 } } in
+    let s : Laid = record { facts = record { entries = with_entry bytes_cmp name e es; spare = 0 }; spots = record { entries = with_entry spot_cmp (spot e.id e.date name) tt r.spots.entries; spare = 0 } } in
     subst (ListsChanged (tickets_row configured (facts_of es)) (tickets_row configured (facts_of (with_entry bytes_cmp name e es))))
     (single other ∙ ap (λ b. if b then e.id ∷ [] else []) (sym (is ∙ row_differs r s k (kept_with r k name e none) configured name e none refl refl)))
     (lists_others configured es name e (e.id ∷ []) (tt, tt) (λ q. or_false (bytes_eq q e.id) ∙ ap (λ o. is_id o q || bytes_eq q e.id) (sym none)))

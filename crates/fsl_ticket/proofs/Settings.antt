@@ -19,11 +19,10 @@ use Rattle.fsl_table.proofs.Finding.{lookup-without, value-with, value-without, 
 use Rattle.fsl_ticket.specs.declared.FieldChange.{FieldChange}
 use Rattle.fsl_ticket.specs.declared.entry.Entry.{Entry}
 use Rattle.fsl_ticket.specs.declared.field.TicketField.{TicketField}
-use Rattle.fsl_ticket.specs.declared.maps.Maps.{Maps}
 use Rattle.fsl_ticket.specs.Newest.{newest_cmp}
 use Rattle.fsl_ticket.specs.NewestOrder.{newest_cmp-IsTotalOrder, newest_cmp-IsAntisymmetric}
 use Rattle.fsl_ticket.specs.FieldOrder.{field_cmp, exact_field}
-use Rattle.fsl_ticket.specs.Kept.{Lines, Setting, Settings, setting, setting_cmp, AreSets, IsKept, rows_in, is_of, is_set, is_set_at, is_setting, is_kept_set, is_keyed, is_card_set, is_set_of}
+use Rattle.fsl_ticket.specs.Kept.{Lines, Setting, Settings, setting, setting_cmp, AreSets, IsKept, Rows, laid_in, is_of, is_set, is_set_at, is_setting, is_kept_set, is_keyed, is_card_set, is_set_of}
 use Rattle.fsl_ticket.specs.Walked.{Down, is_masked, is_newer}
 use Rattle.fsl_ticket.proofs.Canonical.{field_cmp-IsTotalOrder, setting_cmp-IsTotalOrder, setting_cmp-exact}
 use Rattle.fsl_ticket.proofs.Placing.{same_place}
@@ -237,7 +236,7 @@ masked_first es p q (w ∷ ws) sorted =
     itself true = refl
     itself false = refl
 
-module _ (m : Maps) (k : IsKept m) (id q : List ℕ) where
+module _ (m : Rows) (k : IsKept m) (id q : List ℕ) where
   abbrev has_set : ℕ × List ℕ → Bool
   has_set p = is_set_at (value_at bytes_cmp p.1 m.facts.entries) q
 
@@ -251,12 +250,12 @@ module _ (m : Maps) (k : IsKept m) (id q : List ℕ) where
       let ws = within bytes_cmp id m.spots.entries in
       same_found newest_cmp newest_cmp-IsTotalOrder newest_cmp-IsAntisymmetric vs (filter (λ w. has_set w.0) ws)
       (within_sorted field_cmp newest_cmp field_cmp-IsTotalOrder exact_field f m.sets.entries k.sets.ordered)
-      (sorted_filtered has_set ws (sorted_within (rows_in m) k.laid id))
+      (sorted_filtered has_set ws (sorted_within (laid_in m) k.laid id))
       (λ c. same_units (value_at newest_cmp c vs) (value_at newest_cmp c (filter (λ w. has_set w.0) ws))
       (ap is_some (value-within field_cmp newest_cmp f c m.sets.entries)
       ∙ k.sets.are (setting id q c)
-      ∙ ap (λ b. b && has_set c) (sym (at_spot (rows_in m) k.laid id c))
+      ∙ ap (λ b. b && has_set c) (sym (at_spot (laid_in m) k.laid id c))
       ∙ sym (found_filtered has_set c ws)))
 
   pub masked_is : (p : ℕ × List ℕ) → is_newer p (first_of (within field_cmp f m.sets.entries)) ≡ is_masked m.facts.entries p q (within bytes_cmp id m.spots.entries)
-  masked_is p = ap (λ l. is_newer p (first_of l)) settings_are ∙ masked_first m.facts.entries p q (within bytes_cmp id m.spots.entries) (sorted_within (rows_in m) k.laid id)
+  masked_is p = ap (λ l. is_newer p (first_of l)) settings_are ∙ masked_first m.facts.entries p q (within bytes_cmp id m.spots.entries) (sorted_within (laid_in m) k.laid id)

@@ -26,7 +26,7 @@ use Rattle.fsl_ticket.specs.declared.entry.Entry.{Entry}
 use Rattle.fsl_ticket.specs.declared.Fact.{Fact}
 use Rattle.fsl_ticket.specs.Tickets.{changes, value, fields}
 use Rattle.fsl_ticket.specs.Seen.{value_from}
-use Rattle.fsl_ticket.specs.Kept.{Lines, Rows, IsLaid, spot, fact_of, facts_of, is_of, is_spot, change_at, put_before, changes_at, if_any}
+use Rattle.fsl_ticket.specs.Kept.{Lines, Laid, IsLaid, spot, fact_of, facts_of, is_of, is_spot, change_at, put_before, changes_at, if_any}
 use Rattle.fsl_ticket.specs.Newest.{newest_cmp}
 use Rattle.fsl_ticket.specs.NewestOrder.{newest_cmp-IsTotalOrder, newest_cmp-IsAntisymmetric}
 use Rattle.fsl_ticket.specs.Walked.{Down, names_of, value_down}
@@ -59,7 +59,7 @@ members {R = R} o P (w ∷ ws) h = (
   members o P ws (λ p s. h p (elim (is_eq (R p w.0)) as (λ b. is_some (cond b (Some w.1) (value_at R p ws)) ≡ true) [ true ↦ refl | false ↦ s ])),
 )
 
-module _ (r : Rows) (k : IsLaid r) (id : List ℕ) where
+module _ (r : Laid) (k : IsLaid r) (id : List ℕ) where
   pub sorted_within : IsStrictlySortedBy newest_cmp (keys_of (within bytes_cmp id r.spots.entries))
   sorted_within = within_sorted bytes_cmp newest_cmp bytes_cmp-IsTotalOrder exact_bytes id r.spots.entries k.spots_ordered
 
@@ -135,7 +135,7 @@ row_backward configured es (w ∷ ws) h =
     ∙ (λ i. Some (map (λ q. value_backward es (w ∷ ws) q i) configured))
 
 -- the fields of a ticket are what its changes give, from the newest down
-pub row_is : (r : Rows) (k : IsLaid r) (configured : List (List ℕ)) (id : List ℕ) → fields configured (facts_of r.facts.entries) id ≡ row_down configured r.facts.entries (within bytes_cmp id r.spots.entries)
+pub row_is : (r : Laid) (k : IsLaid r) (configured : List (List ℕ)) (id : List ℕ) → fields configured (facts_of r.facts.entries) id ≡ row_down configured r.facts.entries (within bytes_cmp id r.spots.entries)
 row_is r k configured id =
     fields_any configured (facts_of r.facts.entries) id
     ∙ ap (λ list. option_map (λ list. map (value_from list) configured) (if_any list)) (changes_are r k id)

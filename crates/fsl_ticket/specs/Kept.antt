@@ -13,15 +13,15 @@ use Rattle.fsl_order.specs.Rows.{ListsChanged}
 use Rattle.fsl_table.specs.Contents.{Contents, value_at, with_entry}
 use Rattle.fsl_table.specs.Within.{within_cmp, is_second}
 use Rattle.fsl_table.specs.declared.within.Within.{Within}
-use Rattle.fsl_table.specs.Undo.{undone, CanUndo, IsAsGood, Undoes}
+use Rattle.fsl_table.specs.Undo.{IsAsGood}
 use Rattle.fsl_ticket.specs.declared.Fact.{Fact}
 use Rattle.fsl_ticket.specs.declared.FieldChange.{FieldChange}
 use Rattle.fsl_ticket.specs.declared.entry.Entry.{Entry}
 use Rattle.fsl_ticket.specs.declared.field.TicketField.{TicketField}
 use Rattle.fsl_ticket.specs.declared.maps.Maps.{Maps}
-use Rattle.fsl_ticket.specs.declared.maps.Logs.{Logs}
+use Rattle.fsl_ticket.specs.declared.maps.Ways.{Ways}
 use Rattle.fsl_ticket.specs.declared.rows.Row.{Row}
-use Rattle.fsl_ticket.specs.Seen.{Seen, IsAsBefore}
+use Rattle.fsl_ticket.specs.Seen.{Seen}
 use Rattle.fsl_ticket.specs.Tickets.{fields, tickets_row}
 use Rattle.fsl_ticket.specs.Newest.{newest_cmp}
 use Rattle.fsl_ticket.specs.FieldOrder.{field_cmp}
@@ -73,15 +73,21 @@ abbrev pub ListsOthers : List (List ℕ) → Lines → Fact → List (List ℕ) 
 ListsOthers configured es f = ListsChanged (tickets_row configured (facts_of es)) (tickets_row configured (facts_of (with_fact f es)))
 
 -- the changes, and the keys of their tickets
-pub record Rows : Type 0 where
+pub record Laid : Type 0 where
   pub facts : Contents (List ℕ) Entry
   pub spots : Contents Spot (Unit {0})
 
-abbrev pub rows_in : Maps → Rows
-rows_in m = record { facts = m.facts; spots = m.spots }
+-- with the keys of the fields that they replace
+pub record Rows : Type 0 where
+  pub facts : Contents (List ℕ) Entry
+  pub spots : Contents Spot (Unit {0})
+  pub sets : Contents Setting (Unit {0})
 
-abbrev pub seen_of : List (List ℕ) → Maps → Seen
-seen_of fields m = record { fields = fields; facts = facts_of m.facts.entries; spare = m.facts.spare ∷ m.spots.spare ∷ m.sets.spare ∷ [] }
+abbrev pub laid_in : Rows → Laid
+laid_in r = record { facts = r.facts; spots = r.spots }
+
+abbrev pub seen_of : List (List ℕ) → Rows → Seen
+seen_of fields r = record { fields = fields; facts = facts_of r.facts.entries; spare = r.facts.spare ∷ r.spots.spare ∷ r.sets.spare ∷ [] }
 
 -- whether a J card replaces a field
 abbrev pub replaces : FieldChange → List ℕ → Bool
@@ -132,6 +138,10 @@ is_card_set id p card k = is_keyed id p k && replaces card k.first.field
 abbrev pub is_set_of : List ℕ → ℕ × List ℕ → List FieldChange → Setting → Bool
 is_set_of id p cards k = is_keyed id p k && is_set cards k.first.field
 
+-- the keys are those that there were, without some
+abbrev pub AreWithout : (Setting → Bool) → Settings → Settings → Type 0
+AreWithout out old new = (k : Setting) → is_kept_set new k ≡ (not (out k) && is_kept_set old k)
+
 -- the change of a name
 abbrev pub change_at : Lines → List ℕ → Option Fact
 change_at es name = option_map (λ e. fact_of (name, e)) (value_at bytes_cmp name es)
@@ -173,40 +183,40 @@ pub record AreTouched (configured : List (List ℕ)) (es : Lines) (name id : Lis
   pub own : (q : List ℕ) → has ids q ≡ (is_id (value_at bytes_cmp name es) q || bytes_eq q id)
   pub are : rows ≡ map (row_of configured es) ids
 
-pub record IsLaid (r : Rows) : Type 0 where
+-- there is a key exactly for each change
+abbrev pub AreSpots : Lines → Spots → Type 0
+AreSpots es ss = (k : Spot) → is_some (value_at spot_cmp k ss) ≡ is_spot es k.first k.second
+
+pub record IsLaid (r : Laid) : Type 0 where
   pub ordered : IsStrictlySortedBy bytes_cmp (keys_of r.facts.entries)
   pub spots_ordered : IsStrictlySortedBy spot_cmp (keys_of r.spots.entries)
-  pub spots : (k : Spot) → is_some (value_at spot_cmp k r.spots.entries) ≡ is_spot r.facts.entries k.first k.second
+  pub spots : AreSpots r.facts.entries r.spots.entries
 
 -- there is a key exactly for each change and each field that it replaces
 pub record AreSets (es : Lines) (ss : Settings) : Type 0 where
   pub ordered : IsStrictlySortedBy setting_cmp (keys_of ss)
   pub are : (k : Setting) → is_kept_set ss k ≡ is_setting es k.first k.second
 
-pub record IsKept (m : Maps) : Type 0 where
-  pub laid : IsLaid (rows_in m)
-  pub sets : AreSets m.facts.entries m.sets.entries
+pub record IsKept (r : Rows) : Type 0 where
+  pub laid : IsLaid (laid_in r)
+  pub sets : AreSets r.facts.entries r.sets.entries
 
--- the logs take the maps back to what they were before
-pub record AreUndone (logs : Logs) (now before : Maps) : Type 0 where
-  pub facts : Undoes bytes_cmp logs.facts now.facts before.facts
-  pub spots : Undoes spot_cmp logs.spots now.spots before.spots
-  pub sets : Undoes setting_cmp logs.sets now.sets before.sets
+-- the maps as they are, and as they were where the change began
+abbrev pub rows_of : Maps → Rows
+rows_of m = record { facts = m.facts.held; spots = m.spots.held; sets = m.sets.held }
 
--- what the logs leave
-abbrev pub undone_maps : Logs → Maps → Maps
-undone_maps l m = record { facts = undone bytes_cmp l.facts m.facts; spots = undone spot_cmp l.spots m.spots; sets = undone setting_cmp l.sets m.sets }
+abbrev pub rows_before : Maps → Rows
+rows_before m = record { facts = m.facts.was; spots = m.spots.was; sets = m.sets.was }
 
--- each map of the second is as good as that of the first
-pub record AreAsGood (m n : Maps) : Type 0 where
-  pub facts : IsAsGood m.facts n.facts
-  pub spots : IsAsGood m.spots n.spots
-  pub sets : IsAsGood m.sets n.sets
+-- where ways back end, and where they begin
+abbrev pub starts_of : Ways → Rows
+starts_of w = record { facts = w.facts.was; spots = w.spots.was; sets = w.sets.was }
 
--- the logs find their memory, and lead back
-pub record TakesBack (logs : Logs) (before : Seen) (fields : List (List ℕ)) (now : Maps) : Type 0 where
-  pub facts_can : CanUndo bytes_cmp logs.facts now.facts
-  pub spots_can : CanUndo spot_cmp logs.spots now.spots
-  pub sets_can : CanUndo setting_cmp logs.sets now.sets
-  pub kept : IsKept (undone_maps logs now)
-  pub back : IsAsBefore before (seen_of fields (undone_maps logs now))
+abbrev pub ends_of : Ways → Rows
+ends_of w = record { facts = w.facts.held; spots = w.spots.held; sets = w.sets.held }
+
+-- each map is as good
+pub record AreAsGood (before now : Rows) : Type 0 where
+  pub facts : IsAsGood before.facts now.facts
+  pub spots : IsAsGood before.spots now.spots
+  pub sets : IsAsGood before.sets now.sets

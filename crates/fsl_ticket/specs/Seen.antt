@@ -1,5 +1,5 @@
 -- What contracts see of the table, and of a change of it.
-use Rattle.std.specs.Prelude.{◌≡◌, ℕ, List, [], fold, filter, flat_map}
+use Rattle.std.specs.Prelude.{◌≡◌, ℕ, List, [], Option, cond, fold, filter, flat_map}
 use Rattle.std.specs.Option.{unwrap_or}
 use Rattle.std.specs.Map.{lookup}
 use Rattle.std.specs.BTreeMap.{is_at}
@@ -7,6 +7,7 @@ use Rattle.std.specs.Str.{bytes_eq}
 use Rattle.fsl_order.specs.Names.{bytes_cmp}
 use Rattle.fsl_order.specs.TableState.{AreAtMost}
 use Rattle.fsl_ticket.specs.declared.Fact.{Fact}
+use Rattle.fsl_ticket.specs.declared.FieldChange.{FieldChange}
 use Rattle.fsl_ticket.specs.Tickets.{after}
 
 -- the configured fields, the changes by name, and the room that each map inside has to spare
@@ -27,9 +28,17 @@ pub record Change : Type 0 where
   pub after : Seen
   pub changed : List (List ℕ)
 
+-- what a map has at a field
+abbrev pub look : {X : Type 0} → List ℕ → List (List ℕ × X) → Option X
+look field entries = lookup (is_at (bytes_cmp field)) entries
+
 -- the value that a map has of a field, empty where it has none
 abbrev pub value_in : List (List ℕ × List ℕ) → List ℕ → List ℕ
-value_in entries field = unwrap_or (lookup (is_at (bytes_cmp field)) entries) []
+value_in entries field = unwrap_or (look field entries) []
+
+-- what a J card makes of the value of a field
+abbrev pub taken : FieldChange → List ℕ → List ℕ → List ℕ
+taken card field value = cond (bytes_eq card.field field) (after value card) value
 
 -- what changes in their order make of the value of a field
 abbrev pub value_after : List ℕ → List Fact → List ℕ → List ℕ

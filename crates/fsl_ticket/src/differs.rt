@@ -7,11 +7,9 @@ ghost use Rattle.std.specs.List.Sorted.{IsStrictlySortedBy};
 ghost use Rattle.std.specs.Map.{keys_of};
 ghost use Rattle.fsl_order.specs.Names.{bytes_cmp};
 ghost use Rattle.fsl_table.specs.Within.{within};
-ghost use Rattle.fsl_table.proofs.Walk.{from};
-ghost use Rattle.fsl_ticket.specs.Kept.{IsKept, spot_cmp};
-ghost use Rattle.fsl_ticket.specs.Newest.{newest_cmp};
+ghost use Rattle.fsl_ticket.specs.Kept.{IsKept, rows_of, spot_cmp};
 ghost use Rattle.fsl_ticket.specs.Seen.{value_in};
-ghost use Rattle.fsl_ticket.specs.Walked.{made, is_other_by, is_row_other, names_of, ticket_of, value_below, value_down};
+ghost use Rattle.fsl_ticket.specs.Walked.{down_from, made, is_other_by, is_row_other_by, names_of, value_below, value_down};
 
 use crate::entry::Entry;
 use crate::maps::Maps;
@@ -20,7 +18,7 @@ use crate::sets::is_masked;
 use crate::walk::{next_place, values_from};
 use crate::{Fact, values};
 use fsl_name::Name;
-use fsl_table::{Table, Within};
+use fsl_table::{Tracked, Within};
 use fsl_text::{Memory, Steps, Text};
 use std::alloc::Global;
 use std::collections::BTreeMap;
@@ -29,15 +27,15 @@ use std::sync::ledger::Ledger;
 /// The value that changes give a field from one of them down.
 fn value_from<L: Ledger>(
     alloc: Global,
-    facts: &Table<Name, Entry>,
-    spots: &Table<Within<Name, Place>, ()>,
+    facts: &Tracked<Name, Entry>,
+    spots: &Tracked<Within<Name, Place>, ()>,
     id: Name,
     first: Place,
     field: &Text,
     steps: &mut Steps<L>,
 ) -> Result<Text, Memory>
-    requires { IsStrictlySortedBy spot_cmp (keys_of spots.now.entries) }
-    ensures { IfOk result (λ value. value ≡ value_down facts.now.entries (names_of (from newest_cmp (Some (first, tt)) (within bytes_cmp id spots.now.entries))) field.now) }
+    requires { IsStrictlySortedBy spot_cmp (keys_of spots.now.held.entries) }
+    ensures { IfOk result (λ value. value ≡ value_down facts.now.held.entries (names_of (down_from (Some first) id spots.now.held.entries)) field.now) }
 {
     let end = Some(Text::of(alloc, field.bytes())?);
     let values = values_from(alloc, facts, spots, id, first, &end, steps);
@@ -55,15 +53,15 @@ fn value_from<L: Ledger>(
 /// The value of a field below a place.
 fn value_below<L: Ledger>(
     alloc: Global,
-    facts: &Table<Name, Entry>,
-    spots: &Table<Within<Name, Place>, ()>,
+    facts: &Tracked<Name, Entry>,
+    spots: &Tracked<Within<Name, Place>, ()>,
     id: Name,
     place: Place,
     field: &Text,
     steps: &mut Steps<L>,
 ) -> Result<Text, Memory>
-    requires { IsStrictlySortedBy spot_cmp (keys_of spots.now.entries) }
-    ensures { IfOk result (λ value. value ≡ value_below facts.now.entries place field.now (within bytes_cmp id spots.now.entries)) }
+    requires { IsStrictlySortedBy spot_cmp (keys_of spots.now.held.entries) }
+    ensures { IfOk result (λ value. value ≡ value_below facts.now.held.entries place field.now (within bytes_cmp id spots.now.held.entries)) }
 {
     match next_place(spots, id, Some(place), steps) {
         None => Ok(Text::empty(alloc)),
@@ -87,9 +85,9 @@ fn is_other<L: Ledger>(
     field: &Text,
     steps: &mut Steps<L>,
 ) -> Result<bool, Memory>
-    requires kept { IsKept maps.now }
+    requires kept { IsKept (rows_of maps.now) }
     requires own { (q : List ℕ) → value_in own.now.entries q ≡ made fact.now.changes q [] }
-    ensures { IfOk result (λ b. b ≡ is_other_by maps.now fact.now field.now) }
+    ensures { IfOk result (λ b. b ≡ is_other_by (rows_of maps.now) fact.now field.now) }
 {
     let place = Place::new(fact.date, fact.name);
     let value = values::value_of(own, field);
@@ -130,9 +128,9 @@ fn any_other<L: Ledger>(
     own: &BTreeMap<Text, Text>,
     steps: &mut Steps<L>,
 ) -> Result<bool, Memory>
-    requires kept { IsKept maps.now }
+    requires kept { IsKept (rows_of maps.now) }
     requires own { (q : List ℕ) → value_in own.now.entries q ≡ made fact.now.changes q [] }
-    ensures { IfOk result (λ b. b ≡ list_any (is_other_by maps.now fact.now) configured.now) }
+    ensures { IfOk result (λ b. b ≡ list_any (is_other_by (rows_of maps.now) fact.now) configured.now) }
 {
     for field in configured {
         if is_other(alloc, maps, fact, own, field, steps)? {
@@ -152,8 +150,8 @@ pub(crate) fn is_row_other<L: Ledger>(
     fact: &Fact,
     steps: &mut Steps<L>,
 ) -> Result<bool, Memory>
-    requires { IsKept maps.now }
-    ensures { IfOk result (λ b. b ≡ is_row_other configured.now maps.now.facts.entries fact.now.changes (fact.now.date, fact.now.name) (ticket_of maps.now fact.now)) }
+    requires { IsKept (rows_of maps.now) }
+    ensures { IfOk result (λ b. b ≡ is_row_other_by configured.now (rows_of maps.now) fact.now) }
 {
     if next_place(&maps.spots, fact.id, None, steps).is_none() {
         return Ok(true);

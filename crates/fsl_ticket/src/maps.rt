@@ -1,14 +1,12 @@
-//! The maps in which the changes are held, and what takes them back.
+//! The maps in which the changes are held.
 ghost use Rattle.std.specs.Prelude.{◌≡◌, []};
-ghost use Rattle.fsl_order.specs.Names.{bytes_cmp};
-ghost use Rattle.fsl_table.specs.Undo.{CanUndo};
-ghost use Rattle.fsl_ticket.specs.Kept.{AreAsGood, IsKept, setting_cmp, spot_cmp, undone_maps};
+ghost use Rattle.fsl_ticket.specs.Kept.{AreAsGood, IsKept, ends_of, rows_before, rows_of, starts_of};
 
 use crate::entry::Entry;
 use crate::field::TicketField;
 use crate::place::Place;
 use fsl_name::Name;
-use fsl_table::{Log, Table, Within, log};
+use fsl_table::{Tracked, Way, Within};
 use fsl_text::Steps;
 use std::alloc::Global;
 use std::sync::ledger::Ledger;
@@ -17,59 +15,73 @@ use std::sync::ledger::Ledger;
 #[derive(Drop)]
 pub struct Maps {
     /// What is kept of each change, by its name.
-    pub facts: Table<Name, Entry>,
+    pub facts: Tracked<Name, Entry>,
     /// The ticket, the date and the name of each change.
-    pub spots: Table<Within<Name, Place>, ()>,
+    pub spots: Tracked<Within<Name, Place>, ()>,
     /// For each change and each field that it replaces the ticket and the field, and the date and the name of the change.
-    pub sets: Table<Within<TicketField, Place>, ()>,
+    pub sets: Tracked<Within<TicketField, Place>, ()>,
+}
+
+/// The ways back of a change.
+#[derive(Drop)]
+pub struct Ways {
+    pub facts: Way<Name, Entry>,
+    pub spots: Way<Within<Name, Place>, ()>,
+    pub sets: Way<Within<TicketField, Place>, ()>,
 }
 
 impl Maps {
     /// The maps without changes. Takes no memory.
     pub fn new(alloc: Global) -> Maps
-        ensures none { result.facts.entries ≡ [] }
-        ensures kept { IsKept result }
+        ensures none { result.facts.held.entries ≡ [] }
+        ensures kept { IsKept (rows_of result) }
     {
         Maps {
-            facts: Table::new(alloc),
-            spots: Table::new(alloc),
-            sets: Table::new(alloc),
+            facts: Tracked::new(alloc),
+            spots: Tracked::new(alloc),
+            sets: Tracked::new(alloc),
         }
     }
-}
 
-/// What takes each of the maps back.
-#[derive(Drop)]
-pub struct Logs {
-    pub facts: Log<Name, Entry>,
-    pub spots: Log<Within<Name, Place>, ()>,
-    pub sets: Log<Within<TicketField, Place>, ()>,
-}
-
-impl Logs {
-    /// Logs without steps. Takes no memory.
-    pub fn new(alloc: Global) -> Logs
-        ensures facts { result.facts ≡ [] }
-        ensures spots { result.spots ≡ [] }
-        ensures sets { result.sets ≡ [] }
+    /// Begins a change.
+    pub fn begin(&mut self)
+        ensures rows { rows_of self.new ≡ rows_of self.old }
+        ensures was { rows_before self.new ≡ rows_of self.old }
     {
-        Logs {
-            facts: Log::new(alloc),
-            spots: Log::new(alloc),
-            sets: Log::new(alloc),
+        self.facts.begin();
+        self.spots.begin();
+        self.sets.begin();
+    }
+
+    /// Goes back to where the change began. It takes no memory.
+    pub fn turn_back<L: Ledger>(&mut self, steps: &mut Steps<L>)
+        ensures { AreAsGood (rows_before self.old) (rows_of self.new) }
+    {
+        self.facts.turn_back(steps);
+        self.spots.turn_back(steps);
+        self.sets.turn_back(steps);
+    }
+
+    /// Hands the ways back out.
+    pub fn ways(&mut self, alloc: Global) -> Ways
+        ensures ends { ends_of result ≡ rows_of self.old }
+        ensures starts { starts_of result ≡ rows_before self.old }
+        ensures rows { rows_of self.new ≡ rows_of self.old }
+    {
+        Ways {
+            facts: self.facts.way(alloc),
+            spots: self.spots.way(alloc),
+            sets: self.sets.way(alloc),
         }
     }
-}
 
-/// Takes each map back. It takes no memory.
-pub(crate) fn undo_all<L: Ledger>(maps: &mut Maps, logs: Logs, steps: &mut Steps<L>)
-    requires facts { CanUndo bytes_cmp logs.facts maps.old.facts }
-    requires spots { CanUndo spot_cmp logs.spots maps.old.spots }
-    requires sets { CanUndo setting_cmp logs.sets maps.old.sets }
-    ensures { AreAsGood (undone_maps logs maps.old) maps.new }
-{
-    let Logs { facts, spots, sets } = logs;
-    log::undo(&mut maps.facts, facts, steps);
-    log::undo(&mut maps.spots, spots, steps);
-    log::undo(&mut maps.sets, sets, steps);
+    /// Goes these ways back from what is as good as their ends. It takes no memory.
+    pub fn undo<L: Ledger>(&mut self, ways: Ways, steps: &mut Steps<L>)
+        requires { AreAsGood (ends_of ways) (rows_of self.old) }
+        ensures { AreAsGood (starts_of ways) (rows_of self.new) }
+    {
+        self.facts.undo(ways.facts, steps);
+        self.spots.undo(ways.spots, steps);
+        self.sets.undo(ways.sets, steps);
+    }
 }

@@ -7,22 +7,19 @@ ghost use Rattle.std.specs.Map.{keys_of};
 ghost use Rattle.std.specs.Str.{bytes_eq};
 ghost use Rattle.fsl_order.specs.Names.{bytes_cmp, has};
 ghost use Rattle.fsl_order.specs.Rows.{by_name, AreDistinct};
-ghost use Rattle.fsl_table.specs.Contents.{Contents, value_at, without_key};
-ghost use Rattle.fsl_table.specs.Undo.{Undoes};
-ghost use Rattle.fsl_ticket.specs.Kept.{AreTouched, AreUndone, IsKept, IsLaid, ListsOthers, Spot, spot_cmp, facts_of, if_other, is_id, is_same, row_of, is_spot, with_fact};
-ghost use Rattle.fsl_ticket.specs.declared.entry.Entry as entry_type;
-ghost use Rattle.fsl_ticket.specs.declared.maps.Maps as maps_type;
+ghost use Rattle.fsl_table.specs.Contents.{value_at, without_key};
+ghost use Rattle.fsl_ticket.specs.Kept.{AreSpots, AreTouched, IsKept, IsLaid, ListsOthers, spot_cmp, facts_of, if_other, is_id, is_same, row_of, rows_before, rows_of, with_fact};
 
 use crate::Fact;
 use crate::differs::is_row_other;
 use crate::entry::Entry;
-use crate::maps::{Logs, Maps};
+use crate::maps::Maps;
 use crate::place::Place;
 use crate::sets::{put_sets, unset};
 use crate::walk::{fields_of, key};
 use fsl_name::Name;
 use fsl_rows::Named;
-use fsl_table::{Log, Table, Within, log, names};
+use fsl_table::{Tracked, Within, names};
 use fsl_text::{List, Memory, Steps, Text};
 use std::alloc::Global;
 use std::collections::BTreeSet;
@@ -35,21 +32,19 @@ pub(crate) struct Row {
     pub(crate) values: Option<List<Text>>,
 }
 
-/// Puts a new change and the key of its ticket, and logs what takes both out again. After `Memory` a part may be done; the logs have it.
+/// Puts a new change and the key of its ticket. After `Memory` a part may be done.
 fn lay<L: Ledger>(
-    facts: &mut Table<Name, Entry>,
-    spots: &mut Table<Within<Name, Place>, ()>,
-    facts_log: &mut Log<Name, Entry>,
-    spots_log: &mut Log<Within<Name, Place>, ()>,
+    facts: &mut Tracked<Name, Entry>,
+    spots: &mut Tracked<Within<Name, Place>, ()>,
     fact: Fact,
     steps: &mut Steps<L>,
 ) -> Result<(), Memory>
-    requires laid { IsLaid (record { facts = facts.old; spots = spots.old }) }
-    requires absent { value_at bytes_cmp fact.name facts.old.entries ≡ None }
-    ensures entries { OnOk result (facts.new.entries ≡ with_fact fact facts.old.entries) }
-    ensures laid { OnOk result (IsLaid (record { facts = facts.new; spots = spots.new })) }
-    ensures undoes_facts { (before : Contents (List ℕ) entry_type.Entry) → Undoes bytes_cmp facts_log.old facts.old before → Undoes bytes_cmp facts_log.new facts.new before }
-    ensures undoes_spots { (before : Contents Spot Unit) → Undoes spot_cmp spots_log.old spots.old before → Undoes spot_cmp spots_log.new spots.new before }
+    requires laid { IsLaid (record { facts = facts.old.held; spots = spots.old.held }) }
+    requires absent { value_at bytes_cmp fact.name facts.old.held.entries ≡ None }
+    ensures entries { OnOk result (facts.new.held.entries ≡ with_fact fact facts.old.held.entries) }
+    ensures laid { OnOk result (IsLaid (record { facts = facts.new.held; spots = spots.new.held })) }
+    ensures facts_was { facts.new.was ≡ facts.old.was }
+    ensures spots_was { spots.new.was ≡ spots.old.was }
 {
     let Fact {
         name,
@@ -59,44 +54,34 @@ fn lay<L: Ledger>(
     } = fact;
     let spot = key(id, Some(Place::new(date, name)));
     let again = key(id, Some(Place::new(date, name)));
-    log::put(spots, spots_log, spot, again, (), steps)?;
+    spots.put(spot, again, (), steps)?;
     let entry = Entry { date, id, changes };
-    log::put(facts, facts_log, name, name, entry, steps)
+    facts.put(name, name, entry, steps)
 }
 
-/// Puts a new change, and logs what takes it out again. The names of the fields that it replaces are copied, and nothing else. After
-/// `Memory` a part may be done; the logs have it.
+/// Puts a new change. The names of the fields that it replaces are copied, and nothing else. After `Memory` a part may be done.
 pub(crate) fn put_fact<L: Ledger>(
     alloc: Global,
     maps: &mut Maps,
-    logs: &mut Logs,
     fact: Fact,
     steps: &mut Steps<L>,
 ) -> Result<(), Memory>
-    requires kept { IsKept maps.old }
-    requires absent { value_at bytes_cmp fact.name maps.old.facts.entries ≡ None }
-    ensures entries { OnOk result (maps.new.facts.entries ≡ with_fact fact maps.old.facts.entries) }
-    ensures kept { OnOk result (IsKept maps.new) }
-    ensures undoes { (before : maps_type.Maps) → AreUndone logs.old maps.old before → AreUndone logs.new maps.new before }
+    requires kept { IsKept (rows_of maps.old) }
+    requires absent { value_at bytes_cmp fact.name maps.old.facts.held.entries ≡ None }
+    ensures entries { OnOk result (maps.new.facts.held.entries ≡ with_fact fact maps.old.facts.held.entries) }
+    ensures kept { OnOk result (IsKept (rows_of maps.new)) }
+    ensures was { rows_before maps.new ≡ rows_before maps.old }
 {
     let place = Place::new(fact.date, fact.name);
     match put_sets(
         alloc,
         &mut maps.sets,
-        &mut logs.sets,
         fact.id,
         place,
         fact.changes.items(),
         steps,
     ) {
-        Ok(()) => lay(
-            &mut maps.facts,
-            &mut maps.spots,
-            &mut logs.facts,
-            &mut logs.spots,
-            fact,
-            steps,
-        ),
+        Ok(()) => lay(&mut maps.facts, &mut maps.spots, fact, steps),
         Err(Memory) => Err(Memory),
     }
 }
@@ -108,15 +93,15 @@ fn put_copy<L: Ledger>(
     fact: &Fact,
     steps: &mut Steps<L>,
 ) -> Result<(), Memory>
-    requires kept { IsKept maps.old }
-    requires absent { value_at bytes_cmp fact.now.name maps.old.facts.entries ≡ None }
-    ensures entries { OnOk result (maps.new.facts.entries ≡ with_fact fact.now maps.old.facts.entries) }
-    ensures kept { OnOk result (IsKept maps.new) }
+    requires kept { IsKept (rows_of maps.old) }
+    requires absent { value_at bytes_cmp fact.now.name maps.old.facts.held.entries ≡ None }
+    ensures entries { OnOk result (maps.new.facts.held.entries ≡ with_fact fact.now maps.old.facts.held.entries) }
+    ensures kept { OnOk result (IsKept (rows_of maps.new)) }
 {
     let Ok(copy) = fact.copied(alloc) else {
         return Err(Memory);
     };
-    put_fact(alloc, maps, &mut Logs::new(alloc), copy, steps)
+    put_fact(alloc, maps, copy, steps)
 }
 
 /// Puts copies of new changes, of which no two have one name, into maps without any. After `Memory` a part may be done.
@@ -126,15 +111,16 @@ pub(crate) fn put_all<L: Ledger>(
     all: &[Fact],
     steps: &mut Steps<L>,
 ) -> Result<(), Memory>
-    requires none { maps.old.facts.entries ≡ [] }
-    requires kept { IsKept maps.old }
+    requires none { maps.old.facts.held.entries ≡ [] }
+    requires kept { IsKept (rows_of maps.old) }
     requires distinct { AreDistinct (map (λ f. f.name) all.now) }
-    ensures facts { OnOk result (facts_of maps.new.facts.entries ≡ by_name (λ f. f.name) all.now) }
-    ensures kept { OnOk result (IsKept maps.new) }
+    ensures facts { OnOk result (facts_of maps.new.facts.held.entries ≡ by_name (λ f. f.name) all.now) }
+    ensures kept { OnOk result (IsKept (rows_of maps.new)) }
 {
     let mut left = all.len();
     while left > 0 {
         left -= 1;
+        maps.begin();
         let Ok(()) = put_copy(alloc, maps, &all[left], steps) else {
             return Err(Memory);
         };
@@ -144,84 +130,66 @@ pub(crate) fn put_all<L: Ledger>(
 
 /// Takes the key of a change out, where the change is there.
 fn unplace<L: Ledger>(
-    facts: &Table<Name, Entry>,
-    spots: &mut Table<Within<Name, Place>, ()>,
-    log: &mut Log<Within<Name, Place>, ()>,
+    facts: &Tracked<Name, Entry>,
+    spots: &mut Tracked<Within<Name, Place>, ()>,
     name: Name,
     steps: &mut Steps<L>,
 ) -> Result<(), Memory>
-    requires laid { IsLaid (record { facts = facts.now; spots = spots.old }) }
-    ensures ordered { OnOk result (IsStrictlySortedBy spot_cmp (keys_of spots.new.entries)) }
-    ensures spots { OnOk result ((k : Spot) → is_some (value_at spot_cmp k spots.new.entries) ≡ is_spot (without_key bytes_cmp name facts.now.entries) k.first k.second) }
-    ensures undoes { (before : Contents Spot Unit) → Undoes spot_cmp log.old spots.old before → Undoes spot_cmp log.new spots.new before }
+    requires laid { IsLaid (record { facts = facts.now.held; spots = spots.old.held }) }
+    ensures ordered { OnOk result (IsStrictlySortedBy spot_cmp (keys_of spots.new.held.entries)) }
+    ensures spots { OnOk result (AreSpots (without_key bytes_cmp name facts.now.held.entries) spots.new.held.entries) }
+    ensures was { spots.new.was ≡ spots.old.was }
 {
     match facts.get(&name, steps) {
         None => Ok(()),
         Some(entry) => {
             let spot = key(entry.id, Some(Place::new(entry.date, name)));
-            log::remove(spots, log, spot, steps)
+            spots.remove(spot, steps)
         }
     }
 }
 
-/// Takes a change and the key of its ticket out, and logs what puts both back. After `Memory` a part may be done; the logs have it.
+/// Takes a change and the key of its ticket out. After `Memory` a part may be done.
 fn lift<L: Ledger>(
-    facts: &mut Table<Name, Entry>,
-    spots: &mut Table<Within<Name, Place>, ()>,
-    facts_log: &mut Log<Name, Entry>,
-    spots_log: &mut Log<Within<Name, Place>, ()>,
+    facts: &mut Tracked<Name, Entry>,
+    spots: &mut Tracked<Within<Name, Place>, ()>,
     name: Name,
     steps: &mut Steps<L>,
 ) -> Result<(), Memory>
-    requires laid { IsLaid (record { facts = facts.old; spots = spots.old }) }
-    ensures entries { OnOk result (facts.new.entries ≡ without_key bytes_cmp name facts.old.entries) }
-    ensures laid { OnOk result (IsLaid (record { facts = facts.new; spots = spots.new })) }
-    ensures undoes_facts { (before : Contents (List ℕ) entry_type.Entry) → Undoes bytes_cmp facts_log.old facts.old before → Undoes bytes_cmp facts_log.new facts.new before }
-    ensures undoes_spots { (before : Contents Spot Unit) → Undoes spot_cmp spots_log.old spots.old before → Undoes spot_cmp spots_log.new spots.new before }
+    requires laid { IsLaid (record { facts = facts.old.held; spots = spots.old.held }) }
+    ensures entries { OnOk result (facts.new.held.entries ≡ without_key bytes_cmp name facts.old.held.entries) }
+    ensures laid { OnOk result (IsLaid (record { facts = facts.new.held; spots = spots.new.held })) }
+    ensures facts_was { facts.new.was ≡ facts.old.was }
+    ensures spots_was { spots.new.was ≡ spots.old.was }
 {
-    unplace(facts, spots, spots_log, name, steps)?;
-    log::remove(facts, facts_log, name, steps)
+    unplace(facts, spots, name, steps)?;
+    facts.remove(name, steps)
 }
 
-/// Takes a change out, and logs what puts it back. After `Memory` a part may be done; the logs have it.
+/// Takes a change out. After `Memory` a part may be done.
 fn take_out<L: Ledger>(
     alloc: Global,
     maps: &mut Maps,
-    logs: &mut Logs,
     name: Name,
     steps: &mut Steps<L>,
 ) -> Result<(), Memory>
-    requires kept { IsKept maps.old }
-    ensures entries { OnOk result (maps.new.facts.entries ≡ without_key bytes_cmp name maps.old.facts.entries) }
-    ensures kept { OnOk result (IsKept maps.new) }
-    ensures undoes { (before : maps_type.Maps) → AreUndone logs.old maps.old before → AreUndone logs.new maps.new before }
+    requires kept { IsKept (rows_of maps.old) }
+    ensures entries { OnOk result (maps.new.facts.held.entries ≡ without_key bytes_cmp name maps.old.facts.held.entries) }
+    ensures kept { OnOk result (IsKept (rows_of maps.new)) }
+    ensures was { rows_before maps.new ≡ rows_before maps.old }
 {
-    unset(
-        alloc,
-        &maps.facts,
-        &mut maps.sets,
-        &mut logs.sets,
-        name,
-        steps,
-    )?;
-    lift(
-        &mut maps.facts,
-        &mut maps.spots,
-        &mut logs.facts,
-        &mut logs.spots,
-        name,
-        steps,
-    )
+    unset(alloc, &maps.facts, &mut maps.sets, name, steps)?;
+    lift(&mut maps.facts, &mut maps.spots, name, steps)
 }
 
 /// Puts the id of the change of a name in, where it is there.
 fn note_id<L: Ledger>(
     ids: &mut BTreeSet<Name>,
-    facts: &Table<Name, Entry>,
+    facts: &Tracked<Name, Entry>,
     name: Name,
     steps: &mut Steps<L>,
 ) -> Result<(), Memory>
-    ensures noted { OnOk result ((q : List ℕ) → has ids.new.keys q ≡ (is_id (value_at bytes_cmp name facts.now.entries) q || has ids.old.keys q)) }
+    ensures noted { OnOk result ((q : List ℕ) → has ids.new.keys q ≡ (is_id (value_at bytes_cmp name facts.now.held.entries) q || has ids.old.keys q)) }
 {
     match facts.get(&name, steps) {
         None => Ok(()),
@@ -232,12 +200,12 @@ fn note_id<L: Ledger>(
 /// The ids of the tickets that another change of this name and id may touch, ascending.
 fn ids_of<L: Ledger>(
     alloc: Global,
-    facts: &Table<Name, Entry>,
+    facts: &Tracked<Name, Entry>,
     name: Name,
     id: Name,
     steps: &mut Steps<L>,
 ) -> Result<List<Name>, Memory>
-    ensures ids { IfOk result (λ list. (q : List ℕ) → has list q ≡ (is_id (value_at bytes_cmp name facts.now.entries) q || bytes_eq q id)) }
+    ensures ids { IfOk result (λ list. (q : List ℕ) → has list q ≡ (is_id (value_at bytes_cmp name facts.now.held.entries) q || bytes_eq q id)) }
     ensures rising { IfOk result (λ list. IsStrictlySortedBy bytes_cmp list) }
 {
     let mut ids = BTreeSet::new(alloc);
@@ -247,16 +215,16 @@ fn ids_of<L: Ledger>(
 }
 
 /// The rows of some ids.
-fn rows_of<L: Ledger>(
+fn rows_at<L: Ledger>(
     alloc: Global,
     configured: &[Text],
-    facts: &Table<Name, Entry>,
-    spots: &Table<Within<Name, Place>, ()>,
+    facts: &Tracked<Name, Entry>,
+    spots: &Tracked<Within<Name, Place>, ()>,
     ids: &[Name],
     steps: &mut Steps<L>,
 ) -> Result<List<Row>, Memory>
-    requires { IsLaid (record { facts = facts.now; spots = spots.now }) }
-    ensures { IfOk result (λ rows. rows ≡ map (row_of configured.now facts.now.entries) ids.now) }
+    requires { IsLaid (record { facts = facts.now.held; spots = spots.now.held }) }
+    ensures { IfOk result (λ rows. rows ≡ map (row_of configured.now facts.now.held.entries) ids.now) }
 {
     let mut rows = List::new(alloc);
     for id in ids {
@@ -281,13 +249,13 @@ fn is_same(a: &Option<List<Text>>, b: &Option<List<Text>>) -> bool
 fn other_of<L: Ledger>(
     alloc: Global,
     configured: &[Text],
-    facts: &Table<Name, Entry>,
-    spots: &Table<Within<Name, Place>, ()>,
+    facts: &Tracked<Name, Entry>,
+    spots: &Tracked<Within<Name, Place>, ()>,
     row: &Row,
     steps: &mut Steps<L>,
 ) -> Result<Option<Name>, Memory>
-    requires { IsLaid (record { facts = facts.now; spots = spots.now }) }
-    ensures { IfOk result (λ id. id ≡ if_other configured.now facts.now.entries row.now) }
+    requires { IsLaid (record { facts = facts.now.held; spots = spots.now.held }) }
+    ensures { IfOk result (λ id. id ≡ if_other configured.now facts.now.held.entries row.now) }
 {
     let values = fields_of(alloc, configured, facts, spots, row.id, steps)?;
     if is_same(&row.values, &values) {
@@ -311,13 +279,13 @@ fn append_some(list: &mut List<Name>, id: Option<Name>) -> Result<(), Memory>
 fn others<L: Ledger>(
     alloc: Global,
     configured: &[Text],
-    facts: &Table<Name, Entry>,
-    spots: &Table<Within<Name, Place>, ()>,
+    facts: &Tracked<Name, Entry>,
+    spots: &Tracked<Within<Name, Place>, ()>,
     rows: &[Row],
     steps: &mut Steps<L>,
 ) -> Result<List<Name>, Memory>
-    requires { IsLaid (record { facts = facts.now; spots = spots.now }) }
-    ensures { IfOk result (λ list. list ≡ filter_map (if_other configured.now facts.now.entries) rows.now) }
+    requires { IsLaid (record { facts = facts.now.held; spots = spots.now.held }) }
+    ensures { IfOk result (λ list. list ≡ filter_map (if_other configured.now facts.now.held.entries) rows.now) }
 {
     let mut list = List::new(alloc);
     for row in rows {
@@ -331,38 +299,37 @@ fn others<L: Ledger>(
 fn rows_touched<L: Ledger>(
     alloc: Global,
     configured: &[Text],
-    facts: &Table<Name, Entry>,
-    spots: &Table<Within<Name, Place>, ()>,
+    facts: &Tracked<Name, Entry>,
+    spots: &Tracked<Within<Name, Place>, ()>,
     name: Name,
     id: Name,
     steps: &mut Steps<L>,
 ) -> Result<List<Row>, Memory>
-    requires { IsLaid (record { facts = facts.now; spots = spots.now }) }
-    ensures { IfOk result (AreTouched configured.now facts.now.entries name id) }
+    requires { IsLaid (record { facts = facts.now.held; spots = spots.now.held }) }
+    ensures { IfOk result (AreTouched configured.now facts.now.held.entries name id) }
 {
     let Ok(ids) = ids_of(alloc, facts, name, id, steps) else {
         return Err(Memory);
     };
-    let rows = rows_of(alloc, configured, facts, spots, ids.items(), steps);
+    let rows = rows_at(alloc, configured, facts, spots, ids.items(), steps);
     drop(ids);
     rows
 }
 
-/// Puts a change in the place of that of its name, where there is one. After `Memory` a part may be done; the logs have it.
+/// Puts a change in the place of that of its name, where there is one. After `Memory` a part may be done.
 fn replace_fact<L: Ledger>(
     alloc: Global,
     maps: &mut Maps,
-    logs: &mut Logs,
     fact: Fact,
     steps: &mut Steps<L>,
 ) -> Result<(), Memory>
-    requires kept { IsKept maps.old }
-    ensures entries { OnOk result (maps.new.facts.entries ≡ with_fact fact maps.old.facts.entries) }
-    ensures kept { OnOk result (IsKept maps.new) }
-    ensures undoes { (before : maps_type.Maps) → AreUndone logs.old maps.old before → AreUndone logs.new maps.new before }
+    requires kept { IsKept (rows_of maps.old) }
+    ensures entries { OnOk result (maps.new.facts.held.entries ≡ with_fact fact maps.old.facts.held.entries) }
+    ensures kept { OnOk result (IsKept (rows_of maps.new)) }
+    ensures was { rows_before maps.new ≡ rows_before maps.old }
 {
-    take_out(alloc, maps, logs, fact.name, steps)?;
-    put_fact(alloc, maps, logs, fact, steps)
+    take_out(alloc, maps, fact.name, steps)?;
+    put_fact(alloc, maps, fact, steps)
 }
 
 /// The id, where its row differs.
@@ -379,25 +346,24 @@ fn listed(alloc: Global, id: Name, differs: bool) -> Result<List<Name>, Memory>
     }
 }
 
-/// Puts a new change, and tells the id of its ticket where the row of that differs. After `Memory` a part may be done; the logs have it.
+/// Puts a new change, and tells the id of its ticket where the row of that differs. After `Memory` a part may be done.
 fn put_new<L: Ledger>(
     alloc: Global,
     configured: &[Text],
     maps: &mut Maps,
-    logs: &mut Logs,
     fact: Fact,
     steps: &mut Steps<L>,
 ) -> Result<List<Name>, Memory>
-    requires kept { IsKept maps.old }
-    requires absent { value_at bytes_cmp fact.name maps.old.facts.entries ≡ None }
-    ensures entries { OnOk result (maps.new.facts.entries ≡ with_fact fact maps.old.facts.entries) }
-    ensures kept { OnOk result (IsKept maps.new) }
-    ensures changed { IfOk result (ListsOthers configured.now maps.old.facts.entries fact) }
-    ensures undoes { (before : maps_type.Maps) → AreUndone logs.old maps.old before → AreUndone logs.new maps.new before }
+    requires kept { IsKept (rows_of maps.old) }
+    requires absent { value_at bytes_cmp fact.name maps.old.facts.held.entries ≡ None }
+    ensures entries { OnOk result (maps.new.facts.held.entries ≡ with_fact fact maps.old.facts.held.entries) }
+    ensures kept { OnOk result (IsKept (rows_of maps.new)) }
+    ensures changed { IfOk result (ListsOthers configured.now maps.old.facts.held.entries fact) }
+    ensures was { rows_before maps.new ≡ rows_before maps.old }
 {
     let id = fact.id;
     match is_row_other(alloc, configured, maps, &fact, steps) {
-        Ok(differs) => match put_fact(alloc, maps, logs, fact, steps) {
+        Ok(differs) => match put_fact(alloc, maps, fact, steps) {
             Ok(()) => listed(alloc, id, differs),
             Err(Memory) => Err(Memory),
         },
@@ -406,20 +372,19 @@ fn put_new<L: Ledger>(
 }
 
 /// Puts a change in the place of that of its name, where there is one, and tells the ids whose rows differ. It folds their tickets
-/// before and after. After `Memory` a part may be done; the logs have it.
+/// before and after. After `Memory` a part may be done.
 fn put_again<L: Ledger>(
     alloc: Global,
     configured: &[Text],
     maps: &mut Maps,
-    logs: &mut Logs,
     fact: Fact,
     steps: &mut Steps<L>,
 ) -> Result<List<Name>, Memory>
-    requires kept { IsKept maps.old }
-    ensures entries { OnOk result (maps.new.facts.entries ≡ with_fact fact maps.old.facts.entries) }
-    ensures kept { OnOk result (IsKept maps.new) }
-    ensures changed { IfOk result (ListsOthers configured.now maps.old.facts.entries fact) }
-    ensures undoes { (before : maps_type.Maps) → AreUndone logs.old maps.old before → AreUndone logs.new maps.new before }
+    requires kept { IsKept (rows_of maps.old) }
+    ensures entries { OnOk result (maps.new.facts.held.entries ≡ with_fact fact maps.old.facts.held.entries) }
+    ensures kept { OnOk result (IsKept (rows_of maps.new)) }
+    ensures changed { IfOk result (ListsOthers configured.now maps.old.facts.held.entries fact) }
+    ensures was { rows_before maps.new ≡ rows_before maps.old }
 {
     let Ok(before) = rows_touched(
         alloc,
@@ -432,7 +397,7 @@ fn put_again<L: Ledger>(
     ) else {
         return Err(Memory);
     };
-    match replace_fact(alloc, maps, logs, fact, steps) {
+    match replace_fact(alloc, maps, fact, steps) {
         Ok(()) => {
             let changed = others(
                 alloc,
@@ -450,24 +415,23 @@ fn put_again<L: Ledger>(
 }
 
 /// Puts a change, in the place of that of its name where there is one, and tells the ids whose rows differ. After `Memory` a part
-/// may be done; the logs have it.
+/// may be done.
 pub(crate) fn put_either<L: Ledger>(
     alloc: Global,
     configured: &[Text],
     maps: &mut Maps,
-    logs: &mut Logs,
     fact: Fact,
     steps: &mut Steps<L>,
 ) -> Result<List<Name>, Memory>
-    requires kept { IsKept maps.old }
-    ensures entries { OnOk result (maps.new.facts.entries ≡ with_fact fact maps.old.facts.entries) }
-    ensures kept { OnOk result (IsKept maps.new) }
-    ensures changed { IfOk result (ListsOthers configured.now maps.old.facts.entries fact) }
-    ensures undoes { (before : maps_type.Maps) → AreUndone logs.old maps.old before → AreUndone logs.new maps.new before }
+    requires kept { IsKept (rows_of maps.old) }
+    ensures entries { OnOk result (maps.new.facts.held.entries ≡ with_fact fact maps.old.facts.held.entries) }
+    ensures kept { OnOk result (IsKept (rows_of maps.new)) }
+    ensures changed { IfOk result (ListsOthers configured.now maps.old.facts.held.entries fact) }
+    ensures was { rows_before maps.new ≡ rows_before maps.old }
 {
     if maps.facts.get(&fact.name, steps).is_none() {
-        put_new(alloc, configured, maps, logs, fact, steps)
+        put_new(alloc, configured, maps, fact, steps)
     } else {
-        put_again(alloc, configured, maps, logs, fact, steps)
+        put_again(alloc, configured, maps, fact, steps)
     }
 }

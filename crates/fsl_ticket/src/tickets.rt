@@ -6,7 +6,7 @@ ghost use Rattle.fsl_ticket.specs.Seen.{IsAsBefore};
 ghost use Rattle.fsl_ticket.specs.Tickets.{tickets_row};
 ghost use Rattle.fsl_ticket.specs.Tickets as table;
 
-use super::maps::{Logs, Maps, undo_all};
+use super::maps::{Maps, Ways};
 use super::rows::{put_all, put_either};
 use super::walk::fields_of;
 use super::{Fact, cards};
@@ -27,35 +27,32 @@ pub struct Tickets {
 
 impl Model for Tickets {
     ghost use Rattle.fsl_ticket.specs.Seen.{Seen};
-    ghost use Rattle.fsl_ticket.specs.Kept.{IsKept, seen_of};
+    ghost use Rattle.fsl_ticket.specs.Kept.{IsKept, rows_of, seen_of};
 
     ghost Value = { Seen };
 
-    ghost view = { λ t. seen_of t.configured t.maps };
+    ghost view = { λ t. seen_of t.configured (rows_of t.maps) };
 
-    ghost invariant = { λ t. IsKept t.maps };
+    ghost invariant = { λ t. IsKept (rows_of t.maps) };
 }
 
 /// What takes a change back, and the ids whose rows it changed. Contracts see it as both, with the table before and after.
 #[derive(Drop)]
 pub struct Undo {
-    logs: Logs,
+    ways: Ways,
     changed: List<Name>,
-    before: Snapshot<Tickets>,
-    after: Snapshot<Tickets>,
+    configured: Snapshot<List<Text>>,
 }
 
 impl Model for Undo {
-    ghost use Rattle.std.specs.Prelude.{ℕ, List};
-    ghost use Rattle.fsl_ticket.specs.Seen.{Change, IsAsBefore};
-    ghost use Rattle.fsl_ticket.specs.Kept.{IsKept, seen_of, TakesBack};
-    ghost use Rattle.fsl_ticket.specs.declared.maps.Maps as maps_type;
+    ghost use Rattle.fsl_ticket.specs.Seen.{Change};
+    ghost use Rattle.fsl_ticket.specs.Kept.{IsKept, ends_of, seen_of, starts_of};
 
     ghost Value = { Change };
 
-    ghost view = { λ u. record { before = u.before.value; after = u.after.value; changed = u.changed } };
+    ghost view = { λ u. record { before = seen_of u.configured.value (starts_of u.ways); after = seen_of u.configured.value (ends_of u.ways); changed = u.changed } };
 
-    ghost invariant = { λ u. (fields : List (List ℕ)) (now : maps_type.Maps) → IsKept now → IsAsBefore u.after.value (seen_of fields now) → TakesBack u.logs u.before.value fields now };
+    ghost invariant = { λ u. IsKept (starts_of u.ways) × IsKept (ends_of u.ways) };
 }
 
 impl Undo {
@@ -123,7 +120,10 @@ impl Tickets {
         let mut maps = Maps::new(alloc);
         match put_all(alloc, &mut maps, facts, steps) {
             Ok(()) => Ok(Tickets { configured, maps }),
-            Err(Memory) => Err(Memory),
+            Err(Memory) => {
+                drop(maps);
+                Err(Memory)
+            }
         }
     }
 
@@ -182,27 +182,15 @@ impl Tickets {
         ensures changed { IfOk result (λ undo. ListsChanged (tickets_row self.old.fields self.old.facts) (tickets_row self.new.fields self.new.facts) undo.changed) }
         ensures err { OnErr result (IsAsBefore self.old self.new) }
     {
-        let before = Snapshot::of(&*self);
-        let mut logs = Logs::new(alloc);
-        match put_either(
-            alloc,
-            self.configured.items(),
-            &mut self.maps,
-            &mut logs,
-            fact,
-            steps,
-        ) {
-            Ok(changed) => {
-                let after = Snapshot::of(&*self);
-                Ok(Undo {
-                    logs,
-                    changed,
-                    before,
-                    after,
-                })
-            }
+        self.maps.begin();
+        match put_either(alloc, self.configured.items(), &mut self.maps, fact, steps) {
+            Ok(changed) => Ok(Undo {
+                ways: self.maps.ways(alloc),
+                changed,
+                configured: Snapshot::of(&self.configured),
+            }),
             Err(Memory) => {
-                undo_all(&mut self.maps, logs, steps);
+                self.maps.turn_back(steps);
                 Err(Memory)
             }
         }
@@ -224,8 +212,8 @@ impl Tickets {
         ensures { IsAsBefore undo.before self.new }
     {
         let mut steps: Steps<L> = Steps::new(blank);
-        let Undo { logs, .. } = undo;
-        undo_all(&mut self.maps, logs, &mut steps);
+        let Undo { ways, .. } = undo;
+        self.maps.undo(ways, &mut steps);
     }
 
     /// The values of the configured fields of a ticket, in their order: each begins empty, and takes the J cards of its field in the

@@ -1,11 +1,9 @@
 //! What the J cards of a ticket make of its fields.
-ghost use Rattle.std.specs.Prelude.{◌≡◌, ◌&&◌, not, [], ℕ, List, None, IfOk, OnOk, cond, fold, filter, map};
-ghost use Rattle.std.specs.Str.{bytes_eq};
-ghost use Rattle.std.specs.Map.{lookup};
+ghost use Rattle.std.specs.Prelude.{◌≡◌, ◌&&◌, not, [], ℕ, List, None, IfOk, OnOk, cond, map};
 ghost use Rattle.std.specs.BTreeMap.{is_at};
 ghost use Rattle.fsl_order.specs.Names.{bytes_cmp};
 ghost use Rattle.fsl_ticket.specs.Tickets.{after};
-ghost use Rattle.fsl_ticket.specs.Seen.{value_in};
+ghost use Rattle.fsl_ticket.specs.Seen.{look, taken, value_in};
 ghost use Rattle.fsl_ticket.specs.Kept.{is_set, replaces};
 ghost use Rattle.fsl_ticket.specs.Walked.{made};
 
@@ -41,7 +39,7 @@ fn take_out(
 ) -> Result<(Text, Text), Memory>
     ensures field { IfOk result (λ p. p.0 ≡ field.now) }
     ensures value { IfOk result (λ p. p.1 ≡ value_in values.old.entries field.now) }
-    ensures others { OnOk result ((q : List ℕ) → lookup (is_at (bytes_cmp q)) values.new.entries ≡ cond (is_at (bytes_cmp field.now) q) None (lookup (is_at (bytes_cmp q)) values.old.entries)) }
+    ensures others { OnOk result ((q : List ℕ) → look q values.new.entries ≡ cond (is_at (bytes_cmp field.now) q) None (look q values.old.entries)) }
 {
     match values.remove_entry(field) {
         Some(entry) => Ok(entry),
@@ -55,7 +53,7 @@ fn take_card(
     values: &mut BTreeMap<Text, Text>,
     card: &FieldChange,
 ) -> Result<(), Memory>
-    ensures { OnOk result ((q : List ℕ) → value_in values.new.entries q ≡ cond (bytes_eq card.now.field q) (after (value_in values.old.entries q) card.now) (value_in values.old.entries q)) }
+    ensures { OnOk result ((q : List ℕ) → value_in values.new.entries q ≡ taken card.now q (value_in values.old.entries q)) }
 {
     let (field, mut value) = take_out(alloc, values, &card.field)?;
     take(alloc, &mut value, card)?;
@@ -71,7 +69,7 @@ pub fn take_all(
     values: &mut BTreeMap<Text, Text>,
     cards: &[FieldChange],
 ) -> Result<(), Memory>
-    ensures { OnOk result ((q : List ℕ) → value_in values.new.entries q ≡ fold after (value_in values.old.entries q) (filter (λ card. bytes_eq card.field q) cards.now)) }
+    ensures { OnOk result ((q : List ℕ) → value_in values.new.entries q ≡ made cards.now q (value_in values.old.entries q)) }
 {
     for card in cards {
         take_card(alloc, values, card)?;

@@ -20,7 +20,7 @@ use Rattle.fsl_timeline.specs.declared.RowKind.{RowKind}
 use Rattle.fsl_timeline.specs.declared.RowKind.TheVariants.{Checkin, Wiki, Ticket, Note, Forum, Tag}
 use Rattle.fsl_timeline.specs.declared.entry.Entry.{Entry}
 use Rattle.fsl_timeline.specs.Timeline.{timeline_row}
-use Rattle.fsl_timeline.specs.Kept.{Lines, row_of, rows_of, row_at, kind_number, is_same, stands}
+use Rattle.fsl_timeline.specs.Kept.{Lines, entry_of, row_of, rows_of, row_at, kind_number, is_same, stands}
 
 pub row_is : (es : Lines) (q : List ℕ) → timeline_row (rows_of es) q ≡ row_at es q
 row_is es q = named-facts row_of (λ r. r.name) (λ e. refl) es q
@@ -50,9 +50,6 @@ same_kind a b h = sym (kind_back a) ∙ ap kind_of (eqb-true (kind_number a) (ki
 eqb-itself : (n : ℕ) → (n == n) ≡ true
 eqb-itself n = nat_eq_equiv.refl n
 
-abbrev pub entry : Row → Entry
-entry row = record { time = row.time; kind = row.kind; user = row.user; text = row.text }
-
 same_row : (e : Entry) (row : Row) → is_same e row ≡ true → row_of (row.name, e) ≡ row
 same_row e row h =
     let head = first_holds ((e.time == row.time) && (kind_number e.kind == kind_number row.kind)) (bytes_eq e.user row.user && bytes_eq e.text row.text) h in
@@ -63,7 +60,7 @@ same_row e row h =
     let text : e.text ≡ row.text = (bytes_decides e.text row.text).0 (second_holds (bytes_eq e.user row.user) (bytes_eq e.text row.text) tail) in
     λ i. record { time = time i; name = row.name; kind = kind i; user = user i; text = text i }
 
-same_itself : (row : Row) → is_same (entry row) row ≡ true
+same_itself : (row : Row) → is_same (entry_of row) row ≡ true
 same_itself row = λ i. (eqb-itself row.time i && eqb-itself (kind_number row.kind) i) && (nat_list_eq_equiv.refl row.user i && nat_list_eq_equiv.refl row.text i)
 
 some_of : Option Row → Row → Row
@@ -79,7 +76,7 @@ unfolding some_of
 stands_false None row h e = cc
 stands_false (Some x) row h e =
     let same : row_of (row.name, x) ≡ row = ap (λ o. some_of o row) e in
-    true≢false (sym (ap (λ r. is_same (entry r) row) same ∙ same_itself row) ∙ h)
+    true≢false (sym (ap (λ r. is_same (entry_of r) row) same ∙ same_itself row) ∙ h)
 
 -- ---- the one name
 
@@ -139,6 +136,6 @@ there_none (Some x) name h e = cc
 
 -- whether the row that is put differs from the one that stands
 pub own_other : (es : Lines) (row : Row) (s : Bool) → s ≡ stands (value_at bytes_cmp row.name es) row
-    → MatchBool (not s) (row_at es row.name ≢ row_at (with_entry bytes_cmp row.name (entry row) es) row.name) (row_at es row.name ≡ row_at (with_entry bytes_cmp row.name (entry row) es) row.name)
-own_other es row true s = stands_true (value_at bytes_cmp row.name es) row (sym s) ∙ sym (own_with es row.name (entry row))
-own_other es row false s = λ e. stands_false (value_at bytes_cmp row.name es) row (sym s) (e ∙ own_with es row.name (entry row))
+    → MatchBool (not s) (row_at es row.name ≢ row_at (with_entry bytes_cmp row.name (entry_of row) es) row.name) (row_at es row.name ≡ row_at (with_entry bytes_cmp row.name (entry_of row) es) row.name)
+own_other es row true s = stands_true (value_at bytes_cmp row.name es) row (sym s) ∙ sym (own_with es row.name (entry_of row))
+own_other es row false s = λ e. stands_false (value_at bytes_cmp row.name es) row (sym s) (e ∙ own_with es row.name (entry_of row))

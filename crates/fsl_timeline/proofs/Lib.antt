@@ -1,3 +1,4 @@
+pub mod Crossing
 pub mod Canonical
 pub mod Changing
 pub mod Placing

@@ -1,19 +1,22 @@
 -- How the tables hold the rows: each by its name, and a place for the time and name of each.
-use Rattle.std.specs.Prelude.{◌≡◌, ℕ, List, [], ◌∷◌, Bool, false, ◌&&◌, ◌==◌, Option, Some, None, map, is_some}
+use Rattle.std.specs.Prelude.{◌≡◌, ◌+◌, ℕ, List, [], ◌∷◌, Bool, false, not, ◌&&◌, ◌==◌, Option, Some, None, map, is_some}
 use Rattle.std.specs.Option.{option_map}
 use Rattle.std.specs.Str.{bytes_eq}
 use Rattle.std.specs.Ordering.{is_eq, nat_cmp}
 use Rattle.std.specs.List.Sorted.{IsStrictlySortedBy}
 use Rattle.std.specs.Map.{keys_of}
 use Rattle.fsl_order.specs.Names.{bytes_cmp, latest_first}
-use Rattle.fsl_order.specs.TableState.{TableState, IsAsBefore}
-use Rattle.fsl_table.specs.Contents.{Contents, value_at}
-use Rattle.fsl_table.specs.declared.step.Step.{Step}
-use Rattle.fsl_table.specs.Undo.{undone, CanUndo}
+use Rattle.fsl_order.specs.Rows.{ListsChanged}
+use Rattle.fsl_order.specs.TableState.{TableState}
+use Rattle.fsl_table.specs.Contents.{Contents, value_at, with_entry}
+use Rattle.fsl_table.specs.Undo.{IsAsGood}
 use Rattle.fsl_timeline.specs.declared.Row.{Row}
 use Rattle.fsl_timeline.specs.declared.RowKind.{RowKind}
 use Rattle.fsl_timeline.specs.declared.RowKind.TheVariants.{Checkin, Wiki, Ticket, Note, Forum, Tag}
 use Rattle.fsl_timeline.specs.declared.entry.Entry.{Entry}
+use Rattle.fsl_timeline.specs.declared.maps.Maps.{Maps}
+use Rattle.fsl_timeline.specs.declared.maps.Ways.{Ways}
+use Rattle.fsl_timeline.specs.Timeline.{timeline_row}
 
 abbrev pub Lines : Type 0
 Lines = List (List ℕ × Entry)
@@ -27,6 +30,13 @@ row_of e = record { time = e.1.time; name = e.0; kind = e.1.kind; user = e.1.use
 abbrev pub rows_of : Lines → List Row
 rows_of es = map row_of es
 
+-- what is kept of a row, and the rows with it
+abbrev pub entry_of : Row → Entry
+entry_of row = record { time = row.time; kind = row.kind; user = row.user; text = row.text }
+
+abbrev pub with_row : Row → Lines → Lines
+with_row row es = with_entry bytes_cmp row.name (entry_of row) es
+
 pub record Rows : Type 0 where
   pub rows : Contents (List ℕ) Entry
   pub places : Contents (ℕ × List ℕ) (Unit {0})
@@ -38,6 +48,14 @@ held_of r = record { facts = rows_of r.rows.entries; spare = r.rows.spare ∷ r.
 abbrev pub is_time : Option Entry → ℕ → Bool
 is_time None t = false
 is_time (Some e) t = is_eq (nat_cmp e.time t)
+
+-- the places without that of a name
+abbrev pub AreWithout : Contents (List ℕ) Entry → List ℕ → Contents (ℕ × List ℕ) (Unit {0}) → Contents (ℕ × List ℕ) (Unit {0}) → Type 0
+AreWithout rows name old new = (k : ℕ × List ℕ) → is_some (value_at latest_first k new.entries) ≡ (not (bytes_eq k.1 name && is_time (value_at bytes_cmp name rows.entries) k.0) && is_some (value_at latest_first k old.entries))
+
+-- the names whose rows differ
+abbrev pub AreChanged : Lines → Lines → List (List ℕ) → Type 0
+AreChanged es fs names = ListsChanged (timeline_row (rows_of es)) (timeline_row (rows_of fs)) names
 
 -- the row of a name
 abbrev pub row_at : Lines → List ℕ → Option Row
@@ -76,13 +94,24 @@ pub record IsKept (r : Rows) : Type 0 where
   pub places_ordered : IsStrictlySortedBy latest_first (keys_of r.places.entries)
   pub places : (k : ℕ × List ℕ) → is_some (value_at latest_first k r.places.entries) ≡ is_time (value_at bytes_cmp k.1 r.rows.entries) k.0
 
--- what both logs leave
-abbrev pub undone_rows : List (Step (List ℕ) Entry) → List (Step (ℕ × List ℕ) (Unit {0})) → Rows → Rows
-undone_rows rows places r = record { rows = undone bytes_cmp rows r.rows; places = undone latest_first places r.places }
+-- the maps as they are, as they were where the change began, and the steps from there
+abbrev pub rows_in : Maps → Rows
+rows_in m = record { rows = m.rows.held; places = m.places.held }
 
--- both logs find their memory, and lead back
-pub record TakesBack (rows : List (Step (List ℕ) Entry)) (places : List (Step (ℕ × List ℕ) (Unit {0}))) (before : TableState Row) (now : Rows) : Type 0 where
-  pub rows_can : CanUndo bytes_cmp rows now.rows
-  pub places_can : CanUndo latest_first places now.places
-  pub kept : IsKept (undone_rows rows places now)
-  pub back : IsAsBefore before (held_of (undone_rows rows places now))
+abbrev pub rows_before : Maps → Rows
+rows_before m = record { rows = m.rows.was; places = m.places.was }
+
+abbrev pub steps_back : Maps → ℕ
+steps_back m = m.rows.back + m.places.back
+
+-- where ways back end, and where they begin
+abbrev pub starts_of : Ways → Rows
+starts_of w = record { rows = w.rows.was; places = w.places.was }
+
+abbrev pub ends_of : Ways → Rows
+ends_of w = record { rows = w.rows.held; places = w.places.held }
+
+-- each map is as good
+pub record AreAsGood (before now : Rows) : Type 0 where
+  pub rows : IsAsGood before.rows now.rows
+  pub places : IsAsGood before.places now.places

@@ -7,6 +7,7 @@
 ghost use Rattle.std.specs.Prelude.{◌≡◌, IfOk};
 
 mod entry;
+mod maps;
 mod place;
 mod rows;
 mod timeline;

@@ -1,44 +1,37 @@
-//! The rows of the timeline: a row put into the two tables and taken out, and the latest ones.
-ghost use Rattle.std.specs.Prelude.{ℕ, List, Bool, ◌≡◌, ◌+◌, ◌-◌, ◌<◌, ◌≤◌, ◌++◌, [], ◌∷◌, length, take, OnOk, IfOk, None, true, false, map, not, is_some, ◌&&◌, if◌then◌else◌};
-ghost use Rattle.std.specs.Ordering.{is_eq, nat_cmp};
+//! The rows of the timeline: a row put into the two maps and taken out, and the latest ones.
+ghost use Rattle.std.specs.Prelude.{List, ◌≡◌, ◌+◌, ◌-◌, ◌<◌, ◌≤◌, ◌++◌, [], ◌∷◌, take, OnOk, IfOk, None, true, false, map, is_some, ◌&&◌, if◌then◌else◌};
 ghost use Rattle.std.specs.Str.{bytes_eq};
 ghost use Rattle.std.specs.List.Sorted.{IsStrictlySortedBy};
 ghost use Rattle.std.specs.Map.{keys_of};
 ghost use Rattle.fsl_order.specs.Names.{bytes_cmp, latest_first};
-ghost use Rattle.fsl_order.specs.Rows.{by_name, AreDistinct, ListsChanged};
-ghost use Rattle.fsl_table.specs.Contents.{Contents, with_entry, without_key, value_at};
-ghost use Rattle.fsl_table.specs.Undo.{Undoes};
-ghost use Rattle.fsl_timeline.specs.declared.entry.Entry as entry_of;
+ghost use Rattle.fsl_order.specs.Rows.{by_name, AreDistinct};
+ghost use Rattle.fsl_table.specs.Contents.{without_key, value_at};
 ghost use Rattle.fsl_timeline.specs.declared.Row as row_type;
-ghost use Rattle.fsl_timeline.specs.Kept.{rows_of, row_at, rows_at, put_before, is_time, is_same, stands, kind_number, IsKept};
-ghost use Rattle.fsl_timeline.specs.Timeline.{timeline_row};
+ghost use Rattle.fsl_timeline.specs.Kept.{AreChanged, AreWithout, IsKept, is_same, kind_number, put_before, row_at, rows_at, rows_before, rows_in, rows_of, stands, steps_back, with_row};
 
 use crate::entry::Entry;
+use crate::maps::Maps;
 use crate::place::Place;
 use crate::{Row, RowKind};
 use fsl_name::Name;
-use fsl_table::{Log, Table, log};
+use fsl_table::{Table, Tracked};
 use fsl_text::{List, Memory, Steps, Text};
 use std::alloc::Global;
 use std::sync::ledger::Ledger;
 
-/// Puts a new row, and logs what takes it out again. Nothing is copied. After `Memory` a part may be done; the logs have it.
+/// Puts a new row. Nothing is copied. After `Memory` a part may be done.
 pub(crate) fn put_row<L: Ledger>(
-    rows: &mut Table<Name, Entry>,
-    places: &mut Table<Place, ()>,
-    rows_log: &mut Log<Name, Entry>,
-    places_log: &mut Log<Place, ()>,
+    maps: &mut Maps,
     row: Row,
     steps: &mut Steps<L>,
 ) -> Result<(), Memory>
-    requires kept { IsKept (record { rows = rows.old; places = places.old }) }
-    requires absent { value_at bytes_cmp row.name rows.old.entries ≡ None }
-    ensures entries { OnOk result (rows.new.entries ≡ with_entry bytes_cmp row.name (record { time = row.time; kind = row.kind; user = row.user; text = row.text }) rows.old.entries) }
-    ensures kept { OnOk result (IsKept (record { rows = rows.new; places = places.new })) }
-    ensures undoes_rows { (before : Contents (List ℕ) entry_of.Entry) → Undoes bytes_cmp rows_log.old rows.old before → Undoes bytes_cmp rows_log.new rows.new before }
-    ensures undoes_places { (before : Contents (ℕ × List ℕ) Unit) → Undoes latest_first places_log.old places.old before → Undoes latest_first places_log.new places.new before }
+    requires kept { IsKept (rows_in maps.old) }
+    requires absent { value_at bytes_cmp row.name maps.old.rows.held.entries ≡ None }
+    ensures entries { OnOk result (maps.new.rows.held.entries ≡ with_row row maps.old.rows.held.entries) }
+    ensures kept { OnOk result (IsKept (rows_in maps.new)) }
+    ensures was { rows_before maps.new ≡ rows_before maps.old }
     ensures cost { steps.new ≤ steps.old + 2 }
-    ensures logged { length rows_log.new + length places_log.new ≤ length rows_log.old + length places_log.old + 2 }
+    ensures back { steps_back maps.new ≤ steps_back maps.old + 2 }
 {
     let Row {
         time,
@@ -49,56 +42,32 @@ pub(crate) fn put_row<L: Ledger>(
     } = row;
     let place = Place::new(time, name);
     let again = Place::new(time, name);
-    log::put(places, places_log, place, again, (), steps)?;
+    maps.places.put(place, again, (), steps)?;
     let entry = Entry {
         time,
         kind,
         user,
         text,
     };
-    log::put(rows, rows_log, name, name, entry, steps)
+    maps.rows.put(name, name, entry, steps)
 }
 
-/// Puts a new row. After `Memory` a part may be done.
-fn put_first<L: Ledger>(
-    alloc: Global,
-    rows: &mut Table<Name, Entry>,
-    places: &mut Table<Place, ()>,
-    row: Row,
-    steps: &mut Steps<L>,
-) -> Result<(), Memory>
-    requires kept { IsKept (record { rows = rows.old; places = places.old }) }
-    requires absent { value_at bytes_cmp row.name rows.old.entries ≡ None }
-    ensures entries { OnOk result (rows.new.entries ≡ with_entry bytes_cmp row.name (record { time = row.time; kind = row.kind; user = row.user; text = row.text }) rows.old.entries) }
-    ensures kept { OnOk result (IsKept (record { rows = rows.new; places = places.new })) }
-{
-    put_row(
-        rows,
-        places,
-        &mut Log::new(alloc),
-        &mut Log::new(alloc),
-        row,
-        steps,
-    )
-}
-
-/// Puts new rows, of which no two have one name, into tables without any. After `Memory` a part may be done.
+/// Puts new rows, of which no two have one name, into maps without any. After `Memory` a part may be done.
 pub(crate) fn put_all<L: Ledger>(
-    alloc: Global,
-    rows: &mut Table<Name, Entry>,
-    places: &mut Table<Place, ()>,
+    maps: &mut Maps,
     all: List<Row>,
     steps: &mut Steps<L>,
 ) -> Result<(), Memory>
-    requires no_rows { rows.old.entries ≡ [] }
-    requires no_places { places.old.entries ≡ [] }
+    requires no_rows { maps.old.rows.held.entries ≡ [] }
+    requires no_places { maps.old.places.held.entries ≡ [] }
     requires distinct { AreDistinct (map (λ r. r.name) all) }
-    ensures rows { OnOk result (rows_of rows.new.entries ≡ by_name (λ r. r.name) all) }
-    ensures kept { OnOk result (IsKept (record { rows = rows.new; places = places.new })) }
+    ensures rows { OnOk result (rows_of maps.new.rows.held.entries ≡ by_name (λ r. r.name) all) }
+    ensures kept { OnOk result (IsKept (rows_in maps.new)) }
 {
     let mut left = all.into_vec();
     while let Some(row) = left.pop() {
-        let Ok(()) = put_first(alloc, rows, places, row, steps) else {
+        maps.begin();
+        let Ok(()) = put_row(maps, row, steps) else {
             return Err(Memory);
         };
     }
@@ -107,40 +76,31 @@ pub(crate) fn put_all<L: Ledger>(
 
 /// Takes the place of a row out, where the row is there.
 fn unplace<L: Ledger>(
-    rows: &Table<Name, Entry>,
-    places: &mut Table<Place, ()>,
-    log: &mut Log<Place, ()>,
+    rows: &Tracked<Name, Entry>,
+    places: &mut Tracked<Place, ()>,
     name: Name,
     steps: &mut Steps<L>,
 ) -> Result<(), Memory>
-    requires ordered { IsStrictlySortedBy latest_first (keys_of places.old.entries) }
-    ensures ordered { OnOk result (IsStrictlySortedBy latest_first (keys_of places.new.entries)) }
-    ensures places { OnOk result ((k : ℕ × List ℕ) → is_some (value_at latest_first k places.new.entries) ≡ (not (bytes_eq k.1 name && is_time (value_at bytes_cmp name rows.now.entries) k.0) && is_some (value_at latest_first k places.old.entries))) }
-    ensures undoes { (before : Contents (ℕ × List ℕ) Unit) → Undoes latest_first log.old places.old before → Undoes latest_first log.new places.new before }
+    requires ordered { IsStrictlySortedBy latest_first (keys_of places.old.held.entries) }
+    ensures ordered { OnOk result (IsStrictlySortedBy latest_first (keys_of places.new.held.entries)) }
+    ensures places { OnOk result (AreWithout rows.now.held name places.old.held places.new.held) }
+    ensures was { places.new.was ≡ places.old.was }
 {
     match rows.get(&name, steps) {
         None => Ok(()),
-        Some(entry) => log::remove(places, log, Place::new(entry.time, name), steps),
+        Some(entry) => places.remove(Place::new(entry.time, name), steps),
     }
 }
 
-/// Takes a row out, and logs what puts it back. After `Memory` a part may be done; the logs have it.
-fn take_out<L: Ledger>(
-    rows: &mut Table<Name, Entry>,
-    places: &mut Table<Place, ()>,
-    rows_log: &mut Log<Name, Entry>,
-    places_log: &mut Log<Place, ()>,
-    name: Name,
-    steps: &mut Steps<L>,
-) -> Result<(), Memory>
-    requires kept { IsKept (record { rows = rows.old; places = places.old }) }
-    ensures entries { OnOk result (rows.new.entries ≡ without_key bytes_cmp name rows.old.entries) }
-    ensures kept { OnOk result (IsKept (record { rows = rows.new; places = places.new })) }
-    ensures undoes_rows { (before : Contents (List ℕ) entry_of.Entry) → Undoes bytes_cmp rows_log.old rows.old before → Undoes bytes_cmp rows_log.new rows.new before }
-    ensures undoes_places { (before : Contents (ℕ × List ℕ) Unit) → Undoes latest_first places_log.old places.old before → Undoes latest_first places_log.new places.new before }
+/// Takes a row out. After `Memory` a part may be done.
+fn take_out<L: Ledger>(maps: &mut Maps, name: Name, steps: &mut Steps<L>) -> Result<(), Memory>
+    requires kept { IsKept (rows_in maps.old) }
+    ensures entries { OnOk result (maps.new.rows.held.entries ≡ without_key bytes_cmp name maps.old.rows.held.entries) }
+    ensures kept { OnOk result (IsKept (rows_in maps.new)) }
+    ensures was { rows_before maps.new ≡ rows_before maps.old }
 {
-    unplace(rows, places, places_log, name, steps)?;
-    log::remove(rows, rows_log, name, steps)
+    unplace(&maps.rows, &mut maps.places, name, steps)?;
+    maps.rows.remove(name, steps)
 }
 
 /// A number for each kind.
@@ -174,8 +134,8 @@ fn is_same(entry: &Entry, row: &Row) -> bool
 }
 
 /// Whether a row is the one that is there.
-fn stands<L: Ledger>(rows: &Table<Name, Entry>, row: &Row, steps: &mut Steps<L>) -> bool
-    ensures { result ≡ stands (value_at bytes_cmp row.now.name rows.now.entries) row.now }
+fn stands<L: Ledger>(rows: &Tracked<Name, Entry>, row: &Row, steps: &mut Steps<L>) -> bool
+    ensures { result ≡ stands (value_at bytes_cmp row.now.name rows.now.held.entries) row.now }
 {
     match rows.get(&row.name, steps) {
         None => false,
@@ -197,119 +157,95 @@ fn one(alloc: Global, name: Name, wanted: bool) -> Result<List<Name>, Memory>
 /// Puts a new row, and tells the names whose rows differ.
 fn put_new<L: Ledger>(
     alloc: Global,
-    rows: &mut Table<Name, Entry>,
-    places: &mut Table<Place, ()>,
-    rows_log: &mut Log<Name, Entry>,
-    places_log: &mut Log<Place, ()>,
+    maps: &mut Maps,
     row: Row,
     steps: &mut Steps<L>,
 ) -> Result<List<Name>, Memory>
-    requires kept { IsKept (record { rows = rows.old; places = places.old }) }
-    requires absent { value_at bytes_cmp row.name rows.old.entries ≡ None }
-    ensures entries { OnOk result (rows.new.entries ≡ with_entry bytes_cmp row.name (record { time = row.time; kind = row.kind; user = row.user; text = row.text }) rows.old.entries) }
-    ensures kept { OnOk result (IsKept (record { rows = rows.new; places = places.new })) }
-    ensures changed { IfOk result (ListsChanged (timeline_row (rows_of rows.old.entries)) (timeline_row (rows_of (with_entry bytes_cmp row.name (record { time = row.time; kind = row.kind; user = row.user; text = row.text }) rows.old.entries)))) }
-    ensures undoes_rows { (before : Contents (List ℕ) entry_of.Entry) → Undoes bytes_cmp rows_log.old rows.old before → Undoes bytes_cmp rows_log.new rows.new before }
-    ensures undoes_places { (before : Contents (ℕ × List ℕ) Unit) → Undoes latest_first places_log.old places.old before → Undoes latest_first places_log.new places.new before }
+    requires kept { IsKept (rows_in maps.old) }
+    requires absent { value_at bytes_cmp row.name maps.old.rows.held.entries ≡ None }
+    ensures entries { OnOk result (maps.new.rows.held.entries ≡ with_row row maps.old.rows.held.entries) }
+    ensures kept { OnOk result (IsKept (rows_in maps.new)) }
+    ensures changed { IfOk result (AreChanged maps.old.rows.held.entries (with_row row maps.old.rows.held.entries)) }
+    ensures was { rows_before maps.new ≡ rows_before maps.old }
     ensures cost { steps.new ≤ steps.old + 2 }
-    ensures logged { length rows_log.new + length places_log.new ≤ length rows_log.old + length places_log.old + 2 }
+    ensures back { steps_back maps.new ≤ steps_back maps.old + 2 }
 {
     let name = row.name;
-    put_row(rows, places, rows_log, places_log, row, steps)?;
+    put_row(maps, row, steps)?;
     one(alloc, name, true)
 }
 
-/// Puts a row in the place of that of its name. After `Memory` a part may be done; the logs have it.
-fn replace_row<L: Ledger>(
-    rows: &mut Table<Name, Entry>,
-    places: &mut Table<Place, ()>,
-    rows_log: &mut Log<Name, Entry>,
-    places_log: &mut Log<Place, ()>,
-    row: Row,
-    steps: &mut Steps<L>,
-) -> Result<(), Memory>
-    requires kept { IsKept (record { rows = rows.old; places = places.old }) }
-    ensures entries { OnOk result (rows.new.entries ≡ with_entry bytes_cmp row.name (record { time = row.time; kind = row.kind; user = row.user; text = row.text }) rows.old.entries) }
-    ensures kept { OnOk result (IsKept (record { rows = rows.new; places = places.new })) }
-    ensures undoes_rows { (before : Contents (List ℕ) entry_of.Entry) → Undoes bytes_cmp rows_log.old rows.old before → Undoes bytes_cmp rows_log.new rows.new before }
-    ensures undoes_places { (before : Contents (ℕ × List ℕ) Unit) → Undoes latest_first places_log.old places.old before → Undoes latest_first places_log.new places.new before }
+/// Puts a row in the place of that of its name. After `Memory` a part may be done.
+fn replace_row<L: Ledger>(maps: &mut Maps, row: Row, steps: &mut Steps<L>) -> Result<(), Memory>
+    requires kept { IsKept (rows_in maps.old) }
+    ensures entries { OnOk result (maps.new.rows.held.entries ≡ with_row row maps.old.rows.held.entries) }
+    ensures kept { OnOk result (IsKept (rows_in maps.new)) }
+    ensures was { rows_before maps.new ≡ rows_before maps.old }
 {
-    take_out(rows, places, rows_log, places_log, row.name, steps)?;
-    put_row(rows, places, rows_log, places_log, row, steps)
+    take_out(maps, row.name, steps)?;
+    put_row(maps, row, steps)
 }
 
 /// Puts a row in the place of that of its name, and tells the names whose rows differ.
 fn put_other<L: Ledger>(
     alloc: Global,
-    rows: &mut Table<Name, Entry>,
-    places: &mut Table<Place, ()>,
-    rows_log: &mut Log<Name, Entry>,
-    places_log: &mut Log<Place, ()>,
+    maps: &mut Maps,
     row: Row,
     steps: &mut Steps<L>,
 ) -> Result<List<Name>, Memory>
-    requires kept { IsKept (record { rows = rows.old; places = places.old }) }
-    ensures entries { OnOk result (rows.new.entries ≡ with_entry bytes_cmp row.name (record { time = row.time; kind = row.kind; user = row.user; text = row.text }) rows.old.entries) }
-    ensures kept { OnOk result (IsKept (record { rows = rows.new; places = places.new })) }
-    ensures changed { IfOk result (ListsChanged (timeline_row (rows_of rows.old.entries)) (timeline_row (rows_of (with_entry bytes_cmp row.name (record { time = row.time; kind = row.kind; user = row.user; text = row.text }) rows.old.entries)))) }
-    ensures undoes_rows { (before : Contents (List ℕ) entry_of.Entry) → Undoes bytes_cmp rows_log.old rows.old before → Undoes bytes_cmp rows_log.new rows.new before }
-    ensures undoes_places { (before : Contents (ℕ × List ℕ) Unit) → Undoes latest_first places_log.old places.old before → Undoes latest_first places_log.new places.new before }
+    requires kept { IsKept (rows_in maps.old) }
+    ensures entries { OnOk result (maps.new.rows.held.entries ≡ with_row row maps.old.rows.held.entries) }
+    ensures kept { OnOk result (IsKept (rows_in maps.new)) }
+    ensures changed { IfOk result (AreChanged maps.old.rows.held.entries (with_row row maps.old.rows.held.entries)) }
+    ensures was { rows_before maps.new ≡ rows_before maps.old }
 {
     let name = row.name;
-    let same = stands(rows, &row, steps);
-    replace_row(rows, places, rows_log, places_log, row, steps)?;
+    let same = stands(&maps.rows, &row, steps);
+    replace_row(maps, row, steps)?;
     one(alloc, name, !same)
 }
 
 /// Puts a row, a new one where `new` says so, or in the place of that of its name, and tells the names whose rows differ. After
-/// `Memory` a part may be done; the logs have it.
+/// `Memory` a part may be done.
 pub(crate) fn put_either<L: Ledger>(
     alloc: Global,
-    rows: &mut Table<Name, Entry>,
-    places: &mut Table<Place, ()>,
-    rows_log: &mut Log<Name, Entry>,
-    places_log: &mut Log<Place, ()>,
+    maps: &mut Maps,
     row: Row,
     new: bool,
     steps: &mut Steps<L>,
 ) -> Result<List<Name>, Memory>
-    requires kept { IsKept (record { rows = rows.old; places = places.old }) }
-    requires absent { new ≡ true → value_at bytes_cmp row.name rows.old.entries ≡ None }
-    ensures entries { OnOk result (rows.new.entries ≡ with_entry bytes_cmp row.name (record { time = row.time; kind = row.kind; user = row.user; text = row.text }) rows.old.entries) }
-    ensures kept { OnOk result (IsKept (record { rows = rows.new; places = places.new })) }
-    ensures changed { IfOk result (ListsChanged (timeline_row (rows_of rows.old.entries)) (timeline_row (rows_of (with_entry bytes_cmp row.name (record { time = row.time; kind = row.kind; user = row.user; text = row.text }) rows.old.entries)))) }
-    ensures undoes_rows { (before : Contents (List ℕ) entry_of.Entry) → Undoes bytes_cmp rows_log.old rows.old before → Undoes bytes_cmp rows_log.new rows.new before }
-    ensures undoes_places { (before : Contents (ℕ × List ℕ) Unit) → Undoes latest_first places_log.old places.old before → Undoes latest_first places_log.new places.new before }
+    requires kept { IsKept (rows_in maps.old) }
+    requires absent { new ≡ true → value_at bytes_cmp row.name maps.old.rows.held.entries ≡ None }
+    ensures entries { OnOk result (maps.new.rows.held.entries ≡ with_row row maps.old.rows.held.entries) }
+    ensures kept { OnOk result (IsKept (rows_in maps.new)) }
+    ensures changed { IfOk result (AreChanged maps.old.rows.held.entries (with_row row maps.old.rows.held.entries)) }
+    ensures was { rows_before maps.new ≡ rows_before maps.old }
     ensures cost { new ≡ true → steps.new ≤ steps.old + 2 }
-    ensures logged { new ≡ true → length rows_log.new + length places_log.new ≤ length rows_log.old + length places_log.old + 2 }
+    ensures back { new ≡ true → steps_back maps.new ≤ steps_back maps.old + 2 }
 {
     if new {
-        put_new(alloc, rows, places, rows_log, places_log, row, steps)
+        put_new(alloc, maps, row, steps)
     } else {
-        put_other(alloc, rows, places, rows_log, places_log, row, steps)
+        put_other(alloc, maps, row, steps)
     }
 }
 
-/// Takes a row out that is there, and tells the names whose rows differ. After `Memory` a part may be done; the logs have it.
+/// Takes a row out that is there, and tells the names whose rows differ. After `Memory` a part may be done.
 pub(crate) fn retire_row<L: Ledger>(
     alloc: Global,
-    rows: &mut Table<Name, Entry>,
-    places: &mut Table<Place, ()>,
-    rows_log: &mut Log<Name, Entry>,
-    places_log: &mut Log<Place, ()>,
+    maps: &mut Maps,
     name: Name,
     steps: &mut Steps<L>,
 ) -> Result<List<Name>, Memory>
-    requires kept { IsKept (record { rows = rows.old; places = places.old }) }
-    requires there { is_some (value_at bytes_cmp name rows.old.entries) ≡ true }
-    ensures entries { OnOk result (rows.new.entries ≡ without_key bytes_cmp name rows.old.entries) }
-    ensures kept { OnOk result (IsKept (record { rows = rows.new; places = places.new })) }
-    ensures changed { IfOk result (ListsChanged (timeline_row (rows_of rows.old.entries)) (timeline_row (rows_of (without_key bytes_cmp name rows.old.entries)))) }
-    ensures undoes_rows { (before : Contents (List ℕ) entry_of.Entry) → Undoes bytes_cmp rows_log.old rows.old before → Undoes bytes_cmp rows_log.new rows.new before }
-    ensures undoes_places { (before : Contents (ℕ × List ℕ) Unit) → Undoes latest_first places_log.old places.old before → Undoes latest_first places_log.new places.new before }
+    requires kept { IsKept (rows_in maps.old) }
+    requires there { is_some (value_at bytes_cmp name maps.old.rows.held.entries) ≡ true }
+    ensures entries { OnOk result (maps.new.rows.held.entries ≡ without_key bytes_cmp name maps.old.rows.held.entries) }
+    ensures kept { OnOk result (IsKept (rows_in maps.new)) }
+    ensures changed { IfOk result (AreChanged maps.old.rows.held.entries (without_key bytes_cmp name maps.old.rows.held.entries)) }
+    ensures was { rows_before maps.new ≡ rows_before maps.old }
 {
     let changed = one(alloc, name, true)?;
-    take_out(rows, places, rows_log, places_log, name, steps)?;
+    take_out(maps, name, steps)?;
     Ok(changed)
 }
 

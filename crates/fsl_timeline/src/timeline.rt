@@ -7,57 +7,49 @@ ghost use Rattle.fsl_timeline.specs.Timeline.{timeline_row, retired};
 ghost use Rattle.fsl_timeline.specs.Timeline as table;
 
 use super::Row;
-use super::entry::Entry;
-use super::place::Place;
+use super::maps::{Maps, Ways};
 use super::rows::{first_rows, put_all, put_either, retire_row};
 use fsl_name::Name;
-use fsl_table::{Log, Table, log};
 use fsl_text::{List, Memory, Steps};
 use std::alloc::Global;
 use std::marker::{Brand, Model};
-use std::snapshot::Snapshot;
 use std::sync::ledger::{Blank, Ledger};
 
 /// The rows of the timeline. Contracts see it as the rows by name, and the room that its maps have to spare.
 #[derive(Drop)]
 pub struct Timeline {
-    rows: Table<Name, Entry>,
-    /// The time and name of each row, in the order of the timeline.
-    places: Table<Place, ()>,
+    maps: Maps,
 }
 
 impl Model for Timeline {
     ghost use Rattle.fsl_order.specs.TableState.{TableState};
     ghost use Rattle.fsl_timeline.specs.declared.Row.{Row};
-    ghost use Rattle.fsl_timeline.specs.Kept.{held_of, IsKept};
+    ghost use Rattle.fsl_timeline.specs.Kept.{held_of, rows_in, IsKept};
 
     ghost Value = { TableState Row };
 
-    ghost view = { λ t. held_of (record { rows = t.rows; places = t.places }) };
+    ghost view = { λ t. held_of (rows_in t.maps) };
 
-    ghost invariant = { λ t. IsKept (record { rows = t.rows; places = t.places }) };
+    ghost invariant = { λ t. IsKept (rows_in t.maps) };
 }
 
 /// What takes a change back, and the names whose rows it changed. Contracts see it as both, with the table before and after.
 #[derive(Drop)]
 pub struct Undo {
-    rows: Log<Name, Entry>,
-    places: Log<Place, ()>,
+    ways: Ways,
     changed: List<Name>,
-    before: Snapshot<Timeline>,
-    after: Snapshot<Timeline>,
 }
 
 impl Model for Undo {
-    ghost use Rattle.fsl_order.specs.TableState.{Change, IsAsBefore};
+    ghost use Rattle.fsl_order.specs.TableState.{Change};
     ghost use Rattle.fsl_timeline.specs.declared.Row.{Row};
-    ghost use Rattle.fsl_timeline.specs.Kept.{Rows, IsKept, held_of, TakesBack};
+    ghost use Rattle.fsl_timeline.specs.Kept.{IsKept, ends_of, held_of, starts_of};
 
     ghost Value = { Change Row };
 
-    ghost view = { λ u. record { before = u.before.value; after = u.after.value; changed = u.changed } };
+    ghost view = { λ u. record { before = held_of (starts_of u.ways); after = held_of (ends_of u.ways); changed = u.changed } };
 
-    ghost invariant = { λ u. (now : Rows) → IsKept now → IsAsBefore u.after.value (held_of now) → TakesBack u.rows u.places u.before.value now };
+    ghost invariant = { λ u. IsKept (starts_of u.ways) × IsKept (ends_of u.ways) };
 }
 
 impl Undo {
@@ -86,8 +78,7 @@ impl Timeline {
         ensures { result.facts ≡ [] }
     {
         Timeline {
-            rows: Table::new(alloc),
-            places: Table::new(alloc),
+            maps: Maps::new(alloc),
         }
     }
 
@@ -132,13 +123,9 @@ impl Timeline {
         requires { AreDistinct (map (λ r. r.name) rows) }
         ensures facts { IfOk result (λ t. t.facts ≡ by_name (λ r. r.name) rows) }
     {
-        let mut entries = Table::new(alloc);
-        let mut places = Table::new(alloc);
-        match put_all(alloc, &mut entries, &mut places, rows, steps) {
-            Ok(()) => Ok(Timeline {
-                rows: entries,
-                places,
-            }),
+        let mut maps = Maps::new(alloc);
+        match put_all(&mut maps, rows, steps) {
+            Ok(()) => Ok(Timeline { maps }),
             Err(Memory) => Err(Memory),
         }
     }
@@ -196,32 +183,14 @@ impl Timeline {
         ensures err { OnErr result (IsAsBefore self.old self.new) }
         ensures cost { new ≡ true → steps.new ≤ steps.old + 4 }
     {
-        let before = Snapshot::of(&*self);
-        let mut rows = Log::new(alloc);
-        let mut places = Log::new(alloc);
-        match put_either(
-            alloc,
-            &mut self.rows,
-            &mut self.places,
-            &mut rows,
-            &mut places,
-            fact,
-            new,
-            steps,
-        ) {
-            Ok(changed) => {
-                let after = Snapshot::of(&*self);
-                Ok(Undo {
-                    rows,
-                    places,
-                    changed,
-                    before,
-                    after,
-                })
-            }
+        self.maps.begin();
+        match put_either(alloc, &mut self.maps, fact, new, steps) {
+            Ok(changed) => Ok(Undo {
+                ways: self.maps.ways(alloc),
+                changed,
+            }),
             Err(Memory) => {
-                log::undo(&mut self.rows, rows, steps);
-                log::undo(&mut self.places, places, steps);
+                self.maps.turn_back(steps);
                 Err(Memory)
             }
         }
@@ -241,31 +210,14 @@ impl Timeline {
         ensures changed { IfOk result (λ undo. ListsChanged (timeline_row self.old.facts) (timeline_row self.new.facts) undo.changed) }
         ensures err { OnErr result (IsAsBefore self.old self.new) }
     {
-        let before = Snapshot::of(&*self);
-        let mut rows = Log::new(alloc);
-        let mut places = Log::new(alloc);
-        match retire_row(
-            alloc,
-            &mut self.rows,
-            &mut self.places,
-            &mut rows,
-            &mut places,
-            name,
-            steps,
-        ) {
-            Ok(changed) => {
-                let after = Snapshot::of(&*self);
-                Ok(Undo {
-                    rows,
-                    places,
-                    changed,
-                    before,
-                    after,
-                })
-            }
+        self.maps.begin();
+        match retire_row(alloc, &mut self.maps, name, steps) {
+            Ok(changed) => Ok(Undo {
+                ways: self.maps.ways(alloc),
+                changed,
+            }),
             Err(Memory) => {
-                log::undo(&mut self.rows, rows, steps);
-                log::undo(&mut self.places, places, steps);
+                self.maps.turn_back(steps);
                 Err(Memory)
             }
         }
@@ -287,9 +239,8 @@ impl Timeline {
         ensures { IsAsBefore undo.before self.new }
     {
         let mut steps: Steps<L> = Steps::new(blank);
-        let Undo { rows, places, .. } = undo;
-        log::undo(&mut self.rows, rows, &mut steps);
-        log::undo(&mut self.places, places, &mut steps);
+        let Undo { ways, .. } = undo;
+        self.maps.undo(ways, &mut steps);
     }
 
     /// So many of the first rows, or all where there are fewer: the latest time first, equal times by rising name. They are copied.
@@ -312,6 +263,8 @@ impl Timeline {
         ensures { IfOk result (λ rows. rows ≡ table.latest self.now.facts count) }
     {
         let mut steps: Steps<L> = Steps::new(blank);
-        first_rows(alloc, &self.rows, &self.places, count, &mut steps)
+        let rows = self.maps.rows.map();
+        let places = self.maps.places.map();
+        first_rows(alloc, rows, places, count, &mut steps)
     }
 }

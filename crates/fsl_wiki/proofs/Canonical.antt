@@ -1,19 +1,17 @@
--- The facts determine the keys, so what a log leads back from one state, it leads back from each that is as good.
-use Rattle.std.proofs.Common.{◌≡◌, ℕ, List, [], ◌∷◌, false, Option, Some, None, is_some, refl, sym, ap, subst, ◌∙◌, arith}
+-- The facts determine the keys, so rows of the same facts are as good where they have no less to spare.
+use Rattle.std.proofs.Common.{◌≡◌, ℕ, List, [], false, Option, Some, None, is_some, refl, sym, ap, subst, ◌∙◌}
 use Rattle.std.specs.List.Sorted.{IsStrictlySortedBy}
 use Rattle.std.specs.Map.{keys_of}
 use Rattle.std.specs.Cmp.{IsTotalOrder, then_total, on_total}
 use Rattle.std.specs.Cmp.Lexicographic.{nat_list_cmp_total, options_total}
 use Rattle.std.proofs.lemmas.Map.Lookups.{exact_bytes}
 use Rattle.fsl_order.specs.Names.{bytes_cmp}
-use Rattle.fsl_order.specs.TableState.{TableState, IsAsBefore, AreAtMost}
+use Rattle.fsl_order.specs.TableState.{IsAsBefore}
 use Rattle.fsl_order.proofs.Orders.{bytes_cmp-IsTotalOrder}
 use Rattle.fsl_table.specs.Contents.{value_at}
 use Rattle.fsl_table.specs.Placed.{is_placed, key_of}
-use Rattle.fsl_table.specs.Undo.{IsAsGood, Undoes}
 use Rattle.fsl_table.proofs.Belonging.{within-IsTotalOrder}
 use Rattle.fsl_table.proofs.Facts.{same_facts}
-use Rattle.fsl_table.proofs.Leading.{leads_back}
 use Rattle.fsl_table.proofs.Placed.{same_placed}
 use Rattle.fsl_wiki.specs.declared.Attached.{Attached}
 use Rattle.fsl_wiki.specs.declared.Fact.{Fact}
@@ -24,7 +22,7 @@ use Rattle.fsl_wiki.specs.Exact.{exact_group}
 use Rattle.fsl_wiki.specs.Groups.{group_cmp}
 use Rattle.fsl_wiki.specs.Late.{late_cmp, late_cmp-IsTotalOrder, late_cmp-exact}
 use Rattle.fsl_wiki.specs.Pages.{fact_name}
-use Rattle.fsl_wiki.specs.Kept.{Lines, Spot, spot_cmp, Target, target_cmp, Rows, Logs, IsKept, TakesBack, held_of, undone_rows, fact_at, fact_of, facts_of, entry_of, group_of, group_in, date_of, date_in, place_of, item, file_item, file_place, name_in, AreSpots, AreTargets}
+use Rattle.fsl_wiki.specs.Kept.{Lines, Spot, spot_cmp, Target, target_cmp, Rows, AreAsGood, IsKept, held_of, fact_at, fact_of, facts_of, entry_of, group_of, group_in, date_of, date_in, place_of, item, file_item, file_place, name_in, AreSpots, AreTargets}
 use Rattle.fsl_wiki.proofs.Moved.{attached_name}
 
 pub group_cmp-IsTotalOrder : IsTotalOrder group_cmp
@@ -100,7 +98,7 @@ same_targets r s k l e =
     same_placed bytes_cmp late_cmp bytes_cmp-IsTotalOrder late_cmp-IsTotalOrder exact_bytes late_cmp-exact name_in (key_of file_item (λ a. a.target) file_place) (own_key file_item (λ a. a.target) file_place own_file)
     s.facts.entries r.targets.entries s.targets.entries k.targets_ordered l.targets_ordered (subst (λ es. AreTargets es r.targets.entries) e k.targets) l.targets
 
-pub kept_as : (r s : Rows) → s.facts.entries ≡ r.facts.entries → s.spots.entries ≡ r.spots.entries → s.targets.entries ≡ r.targets.entries → IsKept r → IsKept s
+kept_as : (r s : Rows) → s.facts.entries ≡ r.facts.entries → s.spots.entries ≡ r.spots.entries → s.targets.entries ≡ r.targets.entries → IsKept r → IsKept s
 kept_as r s p q t k = record {
   ordered = subst (λ es. IsStrictlySortedBy bytes_cmp (keys_of es)) (sym p) k.ordered;
   spots_ordered = subst (λ es. IsStrictlySortedBy spot_cmp (keys_of es)) (sym q) k.spots_ordered;
@@ -109,22 +107,22 @@ kept_as r s p q t k = record {
   targets = λ key. ap (λ es. is_some (value_at target_cmp key es)) t ∙ k.targets key ∙ ap (λ es. is_placed bytes_cmp late_cmp name_in (key_of file_item (λ a. a.target) file_place) es key.first key.second) (sym p);
 }
 
--- logs that lead back from a state lead back from each that holds the same facts and has no less to spare
-pub takes_back : (logs : Logs) (before after now : Rows) → IsKept before → IsKept after → IsKept now → IsAsBefore (held_of after) (held_of now)
-    → Undoes bytes_cmp logs.facts after.facts before.facts → Undoes spot_cmp logs.spots after.spots before.spots → Undoes target_cmp logs.targets after.targets before.targets
-    → TakesBack logs (held_of before) now
-takes_back logs before after now kb ka kn same uf us ut =
-    let re : now.facts.entries ≡ after.facts.entries = same_lines now.facts.entries after.facts.entries same.facts in
-    let f = leads_back bytes_cmp logs.facts before.facts after.facts now.facts re same.spare.0 uf in
-    let s = leads_back spot_cmp logs.spots before.spots after.spots now.spots (same_spots now after kn ka re) same.spare.1.0 us in
-    let t = leads_back target_cmp logs.targets before.targets after.targets now.targets (same_targets now after kn ka re) same.spare.1.1.0 ut in
+-- rows of the same facts, with no less to spare, are as good
+pub good_as : (before now : Rows) → IsKept before → IsKept now → IsAsBefore (held_of before) (held_of now) → AreAsGood before now
+good_as before now kb kn same =
+    let fe : now.facts.entries ≡ before.facts.entries = same_lines now.facts.entries before.facts.entries same.facts in
     record {
-      facts_can = f.can;
-      spots_can = s.can;
-      targets_can = t.can;
-      kept = kept_as before (undone_rows logs now) f.good.entries s.good.entries t.good.entries kb;
-      back = record { facts = ap facts_of f.good.entries; spare = (f.good.spare, (s.good.spare, (t.good.spare, tt))) };
+      facts = record { entries = fe; spare = same.spare.0 };
+      spots = record { entries = same_spots now before kn kb fe; spare = same.spare.1.0 };
+      targets = record { entries = same_targets now before kn kb fe; spare = same.spare.1.1.0 };
     }
+
+-- and rows that are as good hold the same
+pub kept_good : (before now : Rows) → AreAsGood before now → IsKept before → IsKept now
+kept_good before now g k = kept_as before now g.facts.entries g.spots.entries g.targets.entries k
+
+pub as_good : (before now : Rows) → AreAsGood before now → IsAsBefore (held_of before) (held_of now)
+as_good before now g = record { facts = ap facts_of g.facts.entries; spare = (g.facts.spare, (g.spots.spare, (g.targets.spare, tt))) }
 
 pub kept_none : (r : Rows) → r.facts.entries ≡ [] → r.spots.entries ≡ [] → r.targets.entries ≡ [] → IsKept r
 unfolding IsStrictlySortedBy
@@ -139,20 +137,3 @@ kept_none r p q t =
     no_target : (k : Target) (s : Option (ℕ × List ℕ)) → false ≡ is_placed bytes_cmp late_cmp name_in (key_of file_item (λ a. a.target) file_place) [] k.first s
     no_target k None = refl
     no_target k (Some p) = refl
-
--- as before, and then as good
-pub chain : (before : TableState Fact) (mid now : Rows) → IsAsBefore before (held_of mid) → IsAsGood mid.facts now.facts → IsAsGood mid.spots now.spots → IsAsGood mid.targets now.targets → IsAsBefore before (held_of now)
-chain before mid now b f s t = record {
-  facts = ap facts_of f.entries ∙ b.facts;
-  spare = more before.spare b.spare;
-}
-  where
-    more : (ns : List ℕ) → AreAtMost ns (mid.facts.spare ∷ mid.spots.spare ∷ mid.targets.spare ∷ []) → AreAtMost ns (now.facts.spare ∷ now.spots.spare ∷ now.targets.spare ∷ [])
-    more [] h = absurd h
-    more (m ∷ []) h = absurd h.1
-    more (m ∷ n ∷ []) h = absurd h.1.1
-    more (m ∷ n ∷ o ∷ []) h = (omega (arith, h.0, f.spare), (omega (arith, h.1.0, s.spare), (omega (arith, h.1.1.0, t.spare), tt)))
-    more (m ∷ n ∷ o ∷ p ∷ ns) h = absurd h.1.1.1
-
-pub as_good : (before now : Rows) → IsAsGood before.facts now.facts → IsAsGood before.spots now.spots → IsAsGood before.targets now.targets → IsAsBefore (held_of before) (held_of now)
-as_good before now f s t = record { facts = ap facts_of f.entries; spare = (f.spare, (s.spare, (t.spare, tt))) }

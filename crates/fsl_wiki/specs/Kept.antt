@@ -1,5 +1,5 @@
 -- How the tables hold the facts: each by its name, a key for each among the versions of what it is a version of, and a key for each attachment among those of its target.
-use Rattle.std.specs.Prelude.{ℕ, List, [], ◌∷◌, Bool, true, false, not, ◌&&◌, ◌||◌, if◌then◌else◌, Option, Some, None, map, filter}
+use Rattle.std.specs.Prelude.{◌≡◌, ◌+◌, ℕ, List, [], ◌∷◌, Bool, true, false, not, ◌&&◌, ◌||◌, if◌then◌else◌, Option, Some, None, map, filter}
 use Rattle.std.specs.Option.{option_and_then, option_map, option_map_or, option_or}
 use mathlib.Core.Bool.{beq}
 use Rattle.std.specs.Str.{bytes_eq}
@@ -7,15 +7,15 @@ use Rattle.std.specs.Ordering.{is_eq, on}
 use Rattle.std.specs.List.Sorted.{IsStrictlySortedBy}
 use Rattle.std.specs.Map.{keys_of}
 use Rattle.std.specs.declared.cmp.Ordering.{Ordering}
-use Rattle.fsl_order.specs.Names.{bytes_cmp, dated_cmp}
-use Rattle.fsl_order.specs.Rows.{greatest}
-use Rattle.fsl_order.specs.TableState.{TableState, IsAsBefore}
+use Rattle.fsl_order.specs.Maps as maps
+use Rattle.fsl_order.specs.Names.{bytes_cmp, dated_cmp, has}
+use Rattle.fsl_order.specs.Rows.{ListsChanged, greatest}
+use Rattle.fsl_order.specs.TableState.{TableState}
 use Rattle.fsl_table.specs.Contents.{Contents, value_at, with_entry, without_key, first_of}
 use Rattle.fsl_table.specs.Within.{within_cmp, within, above}
 use Rattle.fsl_table.specs.Placed.{ArePlaced, key_of}
 use Rattle.fsl_table.specs.declared.within.Within.{Within}
-use Rattle.fsl_table.specs.declared.step.Step.{Step}
-use Rattle.fsl_table.specs.Undo.{undone, CanUndo}
+use Rattle.fsl_table.specs.Undo.{IsAsGood}
 use Rattle.fsl_wiki.specs.declared.Page.{Page}
 use Rattle.fsl_wiki.specs.declared.Note.{Note}
 use Rattle.fsl_wiki.specs.declared.Attached.{Attached}
@@ -25,9 +25,12 @@ use Rattle.fsl_wiki.specs.declared.group.Group.{Group}
 use Rattle.fsl_wiki.specs.declared.entry.Entry.{Entry}
 use Rattle.fsl_wiki.specs.declared.entry.Row.{Row}
 use Rattle.fsl_wiki.specs.declared.entry.Entry.TheVariants as entry
+use Rattle.fsl_wiki.specs.declared.maps.Maps.{Maps}
+use Rattle.fsl_wiki.specs.declared.maps.Ways.{Ways}
+use Rattle.fsl_wiki.specs.declared.rows.Known.{Known}
 use Rattle.fsl_wiki.specs.Groups.{group_cmp, page_group, note_group, file_group}
 use Rattle.fsl_wiki.specs.Late.{late_cmp}
-use Rattle.fsl_wiki.specs.Pages.{fact_name, as_page, as_attached}
+use Rattle.fsl_wiki.specs.Pages.{fact_name, as_page, as_attached, pages_row}
 
 -- technotes by date and name
 abbrev pub note_cmp : Note → Note → Ordering
@@ -129,6 +132,10 @@ abbrev pub first_file : Option Attached → List ℕ → Option Attached
 first_file None file = None
 first_file (Some a) file = if bytes_eq a.file file then Some a else None
 
+-- an attachment came to the first ones, where it is there and its file had none
+abbrev pub AddsFirst : Option Attached → List (List ℕ × Attached) → List (List ℕ × Attached) → Type 0
+AddsFirst attached old new = (file : List ℕ) → maps.value_at new file ≡ option_or (maps.value_at old file) (first_file attached file)
+
 -- of the attachments at some places the first one of a file
 abbrev pub first_of_file : Lines → List ℕ → List (ℕ × List ℕ) → Option Attached
 first_of_file es file [] = None
@@ -143,6 +150,13 @@ abbrev pub target_of : List ℕ → Entry → Option Target
 target_of name (entry.Page e) = None
 target_of name (entry.Note e) = None
 target_of name (entry.Attached e) = Some (record { first = e.target; second = Some (e.date, name) })
+
+-- the keys of the entry of a name
+abbrev pub spot_at : Lines → List ℕ → Option Spot
+spot_at es name = option_map (spot_of name) (value_at bytes_cmp name es)
+
+abbrev pub target_at : Lines → List ℕ → Option Target
+target_at es name = option_and_then (target_of name) (value_at bytes_cmp name es)
 
 -- with a key, where there is one
 abbrev pub with_target : Option Target → Targets → Targets
@@ -245,23 +259,55 @@ pub record IsKept (r : Rows) : Type 0 where
   pub targets_ordered : IsStrictlySortedBy target_cmp (keys_of r.targets.entries)
   pub targets : AreTargets r.facts.entries r.targets.entries
 
-pub record Logs : Type 0 where
-  pub facts : List (Step (List ℕ) Entry)
-  pub spots : List (Step Spot (Unit {0}))
-  pub targets : List (Step Target (Unit {0}))
+-- the maps as they are, as they were where the change began, and the steps from there
+abbrev pub rows_of : Maps → Rows
+rows_of m = record { facts = m.facts.held; spots = m.spots.held; targets = m.targets.held }
 
--- what the logs leave
-abbrev pub undone_rows : Logs → Rows → Rows
-undone_rows logs r = record {
-  facts = undone bytes_cmp logs.facts r.facts;
-  spots = undone spot_cmp logs.spots r.spots;
-  targets = undone target_cmp logs.targets r.targets;
-}
+abbrev pub rows_before : Maps → Rows
+rows_before m = record { facts = m.facts.was; spots = m.spots.was; targets = m.targets.was }
 
--- the logs find their memory, and lead back
-pub record TakesBack (logs : Logs) (before : TableState Fact) (now : Rows) : Type 0 where
-  pub facts_can : CanUndo bytes_cmp logs.facts now.facts
-  pub spots_can : CanUndo spot_cmp logs.spots now.spots
-  pub targets_can : CanUndo target_cmp logs.targets now.targets
-  pub kept : IsKept (undone_rows logs now)
-  pub back : IsAsBefore before (held_of (undone_rows logs now))
+abbrev pub steps_back : Maps → ℕ
+steps_back m = m.facts.back + m.spots.back + m.targets.back
+
+-- where ways back end, and where they begin
+abbrev pub starts_of : Ways → Rows
+starts_of w = record { facts = w.facts.was; spots = w.spots.was; targets = w.targets.was }
+
+abbrev pub ends_of : Ways → Rows
+ends_of w = record { facts = w.facts.held; spots = w.spots.held; targets = w.targets.held }
+
+-- each map is as good
+pub record AreAsGood (before now : Rows) : Type 0 where
+  pub facts : IsAsGood before.facts now.facts
+  pub spots : IsAsGood before.spots now.spots
+  pub targets : IsAsGood before.targets now.targets
+
+-- ---- which names change
+
+-- the row of a name, by the keys
+abbrev pub row_at : Rows → List ℕ → Row
+row_at r name = row_by (value_at bytes_cmp name r.facts.entries) (λ race. is_placed name (top r.spots.entries race))
+
+-- whether a name, other than this one, is that of a first version
+abbrev pub is_first : Spots → List ℕ → Option Spot → List ℕ → Bool
+is_first ss but race q = not (bytes_eq q but) && is_placed q (top ss race)
+
+-- and of one of two first versions
+abbrev pub is_either : Spots → List ℕ → Option Spot → Option Spot → List ℕ → Bool
+is_either ss but race old_race q = not (bytes_eq q but) && (is_placed q (top ss race) || is_placed q (top ss old_race))
+
+-- whether a name is in a list and not in the other
+abbrev pub is_only : List (List ℕ) → List (List ℕ) → List ℕ → Bool
+is_only list other q = has list q && not (has other q)
+
+-- a name, if it is wanted, and those that are in one of two lists alone came to the old ones
+abbrev pub AddsDiffering : List ℕ → Bool → List (List ℕ) → List (List ℕ) → List (List ℕ) → List (List ℕ) → Type 0
+AddsDiffering name wanted before after old new = (q : List ℕ) → has new q ≡ ((bytes_eq q name && wanted) || (is_only after before q || (is_only before after q || has old q)))
+
+-- these are the names whose rows differ from those that are known
+abbrev pub AreSince : Known → Rows → List ℕ → List (List ℕ) → Type 0
+AreSince known r name list = (q : List ℕ) → has list q ≡ ((bytes_eq q name && not (same_row known.row (row_at r name))) || in_one (has known.leaders.keys q) (is_either r.spots.entries name known.race known.old_race q))
+
+-- these are the names whose rows differ once the entry is put
+abbrev pub ListsPut : List ℕ → Entry → Lines → List (List ℕ) → Type 0
+ListsPut name entry es changed = ListsChanged (pages_row (facts_of es)) (pages_row (facts_of (with_entry bytes_cmp name entry es))) changed

@@ -10,6 +10,7 @@ ghost use Rattle.fsl_wiki.specs.Laws.{NoOtherCurrent};
 mod entry;
 mod group;
 mod late;
+mod maps;
 mod pages;
 mod reading;
 mod rows;

@@ -6,65 +6,56 @@ ghost use Rattle.fsl_order.specs.Rows.{by_name, AreDistinct, ListsChanged};
 ghost use Rattle.fsl_wiki.specs.Pages as table;
 ghost use Rattle.fsl_table.specs.Contents.{value_at, with_entry};
 ghost use Rattle.fsl_wiki.specs.Pages.{fact_name, as_page, pages_row};
-ghost use Rattle.fsl_wiki.specs.Kept.{IsKept, facts_of, entry_of};
+ghost use Rattle.fsl_wiki.specs.Kept.{IsKept, facts_of, entry_of, rows_of};
 
 use super::entry::Entry;
 use super::group::Group;
-use super::late::Late;
+use super::maps::{Maps, Ways};
 use super::reading::{first_files, listed, pages_from, places};
 use super::rows::{current, put_either, put_fact};
 use super::{Attached, Fact, Page};
 use fsl_name::Name;
-use fsl_table::{Log, Table, Within, log};
+use fsl_table::Within;
 use fsl_text::{List, Memory, Steps, Text};
 use std::alloc::Global;
 use std::marker::{Brand, Model};
-use std::snapshot::Snapshot;
 use std::sync::ledger::{Blank, Ledger};
 
 /// The pages, technotes and attachments. Contracts see it as the facts by name, and the room that its maps have to spare.
 #[derive(Drop)]
 pub struct Pages {
-    facts: Table<Name, Entry>,
-    /// What each fact is a version of, its date and its name.
-    spots: Table<Within<Group, Late>, ()>,
-    /// The target, the date and the name of each attachment.
-    targets: Table<Within<Text, Late>, ()>,
+    maps: Maps,
 }
 
 impl Model for Pages {
     ghost use Rattle.fsl_order.specs.TableState.{TableState};
     ghost use Rattle.fsl_wiki.specs.declared.Fact.{Fact};
-    ghost use Rattle.fsl_wiki.specs.Kept.{held_of, IsKept};
+    ghost use Rattle.fsl_wiki.specs.Kept.{held_of, rows_of, IsKept};
 
     ghost Value = { TableState Fact };
 
-    ghost view = { λ p. held_of (record { facts = p.facts; spots = p.spots; targets = p.targets }) };
+    ghost view = { λ p. held_of (rows_of p.maps) };
 
-    ghost invariant = { λ p. IsKept (record { facts = p.facts; spots = p.spots; targets = p.targets }) };
+    ghost invariant = { λ p. IsKept (rows_of p.maps) };
 }
 
 /// What takes a change back, and the names whose rows it changed. Contracts see it as both, with the table before and after.
 #[derive(Drop)]
 pub struct Undo {
-    facts: Log<Name, Entry>,
-    spots: Log<Within<Group, Late>, ()>,
-    targets: Log<Within<Text, Late>, ()>,
+    ways: Ways,
     changed: List<Name>,
-    before: Snapshot<Pages>,
-    after: Snapshot<Pages>,
 }
 
 impl Model for Undo {
-    ghost use Rattle.fsl_order.specs.TableState.{Change, IsAsBefore};
+    ghost use Rattle.fsl_order.specs.TableState.{Change};
     ghost use Rattle.fsl_wiki.specs.declared.Fact.{Fact};
-    ghost use Rattle.fsl_wiki.specs.Kept.{Rows, IsKept, held_of, TakesBack};
+    ghost use Rattle.fsl_wiki.specs.Kept.{IsKept, ends_of, held_of, starts_of};
 
     ghost Value = { Change Fact };
 
-    ghost view = { λ u. record { before = u.before.value; after = u.after.value; changed = u.changed } };
+    ghost view = { λ u. record { before = held_of (starts_of u.ways); after = held_of (ends_of u.ways); changed = u.changed } };
 
-    ghost invariant = { λ u. (now : Rows) → IsKept now → IsAsBefore u.after.value (held_of now) → TakesBack (record { facts = u.facts; spots = u.spots; targets = u.targets }) u.before.value now };
+    ghost invariant = { λ u. IsKept (starts_of u.ways) × IsKept (ends_of u.ways) };
 }
 
 impl Undo {
@@ -77,55 +68,41 @@ impl Undo {
     }
 }
 
-/// Puts a fact whose name isn't there. What takes it out again isn't kept.
-fn put_unlogged<L: Ledger>(
+/// Puts a fact whose name isn't there.
+fn put_new<L: Ledger>(
     alloc: Global,
-    entries: &mut Table<Name, Entry>,
-    spots: &mut Table<Within<Group, Late>, ()>,
-    targets: &mut Table<Within<Text, Late>, ()>,
+    maps: &mut Maps,
     fact: Fact,
     steps: &mut Steps<L>,
 ) -> Result<(), Memory>
-    requires kept { IsKept (record { facts = entries.old; spots = spots.old; targets = targets.old }) }
-    requires absent { value_at bytes_cmp (fact_name fact) entries.old.entries ≡ None }
-    ensures entries { OnOk result (entries.new.entries ≡ with_entry bytes_cmp (fact_name fact) (entry_of fact) entries.old.entries) }
-    ensures kept { OnOk result (IsKept (record { facts = entries.new; spots = spots.new; targets = targets.new })) }
+    requires kept { IsKept (rows_of maps.old) }
+    requires absent { value_at bytes_cmp (fact_name fact) maps.old.facts.held.entries ≡ None }
+    ensures entries { OnOk result (maps.new.facts.held.entries ≡ with_entry bytes_cmp (fact_name fact) (entry_of fact) maps.old.facts.held.entries) }
+    ensures kept { OnOk result (IsKept (rows_of maps.new)) }
 {
-    put_fact(
-        alloc,
-        entries,
-        spots,
-        targets,
-        &mut Log::new(alloc),
-        &mut Log::new(alloc),
-        &mut Log::new(alloc),
-        fact.name(),
-        Entry::of(fact),
-        steps,
-    )
+    put_fact(alloc, maps, fact.name(), Entry::of(fact), steps)
 }
 
-/// Puts some facts into tables that have none, the last one first.
+/// Puts some facts into maps that have none, the last one first.
 fn fill<L: Ledger>(
     alloc: Global,
-    entries: &mut Table<Name, Entry>,
-    spots: &mut Table<Within<Group, Late>, ()>,
-    targets: &mut Table<Within<Text, Late>, ()>,
+    maps: &mut Maps,
     facts: &[Fact],
     steps: &mut Steps<L>,
 ) -> Result<(), Memory>
-    requires entries { entries.old.entries ≡ [] }
-    requires spots { spots.old.entries ≡ [] }
-    requires targets { targets.old.entries ≡ [] }
+    requires entries { maps.old.facts.held.entries ≡ [] }
+    requires spots { maps.old.spots.held.entries ≡ [] }
+    requires targets { maps.old.targets.held.entries ≡ [] }
     requires distinct { AreDistinct (map fact_name facts.now) }
-    ensures facts { OnOk result (facts_of entries.new.entries ≡ by_name fact_name facts.now) }
-    ensures kept { OnOk result (IsKept (record { facts = entries.new; spots = spots.new; targets = targets.new })) }
+    ensures facts { OnOk result (facts_of maps.new.facts.held.entries ≡ by_name fact_name facts.now) }
+    ensures kept { OnOk result (IsKept (rows_of maps.new)) }
 {
     let mut left = facts.len();
     while left > 0 {
         left -= 1;
         let fact = facts[left].copied(alloc)?;
-        put_unlogged(alloc, entries, spots, targets, fact, steps)?;
+        maps.begin();
+        put_new(alloc, maps, fact, steps)?;
     }
     Ok(())
 }
@@ -135,13 +112,8 @@ impl Pages {
     pub fn new(alloc: Global) -> Pages
         ensures { result.facts ≡ [] }
     {
-        let facts = Table::new(alloc);
-        let spots = Table::new(alloc);
-        let targets = Table::new(alloc);
         Pages {
-            facts,
-            spots,
-            targets,
+            maps: Maps::new(alloc),
         }
     }
 
@@ -166,26 +138,11 @@ impl Pages {
         ensures facts { IfOk result (λ t. t.facts ≡ by_name fact_name facts.now) }
     {
         let mut steps: Steps<L> = Steps::new(blank);
-        let mut entries = Table::new(alloc);
-        let mut spots = Table::new(alloc);
-        let mut targets = Table::new(alloc);
-        match fill(
-            alloc,
-            &mut entries,
-            &mut spots,
-            &mut targets,
-            facts,
-            &mut steps,
-        ) {
-            Ok(()) => Ok(Pages {
-                facts: entries,
-                spots,
-                targets,
-            }),
+        let mut maps = Maps::new(alloc);
+        match fill(alloc, &mut maps, facts, &mut steps) {
+            Ok(()) => Ok(Pages { maps }),
             Err(Memory) => {
-                drop(entries);
-                drop(spots);
-                drop(targets);
+                drop(maps);
                 Err(Memory)
             }
         }
@@ -244,40 +201,16 @@ impl Pages {
         ensures err { OnErr result (IsAsBefore self.old self.new) }
         ensures cost { new ≡ true → IfSome (as_page fact) (λ _. steps.new ≤ steps.old + 4) }
     {
-        let before = Snapshot::of(&*self);
         let name = fact.name();
         let entry = Entry::of(fact);
-        let mut facts = Log::new(alloc);
-        let mut spots = Log::new(alloc);
-        let mut targets = Log::new(alloc);
-        match put_either(
-            alloc,
-            &mut self.facts,
-            &mut self.spots,
-            &mut self.targets,
-            &mut facts,
-            &mut spots,
-            &mut targets,
-            name,
-            entry,
-            new,
-            steps,
-        ) {
-            Ok(changed) => {
-                let after = Snapshot::of(&*self);
-                Ok(Undo {
-                    facts,
-                    spots,
-                    targets,
-                    changed,
-                    before,
-                    after,
-                })
-            }
+        self.maps.begin();
+        match put_either(alloc, &mut self.maps, name, entry, new, steps) {
+            Ok(changed) => Ok(Undo {
+                ways: self.maps.ways(alloc),
+                changed,
+            }),
             Err(Memory) => {
-                log::undo(&mut self.facts, facts, steps);
-                log::undo(&mut self.spots, spots, steps);
-                log::undo(&mut self.targets, targets, steps);
+                self.maps.turn_back(steps);
                 Err(Memory)
             }
         }
@@ -299,15 +232,8 @@ impl Pages {
         ensures { IsAsBefore undo.before self.new }
     {
         let mut steps: Steps<L> = Steps::new(blank);
-        let Undo {
-            facts,
-            spots,
-            targets,
-            ..
-        } = undo;
-        log::undo(&mut self.facts, facts, &mut steps);
-        log::undo(&mut self.spots, spots, &mut steps);
-        log::undo(&mut self.targets, targets, &mut steps);
+        let Undo { ways, .. } = undo;
+        self.maps.undo(ways, &mut steps);
     }
 
     /// The versions of the page of a title by date, and at one date by name; none where no page has the title. `Memory` is the only
@@ -331,8 +257,8 @@ impl Pages {
     {
         let page = Group::page(alloc, title)?;
         let mut steps: Steps<L> = Steps::new(blank);
-        let versions = places(alloc, &self.spots, page, &mut steps)?;
-        pages_from(alloc, &self.facts, versions, &mut steps)
+        let versions = places(alloc, self.maps.spots.map(), page, &mut steps)?;
+        pages_from(alloc, &self.maps.facts, versions, &mut steps)
     }
 
     /// The name of the current technote of an id, which is the one with the greatest date, and at one date the greatest name. None
@@ -354,7 +280,7 @@ impl Pages {
             first: Group::note(id),
             second: None,
         });
-        let late = current(&self.spots, &race, &mut steps);
+        let late = current(&self.maps.spots, &race, &mut steps);
         drop(race);
         match late {
             None => None,
@@ -384,8 +310,8 @@ impl Pages {
     {
         let key = Text::of(alloc, target)?;
         let mut steps: Steps<L> = Steps::new(blank);
-        let found = places(alloc, &self.targets, key, &mut steps)?;
-        let files = first_files(alloc, &self.facts, &found, &mut steps)?;
+        let found = places(alloc, self.maps.targets.map(), key, &mut steps)?;
+        let files = first_files(alloc, &self.maps.facts, &found, &mut steps)?;
         listed(alloc, files)
     }
 }

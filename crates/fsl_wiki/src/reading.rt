@@ -2,21 +2,21 @@
 ghost use Rattle.std.specs.Prelude.{◌≡◌, ◌++◌, ℕ, List, Some, IfOk, OnOk, cond, reverse};
 ghost use Rattle.std.specs.BTreeMap.{is_at};
 ghost use Rattle.std.specs.List.{filter_map};
-ghost use Rattle.std.specs.Option.{option_or, option_to_list};
+ghost use Rattle.std.specs.Option.{option_to_list};
 ghost use Rattle.std.specs.List.Sorted.{IsStrictlySortedBy};
 ghost use Rattle.std.specs.Map.{keys_of, values_of};
 ghost use Rattle.fsl_order.specs.Names.{bytes_cmp};
 ghost use Rattle.fsl_order.specs.Maps as maps;
 ghost use Rattle.fsl_table.specs.Within.{within, within_cmp};
 ghost use Rattle.fsl_wiki.specs.Late.{late_cmp};
-ghost use Rattle.fsl_wiki.specs.Kept.{page_at, file_at, first_file, first_of_file};
+ghost use Rattle.fsl_wiki.specs.Kept.{AddsFirst, page_at, file_at, first_of_file};
 
 use crate::entry::Entry;
 use crate::late::Late;
 use crate::{Attached, Page};
 use fsl_name::Name;
 use fsl_table::within::next_within;
-use fsl_table::{Key, Table, Within};
+use fsl_table::{Key, Table, Tracked, Within};
 use fsl_text::{List, Memory, Steps, Text};
 use std::alloc::Global;
 use std::collections::BTreeMap;
@@ -54,11 +54,11 @@ where
 /// The version of a page of a name.
 fn page_of<L: Ledger>(
     alloc: Global,
-    facts: &Table<Name, Entry>,
+    facts: &Tracked<Name, Entry>,
     name: Name,
     steps: &mut Steps<L>,
 ) -> Result<Option<Page>, Memory>
-    ensures { IfOk result (λ page. page ≡ page_at facts.now.entries name) }
+    ensures { IfOk result (λ page. page ≡ page_at facts.now.held.entries name) }
 {
     match facts.get(&name, steps) {
         None => Ok(None),
@@ -79,11 +79,11 @@ fn append_some(pages: &mut List<Page>, page: Option<Page>) -> Result<(), Memory>
 /// The pages at some places, the last one first.
 pub(crate) fn pages_from<L: Ledger>(
     alloc: Global,
-    facts: &Table<Name, Entry>,
+    facts: &Tracked<Name, Entry>,
     places: Vec<Late>,
     steps: &mut Steps<L>,
 ) -> Result<List<Page>, Memory>
-    ensures { IfOk result (λ pages. pages ≡ filter_map (λ p. page_at facts.now.entries p.1) (reverse places.items)) }
+    ensures { IfOk result (λ pages. pages ≡ filter_map (λ p. page_at facts.now.held.entries p.1) (reverse places.items)) }
 {
     let mut pages = List::new(alloc);
     let mut left = places;
@@ -97,11 +97,11 @@ pub(crate) fn pages_from<L: Ledger>(
 /// The attachment of a name.
 fn file_of<L: Ledger>(
     alloc: Global,
-    facts: &Table<Name, Entry>,
+    facts: &Tracked<Name, Entry>,
     name: Name,
     steps: &mut Steps<L>,
 ) -> Result<Option<Attached>, Memory>
-    ensures { IfOk result (λ attached. attached ≡ file_at facts.now.entries name) }
+    ensures { IfOk result (λ attached. attached ≡ file_at facts.now.held.entries name) }
 {
     match facts.get(&name, steps) {
         None => Ok(None),
@@ -121,7 +121,7 @@ fn insert(files: &mut Files, file: Text, attached: Attached) -> Result<(), Memor
 
 /// Puts an attachment in, where its file has none.
 fn put_file(alloc: Global, files: &mut Files, attached: Attached) -> Result<(), Memory>
-    ensures { OnOk result ((file : List ℕ) → maps.value_at files.new.entries file ≡ option_or (maps.value_at files.old.entries file) (first_file (Some attached) file)) }
+    ensures { OnOk result (AddsFirst (Some attached) files.old.entries files.new.entries) }
 {
     if files.contains_key(&attached.file) {
         return Ok(());
@@ -132,7 +132,7 @@ fn put_file(alloc: Global, files: &mut Files, attached: Attached) -> Result<(), 
 
 /// Puts an attachment in, where there is one and its file has none.
 fn put_first(alloc: Global, files: &mut Files, attached: Option<Attached>) -> Result<(), Memory>
-    ensures { OnOk result ((file : List ℕ) → maps.value_at files.new.entries file ≡ option_or (maps.value_at files.old.entries file) (first_file attached file)) }
+    ensures { OnOk result (AddsFirst attached files.old.entries files.new.entries) }
 {
     match attached {
         None => Ok(()),
@@ -143,11 +143,11 @@ fn put_first(alloc: Global, files: &mut Files, attached: Option<Attached>) -> Re
 /// Of the attachments at some places the first of each file.
 pub(crate) fn first_files<L: Ledger>(
     alloc: Global,
-    facts: &Table<Name, Entry>,
+    facts: &Tracked<Name, Entry>,
     places: &[Late],
     steps: &mut Steps<L>,
 ) -> Result<Files, Memory>
-    ensures { IfOk result (λ files. (file : List ℕ) → maps.value_at files.entries file ≡ first_of_file facts.now.entries file places.now) }
+    ensures { IfOk result (λ files. (file : List ℕ) → maps.value_at files.entries file ≡ first_of_file facts.now.held.entries file places.now) }
 {
     let mut files = BTreeMap::new(alloc);
     for place in places {

@@ -1,23 +1,19 @@
-//! The rows of pages, technotes and attachments: a fact put into the tables and taken out, and which rows that changes.
-ghost use Rattle.std.specs.Prelude.{◌≡◌, ◌+◌, ◌≤◌, ◌||◌, ◌&&◌, [], ◌∷◌, not, length, true, ℕ, List, None, OnOk, IfOk};
+//! The rows of pages, technotes and attachments: a fact put into the maps and taken out, and which rows that changes.
+ghost use Rattle.std.specs.Prelude.{◌≡◌, ◌+◌, ◌≤◌, ◌||◌, ◌&&◌, [], ◌∷◌, not, true, ℕ, List, None, OnOk, IfOk};
 ghost use Rattle.std.specs.Str.{bytes_eq};
-ghost use Rattle.std.specs.Option.{option_and_then, option_map};
 ghost use Rattle.std.specs.List.Sorted.{IsStrictlySortedBy};
 ghost use Rattle.std.specs.Map.{keys_of};
 ghost use Rattle.fsl_order.specs.Names.{bytes_cmp, has};
-ghost use Rattle.fsl_order.specs.Rows.{ListsChanged};
-ghost use Rattle.fsl_table.specs.Contents.{Contents, value_at, with_entry, without_key};
-ghost use Rattle.fsl_table.specs.Undo.{Undoes};
-ghost use Rattle.fsl_wiki.specs.declared.entry.Entry as entry_type;
-ghost use Rattle.fsl_wiki.specs.Kept.{IsKept, Spot, spot_cmp, Target, target_cmp, facts_of, race_at, row_by, is_placed, top, same_row, in_one, race_in, spot_of, target_of, is_page, with_target, without_target, without_spot};
-ghost use Rattle.fsl_wiki.specs.Pages.{pages_row};
+ghost use Rattle.fsl_table.specs.Contents.{value_at, with_entry, without_key};
+ghost use Rattle.fsl_wiki.specs.Kept.{AddsDiffering, AreSince, IsKept, ListsPut, in_one, is_either, is_first, is_only, is_page, is_placed, race_at, race_in, row_at, rows_before, rows_of, same_row, spot_at, spot_cmp, spot_of, steps_back, target_at, target_of, top, with_target, without_spot, without_target};
 
 use crate::entry::{Entry, Row};
 use crate::group::Group;
 use crate::late::Late;
+use crate::maps::Maps;
 use fsl_name::Name;
 use fsl_table::within::next_within;
-use fsl_table::{Log, Table, Within, log, names};
+use fsl_table::{Tracked, Within, names};
 use fsl_text::{List, Memory, Steps, Text};
 use std::alloc::Global;
 use std::collections::BTreeSet;
@@ -26,38 +22,36 @@ use std::sync::ledger::Ledger;
 /// Puts the key of an entry among the versions of what it is one of.
 fn put_spot<L: Ledger>(
     alloc: Global,
-    spots: &mut Table<Within<Group, Late>, ()>,
-    log: &mut Log<Within<Group, Late>, ()>,
+    spots: &mut Tracked<Within<Group, Late>, ()>,
     name: Name,
     entry: &Entry,
     steps: &mut Steps<L>,
 ) -> Result<(), Memory>
-    ensures entries { OnOk result (spots.new.entries ≡ with_entry spot_cmp (spot_of name entry.now) tt spots.old.entries) }
-    ensures undoes { (before : Contents Spot Unit) → Undoes spot_cmp log.old spots.old before → Undoes spot_cmp log.new spots.new before }
+    ensures entries { OnOk result (spots.new.held.entries ≡ with_entry spot_cmp (spot_of name entry.now) tt spots.old.held.entries) }
+    ensures was { spots.new.was ≡ spots.old.was }
     ensures cost { steps.new ≤ steps.old + 1 }
-    ensures logged { length log.new ≤ length log.old + 1 }
+    ensures back { spots.new.back ≤ spots.old.back + 1 }
 {
     let spot = entry.spot(alloc, name)?;
     let again = entry.spot(alloc, name)?;
-    log::put(spots, log, spot, again, (), steps)
+    spots.put(spot, again, (), steps)
 }
 
 /// Puts the key of an attachment among those of its target, where there is one.
 fn put_target<L: Ledger>(
-    targets: &mut Table<Within<Text, Late>, ()>,
-    log: &mut Log<Within<Text, Late>, ()>,
+    targets: &mut Tracked<Within<Text, Late>, ()>,
     target: Option<Within<Text, Late>>,
     again: Option<Within<Text, Late>>,
     steps: &mut Steps<L>,
 ) -> Result<(), Memory>
     requires { again ≡ target }
-    ensures entries { OnOk result (targets.new.entries ≡ with_target target targets.old.entries) }
-    ensures undoes { (before : Contents Target Unit) → Undoes target_cmp log.old targets.old before → Undoes target_cmp log.new targets.new before }
+    ensures entries { OnOk result (targets.new.held.entries ≡ with_target target targets.old.held.entries) }
+    ensures was { targets.new.was ≡ targets.old.was }
     ensures cost { target ≡ None → steps.new ≡ steps.old }
-    ensures logged { target ≡ None → log.new ≡ log.old }
+    ensures back { target ≡ None → targets.new.back ≡ targets.old.back }
 {
     match (target, again) {
-        (Some(target), Some(again)) => log::put(targets, log, target, again, (), steps),
+        (Some(target), Some(again)) => targets.put(target, again, (), steps),
         _ => Ok(()),
     }
 }
@@ -65,79 +59,66 @@ fn put_target<L: Ledger>(
 /// Puts the key of an entry among the attachments of its target, where it is one.
 fn put_attachment<L: Ledger>(
     alloc: Global,
-    targets: &mut Table<Within<Text, Late>, ()>,
-    log: &mut Log<Within<Text, Late>, ()>,
+    targets: &mut Tracked<Within<Text, Late>, ()>,
     name: Name,
     entry: &Entry,
     steps: &mut Steps<L>,
 ) -> Result<(), Memory>
-    ensures entries { OnOk result (targets.new.entries ≡ with_target (target_of name entry.now) targets.old.entries) }
-    ensures undoes { (before : Contents Target Unit) → Undoes target_cmp log.old targets.old before → Undoes target_cmp log.new targets.new before }
+    ensures entries { OnOk result (targets.new.held.entries ≡ with_target (target_of name entry.now) targets.old.held.entries) }
+    ensures was { targets.new.was ≡ targets.old.was }
     ensures cost { target_of name entry.now ≡ None → steps.new ≡ steps.old }
-    ensures logged { target_of name entry.now ≡ None → log.new ≡ log.old }
+    ensures back { target_of name entry.now ≡ None → targets.new.back ≡ targets.old.back }
 {
     let target = entry.target(alloc, name)?;
     let again = entry.target(alloc, name)?;
-    put_target(targets, log, target, again, steps)
+    put_target(targets, target, again, steps)
 }
 
 /// Puts the keys of an entry.
 fn place<L: Ledger>(
     alloc: Global,
-    spots: &mut Table<Within<Group, Late>, ()>,
-    targets: &mut Table<Within<Text, Late>, ()>,
-    spots_log: &mut Log<Within<Group, Late>, ()>,
-    targets_log: &mut Log<Within<Text, Late>, ()>,
+    spots: &mut Tracked<Within<Group, Late>, ()>,
+    targets: &mut Tracked<Within<Text, Late>, ()>,
     name: Name,
     entry: &Entry,
     steps: &mut Steps<L>,
 ) -> Result<(), Memory>
-    ensures spots { OnOk result (spots.new.entries ≡ with_entry spot_cmp (spot_of name entry.now) tt spots.old.entries) }
-    ensures targets { OnOk result (targets.new.entries ≡ with_target (target_of name entry.now) targets.old.entries) }
-    ensures undoes_spots { (before : Contents Spot Unit) → Undoes spot_cmp spots_log.old spots.old before → Undoes spot_cmp spots_log.new spots.new before }
-    ensures undoes_targets { (before : Contents Target Unit) → Undoes target_cmp targets_log.old targets.old before → Undoes target_cmp targets_log.new targets.new before }
+    ensures spots { OnOk result (spots.new.held.entries ≡ with_entry spot_cmp (spot_of name entry.now) tt spots.old.held.entries) }
+    ensures targets { OnOk result (targets.new.held.entries ≡ with_target (target_of name entry.now) targets.old.held.entries) }
+    ensures spots_was { spots.new.was ≡ spots.old.was }
+    ensures targets_was { targets.new.was ≡ targets.old.was }
     ensures cost { target_of name entry.now ≡ None → steps.new ≤ steps.old + 1 }
-    ensures logged { target_of name entry.now ≡ None → length spots_log.new + length targets_log.new ≤ length spots_log.old + length targets_log.old + 1 }
+    ensures back { target_of name entry.now ≡ None → spots.new.back + targets.new.back ≤ spots.old.back + targets.old.back + 1 }
 {
-    put_spot(alloc, spots, spots_log, name, entry, steps)?;
-    put_attachment(alloc, targets, targets_log, name, entry, steps)
+    put_spot(alloc, spots, name, entry, steps)?;
+    put_attachment(alloc, targets, name, entry, steps)
 }
 
-/// Puts a new fact, and logs what takes it out again. Its texts are copied for its keys alone. After `Memory` a part may be done; the
-/// logs have it.
+/// Puts a new fact. Its texts are copied for its keys alone. After `Memory` a part may be done.
 pub(crate) fn put_fact<L: Ledger>(
     alloc: Global,
-    facts: &mut Table<Name, Entry>,
-    spots: &mut Table<Within<Group, Late>, ()>,
-    targets: &mut Table<Within<Text, Late>, ()>,
-    facts_log: &mut Log<Name, Entry>,
-    spots_log: &mut Log<Within<Group, Late>, ()>,
-    targets_log: &mut Log<Within<Text, Late>, ()>,
+    maps: &mut Maps,
     name: Name,
     entry: Entry,
     steps: &mut Steps<L>,
 ) -> Result<(), Memory>
-    requires kept { IsKept (record { facts = facts.old; spots = spots.old; targets = targets.old }) }
-    requires absent { value_at bytes_cmp name facts.old.entries ≡ None }
-    ensures entries { OnOk result (facts.new.entries ≡ with_entry bytes_cmp name entry facts.old.entries) }
-    ensures kept { OnOk result (IsKept (record { facts = facts.new; spots = spots.new; targets = targets.new })) }
-    ensures undoes_facts { (before : Contents (List ℕ) entry_type.Entry) → Undoes bytes_cmp facts_log.old facts.old before → Undoes bytes_cmp facts_log.new facts.new before }
-    ensures undoes_spots { (before : Contents Spot Unit) → Undoes spot_cmp spots_log.old spots.old before → Undoes spot_cmp spots_log.new spots.new before }
-    ensures undoes_targets { (before : Contents Target Unit) → Undoes target_cmp targets_log.old targets.old before → Undoes target_cmp targets_log.new targets.new before }
+    requires kept { IsKept (rows_of maps.old) }
+    requires absent { value_at bytes_cmp name maps.old.facts.held.entries ≡ None }
+    ensures entries { OnOk result (maps.new.facts.held.entries ≡ with_entry bytes_cmp name entry maps.old.facts.held.entries) }
+    ensures kept { OnOk result (IsKept (rows_of maps.new)) }
+    ensures was { rows_before maps.new ≡ rows_before maps.old }
     ensures cost { target_of name entry ≡ None → steps.new ≤ steps.old + 2 }
-    ensures logged { target_of name entry ≡ None → length facts_log.new + length spots_log.new + length targets_log.new ≤ length facts_log.old + length spots_log.old + length targets_log.old + 2 }
+    ensures back { target_of name entry ≡ None → steps_back maps.new ≤ steps_back maps.old + 2 }
 {
     match place(
         alloc,
-        spots,
-        targets,
-        spots_log,
-        targets_log,
+        &mut maps.spots,
+        &mut maps.targets,
         name,
         &entry,
         steps,
     ) {
-        Ok(()) => log::put(facts, facts_log, name, name, entry, steps),
+        Ok(()) => maps.facts.put(name, name, entry, steps),
         Err(Memory) => {
             drop(entry);
             Err(Memory)
@@ -147,16 +128,15 @@ pub(crate) fn put_fact<L: Ledger>(
 
 /// Takes the key of an attachment out, where it is one.
 fn remove_target<L: Ledger>(
-    targets: &mut Table<Within<Text, Late>, ()>,
-    log: &mut Log<Within<Text, Late>, ()>,
+    targets: &mut Tracked<Within<Text, Late>, ()>,
     target: Option<Within<Text, Late>>,
     steps: &mut Steps<L>,
 ) -> Result<(), Memory>
-    ensures entries { OnOk result (targets.new.entries ≡ without_target target targets.old.entries) }
-    ensures undoes { (before : Contents Target Unit) → Undoes target_cmp log.old targets.old before → Undoes target_cmp log.new targets.new before }
+    ensures entries { OnOk result (targets.new.held.entries ≡ without_target target targets.old.held.entries) }
+    ensures was { targets.new.was ≡ targets.old.was }
 {
     match target {
-        Some(target) => log::remove(targets, log, target, steps),
+        Some(target) => targets.remove(target, steps),
         None => Ok(()),
     }
 }
@@ -164,74 +144,63 @@ fn remove_target<L: Ledger>(
 /// Takes the keys of a fact out, where it is there.
 fn unplace<L: Ledger>(
     alloc: Global,
-    facts: &Table<Name, Entry>,
-    spots: &mut Table<Within<Group, Late>, ()>,
-    targets: &mut Table<Within<Text, Late>, ()>,
-    spots_log: &mut Log<Within<Group, Late>, ()>,
-    targets_log: &mut Log<Within<Text, Late>, ()>,
+    facts: &Tracked<Name, Entry>,
+    spots: &mut Tracked<Within<Group, Late>, ()>,
+    targets: &mut Tracked<Within<Text, Late>, ()>,
     name: Name,
     steps: &mut Steps<L>,
 ) -> Result<(), Memory>
-    ensures spots { OnOk result (spots.new.entries ≡ without_spot (option_map (spot_of name) (value_at bytes_cmp name facts.now.entries)) spots.old.entries) }
-    ensures targets { OnOk result (targets.new.entries ≡ without_target (option_and_then (target_of name) (value_at bytes_cmp name facts.now.entries)) targets.old.entries) }
-    ensures undoes_spots { (before : Contents Spot Unit) → Undoes spot_cmp spots_log.old spots.old before → Undoes spot_cmp spots_log.new spots.new before }
-    ensures undoes_targets { (before : Contents Target Unit) → Undoes target_cmp targets_log.old targets.old before → Undoes target_cmp targets_log.new targets.new before }
+    ensures spots { OnOk result (spots.new.held.entries ≡ without_spot (spot_at facts.now.held.entries name) spots.old.held.entries) }
+    ensures targets { OnOk result (targets.new.held.entries ≡ without_target (target_at facts.now.held.entries name) targets.old.held.entries) }
+    ensures spots_was { spots.new.was ≡ spots.old.was }
+    ensures targets_was { targets.new.was ≡ targets.old.was }
 {
     match facts.get(&name, steps) {
         None => Ok(()),
         Some(entry) => {
             let spot = entry.spot(alloc, name)?;
-            log::remove(spots, spots_log, spot, steps)?;
+            spots.remove(spot, steps)?;
             let target = entry.target(alloc, name)?;
-            remove_target(targets, targets_log, target, steps)
+            remove_target(targets, target, steps)
         }
     }
 }
 
-/// Takes a fact out, where it is there, and logs what puts it back. After `Memory` a part may be done; the logs have it.
+/// Takes a fact out, where it is there. After `Memory` a part may be done.
 fn take_out<L: Ledger>(
     alloc: Global,
-    facts: &mut Table<Name, Entry>,
-    spots: &mut Table<Within<Group, Late>, ()>,
-    targets: &mut Table<Within<Text, Late>, ()>,
-    facts_log: &mut Log<Name, Entry>,
-    spots_log: &mut Log<Within<Group, Late>, ()>,
-    targets_log: &mut Log<Within<Text, Late>, ()>,
+    maps: &mut Maps,
     name: Name,
     steps: &mut Steps<L>,
 ) -> Result<(), Memory>
-    requires kept { IsKept (record { facts = facts.old; spots = spots.old; targets = targets.old }) }
-    ensures entries { OnOk result (facts.new.entries ≡ without_key bytes_cmp name facts.old.entries) }
-    ensures kept { OnOk result (IsKept (record { facts = facts.new; spots = spots.new; targets = targets.new })) }
-    ensures undoes_facts { (before : Contents (List ℕ) entry_type.Entry) → Undoes bytes_cmp facts_log.old facts.old before → Undoes bytes_cmp facts_log.new facts.new before }
-    ensures undoes_spots { (before : Contents Spot Unit) → Undoes spot_cmp spots_log.old spots.old before → Undoes spot_cmp spots_log.new spots.new before }
-    ensures undoes_targets { (before : Contents Target Unit) → Undoes target_cmp targets_log.old targets.old before → Undoes target_cmp targets_log.new targets.new before }
+    requires kept { IsKept (rows_of maps.old) }
+    ensures entries { OnOk result (maps.new.facts.held.entries ≡ without_key bytes_cmp name maps.old.facts.held.entries) }
+    ensures kept { OnOk result (IsKept (rows_of maps.new)) }
+    ensures was { rows_before maps.new ≡ rows_before maps.old }
 {
     unplace(
         alloc,
-        facts,
-        spots,
-        targets,
-        spots_log,
-        targets_log,
+        &maps.facts,
+        &mut maps.spots,
+        &mut maps.targets,
         name,
         steps,
     )?;
-    log::remove(facts, facts_log, name, steps)
+    maps.facts.remove(name, steps)
 }
 
 /// The place of the current version, where there is one: the latest.
 pub(crate) fn current<L: Ledger>(
-    spots: &Table<Within<Group, Late>, ()>,
+    spots: &Tracked<Within<Group, Late>, ()>,
     race: &Option<Within<Group, Late>>,
     steps: &mut Steps<L>,
 ) -> Option<Late>
-    requires { IsStrictlySortedBy spot_cmp (keys_of spots.now.entries) }
-    ensures { result ≡ top spots.now.entries race.now }
+    requires { IsStrictlySortedBy spot_cmp (keys_of spots.now.held.entries) }
+    ensures { result ≡ top spots.now.held.entries race.now }
 {
     match race {
         None => None,
-        Some(race) => next_within(spots, race, steps),
+        Some(race) => next_within(spots.map(), race, steps),
     }
 }
 
@@ -248,11 +217,11 @@ fn is_called(late: Option<Late>, name: Name) -> bool
 /// Before the versions among which the one of a name may be current.
 fn race_of<L: Ledger>(
     alloc: Global,
-    facts: &Table<Name, Entry>,
+    facts: &Tracked<Name, Entry>,
     name: Name,
     steps: &mut Steps<L>,
 ) -> Result<Option<Within<Group, Late>>, Memory>
-    ensures { IfOk result (λ race. race ≡ race_at facts.now.entries name) }
+    ensures { IfOk result (λ race. race ≡ race_at facts.now.held.entries name) }
 {
     match facts.get(&name, steps) {
         None => Ok(None),
@@ -263,15 +232,14 @@ fn race_of<L: Ledger>(
 /// The row of a name.
 fn row_of<L: Ledger>(
     alloc: Global,
-    facts: &Table<Name, Entry>,
-    spots: &Table<Within<Group, Late>, ()>,
+    maps: &Maps,
     name: Name,
     steps: &mut Steps<L>,
 ) -> Result<Row, Memory>
-    requires { IsStrictlySortedBy spot_cmp (keys_of spots.now.entries) }
-    ensures { IfOk result (λ row. row ≡ row_by (value_at bytes_cmp name facts.now.entries) (λ race. is_placed name (top spots.now.entries race))) }
+    requires { IsStrictlySortedBy spot_cmp (keys_of maps.now.spots.held.entries) }
+    ensures { IfOk result (λ row. row ≡ row_at (rows_of maps.now) name) }
 {
-    match facts.get(&name, steps) {
+    match maps.facts.get(&name, steps) {
         None => Ok(Row {
             page: false,
             note: false,
@@ -279,7 +247,7 @@ fn row_of<L: Ledger>(
         }),
         Some(entry) => {
             let race = entry.race(alloc)?;
-            let late = current(spots, &race, steps);
+            let late = current(&maps.spots, &race, steps);
             Ok(entry.row(is_called(late, name)))
         }
     }
@@ -288,13 +256,13 @@ fn row_of<L: Ledger>(
 /// Puts the name of a current version in, unless it is this one.
 fn note_current<L: Ledger>(
     names: &mut BTreeSet<Name>,
-    spots: &Table<Within<Group, Late>, ()>,
+    spots: &Tracked<Within<Group, Late>, ()>,
     race: &Option<Within<Group, Late>>,
     but: Name,
     steps: &mut Steps<L>,
 ) -> Result<(), Memory>
-    requires { IsStrictlySortedBy spot_cmp (keys_of spots.now.entries) }
-    ensures noted { OnOk result ((q : List ℕ) → has names.new.keys q ≡ ((not (bytes_eq q but) && is_placed q (top spots.now.entries race.now)) || has names.old.keys q)) }
+    requires { IsStrictlySortedBy spot_cmp (keys_of spots.now.held.entries) }
+    ensures noted { OnOk result ((q : List ℕ) → has names.new.keys q ≡ (is_first spots.now.held.entries but race.now q || has names.old.keys q)) }
 {
     match current(spots, race, steps) {
         None => Ok(()),
@@ -312,14 +280,14 @@ fn note_current<L: Ledger>(
 /// The names of two current versions, but not this one.
 fn leaders<L: Ledger>(
     alloc: Global,
-    spots: &Table<Within<Group, Late>, ()>,
+    spots: &Tracked<Within<Group, Late>, ()>,
     old_race: &Option<Within<Group, Late>>,
     race: &Option<Within<Group, Late>>,
     but: Name,
     steps: &mut Steps<L>,
 ) -> Result<BTreeSet<Name>, Memory>
-    requires { IsStrictlySortedBy spot_cmp (keys_of spots.now.entries) }
-    ensures { IfOk result (λ names. (q : List ℕ) → has names.keys q ≡ (not (bytes_eq q but) && (is_placed q (top spots.now.entries race.now) || is_placed q (top spots.now.entries old_race.now)))) }
+    requires { IsStrictlySortedBy spot_cmp (keys_of spots.now.held.entries) }
+    ensures { IfOk result (λ names. (q : List ℕ) → has names.keys q ≡ is_either spots.now.held.entries but race.now old_race.now q) }
 {
     let mut names = BTreeSet::new(alloc);
     note_current(&mut names, spots, old_race, but, steps)?;
@@ -352,7 +320,7 @@ fn note_missing(
     set: &BTreeSet<Name>,
     other: &BTreeSet<Name>,
 ) -> Result<(), Memory>
-    ensures { OnOk result ((q : List ℕ) → has names.new.keys q ≡ ((has set.now.keys q && not (has other.now.keys q)) || has names.old.keys q)) }
+    ensures { OnOk result ((q : List ℕ) → has names.new.keys q ≡ (is_only set.now.keys other.now.keys q || has names.old.keys q)) }
 {
     let list = names::listed(alloc, set)?;
     names::note_others(names, list.items(), other)
@@ -367,7 +335,7 @@ fn note_differing(
     before: &BTreeSet<Name>,
     after: &BTreeSet<Name>,
 ) -> Result<(), Memory>
-    ensures { OnOk result ((q : List ℕ) → has names.new.keys q ≡ ((bytes_eq q name && wanted) || ((has after.now.keys q && not (has before.now.keys q)) || ((has before.now.keys q && not (has after.now.keys q)) || has names.old.keys q)))) }
+    ensures { OnOk result (AddsDiffering name wanted before.now.keys after.now.keys names.old.keys names.new.keys) }
 {
     note_missing(alloc, names, before, after)?;
     note_missing(alloc, names, after, before)?;
@@ -403,12 +371,12 @@ struct Known {
 /// Before the versions among which a name may be current, and before those where it may be once an entry is put to it.
 fn races_of<L: Ledger>(
     alloc: Global,
-    facts: &Table<Name, Entry>,
+    facts: &Tracked<Name, Entry>,
     name: Name,
     entry: &Entry,
     steps: &mut Steps<L>,
 ) -> Result<(Option<Within<Group, Late>>, Option<Within<Group, Late>>), Memory>
-    ensures { IfOk result (λ races. races ≡ (race_at facts.now.entries name, race_in entry.now)) }
+    ensures { IfOk result (λ races. races ≡ (race_at facts.now.held.entries name, race_in entry.now)) }
 {
     let old_race = race_of(alloc, facts, name, steps)?;
     match entry.race(alloc) {
@@ -423,21 +391,20 @@ fn races_of<L: Ledger>(
 /// What is known of a name to which an entry is to be put.
 fn known_of<L: Ledger>(
     alloc: Global,
-    facts: &Table<Name, Entry>,
-    spots: &Table<Within<Group, Late>, ()>,
+    maps: &Maps,
     name: Name,
     entry: &Entry,
     steps: &mut Steps<L>,
 ) -> Result<Known, Memory>
-    requires { IsStrictlySortedBy spot_cmp (keys_of spots.now.entries) }
-    ensures old_race { IfOk result (λ known. known.old_race ≡ race_at facts.now.entries name) }
+    requires { IsStrictlySortedBy spot_cmp (keys_of maps.now.spots.held.entries) }
+    ensures old_race { IfOk result (λ known. known.old_race ≡ race_at maps.now.facts.held.entries name) }
     ensures race { IfOk result (λ known. known.race ≡ race_in entry.now) }
-    ensures row { IfOk result (λ known. known.row ≡ row_by (value_at bytes_cmp name facts.now.entries) (λ race. is_placed name (top spots.now.entries race))) }
-    ensures leaders { IfOk result (λ known. (q : List ℕ) → has known.leaders.keys q ≡ (not (bytes_eq q name) && (is_placed q (top spots.now.entries known.race) || is_placed q (top spots.now.entries known.old_race)))) }
+    ensures row { IfOk result (λ known. known.row ≡ row_at (rows_of maps.now) name) }
+    ensures leaders { IfOk result (λ known. (q : List ℕ) → has known.leaders.keys q ≡ is_either maps.now.spots.held.entries name known.race known.old_race q) }
 {
-    let row = row_of(alloc, facts, spots, name, steps)?;
-    let (old_race, race) = races_of(alloc, facts, name, entry, steps)?;
-    match leaders(alloc, spots, &old_race, &race, name, steps) {
+    let row = row_of(alloc, maps, name, steps)?;
+    let (old_race, race) = races_of(alloc, &maps.facts, name, entry, steps)?;
+    match leaders(alloc, &maps.spots, &old_race, &race, name, steps) {
         Ok(leaders) => Ok(Known {
             old_race,
             race,
@@ -455,18 +422,24 @@ fn known_of<L: Ledger>(
 /// The names whose rows differ from those that are known.
 fn changed_since<L: Ledger>(
     alloc: Global,
-    facts: &Table<Name, Entry>,
-    spots: &Table<Within<Group, Late>, ()>,
+    maps: &Maps,
     name: Name,
     known: &Known,
     steps: &mut Steps<L>,
 ) -> Result<List<Name>, Memory>
-    requires { IsStrictlySortedBy spot_cmp (keys_of spots.now.entries) }
-    ensures names { IfOk result (λ list. (q : List ℕ) → has list q ≡ ((bytes_eq q name && not (same_row known.now.row (row_by (value_at bytes_cmp name facts.now.entries) (λ race. is_placed name (top spots.now.entries race))))) || in_one (has known.now.leaders.keys q) (not (bytes_eq q name) && (is_placed q (top spots.now.entries known.now.race) || is_placed q (top spots.now.entries known.now.old_race))))) }
+    requires { IsStrictlySortedBy spot_cmp (keys_of maps.now.spots.held.entries) }
+    ensures names { IfOk result (AreSince known.now (rows_of maps.now) name) }
     ensures rising { IfOk result (λ list. IsStrictlySortedBy bytes_cmp list) }
 {
-    let row = row_of(alloc, facts, spots, name, steps)?;
-    let after = leaders(alloc, spots, &known.old_race, &known.race, name, steps)?;
+    let row = row_of(alloc, maps, name, steps)?;
+    let after = leaders(
+        alloc,
+        &maps.spots,
+        &known.old_race,
+        &known.race,
+        name,
+        steps,
+    )?;
     let names = differing(
         alloc,
         name,
@@ -478,49 +451,21 @@ fn changed_since<L: Ledger>(
     names
 }
 
-/// Puts a fact, in the place of that of its name where there is one. After `Memory` a part may be done; the logs have it.
+/// Puts a fact, in the place of that of its name where there is one. After `Memory` a part may be done.
 fn replace<L: Ledger>(
     alloc: Global,
-    facts: &mut Table<Name, Entry>,
-    spots: &mut Table<Within<Group, Late>, ()>,
-    targets: &mut Table<Within<Text, Late>, ()>,
-    facts_log: &mut Log<Name, Entry>,
-    spots_log: &mut Log<Within<Group, Late>, ()>,
-    targets_log: &mut Log<Within<Text, Late>, ()>,
+    maps: &mut Maps,
     name: Name,
     entry: Entry,
     steps: &mut Steps<L>,
 ) -> Result<(), Memory>
-    requires kept { IsKept (record { facts = facts.old; spots = spots.old; targets = targets.old }) }
-    ensures entries { OnOk result (facts.new.entries ≡ with_entry bytes_cmp name entry facts.old.entries) }
-    ensures kept { OnOk result (IsKept (record { facts = facts.new; spots = spots.new; targets = targets.new })) }
-    ensures undoes_facts { (before : Contents (List ℕ) entry_type.Entry) → Undoes bytes_cmp facts_log.old facts.old before → Undoes bytes_cmp facts_log.new facts.new before }
-    ensures undoes_spots { (before : Contents Spot Unit) → Undoes spot_cmp spots_log.old spots.old before → Undoes spot_cmp spots_log.new spots.new before }
-    ensures undoes_targets { (before : Contents Target Unit) → Undoes target_cmp targets_log.old targets.old before → Undoes target_cmp targets_log.new targets.new before }
+    requires kept { IsKept (rows_of maps.old) }
+    ensures entries { OnOk result (maps.new.facts.held.entries ≡ with_entry bytes_cmp name entry maps.old.facts.held.entries) }
+    ensures kept { OnOk result (IsKept (rows_of maps.new)) }
+    ensures was { rows_before maps.new ≡ rows_before maps.old }
 {
-    match take_out(
-        alloc,
-        facts,
-        spots,
-        targets,
-        facts_log,
-        spots_log,
-        targets_log,
-        name,
-        steps,
-    ) {
-        Ok(()) => put_fact(
-            alloc,
-            facts,
-            spots,
-            targets,
-            facts_log,
-            spots_log,
-            targets_log,
-            name,
-            entry,
-            steps,
-        ),
+    match take_out(alloc, maps, name, steps) {
+        Ok(()) => put_fact(alloc, maps, name, entry, steps),
         Err(Memory) => {
             drop(entry);
             Err(Memory)
@@ -531,39 +476,21 @@ fn replace<L: Ledger>(
 /// Puts a fact, in the place of that of its name where there is one, and tells the names whose rows differ.
 fn put_among<L: Ledger>(
     alloc: Global,
-    facts: &mut Table<Name, Entry>,
-    spots: &mut Table<Within<Group, Late>, ()>,
-    targets: &mut Table<Within<Text, Late>, ()>,
-    facts_log: &mut Log<Name, Entry>,
-    spots_log: &mut Log<Within<Group, Late>, ()>,
-    targets_log: &mut Log<Within<Text, Late>, ()>,
+    maps: &mut Maps,
     name: Name,
     entry: Entry,
     steps: &mut Steps<L>,
 ) -> Result<List<Name>, Memory>
-    requires kept { IsKept (record { facts = facts.old; spots = spots.old; targets = targets.old }) }
-    ensures entries { OnOk result (facts.new.entries ≡ with_entry bytes_cmp name entry facts.old.entries) }
-    ensures kept { OnOk result (IsKept (record { facts = facts.new; spots = spots.new; targets = targets.new })) }
-    ensures changed { IfOk result (ListsChanged (pages_row (facts_of facts.old.entries)) (pages_row (facts_of (with_entry bytes_cmp name entry facts.old.entries)))) }
-    ensures undoes_facts { (before : Contents (List ℕ) entry_type.Entry) → Undoes bytes_cmp facts_log.old facts.old before → Undoes bytes_cmp facts_log.new facts.new before }
-    ensures undoes_spots { (before : Contents Spot Unit) → Undoes spot_cmp spots_log.old spots.old before → Undoes spot_cmp spots_log.new spots.new before }
-    ensures undoes_targets { (before : Contents Target Unit) → Undoes target_cmp targets_log.old targets.old before → Undoes target_cmp targets_log.new targets.new before }
+    requires kept { IsKept (rows_of maps.old) }
+    ensures entries { OnOk result (maps.new.facts.held.entries ≡ with_entry bytes_cmp name entry maps.old.facts.held.entries) }
+    ensures kept { OnOk result (IsKept (rows_of maps.new)) }
+    ensures changed { IfOk result (ListsPut name entry maps.old.facts.held.entries) }
+    ensures was { rows_before maps.new ≡ rows_before maps.old }
 {
-    match known_of(alloc, facts, spots, name, &entry, steps) {
-        Ok(known) => match replace(
-            alloc,
-            facts,
-            spots,
-            targets,
-            facts_log,
-            spots_log,
-            targets_log,
-            name,
-            entry,
-            steps,
-        ) {
+    match known_of(alloc, maps, name, &entry, steps) {
+        Ok(known) => match replace(alloc, maps, name, entry, steps) {
             Ok(()) => {
-                let changed = changed_since(alloc, facts, spots, name, &known, steps);
+                let changed = changed_since(alloc, maps, name, &known, steps);
                 drop(known);
                 changed
             }
@@ -591,94 +518,47 @@ fn one(alloc: Global, name: Name) -> Result<List<Name>, Memory>
 /// Puts a new version of a page. Its row alone differs.
 fn put_page<L: Ledger>(
     alloc: Global,
-    facts: &mut Table<Name, Entry>,
-    spots: &mut Table<Within<Group, Late>, ()>,
-    targets: &mut Table<Within<Text, Late>, ()>,
-    facts_log: &mut Log<Name, Entry>,
-    spots_log: &mut Log<Within<Group, Late>, ()>,
-    targets_log: &mut Log<Within<Text, Late>, ()>,
+    maps: &mut Maps,
     name: Name,
     entry: Entry,
     steps: &mut Steps<L>,
 ) -> Result<List<Name>, Memory>
-    requires kept { IsKept (record { facts = facts.old; spots = spots.old; targets = targets.old }) }
-    requires absent { value_at bytes_cmp name facts.old.entries ≡ None }
+    requires kept { IsKept (rows_of maps.old) }
+    requires absent { value_at bytes_cmp name maps.old.facts.held.entries ≡ None }
     requires page { is_page entry ≡ true }
-    ensures entries { OnOk result (facts.new.entries ≡ with_entry bytes_cmp name entry facts.old.entries) }
-    ensures kept { OnOk result (IsKept (record { facts = facts.new; spots = spots.new; targets = targets.new })) }
-    ensures changed { IfOk result (ListsChanged (pages_row (facts_of facts.old.entries)) (pages_row (facts_of (with_entry bytes_cmp name entry facts.old.entries)))) }
-    ensures undoes_facts { (before : Contents (List ℕ) entry_type.Entry) → Undoes bytes_cmp facts_log.old facts.old before → Undoes bytes_cmp facts_log.new facts.new before }
-    ensures undoes_spots { (before : Contents Spot Unit) → Undoes spot_cmp spots_log.old spots.old before → Undoes spot_cmp spots_log.new spots.new before }
-    ensures undoes_targets { (before : Contents Target Unit) → Undoes target_cmp targets_log.old targets.old before → Undoes target_cmp targets_log.new targets.new before }
+    ensures entries { OnOk result (maps.new.facts.held.entries ≡ with_entry bytes_cmp name entry maps.old.facts.held.entries) }
+    ensures kept { OnOk result (IsKept (rows_of maps.new)) }
+    ensures changed { IfOk result (ListsPut name entry maps.old.facts.held.entries) }
+    ensures was { rows_before maps.new ≡ rows_before maps.old }
     ensures cost { steps.new ≤ steps.old + 2 }
-    ensures logged { length facts_log.new + length spots_log.new + length targets_log.new ≤ length facts_log.old + length spots_log.old + length targets_log.old + 2 }
+    ensures back { steps_back maps.new ≤ steps_back maps.old + 2 }
 {
-    put_fact(
-        alloc,
-        facts,
-        spots,
-        targets,
-        facts_log,
-        spots_log,
-        targets_log,
-        name,
-        entry,
-        steps,
-    )?;
+    put_fact(alloc, maps, name, entry, steps)?;
     one(alloc, name)
 }
 
 /// Puts a fact, a new one where `new` says so, or in the place of that of its name, and tells the names whose rows differ. After
-/// `Memory` a part may be done; the logs have it.
+/// `Memory` a part may be done.
 pub(crate) fn put_either<L: Ledger>(
     alloc: Global,
-    facts: &mut Table<Name, Entry>,
-    spots: &mut Table<Within<Group, Late>, ()>,
-    targets: &mut Table<Within<Text, Late>, ()>,
-    facts_log: &mut Log<Name, Entry>,
-    spots_log: &mut Log<Within<Group, Late>, ()>,
-    targets_log: &mut Log<Within<Text, Late>, ()>,
+    maps: &mut Maps,
     name: Name,
     entry: Entry,
     new: bool,
     steps: &mut Steps<L>,
 ) -> Result<List<Name>, Memory>
-    requires kept { IsKept (record { facts = facts.old; spots = spots.old; targets = targets.old }) }
-    requires absent { new ≡ true → value_at bytes_cmp name facts.old.entries ≡ None }
-    ensures entries { OnOk result (facts.new.entries ≡ with_entry bytes_cmp name entry facts.old.entries) }
-    ensures kept { OnOk result (IsKept (record { facts = facts.new; spots = spots.new; targets = targets.new })) }
-    ensures changed { IfOk result (ListsChanged (pages_row (facts_of facts.old.entries)) (pages_row (facts_of (with_entry bytes_cmp name entry facts.old.entries)))) }
-    ensures undoes_facts { (before : Contents (List ℕ) entry_type.Entry) → Undoes bytes_cmp facts_log.old facts.old before → Undoes bytes_cmp facts_log.new facts.new before }
-    ensures undoes_spots { (before : Contents Spot Unit) → Undoes spot_cmp spots_log.old spots.old before → Undoes spot_cmp spots_log.new spots.new before }
-    ensures undoes_targets { (before : Contents Target Unit) → Undoes target_cmp targets_log.old targets.old before → Undoes target_cmp targets_log.new targets.new before }
+    requires kept { IsKept (rows_of maps.old) }
+    requires absent { new ≡ true → value_at bytes_cmp name maps.old.facts.held.entries ≡ None }
+    ensures entries { OnOk result (maps.new.facts.held.entries ≡ with_entry bytes_cmp name entry maps.old.facts.held.entries) }
+    ensures kept { OnOk result (IsKept (rows_of maps.new)) }
+    ensures changed { IfOk result (ListsPut name entry maps.old.facts.held.entries) }
+    ensures was { rows_before maps.new ≡ rows_before maps.old }
     ensures cost { (new && is_page entry) ≡ true → steps.new ≤ steps.old + 2 }
-    ensures logged { (new && is_page entry) ≡ true → length facts_log.new + length spots_log.new + length targets_log.new ≤ length facts_log.old + length spots_log.old + length targets_log.old + 2 }
+    ensures back { (new && is_page entry) ≡ true → steps_back maps.new ≤ steps_back maps.old + 2 }
 {
     if new && entry.is_page() {
-        put_page(
-            alloc,
-            facts,
-            spots,
-            targets,
-            facts_log,
-            spots_log,
-            targets_log,
-            name,
-            entry,
-            steps,
-        )
+        put_page(alloc, maps, name, entry, steps)
     } else {
-        put_among(
-            alloc,
-            facts,
-            spots,
-            targets,
-            facts_log,
-            spots_log,
-            targets_log,
-            name,
-            entry,
-            steps,
-        )
+        put_among(alloc, maps, name, entry, steps)
     }
 }

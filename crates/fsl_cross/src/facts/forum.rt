@@ -31,7 +31,7 @@ pub(crate) fn fact_of(alloc: Global, item: &Held) -> Result<Option<Fact>, Memory
 }
 
 /// The facts that artifacts give. `Memory` is the only error.
-fn of_items(alloc: Global, items: &Items) -> Result<Vec<Fact>, Memory>
+pub(crate) fn of_items(alloc: Global, items: &Items) -> Result<Vec<Fact>, Memory>
     ensures { IfOk result (λ facts. facts.items ≡ forum_facts items.now) }
 {
     let mut facts = Vec::new(alloc);

@@ -8,16 +8,13 @@ use Rattle.fsl_cluster.proofs.rows.put_anew.Goals as goal
 
 pub put_fact-requires-clause-absent : goal.put_fact-requires-clause-absent
 put_fact-requires-clause-absent g c =
-    ap (value_at bytes_cmp c.args.fact.name) c.in_ok-take_out.ensures.entries ∙ none-without c.args.fact.name c.args.tables.now.facts.entries c.requires.kept.laid.ordered
+    ap (value_at bytes_cmp c.args.fact.name) c.in_ok-take_out.ensures.entries ∙ none-without c.args.fact.name c.args.maps.now.facts.held.entries c.requires.kept.laid.ordered
 
 pub returns-clause-entries : goal.returns-clause-entries
 returns-clause-entries g c =
     on_ok_map c.put_fact.result
-    (λ put. put ∙ ap (with_entry bytes_cmp c.args.fact.name (entry_of c.args.fact)) c.in_ok-take_out.ensures.entries ∙ with-without c.args.fact.name (entry_of c.args.fact) c.args.tables.now.facts.entries c.requires.kept.laid.ordered)
+    (λ put. put ∙ ap (with_entry bytes_cmp c.args.fact.name (entry_of c.args.fact)) c.in_ok-take_out.ensures.entries ∙ with-without c.args.fact.name (entry_of c.args.fact) c.args.maps.now.facts.held.entries c.requires.kept.laid.ordered)
     c.put_fact.ensures.entries
 
 pub returns-clause-flips : goal.returns-clause-flips
 returns-clause-flips g c = on_ok_map c.put_fact.result (λ put before f. put before (c.in_ok-take_out.ensures.flips before f)) c.put_fact.ensures.flips
-
-pub returns-clause-undoes : goal.returns-clause-undoes
-returns-clause-undoes g c = λ before u. c.put_fact.ensures.undoes before (c.take_out.ensures.undoes before u)

@@ -1,7 +1,8 @@
+use Rattle.fsl_cluster.specs.Kept.{tables_in}
 use Rattle.fsl_cluster.proofs.Changed.{changed_is}
 use Rattle.fsl_cluster.proofs.rows.put_over.Goals as goal
 
 pub returns-clause-changed : goal.returns-clause-changed
 returns-clause-changed g c =
-    changed_is c.args.tables.now c.put_other.new.tables c.new-flips.result c.put_other.new.flips c.put_other.result c.requires.kept c.new-flips.ensures.unclustered c.new-flips.ensures.missing
+    changed_is (tables_in c.args.maps.now) (tables_in c.put_other.new.maps) c.new-flips.result c.put_other.new.flips c.put_other.result c.requires.kept c.new-flips.ensures.unclustered c.new-flips.ensures.missing
     c.put_other.ensures.kept c.put_other.ensures.flips c.put_other.ensures.list c.put_other.ensures.rising

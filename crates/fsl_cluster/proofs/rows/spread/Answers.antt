@@ -2,35 +2,8 @@ use Rattle.std.proofs.Common.{◌||◌, ◌&&◌, not, ◌∙◌, ap}
 use Rattle.std.specs.Str.{bytes_eq}
 use Rattle.fsl_order.specs.Names.{has}
 use Rattle.fsl_table.proofs.Outcomes.{on_ok_map, always_ok}
-use Rattle.fsl_cluster.specs.Kept.{is_in, is_unheld}
+use Rattle.fsl_cluster.specs.Kept.{is_in, is_unheld, tables_in}
 use Rattle.fsl_cluster.proofs.rows.spread.Goals as goal
-
-pub returns-in_err-link_both-clause-undoes : goal.returns-in_err-link_both-clause-undoes
-returns-in_err-link_both-clause-undoes g c = λ before u. record {
-  facts = u.facts;
-  members = c.link_both.ensures.undoes_members before.members u.members;
-  refs = c.link_both.ensures.undoes_refs before.refs u.refs;
-  unclustered = u.unclustered;
-  missing = u.missing;
-}
-
-pub returns-in_err-take_names-clause-undoes : goal.returns-in_err-take_names-clause-undoes
-returns-in_err-take_names-clause-undoes g c = λ before u. record {
-  facts = u.facts;
-  members = c.link_both.ensures.undoes_members before.members u.members;
-  refs = c.link_both.ensures.undoes_refs before.refs u.refs;
-  unclustered = c.take_names.ensures.undoes before.unclustered u.unclustered;
-  missing = u.missing;
-}
-
-pub returns-clause-undoes : goal.returns-clause-undoes
-returns-clause-undoes g c = λ before u. record {
-  facts = u.facts;
-  members = c.link_both.ensures.undoes_members before.members u.members;
-  refs = c.link_both.ensures.undoes_refs before.refs u.refs;
-  unclustered = c.take_names.ensures.undoes before.unclustered u.unclustered;
-  missing = c.put_missing.ensures.undoes before.missing u.missing;
-}
 
 pub returns-clause-flips : goal.returns-clause-flips
 returns-clause-flips g c =
@@ -50,11 +23,11 @@ returns-clause-refs g c = always_ok c.put_missing.result c.in_ok-link_both.ensur
 pub returns-clause-unclustered : goal.returns-clause-unclustered
 returns-clause-unclustered g c =
     always_ok c.put_missing.result
-    (λ q. c.in_ok-take_names.ensures.names q ∙ ap (λ l. is_in c.args.tables.now.unclustered.entries q && not (has l q)) c.items.ensures)
+    (λ q. c.in_ok-take_names.ensures.names q ∙ ap (λ l. is_in c.args.maps.now.unclustered.held.entries q && not (has l q)) c.items.ensures)
 
 pub returns-clause-missing : goal.returns-clause-missing
 returns-clause-missing g c =
-    let old = c.args.tables.now in
+    let old = tables_in c.args.maps.now in
     let name = c.args.fact.now.name in
     on_ok_map c.put_missing.result
     (λ names q. names q ∙ ap (λ l. (is_in old.missing.entries q || (has l q && is_unheld old.facts.entries name q)) && not (bytes_eq q name)) c.items-2.ensures)

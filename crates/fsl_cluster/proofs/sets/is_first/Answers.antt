@@ -6,4 +6,4 @@ use Rattle.fsl_cluster.proofs.sets.is_first.Goals as goal
 
 pub returns-clause-named : goal.returns-clause-named
 returns-clause-named g c =
-    c.is_some.ensures ∙ ap is_some (c.second_after.ensures.next ∙ next_second c.args.name None c.args.pairs.now.entries c.requires ∙ ap first_of (rest_none (seconds c.args.name c.args.pairs.now.entries)))
+    c.is_some.ensures ∙ ap is_some (c.second_after.ensures.next ∙ next_second c.args.name None c.args.pairs.now.held.entries c.requires ∙ ap first_of (rest_none (seconds c.args.name c.args.pairs.now.held.entries)))

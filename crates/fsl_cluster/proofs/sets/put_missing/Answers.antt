@@ -8,6 +8,3 @@ returns-clause-names g c = on_ok_map c.take_name.result (λ names q. names q ∙
 
 pub returns-clause-turned : goal.returns-clause-turned
 returns-clause-turned g c = on_ok_map c.take_name.result (λ turned before f. turned before (c.in_ok-put_unheld.ensures.turned before f)) c.take_name.ensures.turned
-
-pub returns-clause-undoes : goal.returns-clause-undoes
-returns-clause-undoes g c = λ before u. c.take_name.ensures.undoes before (c.put_unheld.ensures.undoes before u)

@@ -10,29 +10,29 @@ use Rattle.fsl_cluster.proofs.Turning.{in_with, put_same, put_turns, turns}
 use Rattle.fsl_cluster.proofs.sets.put_name.Goals as goal
 
 pub returns-then-there-clause-names : goal.returns-then-there-clause-names
-returns-then-there-clause-names g c = λ q. ap (λ es. is_in es q) c.in_ok-there.ensures.ok ∙ in_with c.args.name c.args.names.now.entries q
+returns-then-there-clause-names g c = λ q. ap (λ es. is_in es q) c.in_ok-there.ensures.ok ∙ in_with c.args.name c.args.names.now.held.entries q
 
 pub returns-then-there-clause-turned : goal.returns-then-there-clause-turned
 returns-then-there-clause-turned g c = λ before all q.
     all q
     ∙ ap (differs (before q))
-    (sym (ap (λ es. is_in es q) c.in_ok-there.ensures.ok ∙ in_with c.args.name c.args.names.now.entries q ∙ put_same c.args.name (is_in c.args.names.now.entries) (sym c.in_ok-there.ensures.there ∙ c.if-there.true) q))
+    (sym (ap (λ es. is_in es q) c.in_ok-there.ensures.ok ∙ in_with c.args.name c.args.names.now.held.entries q ∙ put_same c.args.name (is_in c.args.names.now.held.entries) (sym c.in_ok-there.ensures.there ∙ c.if-there.true) q))
 
 pub returns-then-there-clause-ordered : goal.returns-then-there-clause-ordered
 returns-then-there-clause-ordered g c =
-    subst (λ es. IsStrictlySortedBy bytes_cmp (keys_of es)) (sym c.in_ok-there.ensures.ok) (sorted-insert_entry bytes_cmp-IsTotalOrder c.args.name tt c.args.names.now.entries c.requires)
+    subst (λ es. IsStrictlySortedBy bytes_cmp (keys_of es)) (sym c.in_ok-there.ensures.ok) (sorted-insert_entry bytes_cmp-IsTotalOrder c.args.name tt c.args.names.now.held.entries c.requires)
 
 pub returns-clause-names : goal.returns-clause-names
-returns-clause-names g c = always_ok c.flip.result (λ q. ap (λ es. is_in es q) c.in_ok-there.ensures.ok ∙ in_with c.args.name c.args.names.now.entries q)
+returns-clause-names g c = always_ok c.flip.result (λ q. ap (λ es. is_in es q) c.in_ok-there.ensures.ok ∙ in_with c.args.name c.args.names.now.held.entries q)
 
 pub returns-clause-turned : goal.returns-clause-turned
 returns-clause-turned g c =
     on_ok_map c.flip.result
     (λ flipped before all q.
-    turns _ (has c.args.turned.now.keys q) (has c.flip.new.names.keys q) (is_in c.args.names.now.entries q) (is_in c.insert.new.table.entries q) (before q) (flipped q)
-    (ap (λ es. is_in es q) c.in_ok-there.ensures.ok ∙ in_with c.args.name c.args.names.now.entries q ∙ put_turns c.args.name (is_in c.args.names.now.entries) (sym c.in_ok-there.ensures.there ∙ c.if-there.false) q) (all q))
+    turns _ (has c.args.turned.now.keys q) (has c.flip.new.names.keys q) (is_in c.args.names.now.held.entries q) (is_in c.insert.new.self.held.entries q) (before q) (flipped q)
+    (ap (λ es. is_in es q) c.in_ok-there.ensures.ok ∙ in_with c.args.name c.args.names.now.held.entries q ∙ put_turns c.args.name (is_in c.args.names.now.held.entries) (sym c.in_ok-there.ensures.there ∙ c.if-there.false) q) (all q))
     c.flip.ensures.flipped
 
 pub returns-clause-ordered : goal.returns-clause-ordered
 returns-clause-ordered g c =
-    always_ok c.flip.result (subst (λ es. IsStrictlySortedBy bytes_cmp (keys_of es)) (sym c.in_ok-there.ensures.ok) (sorted-insert_entry bytes_cmp-IsTotalOrder c.args.name tt c.args.names.now.entries c.requires))
+    always_ok c.flip.result (subst (λ es. IsStrictlySortedBy bytes_cmp (keys_of es)) (sym c.in_ok-there.ensures.ok) (sorted-insert_entry bytes_cmp-IsTotalOrder c.args.name tt c.args.names.now.held.entries c.requires))

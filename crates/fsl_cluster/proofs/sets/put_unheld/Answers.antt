@@ -10,9 +10,6 @@ use Rattle.fsl_cluster.proofs.sets.put_unheld.Goals as goal
 pub put_wanted-requires : goal.put_wanted-requires
 put_wanted-requires g c = c.loop-one.invariant.ordered
 
-pub returns-in_err-put_wanted-clause-undoes : goal.returns-in_err-put_wanted-clause-undoes
-returns-in_err-put_wanted-clause-undoes g c = λ before u. c.put_wanted.ensures.undoes before (c.loop-one.invariant.undoes before u)
-
 pub loop-one-preserved : goal.loop-one-preserved
 loop-one-preserved g c =
     let i = c.loop-one.one-index in
@@ -21,14 +18,14 @@ loop-one-preserved g c =
     let cut : drop i c.args.some.now ≡ p ∷ rest = drop_more c.args.some.now i p c.loop-one-test.true ∙ ap (λ x. x ∷ rest) (sym c.one-item.is) in
     record {
       names = λ q.
-          ap (λ b. b || (has rest q && is_unheld c.args.facts.now.entries c.args.name q)) (c.in_ok-put_wanted.ensures.names q)
-          ∙ in-step (is_in c.loop-one.names.entries q) (bytes_eq q p) (has rest q) c.is_wanting-wanted.result (is_unheld c.args.facts.now.entries c.args.name q) _
-          (λ s. c.is_wanting-wanted.ensures.is ∙ ap (is_unheld c.args.facts.now.entries c.args.name) (sym ((bytes_decides q p).0 s)))
-          (ap (λ l. is_in c.loop-one.names.entries q || (has l q && is_unheld c.args.facts.now.entries c.args.name q)) (sym cut) ∙ c.loop-one.invariant.names q);
+          ap (λ b. b || (has rest q && is_unheld c.args.facts.now.held.entries c.args.name q)) (c.in_ok-put_wanted.ensures.names q)
+          ∙ in-step (is_in c.loop-one.names.held.entries q) (bytes_eq q p) (has rest q) c.is_wanting-wanted.result (is_unheld c.args.facts.now.held.entries c.args.name q) _
+          (λ s. c.is_wanting-wanted.ensures.is ∙ ap (is_unheld c.args.facts.now.held.entries c.args.name) (sym ((bytes_decides q p).0 s)))
+          (ap (λ l. is_in c.loop-one.names.held.entries q || (has l q && is_unheld c.args.facts.now.held.entries c.args.name q)) (sym cut) ∙ c.loop-one.invariant.names q);
       turned = λ before all. c.in_ok-put_wanted.ensures.turned before (c.loop-one.invariant.turned before all);
       ordered = c.in_ok-put_wanted.ensures.ordered;
-      undoes = λ before u. c.put_wanted.ensures.undoes before (c.loop-one.invariant.undoes before u);
+      was = c.put_wanted.ensures.was ∙ c.loop-one.invariant.was;
       cost = omega (arith, c.put_wanted.ensures.most, c.is_wanting-wanted.ensures.most, c.loop-one.invariant.cost);
-      logged = omega (arith, c.put_wanted.ensures.logged, c.loop-one.invariant.logged);
+      back = omega (arith, c.put_wanted.ensures.back, c.loop-one.invariant.back);
       within = omega (arith, c.loop-one-test.true);
     }

@@ -1,20 +1,18 @@
-use Rattle.std.proofs.Common.{◌≡◌, ◌+◌, ◌*◌, ◌≤◌, ◌&&◌, ◌||◌, Bool, List, ℕ, drop, length}
+use Rattle.std.proofs.Common.{◌≡◌, ◌+◌, ◌*◌, ◌≤◌, ◌&&◌, ◌||◌, List, ℕ, drop, length}
 use Rattle.std.specs.List.Sorted.{IsStrictlySortedBy}
 use Rattle.std.specs.Map.{keys_of}
 use Rattle.fsl_order.specs.Names.{bytes_cmp, has}
-use Rattle.fsl_table.specs.Contents.{Contents}
-use Rattle.fsl_table.specs.Undo.{Undoes}
-use Rattle.fsl_cluster.specs.Kept.{AreTurned, is_in, is_unheld}
+use Rattle.fsl_cluster.specs.Kept.{StayTurned, is_in, is_unheld}
 use Rattle.fsl_cluster.proofs.sets.put_unheld.Given as goal
 
 -- with those that are left, it is the whole
 abbrev pub invariant-loop-one : goal.invariant-loop-one
 invariant-loop-one g l = record {
-  names : (q : List ℕ) → (is_in l.names.entries q || (has (drop l.one-index l.some) q && is_unheld l.facts.entries l.name q)) ≡ (is_in l.fn.names.entries q || (has l.some q && is_unheld l.facts.entries l.name q));
-  turned : (before : List ℕ → Bool) → AreTurned before l.fn.turned.keys l.fn.names.entries → AreTurned before l.turned.keys l.names.entries;
-  ordered : IsStrictlySortedBy bytes_cmp (keys_of l.names.entries);
-  undoes : (before : Contents (List ℕ) (Unit {0})) → Undoes bytes_cmp l.fn.log l.fn.names before → Undoes bytes_cmp l.log l.names before;
+  names : (q : List ℕ) → (is_in l.names.held.entries q || (has (drop l.one-index l.some) q && is_unheld l.facts.held.entries l.name q)) ≡ (is_in l.fn.names.held.entries q || (has l.some q && is_unheld l.facts.held.entries l.name q));
+  turned : StayTurned l.fn.turned.keys l.fn.names.held l.turned.keys l.names.held;
+  ordered : IsStrictlySortedBy bytes_cmp (keys_of l.names.held.entries);
+  was : l.names.was ≡ l.fn.names.was;
   cost : l.steps ≤ l.fn.steps + 2 * l.one-index;
-  logged : length l.log ≤ length l.fn.log + l.one-index;
+  back : l.names.back ≤ l.fn.names.back + l.one-index;
   within : l.one-index ≤ length l.some;
 }

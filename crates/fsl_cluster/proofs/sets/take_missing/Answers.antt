@@ -11,6 +11,3 @@ returns-clause-names g c =
 
 pub returns-clause-turned : goal.returns-clause-turned
 returns-clause-turned g c = on_ok_map c.put_wanted.result (λ turned before f. turned before (c.in_ok-take_unnamed.ensures.turned before f)) c.put_wanted.ensures.turned
-
-pub returns-clause-undoes : goal.returns-clause-undoes
-returns-clause-undoes g c = λ before u. c.put_wanted.ensures.undoes before (c.take_unnamed.ensures.undoes before u)

@@ -9,9 +9,6 @@ use Rattle.fsl_cluster.proofs.sets.take_names.Goals as goal
 pub take_name-requires : goal.take_name-requires
 take_name-requires g c = c.loop-one.invariant.ordered
 
-pub returns-in_err-take_name-clause-undoes : goal.returns-in_err-take_name-clause-undoes
-returns-in_err-take_name-clause-undoes g c = λ before u. c.take_name.ensures.undoes before (c.loop-one.invariant.undoes before u)
-
 pub loop-one-preserved : goal.loop-one-preserved
 loop-one-preserved g c =
     let i = c.loop-one.one-index in
@@ -21,12 +18,12 @@ loop-one-preserved g c =
     record {
       names = λ q.
           ap (λ b. b && not (has rest q)) (c.in_ok-take_name.ensures.names q)
-          ∙ out-step (is_in c.loop-one.names.entries q) (bytes_eq q p) (has rest q) _
-          (ap (λ l. is_in c.loop-one.names.entries q && not (has l q)) (sym cut) ∙ c.loop-one.invariant.names q);
+          ∙ out-step (is_in c.loop-one.names.held.entries q) (bytes_eq q p) (has rest q) _
+          (ap (λ l. is_in c.loop-one.names.held.entries q && not (has l q)) (sym cut) ∙ c.loop-one.invariant.names q);
       turned = λ before all. c.in_ok-take_name.ensures.turned before (c.loop-one.invariant.turned before all);
       ordered = c.in_ok-take_name.ensures.ordered;
-      undoes = λ before u. c.take_name.ensures.undoes before (c.loop-one.invariant.undoes before u);
+      was = c.take_name.ensures.was ∙ c.loop-one.invariant.was;
       cost = omega (arith, c.take_name.ensures.most, c.loop-one.invariant.cost);
-      logged = omega (arith, c.take_name.ensures.logged, c.loop-one.invariant.logged);
+      back = omega (arith, c.take_name.ensures.back, c.loop-one.invariant.back);
       within = omega (arith, c.loop-one-test.true);
     }

@@ -13,11 +13,11 @@ use Rattle.fsl_files.proofs.put.put_line.Goals as goal
 pub returns-clause-kept : goal.returns-clause-kept
 returns-clause-kept g c =
     let k = c.requires.kept in
-    let es = c.args.facts.now.entries in
+    let es = c.args.maps.now.facts.held.entries in
     let name = c.args.line.0 in
     let entry = c.args.line.1 in
-    let deltas = c.relink.new.pairs.entries in
-    let children = c.relink-2.new.pairs.entries in
+    let deltas = c.relink.new.pairs.held.entries in
+    let children = c.relink-2.new.pairs.held.entries in
     on_ok_map c.put.result
     (λ put. record {
       ordered = subst (λ l. IsStrictlySortedBy bytes_cmp (keys_of l)) (sym put) (sorted-insert_entry bytes_cmp-IsTotalOrder name entry es k.ordered);

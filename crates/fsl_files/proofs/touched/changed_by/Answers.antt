@@ -15,30 +15,30 @@ use Rattle.fsl_files.proofs.Staying.{lists_changed}
 use Rattle.fsl_files.proofs.touched.changed_by.Goals as goal
 
 pub note_own-requires-clause-new : goal.note_own-requires-clause-new
-note_own-requires-clause-new g c = subst AreFit (sym c.with-new.ensures) (fit_with c.args.line.now.0 c.args.line.now.1 c.args.facts.now.entries c.requires.kept.fit c.requires.fit)
+note_own-requires-clause-new g c = subst AreFit (sym c.with-new.ensures) (fit_with c.args.line.now.0 c.args.line.now.1 c.args.maps.now.facts.held.entries c.requires.kept.fit c.requires.fit)
 
 pub note_own-requires-clause-put : goal.note_own-requires-clause-put
 note_own-requires-clause-put g c =
     let line = c.args.line.now in
-    let es = c.args.facts.now.entries in
+    let es = c.args.maps.now.facts.held.entries in
     ap (λ l. is_some (value_at bytes_cmp line.0 l)) c.with-new.ensures ∙ ap is_some (value-with line.0 line.1 es line.0)
     ∙ ap (λ b. is_some (cond b (Some line.1) (value_at bytes_cmp line.0 es))) (nat_list_eq_equiv.refl line.0)
 
 pub note_others-requires-clause-new : goal.note_others-requires-clause-new
-note_others-requires-clause-new g c = subst AreFit (sym c.with-new.ensures) (fit_with c.args.line.now.0 c.args.line.now.1 c.args.facts.now.entries c.requires.kept.fit c.requires.fit)
+note_others-requires-clause-new g c = subst AreFit (sym c.with-new.ensures) (fit_with c.args.line.now.0 c.args.line.now.1 c.args.maps.now.facts.held.entries c.requires.kept.fit c.requires.fit)
 
 pub returns-in_err-note_others-clause-cost : goal.returns-in_err-note_others-clause-cost
-returns-in_err-note_others-clause-cost g c = λ new d k.
-    let none : length c.items.result.now ≡ 0 = ap length c.items.ensures ∙ none_touched c.args.deltas.now.entries c.args.children.now.entries c.args.line.now.0 c.in_ok-list.list c.in_ok-list.ensures.names d k in
-    let listed = c.in_ok-list.ensures.cost d k in
+returns-in_err-note_others-clause-cost g c = λ new alone.
+    let none : length c.items.result.now ≡ 0 = ap length c.items.ensures ∙ none_touched c.args.maps.now.deltas.held.entries c.args.maps.now.children.held.entries c.args.line.now.0 c.in_ok-list.list c.in_ok-list.ensures.names alone.0 alone.1 in
+    let listed = c.in_ok-list.ensures.cost alone.0 alone.1 in
     let own = c.note_own.ensures.cost new in
     let others = c.note_others.ensures.cost none in
     omega (arith, listed, own, others)
 
 pub returns-clause-cost : goal.returns-clause-cost
-returns-clause-cost g c = λ new d k.
-    let none : length c.items.result.now ≡ 0 = ap length c.items.ensures ∙ none_touched c.args.deltas.now.entries c.args.children.now.entries c.args.line.now.0 c.in_ok-list.list c.in_ok-list.ensures.names d k in
-    let listed = c.in_ok-list.ensures.cost d k in
+returns-clause-cost g c = λ new alone.
+    let none : length c.items.result.now ≡ 0 = ap length c.items.ensures ∙ none_touched c.args.maps.now.deltas.held.entries c.args.maps.now.children.held.entries c.args.line.now.0 c.in_ok-list.list c.in_ok-list.ensures.names alone.0 alone.1 in
+    let listed = c.in_ok-list.ensures.cost alone.0 alone.1 in
     let own = c.note_own.ensures.cost new in
     let others = c.note_others.ensures.cost none in
     omega (arith, listed, own, others)
@@ -56,10 +56,10 @@ either false false s = refl
 pub returns-clause-changed : goal.returns-clause-changed
 returns-clause-changed g c =
     let line = c.args.line.now in
-    let es = c.args.facts.now.entries in
+    let es = c.args.maps.now.facts.held.entries in
     let after = with_entry bytes_cmp line.0 line.1 es in
-    let deltas = c.args.deltas.now.entries in
-    let children = c.args.children.now.entries in
+    let deltas = c.args.maps.now.deltas.held.entries in
+    let children = c.args.maps.now.children.held.entries in
     let k = c.requires.kept in
     let same : (q : List ℕ) → not (is_same_row c.of-old.result c.with-new.result q) ≡ not (is_same_row es after q) = λ q.
     λ i. not (is_same_row (c.of-old.ensures i) (c.with-new.ensures i) q) in

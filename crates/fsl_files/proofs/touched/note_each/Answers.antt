@@ -9,7 +9,7 @@ use Rattle.fsl_files.proofs.touched.note_each.Goals as goal
 pub loop-up-preserved : goal.loop-up-preserved
 loop-up-preserved g c = record {
   noted = λ q.
-      let f : List ℕ → Bool = λ up. has (seconds up c.args.children.now.entries) q in
+      let f : List ℕ → Bool = λ up. has (seconds up c.args.children.now.held.entries) q in
       let rest = drop (c.loop-up.up-index + 1) c.args.ups.now in
       let cut : drop c.loop-up.up-index c.args.ups.now ≡ c.up-item.result ∷ rest = drop_more c.args.ups.now c.loop-up.up-index c.up-item.result c.loop-up-test.true ∙ ap (λ x. x ∷ rest) (sym c.up-item.is) in
       ap (λ b. list_any f rest || b) (c.in_ok-note_children.ensures.noted q)

@@ -9,8 +9,8 @@ use Rattle.fsl_files.proofs.touched.touched.Goals as goal
 
 pub returns-clause-names : goal.returns-clause-names
 returns-clause-names g c =
-    let deltas = c.args.deltas.now.entries in
-    let children = c.args.children.now.entries in
+    let deltas = c.args.deltas.now.held.entries in
+    let children = c.args.children.now.held.entries in
     let name = c.args.name in
     let noted : (q : List ℕ) → has c.note_each.new.names.keys q ≡ is_touched deltas children name q = λ q.
     c.in_ok-note_each.ensures.noted q

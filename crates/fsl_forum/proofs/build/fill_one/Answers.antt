@@ -8,4 +8,4 @@ pub returns-clause-followers : goal.returns-clause-followers
 returns-clause-followers g c =
     always_ok c.place_new.result
     (λ first of_ none.
-    subst (λ n. AreOf (λ x. cond (bytes_eq x c.args.fact.now.name) n (first x)) c.link_new.new.pairs.entries) c.next.ensures (c.in_ok-link_new.ensures first of_ none))
+    subst (λ n. AreOf (λ x. cond (bytes_eq x c.args.fact.now.name) n (first x)) c.relink.new.pairs.held.entries) c.next.ensures (c.in_ok-relink.ensures.pairs first of_ none))

@@ -7,7 +7,7 @@ use Rattle.fsl_forum.proofs.build.place_new.Goals as goal
 
 pub returns-in-Ok-clause-placed : goal.returns-in-Ok-clause-placed
 returns-in-Ok-clause-placed g c =
-    always_ok c.put_node.result
+    always_ok c.put.result
     (λ first of_ none.
-    subst (λ n. AreOf (λ x. cond (bytes_eq x c.args.fact.now.name) n (first x)) c.link_new.new.pairs.entries)
-    (c.place-place.ensures ∙ ap (λ n. place_by c.args.end (fact_of (c.args.fact.now.name, n))) c.in_ok-node.ensures) (c.in-Ok.ensures first of_ none))
+    subst (λ n. AreOf (λ x. cond (bytes_eq x c.args.fact.now.name) n (first x)) c.relink.new.pairs.held.entries)
+    (c.place-place.ensures ∙ ap (λ n. place_by c.args.end (fact_of (c.args.fact.now.name, n))) c.in_ok-node.ensures) (c.in-Ok.ensures.pairs first of_ none))

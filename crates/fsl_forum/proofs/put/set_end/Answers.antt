@@ -13,20 +13,20 @@ use Rattle.fsl_forum.proofs.put.set_end.Goals as goal
 
 pub returns-in-Some-clause-ordered : goal.returns-in-Some-clause-ordered
 returns-in-Some-clause-ordered g c =
-    on_ok_map c.put.result (λ e. subst (λ es. IsStrictlySortedBy bytes_cmp (keys_of es)) (sym e) (sorted-insert_entry bytes_cmp-IsTotalOrder c.args.name c.in-Some.end c.args.ends.now.entries c.requires)) c.put.ensures.ok
+    on_ok_map c.put.result (λ e. subst (λ es. IsStrictlySortedBy bytes_cmp (keys_of es)) (sym e) (sorted-insert_entry bytes_cmp-IsTotalOrder c.args.name c.in-Some.end c.args.ends.now.held.entries c.requires)) c.put.ensures.ok
 
 pub returns-in-Some-clause-ends : goal.returns-in-Some-clause-ends
 returns-in-Some-clause-ends g c =
     on_ok_map c.put.result
-    (λ e x. ap (value_at bytes_cmp x) e ∙ value-with c.args.name c.in-Some.end c.args.ends.now.entries x ∙ ap (λ o. cond (bytes_eq x c.args.name) o (value_at bytes_cmp x c.args.ends.now.entries)) (sym c.in-Some.is))
+    (λ e x. ap (value_at bytes_cmp x) e ∙ value-with c.args.name c.in-Some.end c.args.ends.now.held.entries x ∙ ap (λ o. cond (bytes_eq x c.args.name) o (value_at bytes_cmp x c.args.ends.now.held.entries)) (sym c.in-Some.is))
     c.put.ensures.ok
 
 pub returns-in-None-clause-ordered : goal.returns-in-None-clause-ordered
 returns-in-None-clause-ordered g c =
-    on_ok_map c.remove.result (λ e. subst (λ es. IsStrictlySortedBy bytes_cmp (keys_of es)) (sym e) (sorted-remove_entry bytes_cmp-IsTotalOrder (is_at (bytes_cmp c.args.name)) c.args.ends.now.entries c.requires)) c.remove.ensures.ok
+    on_ok_map c.remove.result (λ e. subst (λ es. IsStrictlySortedBy bytes_cmp (keys_of es)) (sym e) (sorted-remove_entry bytes_cmp-IsTotalOrder (is_at (bytes_cmp c.args.name)) c.args.ends.now.held.entries c.requires)) c.remove.ensures.ok
 
 pub returns-in-None-clause-ends : goal.returns-in-None-clause-ends
 returns-in-None-clause-ends g c =
     on_ok_map c.remove.result
-    (λ e x. ap (value_at bytes_cmp x) e ∙ value-without c.args.name c.args.ends.now.entries c.requires x ∙ ap (λ o. cond (bytes_eq x c.args.name) o (value_at bytes_cmp x c.args.ends.now.entries)) (sym c.in-None.is))
+    (λ e x. ap (value_at bytes_cmp x) e ∙ value-without c.args.name c.args.ends.now.held.entries c.requires x ∙ ap (λ o. cond (bytes_eq x c.args.name) o (value_at bytes_cmp x c.args.ends.now.held.entries)) (sym c.in-None.is))
     c.remove.ensures.ok

@@ -10,10 +10,7 @@ loop-name-preserved g c = record {
   ordered = c.in_ok-set_end.ensures.ordered;
   ends = λ x.
       c.in_ok-set_end.ensures.ends x ∙ ap (cond (bytes_eq x c.name-item.result) c.args.end.now) (c.loop-name.invariant.ends x)
-      ∙ over (bytes_eq x c.name-item.result) (has (take c.loop-name.name-index c.args.names.now) x) c.args.end.now (value_at bytes_cmp x c.args.ends.now.entries)
-      ∙ ap (λ b. cond b c.args.end.now (value_at bytes_cmp x c.args.ends.now.entries)) (sym (has-next c.args.names.now c.loop-name.name-index c.name-item.result c.loop-name-test.true c.name-item.is x));
-  undoes = λ before u. c.set_end.ensures.undoes before (c.loop-name.invariant.undoes before u);
+      ∙ over (bytes_eq x c.name-item.result) (has (take c.loop-name.name-index c.args.names.now) x) c.args.end.now (value_at bytes_cmp x c.args.ends.now.held.entries)
+      ∙ ap (λ b. cond b c.args.end.now (value_at bytes_cmp x c.args.ends.now.held.entries)) (sym (has-next c.args.names.now c.loop-name.name-index c.name-item.result c.loop-name-test.true c.name-item.is x));
+  was = c.set_end.ensures.was ∙ c.loop-name.invariant.was;
 }
-
-pub returns-in_err-set_end-clause-undoes : goal.returns-in_err-set_end-clause-undoes
-returns-in_err-set_end-clause-undoes g c = λ before u. c.set_end.ensures.undoes before (c.loop-name.invariant.undoes before u)

@@ -2,11 +2,8 @@ use Rattle.fsl_table.proofs.Outcomes.{both_ok}
 use Rattle.fsl_forum.proofs.Linked.{relinked}
 use Rattle.fsl_forum.proofs.rows.relink.Goals as goal
 
-pub returns-clause-undoes : goal.returns-clause-undoes
-returns-clause-undoes g c = λ before u. c.link.ensures.undoes before (c.unlink.ensures.undoes before u)
-
 pub returns-clause-pairs : goal.returns-clause-pairs
 returns-clause-pairs g c =
     both_ok c.link.result
-    (λ ordered pairs first of_ is. relinked first c.args.name c.args.old c.args.new c.args.pairs.now.entries c.unlink.new.pairs.entries c.link.new.pairs.entries of_ is ordered c.in_ok-unlink.ensures.pairs pairs)
+    (λ ordered pairs first of_ is. relinked first c.args.name c.args.old c.args.new c.args.pairs.now.held.entries c.unlink.new.self.held.entries c.link.new.self.held.entries of_ is ordered c.in_ok-unlink.ensures.pairs pairs)
     c.link.ensures.ordered c.link.ensures.pairs

@@ -13,11 +13,11 @@ put-requires g c = c.in_ok-again.ensures ∙ sym c.in_ok-key.ensures
 
 pub returns-clause-ordered : goal.returns-clause-ordered
 returns-clause-ordered g c =
-    on_ok_map c.put.result (λ e. subst (λ es. IsStrictlySortedBy kin_cmp (keys_of es)) (sym e) (sorted-insert_entry kin_cmp-IsTotalOrder _ tt c.args.children.now.entries c.requires)) c.put.ensures.ok
+    on_ok_map c.put.result (λ e. subst (λ es. IsStrictlySortedBy kin_cmp (keys_of es)) (sym e) (sorted-insert_entry kin_cmp-IsTotalOrder _ tt c.args.children.now.held.entries c.requires)) c.put.ensures.ok
 
 pub returns-clause-pairs : goal.returns-clause-pairs
 returns-clause-pairs g c =
-    let cs = c.args.children.now.entries in
+    let cs = c.args.children.now.held.entries in
     on_ok_map c.put.result
     (λ e k. ap (λ es. is_some (value_at kin_cmp k es)) (e ∙ ap (λ q. with_entry kin_cmp q tt cs) c.in_ok-key.ensures) ∙ kin-with c.args.parent c.args.branch.now c.args.child cs k)
     c.put.ensures.ok

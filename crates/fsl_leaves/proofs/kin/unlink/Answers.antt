@@ -12,12 +12,12 @@ use Rattle.fsl_leaves.proofs.kin.unlink.Goals as goal
 pub returns-clause-ordered : goal.returns-clause-ordered
 returns-clause-ordered g c =
     on_ok_map c.remove.result
-    (λ e. subst (λ es. IsStrictlySortedBy kin_cmp (keys_of es)) (sym e) (sorted-remove_entry kin_cmp-IsTotalOrder (is_at (kin_cmp c.in_ok-key.key)) c.args.children.now.entries c.requires))
+    (λ e. subst (λ es. IsStrictlySortedBy kin_cmp (keys_of es)) (sym e) (sorted-remove_entry kin_cmp-IsTotalOrder (is_at (kin_cmp c.in_ok-key.key)) c.args.children.now.held.entries c.requires))
     c.remove.ensures.ok
 
 pub returns-clause-pairs : goal.returns-clause-pairs
 returns-clause-pairs g c =
-    let cs = c.args.children.now.entries in
+    let cs = c.args.children.now.held.entries in
     on_ok_map c.remove.result
     (λ e k. ap (λ es. is_some (value_at kin_cmp k es)) (e ∙ ap (λ q. without_key kin_cmp q cs) c.in_ok-key.ensures) ∙ kin-without c.args.parent c.args.branch.now c.args.child cs c.requires k)
     c.remove.ensures.ok

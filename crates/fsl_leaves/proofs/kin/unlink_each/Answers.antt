@@ -8,9 +8,6 @@ use Rattle.fsl_leaves.specs.Keys.{kin_cmp, is_kin}
 use Rattle.fsl_leaves.proofs.Kinship.{unlink-step}
 use Rattle.fsl_leaves.proofs.kin.unlink_each.Goals as goal
 
-pub returns-in_err-unlink-clause-undoes : goal.returns-in_err-unlink-clause-undoes
-returns-in_err-unlink-clause-undoes g c = λ before u. c.unlink.ensures.undoes before (c.loop-parent.invariant.undoes before u)
-
 pub unlink-requires : goal.unlink-requires
 unlink-requires g c = c.loop-parent.invariant.ordered
 
@@ -21,7 +18,7 @@ loop-parent-preserved g c =
     let rest = drop (i + 1) c.args.parents.now in
     let child = c.args.child in
     let branch = c.args.branch.now in
-    let es = c.loop-parent.children.entries in
+    let es = c.loop-parent.children.held.entries in
     let cut : drop i c.args.parents.now ≡ p ∷ rest = drop_more c.args.parents.now i p c.loop-parent-test.true ∙ ap (λ x. x ∷ rest) (sym c.parent-item.is) in
     record {
       pairs = λ k.
@@ -29,8 +26,8 @@ loop-parent-preserved g c =
           ∙ unlink-step (is_name k.second child) (bytes_eq k.first.parent p) (bytes_eq branch k.first.branch) (has rest k.first.parent) (is_some (value_at kin_cmp k es)) _
           (ap (λ l. not (is_kin child l branch k) && is_some (value_at kin_cmp k es)) (sym cut) ∙ c.loop-parent.invariant.pairs k);
       ordered = c.in_ok-unlink.ensures.ordered;
-      undoes = λ before u. c.unlink.ensures.undoes before (c.loop-parent.invariant.undoes before u);
+      was = c.unlink.ensures.was ∙ c.loop-parent.invariant.was;
       cost = omega (arith, c.unlink.ensures.most, c.loop-parent.invariant.cost);
-      logged = omega (arith, c.unlink.ensures.logged, c.loop-parent.invariant.logged);
+      back = omega (arith, c.unlink.ensures.back, c.loop-parent.invariant.back);
       within = omega (arith, c.loop-parent-test.true);
     }

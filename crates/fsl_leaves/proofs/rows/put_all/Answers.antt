@@ -5,7 +5,7 @@ use Rattle.fsl_order.specs.Names.{has}
 use Rattle.fsl_rows.proofs.Built.{by_name-again}
 use Rattle.fsl_table.proofs.Facts.{absent-entry, absent_before, facts_with, distinct_rear}
 use Rattle.fsl_leaves.specs.declared.Fact.{Fact}
-use Rattle.fsl_leaves.specs.Kept.{fact_of, facts_of}
+use Rattle.fsl_leaves.specs.Kept.{fact_of, facts_of, rows_of}
 use Rattle.fsl_leaves.proofs.Canonical.{kept_none}
 use Rattle.fsl_leaves.proofs.rows.put_all.Goals as goal
 
@@ -14,7 +14,7 @@ loop-fact-init g c = (
   [],
   append-nil c.into_vec-left.result.items ∙ c.into_vec-left.ensures,
   ap facts_of c.requires.no_facts,
-  kept_none (record { facts = c.args.facts.now; children = c.args.children.now; leaves = c.args.leaves.now }) c.requires.no_facts c.requires.no_children c.requires.no_leaves,
+  kept_none (rows_of c.args.maps.now) c.requires.no_facts c.requires.no_children c.requires.no_leaves,
 )
 
 whole : (left rest done all : List Fact) (x : Fact) → left ≡ rest ++ x ∷ [] → left ++ done ≡ all → rest ++ x ∷ done ≡ all
@@ -28,7 +28,7 @@ put_new-requires-clause-absent g c =
     let before = c.loop-fact.invariant in
     let f = c.in-Some.fact in
     let d = behind c.loop-fact.left.items c.pop.new.self.items before.0 c.args.all f c.in-Some.ensures.items before.1 c.requires.distinct in
-    absent-entry fact_of (λ f. f.name) (λ e. refl) c.loop-fact.facts.entries f.name (ap (λ l. has (map (λ f. f.name) l) f.name) before.2 ∙ absent_before (λ f. f.name) f before.0 d)
+    absent-entry fact_of (λ f. f.name) (λ e. refl) c.loop-fact.maps.facts.held.entries f.name (ap (λ l. has (map (λ f. f.name) l) f.name) before.2 ∙ absent_before (λ f. f.name) f before.0 d)
 
 pub loop-fact-preserved : goal.loop-fact-preserved
 loop-fact-preserved g c =
@@ -38,7 +38,7 @@ loop-fact-preserved g c =
       f ∷ before.0,
       whole c.loop-fact.left.items c.pop.new.self.items before.0 c.args.all f c.in-Some.ensures.items before.1,
       ap facts_of c.in-Ok.ensures.entries
-          ∙ facts_with fact_of (λ f. f.name) (λ e. refl) f.name (record { parents = f.parents; branch = f.branch }) c.loop-fact.facts.entries before.3.ordered
+          ∙ facts_with fact_of (λ f. f.name) (λ e. refl) f.name (record { parents = f.parents; branch = f.branch }) c.loop-fact.maps.facts.held.entries before.3.ordered
           ∙ ap (λ l. by_name (λ f. f.name) (f ∷ l)) before.2 ∙ by_name-again (λ f. f.name) f before.0 d,
       c.in-Ok.ensures.kept,
     )

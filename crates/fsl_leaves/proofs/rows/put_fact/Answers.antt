@@ -20,35 +20,29 @@ cost_of n m first linked last same a b = omega (arith, same, a, b)
 
 pub returns-in-Err : goal.returns-in-Err
 returns-in-Err g c =
-    let parents : length c.items.result.now ≡ length c.args.fact.parents = ap length (c.items.ensures ∙ ap (λ l. l.parents) c.in-Ok.ensures) in
-    let cost = c.link_line.ensures.cost in
-    let logged = c.link_line.ensures.logged in
+    let parents : length c.in-Ok.line.parents ≡ length c.args.fact.parents = ap (λ l. length l.parents) c.in-Ok.ensures in
+    let linked = c.link_line.ensures in
     record {
       entries = tt;
       kept = tt;
       flips = tt;
-      undoes_facts = λ before u. u;
-      undoes_children = c.link_line.ensures.undoes_children;
-      undoes_leaves = c.link_line.ensures.undoes_leaves;
-      cost = cost_of (length c.items.result.now) (length c.args.fact.parents) c.args.steps.now c.link_line.new.steps c.link_line.new.steps parents cost (omega arith);
-      logged = omega (arith, parents, logged);
+      was = (λ i. record { facts = c.args.maps.now.facts.was; children = linked.children_was i; leaves = linked.leaves_was i });
+      cost = cost_of (length c.in-Ok.line.parents) (length c.args.fact.parents) c.args.steps.now c.link_line.new.steps c.link_line.new.steps parents linked.cost (omega arith);
+      back = omega (arith, parents, linked.back);
     }
 
 pub returns-in-Ok-link_line : goal.returns-in-Ok-link_line
 returns-in-Ok-link_line g c =
     let k = c.requires.kept in
-    let es = c.args.facts.now.entries in
-    let cs = c.args.children.now.entries in
+    let es = c.args.maps.now.facts.held.entries in
+    let cs = c.args.maps.now.children.held.entries in
     let name = c.args.fact.name in
     let line : Line = record { parents = c.args.fact.parents; branch = c.args.fact.branch } in
     let told : c.in-Ok.line ≡ line = c.in-Ok.ensures in
-    let parents : c.items.result.now ≡ c.args.fact.parents = c.items.ensures ∙ ap (λ l. l.parents) told in
-    let branch : c.in-Ok.line.branch ≡ c.args.fact.branch = ap (λ l. l.branch) told in
-    let count : length c.items.result.now ≡ length c.args.fact.parents = ap length parents in
-    let ended : not (walked cs name c.in-Ok.line.branch || has c.items.result.now name) ≡ not (continued es name line.branch || has line.parents name) =
-    (λ i. not (walked cs name (branch i) || has (parents i) name)) ∙ ap (λ b. not (b || has line.parents name)) (walked_is es cs k.ordered k.pairs name line.branch) in
-    let put = c.put.ensures.ok in
-    let entries : OnOk c.put.result (c.put.new.table.entries ≡ with_entry bytes_cmp name line es) = on_ok_map c.put.result (λ e. e ∙ ap (λ l. with_entry bytes_cmp name l es) told) put in
+    let count : length c.in-Ok.line.parents ≡ length c.args.fact.parents = ap (λ l. length l.parents) told in
+    let ended : not (walked cs name c.in-Ok.line.branch || has c.in-Ok.line.parents name) ≡ not (continued es name line.branch || has line.parents name) =
+    ap (λ l. not (walked cs name l.branch || has l.parents name)) told ∙ ap (λ b. not (b || has line.parents name)) (walked_is es cs k.ordered k.pairs name line.branch) in
+    let entries : OnOk c.put.result (c.put.new.self.held.entries ≡ with_entry bytes_cmp name line es) = on_ok_map c.put.result (λ e. e ∙ ap (λ l. with_entry bytes_cmp name l es) told) c.put.ensures.ok in
     let linked = c.in-Ok-link_line.ensures in
     record {
       entries = entries;
@@ -59,20 +53,18 @@ returns-in-Ok-link_line g c =
             leaves_ordered = linked.leaves_ordered;
             pairs = λ key.
                 linked.pairs key
-                ∙ (λ i. is_some (value_at kin_cmp key cs) || is_kin name (parents i) (branch i) key)
+                ∙ ap (λ l. is_some (value_at kin_cmp key cs) || is_kin name l.parents l.branch key) told
                 ∙ pairs_with es cs name line k.pairs c.requires.absent key
                 ∙ ap (λ es. continues_in (option_and_then (λ c. value_at bytes_cmp c es) key.second) key.first.parent key.first.branch) (sym put);
             leaves = λ q.
                 linked.leaves q
-                ∙ (λ i. if bytes_eq q name then ended i else (k.leaves q i && not (has (parents i) q && is_in (value_at bytes_cmp q es) (branch i))))
+                ∙ (λ i. if bytes_eq q name then ended i else (k.leaves q i && not (has (told i).parents q && is_in (value_at bytes_cmp q es) (told i).branch)))
                 ∙ sym (leaf_with es name line k.ordered c.requires.absent q)
                 ∙ ap (λ es. leaf es q) (sym put);
           })
           entries;
       flips = always_ok c.put.result linked.flips;
-      undoes_facts = c.put.ensures.undoes;
-      undoes_children = c.link_line.ensures.undoes_children;
-      undoes_leaves = c.link_line.ensures.undoes_leaves;
-      cost = cost_of (length c.items.result.now) (length c.args.fact.parents) c.args.steps.now c.link_line.new.steps c.put.new.steps count c.link_line.ensures.cost c.put.ensures.cost;
-      logged = omega (arith, count, c.link_line.ensures.logged, c.put.ensures.logged);
+      was = (λ i. record { facts = c.put.ensures.was i; children = linked.children_was i; leaves = linked.leaves_was i });
+      cost = cost_of (length c.in-Ok.line.parents) (length c.args.fact.parents) c.args.steps.now c.link_line.new.steps c.put.new.steps count c.link_line.ensures.cost c.put.ensures.cost;
+      back = omega (arith, count, c.link_line.ensures.back, c.put.ensures.back);
     }

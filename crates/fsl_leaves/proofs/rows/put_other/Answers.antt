@@ -8,16 +8,7 @@ use Rattle.fsl_leaves.proofs.rows.put_other.Goals as goal
 
 pub put_fact-requires-clause-absent : goal.put_fact-requires-clause-absent
 put_fact-requires-clause-absent g c =
-    ap (value_at bytes_cmp c.args.fact.name) c.in_ok-take_out.ensures.entries ∙ none-without c.args.fact.name c.args.facts.now.entries c.requires.kept.ordered
-
-pub returns-clause-undoes_facts : goal.returns-clause-undoes_facts
-returns-clause-undoes_facts g c = λ before u. c.put_fact.ensures.undoes_facts before (c.take_out.ensures.undoes_facts before u)
-
-pub returns-clause-undoes_children : goal.returns-clause-undoes_children
-returns-clause-undoes_children g c = λ before u. c.put_fact.ensures.undoes_children before (c.take_out.ensures.undoes_children before u)
-
-pub returns-clause-undoes_leaves : goal.returns-clause-undoes_leaves
-returns-clause-undoes_leaves g c = λ before u. c.put_fact.ensures.undoes_leaves before (c.take_out.ensures.undoes_leaves before u)
+    ap (value_at bytes_cmp c.args.fact.name) c.in_ok-take_out.ensures.entries ∙ none-without c.args.fact.name c.args.maps.now.facts.held.entries c.requires.kept.ordered
 
 pub returns-clause-flips : goal.returns-clause-flips
 returns-clause-flips g c = on_ok_map c.put_fact.result (λ put before all. put before (c.in_ok-take_out.ensures.flips before all)) c.put_fact.ensures.flips
@@ -26,5 +17,5 @@ pub returns-clause-entries : goal.returns-clause-entries
 returns-clause-entries g c =
     let line : Line = record { parents = c.args.fact.parents; branch = c.args.fact.branch } in
     on_ok_map c.put_fact.result
-    (λ put. put ∙ ap (with_entry bytes_cmp c.args.fact.name line) c.in_ok-take_out.ensures.entries ∙ with-without c.args.fact.name line c.args.facts.now.entries c.requires.kept.ordered)
+    (λ put. put ∙ ap (with_entry bytes_cmp c.args.fact.name line) c.in_ok-take_out.ensures.entries ∙ with-without c.args.fact.name line c.args.maps.now.facts.held.entries c.requires.kept.ordered)
     c.put_fact.ensures.entries

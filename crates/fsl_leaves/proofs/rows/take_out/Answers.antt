@@ -20,10 +20,10 @@ returns-clause-flips g c = always_ok c.remove.result c.in_ok-unlink_name.ensures
 pub returns-clause-kept : goal.returns-clause-kept
 returns-clause-kept g c =
     let k = c.requires.kept in
-    let es = c.args.facts.now.entries in
-    let cs = c.unlink_name.new.children.entries in
+    let es = c.args.maps.now.facts.held.entries in
+    let cs = c.unlink_name.new.children.held.entries in
     let name = c.args.name in
-    let pairs : ArePairs (without_key bytes_cmp name es) cs = λ key. c.in_ok-unlink_name.ensures.pairs key ∙ pairs_without es c.args.children.now.entries name k.ordered k.pairs key in
+    let pairs : ArePairs (without_key bytes_cmp name es) cs = λ key. c.in_ok-unlink_name.ensures.pairs key ∙ pairs_without es c.args.maps.now.children.held.entries name k.ordered k.pairs key in
     on_ok_map c.remove.result
     (λ out. record {
       ordered = subst (λ es. IsStrictlySortedBy bytes_cmp (keys_of es)) (sym out) (sorted-remove_entry bytes_cmp-IsTotalOrder (is_at (bytes_cmp name)) es k.ordered);

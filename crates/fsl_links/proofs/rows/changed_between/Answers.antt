@@ -9,7 +9,7 @@ use Rattle.fsl_links.proofs.rows.changed_between.Goals as goal
 
 pub returns : goal.returns
 returns g c =
-    let es = c.args.facts.now.entries in
+    let es = c.args.facts.now.held.entries in
     let name = c.args.name in
     let old = c.args.before.now in
     let new = c.args.after.now in

@@ -10,7 +10,7 @@ use Rattle.fsl_links.proofs.rows.changed_by.Goals as goal
 
 pub returns-clause-changed : goal.returns-clause-changed
 returns-clause-changed g c =
-    let es = c.args.facts.now.entries in
+    let es = c.args.facts.now.held.entries in
     let name = c.args.fact.now.name in
     let parents = c.args.fact.now.parents in
     let all : (q : List ℕ) → has c.note_all.new.names.keys q ≡ has parents q = λ q.

@@ -17,12 +17,12 @@ returns-clause-kept g c =
     let k = c.requires.kept in
     on_ok_map c.put.result
     (λ put. record {
-      ordered = subst (λ es. IsStrictlySortedBy bytes_cmp (keys_of es)) (sym put) (sorted-insert_entry bytes_cmp-IsTotalOrder c.args.fact.name c.args.fact.parents c.args.facts.now.entries k.ordered);
+      ordered = subst (λ es. IsStrictlySortedBy bytes_cmp (keys_of es)) (sym put) (sorted-insert_entry bytes_cmp-IsTotalOrder c.args.fact.name c.args.fact.parents c.args.maps.now.facts.held.entries k.ordered);
       pairs_ordered = c.in_ok-link_each.ensures.ordered k.pairs_ordered;
       pairs = λ key.
           c.in_ok-link_each.ensures.pairs key
-          ∙ ap (λ ps. is_some (value_at pair_cmp key c.args.children.now.entries) || (is_name key.second c.args.fact.name && has ps key.first)) c.items.ensures
-          ∙ pairs_with c.args.facts.now.entries c.args.children.now.entries c.args.fact.name c.args.fact.parents k.pairs c.requires.absent key
+          ∙ ap (λ ps. is_some (value_at pair_cmp key c.args.maps.now.children.held.entries) || (is_name key.second c.args.fact.name && has ps key.first)) c.items.ensures
+          ∙ pairs_with c.args.maps.now.facts.held.entries c.args.maps.now.children.held.entries c.args.fact.name c.args.fact.parents k.pairs c.requires.absent key
           ∙ ap (λ es. lists (option_and_then (λ c. value_at bytes_cmp c es) key.second) key.first) (sym put);
     })
     c.put.ensures.ok

@@ -6,21 +6,9 @@ use Rattle.fsl_links.proofs.rows.put_other.Goals as goal
 
 pub put_fact-requires-clause-absent : goal.put_fact-requires-clause-absent
 put_fact-requires-clause-absent g c =
-    ap (value_at bytes_cmp c.args.fact.name) c.in_ok-take_out.ensures.entries ∙ none-without c.args.fact.name c.args.facts.now.entries c.requires.kept.ordered
-
-pub returns-in_err-put_fact-clause-undoes_facts : goal.returns-in_err-put_fact-clause-undoes_facts
-returns-in_err-put_fact-clause-undoes_facts g c = λ before u. c.put_fact.ensures.undoes_facts before (c.take_out.ensures.undoes_facts before u)
-
-pub returns-in_err-put_fact-clause-undoes_children : goal.returns-in_err-put_fact-clause-undoes_children
-returns-in_err-put_fact-clause-undoes_children g c = λ before u. c.put_fact.ensures.undoes_children before (c.take_out.ensures.undoes_children before u)
-
-pub returns-clause-undoes_facts : goal.returns-clause-undoes_facts
-returns-clause-undoes_facts g c = λ before u. c.put_fact.ensures.undoes_facts before (c.take_out.ensures.undoes_facts before u)
-
-pub returns-clause-undoes_children : goal.returns-clause-undoes_children
-returns-clause-undoes_children g c = λ before u. c.put_fact.ensures.undoes_children before (c.take_out.ensures.undoes_children before u)
+    ap (value_at bytes_cmp c.args.fact.name) c.in_ok-take_out.ensures.entries ∙ none-without c.args.fact.name c.args.maps.now.facts.held.entries c.requires.kept.ordered
 
 pub returns-clause-entries : goal.returns-clause-entries
 returns-clause-entries g c =
     c.in_ok-put_fact.ensures.entries ∙ ap (with_entry bytes_cmp c.args.fact.name c.args.fact.parents) c.in_ok-take_out.ensures.entries
-    ∙ with-without c.args.fact.name c.args.fact.parents c.args.facts.now.entries c.requires.kept.ordered
+    ∙ with-without c.args.fact.name c.args.fact.parents c.args.maps.now.facts.held.entries c.requires.kept.ordered

@@ -16,11 +16,11 @@ returns-clause-kept g c =
     let k = c.requires.kept in
     on_ok_map c.remove.result
     (λ out. record {
-      ordered = subst (λ es. IsStrictlySortedBy bytes_cmp (keys_of es)) (sym out) (sorted-remove_entry bytes_cmp-IsTotalOrder (is_at (bytes_cmp c.args.name)) c.args.facts.now.entries k.ordered);
+      ordered = subst (λ es. IsStrictlySortedBy bytes_cmp (keys_of es)) (sym out) (sorted-remove_entry bytes_cmp-IsTotalOrder (is_at (bytes_cmp c.args.name)) c.args.maps.now.facts.held.entries k.ordered);
       pairs_ordered = c.in_ok-unlink_parents.ensures.ordered;
       pairs = λ key.
           c.in_ok-unlink_parents.ensures.pairs key
-          ∙ pairs_without c.args.facts.now.entries c.args.children.now.entries c.args.name k.ordered k.pairs key
+          ∙ pairs_without c.args.maps.now.facts.held.entries c.args.maps.now.children.held.entries c.args.name k.ordered k.pairs key
           ∙ ap (λ es. lists (option_and_then (λ c. value_at bytes_cmp c es) key.second) key.first) (sym out);
     })
     c.remove.ensures.ok

@@ -8,7 +8,7 @@ use Rattle.fsl_table.specs.Contents.{first_of}
 use Rattle.fsl_table.specs.Within.{within}
 use Rattle.fsl_ticket.specs.declared.FieldChange.{FieldChange}
 use Rattle.fsl_ticket.specs.FieldOrder.{field_cmp}
-use Rattle.fsl_ticket.specs.Kept.{is_set}
+use Rattle.fsl_ticket.specs.Kept.{is_set, rows_of}
 use Rattle.fsl_ticket.specs.Walked.{is_newer, value_below}
 use Rattle.fsl_ticket.proofs.Folding.{other_masked, other_set, other_longer, other_none}
 use Rattle.fsl_ticket.proofs.Settings.{masked_is}
@@ -28,14 +28,14 @@ returns-then-is_untouched g c =
     let q = c.args.field.now in
     let own = c.value_of-value.result.now in
     let both : (not c.is_set-replaced.result && (length own == 0)) ≡ true = sym c.is_untouched.ensures ∙ c.if-is_untouched.true in
-    other_none c.args.maps.now.facts.entries fact.changes (fact.date, fact.name) (within bytes_cmp fact.id c.args.maps.now.spots.entries) q own (c.value_of-value.ensures ∙ c.requires.own q)
+    other_none c.args.maps.now.facts.held.entries fact.changes (fact.date, fact.name) (within bytes_cmp fact.id c.args.maps.now.spots.held.entries) q own (c.value_of-value.ensures ∙ c.requires.own q)
     (sym (c.is_set-replaced.ensures ∙ ap (λ (cards : List FieldChange). is_set cards q) c.items.ensures) ∙ unset c.is_set-replaced.result (first_holds (not c.is_set-replaced.result) (length own == 0) both))
     (second_holds (not c.is_set-replaced.result) (length own == 0) both)
 
 pub returns-then-branch : goal.returns-then-branch
 returns-then-branch g c =
     let fact = c.args.fact.now in
-    let m = c.args.maps.now in
+    let m = rows_of c.args.maps.now in
     let q = c.args.field.now in
     let newest = first_of (within field_cmp (record { id = fact.id; field = q }) m.sets.entries) in
     other_masked m.facts.entries fact.changes (fact.date, fact.name) (within bytes_cmp fact.id m.spots.entries) q c.value_of-value.result.now (c.value_of-value.ensures ∙ c.requires.own q)
@@ -44,7 +44,7 @@ returns-then-branch g c =
 pub returns-then-not-replaced : goal.returns-then-not-replaced
 returns-then-not-replaced g c =
     let fact = c.args.fact.now in
-    let m = c.args.maps.now in
+    let m = rows_of c.args.maps.now in
     let q = c.args.field.now in
     let own = c.value_of-value.result.now in
     let newest = first_of (within field_cmp (record { id = fact.id; field = q }) m.sets.entries) in
@@ -56,7 +56,7 @@ returns-then-not-replaced g c =
 pub returns-in-Ok : goal.returns-in-Ok
 returns-in-Ok g c =
     let fact = c.args.fact.now in
-    let m = c.args.maps.now in
+    let m = rows_of c.args.maps.now in
     let es = m.facts.entries in
     let q = c.args.field.now in
     let ws = within bytes_cmp fact.id m.spots.entries in

@@ -10,9 +10,9 @@ use Rattle.fsl_ticket.proofs.differs.value_from.Goals as goal
 
 pub returns-in-Ok : goal.returns-in-Ok
 returns-in-Ok g c =
-    let es = c.args.facts.now.entries in
+    let es = c.args.facts.now.held.entries in
     let field = c.args.field.now in
-    let down = from newest_cmp (Some (c.args.first, tt)) (within bytes_cmp c.args.id c.args.spots.now.entries) in
+    let down = from newest_cmp (Some (c.args.first, tt)) (within bytes_cmp c.args.id c.args.spots.now.held.entries) in
     if_ok_map c.copied-value.result
     (λ value is. is ∙ c.in-Ok.ensures field ∙ ap (λ end. value_down es (names_until es (Some end) down) field) (c.in_ok-of.ensures ∙ c.bytes.ensures) ∙ until_same es field down)
     c.copied-value.ensures

@@ -15,12 +15,12 @@ use Rattle.fsl_ticket.proofs.rows.lay.Goals as goal
 pub returns-clause-laid : goal.returns-clause-laid
 returns-clause-laid g c =
     let k = c.requires.laid in
-    let es = c.args.facts.now.entries in
-    let ss = c.args.spots.now.entries in
+    let es = c.args.facts.now.held.entries in
+    let ss = c.args.spots.now.held.entries in
     let name = c.args.fact.name in
     let entry : Entry = record { date = c.args.fact.date; id = c.args.fact.id; changes = c.args.fact.changes } in
     let key : c.key-spot.result ≡ spot entry.id entry.date name = c.key-spot.ensures ∙ ap (λ p. record { first = entry.id; second = Some p }) c.new.ensures in
-    let spotted : c.put.new.table.entries ≡ with_entry spot_cmp (spot entry.id entry.date name) tt ss = c.in_ok-put.ensures.ok ∙ ap (λ s. with_entry spot_cmp s tt ss) key in
+    let spotted : c.put.new.self.held.entries ≡ with_entry spot_cmp (spot entry.id entry.date name) tt ss = c.in_ok-put.ensures.ok ∙ ap (λ s. with_entry spot_cmp s tt ss) key in
     on_ok_map c.put-2.result
     (λ put. record {
       ordered = subst (λ es. IsStrictlySortedBy bytes_cmp (keys_of es)) (sym put) (sorted-insert_entry bytes_cmp-IsTotalOrder name entry es k.ordered);

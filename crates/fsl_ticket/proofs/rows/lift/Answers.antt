@@ -12,7 +12,7 @@ use Rattle.fsl_ticket.proofs.rows.lift.Goals as goal
 pub returns-clause-laid : goal.returns-clause-laid
 returns-clause-laid g c =
     let k = c.requires.laid in
-    let es = c.args.facts.now.entries in
+    let es = c.args.facts.now.held.entries in
     on_ok_map c.remove.result
     (λ out. record {
       ordered = subst (λ es. IsStrictlySortedBy bytes_cmp (keys_of es)) (sym out) (sorted-remove_entry bytes_cmp-IsTotalOrder (is_at (bytes_cmp c.args.name)) es k.ordered);

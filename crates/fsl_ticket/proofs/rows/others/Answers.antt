@@ -15,7 +15,7 @@ loop-row-preserved g c =
     let rows = c.args.rows.now in
     let i = c.loop-row.row-index in
     let row = c.row-item.result in
-    let give = if_other c.args.configured.now c.args.facts.now.entries in
+    let give = if_other c.args.configured.now c.args.facts.now.held.entries in
     c.in_ok-append_some.ensures
     ∙ (λ j. c.loop-row.invariant j ++ option_to_list (c.in_ok-other.ensures j))
     ∙ sym (ap (filter_map give) (take_more rows i row c.loop-row-test.true ∙ ap (λ r. take i rows ++ r ∷ []) (sym c.row-item.is))

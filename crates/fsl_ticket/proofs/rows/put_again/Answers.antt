@@ -16,13 +16,10 @@ returns-in-Ok-replace_fact-clause-entries g c = always_ok c.others-changed.resul
 pub returns-in-Ok-replace_fact-clause-kept : goal.returns-in-Ok-replace_fact-clause-kept
 returns-in-Ok-replace_fact-clause-kept g c = always_ok c.others-changed.result c.in-Ok-replace_fact.ensures.kept
 
-pub returns-in-Ok-replace_fact-clause-undoes : goal.returns-in-Ok-replace_fact-clause-undoes
-returns-in-Ok-replace_fact-clause-undoes g c = c.replace_fact.ensures.undoes
-
 pub returns-in-Ok-replace_fact-clause-changed : goal.returns-in-Ok-replace_fact-clause-changed
 returns-in-Ok-replace_fact-clause-changed g c =
     let f = c.args.fact in
-    let es = c.args.maps.now.facts.entries in
+    let es = c.args.maps.now.facts.held.entries in
     let configured = c.args.configured.now in
     let entry : Entry = entry_of f in
     let after = with_entry bytes_cmp f.name entry es in

@@ -1,11 +1,12 @@
 use Rattle.std.proofs.lemmas.List.{drop_more}
 use Rattle.std.proofs.Math.Seq.{drop-length}
 use Rattle.std.proofs.Common.{◌≡◌, ◌+◌, ◌-◌, ◌<◌, ◌∙◌, ◌∷◌, map, drop, length, refl, sym, ap, subst, arith}
-use Rattle.fsl_order.specs.Names.{has}
+use Rattle.fsl_order.specs.Names.{bytes_cmp, has}
 use Rattle.fsl_order.specs.Rows.{by_name, AreDistinct}
 use Rattle.fsl_rows.proofs.Built.{distinct-drop, by_name-again}
+use Rattle.fsl_table.specs.Contents.{value_at}
 use Rattle.fsl_table.proofs.Facts.{absent-entry, absent_before, facts_with}
-use Rattle.fsl_ticket.specs.Kept.{fact_of, facts_of}
+use Rattle.fsl_ticket.specs.Kept.{fact_of, facts_of, with_fact}
 use Rattle.fsl_ticket.proofs.rows.put_all.Goals as goal
 
 pub loop-left-init : goal.loop-left-init
@@ -25,7 +26,8 @@ put_copy-requires-clause-absent g c =
     let less : j < length facts = omega (arith, c.loop-left-test.true, c.loop-left.invariant.within) in
     let cut : drop j facts ≡ r ∷ rest = drop_more facts j r less ∙ (λ i. (sym c.index-all-left.is) i ∷ drop (e i) facts) in
     let d : AreDistinct (map (λ f. f.name) (r ∷ rest)) = subst (λ l. AreDistinct (map (λ f. f.name) l)) cut (distinct-drop (λ f. f.name) j facts c.requires.distinct) in
-    absent-entry fact_of (λ f. f.name) (λ e. refl) c.loop-left.maps.facts.entries r.name
+    ap (λ r. value_at bytes_cmp c.index-all-left.result.name r.facts.entries) c.begin.ensures.rows
+    ∙ absent-entry fact_of (λ f. f.name) (λ e. refl) c.loop-left.maps.facts.held.entries r.name
     (ap (λ l. has (map (λ f. f.name) l) r.name) c.loop-left.invariant.done ∙ absent_before (λ f. f.name) r rest d)
 
 pub loop-left-preserved : goal.loop-left-preserved
@@ -39,8 +41,8 @@ loop-left-preserved g c =
     let cut : drop j facts ≡ r ∷ rest = drop_more facts j r less ∙ (λ i. (sym c.index-all-left.is) i ∷ drop (e i) facts) in
     let d : AreDistinct (map (λ f. f.name) (r ∷ rest)) = subst (λ l. AreDistinct (map (λ f. f.name) l)) cut (distinct-drop (λ f. f.name) j facts c.requires.distinct) in
     record {
-      done = ap facts_of c.in-Ok.ensures.entries
-          ∙ facts_with fact_of (λ f. f.name) (λ e. refl) _ _ c.loop-left.maps.facts.entries c.loop-left.invariant.kept.laid.ordered
+      done = ap facts_of c.in-Ok.ensures.entries ∙ ap (λ m. facts_of (with_fact r m.facts.entries)) c.begin.ensures.rows
+          ∙ facts_with fact_of (λ f. f.name) (λ e. refl) _ _ c.loop-left.maps.facts.held.entries c.loop-left.invariant.kept.laid.ordered
           ∙ ap (λ l. by_name (λ f. f.name) (r ∷ l)) c.loop-left.invariant.done ∙ by_name-again (λ f. f.name) r rest d ∙ ap (by_name (λ f. f.name)) (sym cut);
       kept = c.in-Ok.ensures.kept;
       within = omega (arith, c.loop-left.invariant.within);

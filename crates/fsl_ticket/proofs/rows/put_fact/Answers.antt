@@ -7,9 +7,9 @@ use Rattle.fsl_ticket.proofs.rows.put_fact.Goals as goal
 pub returns-in-Ok-clause-kept : goal.returns-in-Ok-clause-kept
 returns-in-Ok-clause-kept g c =
     let f = c.args.fact in
-    let es = c.args.maps.now.facts.entries in
-    let ss = c.args.maps.now.sets.entries in
-    let rs = c.put_sets.new.sets.entries in
+    let es = c.args.maps.now.facts.held.entries in
+    let ss = c.args.maps.now.sets.held.entries in
+    let rs = c.put_sets.new.sets.held.entries in
     both_ok c.lay.result
     (λ put laid. record {
       laid = laid;
@@ -19,12 +19,8 @@ returns-in-Ok-clause-kept g c =
     })
     c.lay.ensures.entries c.lay.ensures.laid
 
-pub returns-in-Ok-clause-undoes : goal.returns-in-Ok-clause-undoes
-returns-in-Ok-clause-undoes g c = λ before u. record {
-  facts = c.lay.ensures.undoes_facts before.facts u.facts;
-  spots = c.lay.ensures.undoes_spots before.spots u.spots;
-  sets = c.in-Ok.ensures.undoes before.sets u.sets;
-}
+pub returns-in-Ok-clause-was : goal.returns-in-Ok-clause-was
+returns-in-Ok-clause-was g c = λ i. record { facts = c.lay.ensures.facts_was i; spots = c.lay.ensures.spots_was i; sets = c.in-Ok.ensures.was i }
 
-pub returns-in-Err-clause-undoes : goal.returns-in-Err-clause-undoes
-returns-in-Err-clause-undoes g c = λ before u. record { facts = u.facts; spots = u.spots; sets = c.in-Err.ensures.undoes before.sets u.sets }
+pub returns-in-Err-clause-was : goal.returns-in-Err-clause-was
+returns-in-Err-clause-was g c = λ i. record { facts = c.args.maps.now.facts.was; spots = c.args.maps.now.spots.was; sets = c.in-Err.ensures.was i }

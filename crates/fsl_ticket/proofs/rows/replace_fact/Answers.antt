@@ -9,15 +9,12 @@ use Rattle.fsl_ticket.proofs.rows.replace_fact.Goals as goal
 
 pub put_fact-requires-clause-absent : goal.put_fact-requires-clause-absent
 put_fact-requires-clause-absent g c =
-    ap (value_at bytes_cmp c.args.fact.name) c.in_ok-take_out.ensures.entries ∙ none-without c.args.fact.name c.args.maps.now.facts.entries c.requires.kept.laid.ordered
-
-pub returns-clause-undoes : goal.returns-clause-undoes
-returns-clause-undoes g c = λ before u. c.put_fact.ensures.undoes before (c.take_out.ensures.undoes before u)
+    ap (value_at bytes_cmp c.args.fact.name) c.in_ok-take_out.ensures.entries ∙ none-without c.args.fact.name c.args.maps.now.facts.held.entries c.requires.kept.laid.ordered
 
 pub returns-clause-entries : goal.returns-clause-entries
 returns-clause-entries g c =
     let f = c.args.fact in
     let entry : Entry = entry_of f in
     on_ok_map c.put_fact.result
-    (λ put. put ∙ ap (with_entry bytes_cmp f.name entry) c.in_ok-take_out.ensures.entries ∙ with-without f.name entry c.args.maps.now.facts.entries c.requires.kept.laid.ordered)
+    (λ put. put ∙ ap (with_entry bytes_cmp f.name entry) c.in_ok-take_out.ensures.entries ∙ with-without f.name entry c.args.maps.now.facts.held.entries c.requires.kept.laid.ordered)
     c.put_fact.ensures.entries

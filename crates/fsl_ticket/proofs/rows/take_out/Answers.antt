@@ -5,14 +5,10 @@ use Rattle.fsl_ticket.proofs.rows.take_out.Goals as goal
 
 pub returns-clause-kept : goal.returns-clause-kept
 returns-clause-kept g c =
-    both_ok c.lift.result (λ out laid. record { laid = laid; sets = subst (λ es. AreSets es c.unset.new.sets.entries) (sym out) c.in_ok-unset.ensures.sets }) c.lift.ensures.entries c.lift.ensures.laid
+    both_ok c.lift.result (λ out laid. record { laid = laid; sets = subst (λ es. AreSets es c.unset.new.sets.held.entries) (sym out) c.in_ok-unset.ensures.sets }) c.lift.ensures.entries c.lift.ensures.laid
 
-pub returns-clause-undoes : goal.returns-clause-undoes
-returns-clause-undoes g c = λ before u. record {
-  facts = c.lift.ensures.undoes_facts before.facts u.facts;
-  spots = c.lift.ensures.undoes_spots before.spots u.spots;
-  sets = c.unset.ensures.undoes before.sets u.sets;
-}
+pub returns-clause-was : goal.returns-clause-was
+returns-clause-was g c = λ i. record { facts = c.lift.ensures.facts_was i; spots = c.lift.ensures.spots_was i; sets = c.unset.ensures.was i }
 
-pub returns-in_err-unset-clause-undoes : goal.returns-in_err-unset-clause-undoes
-returns-in_err-unset-clause-undoes g c = λ before u. record { facts = u.facts; spots = u.spots; sets = c.unset.ensures.undoes before.sets u.sets }
+pub returns-in_err-unset-clause-was : goal.returns-in_err-unset-clause-was
+returns-in_err-unset-clause-was g c = λ i. record { facts = c.args.maps.now.facts.was; spots = c.args.maps.now.spots.was; sets = c.unset.ensures.was i }

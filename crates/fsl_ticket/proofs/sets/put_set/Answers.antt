@@ -12,12 +12,12 @@ use Rattle.fsl_ticket.proofs.sets.put_set.Goals as goal
 pub returns-in-Ok-setting-clause-ordered : goal.returns-in-Ok-setting-clause-ordered
 returns-in-Ok-setting-clause-ordered g c =
     on_ok_map c.put.result
-    (λ e. subst (λ es. IsStrictlySortedBy setting_cmp (keys_of es)) (sym e) (sorted-insert_entry setting_cmp-IsTotalOrder c.in-Ok.key tt c.args.sets.now.entries c.requires))
+    (λ e. subst (λ es. IsStrictlySortedBy setting_cmp (keys_of es)) (sym e) (sorted-insert_entry setting_cmp-IsTotalOrder c.in-Ok.key tt c.args.sets.now.held.entries c.requires))
     c.put.ensures.ok
 
 pub returns-in-Ok-setting-clause-sets : goal.returns-in-Ok-setting-clause-sets
 returns-in-Ok-setting-clause-sets g c =
-    let ss = c.args.sets.now.entries in
+    let ss = c.args.sets.now.held.entries in
     let card = c.args.card.now in
     let key : c.in-Ok.key ≡ setting c.args.id card.field c.args.place = c.in-Ok.ensures in
     on_ok_map c.put.result

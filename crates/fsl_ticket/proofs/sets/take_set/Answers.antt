@@ -13,12 +13,12 @@ use Rattle.fsl_ticket.proofs.sets.take_set.Goals as goal
 pub returns-in-Ok-clause-ordered : goal.returns-in-Ok-clause-ordered
 returns-in-Ok-clause-ordered g c =
     on_ok_map c.remove.result
-    (λ e. subst (λ es. IsStrictlySortedBy setting_cmp (keys_of es)) (sym e) (sorted-remove_entry setting_cmp-IsTotalOrder (is_at (setting_cmp c.in-Ok.key)) c.args.sets.now.entries c.requires))
+    (λ e. subst (λ es. IsStrictlySortedBy setting_cmp (keys_of es)) (sym e) (sorted-remove_entry setting_cmp-IsTotalOrder (is_at (setting_cmp c.in-Ok.key)) c.args.sets.now.held.entries c.requires))
     c.remove.ensures.ok
 
 pub returns-in-Ok-clause-sets : goal.returns-in-Ok-clause-sets
 returns-in-Ok-clause-sets g c =
-    let ss = c.args.sets.now.entries in
+    let ss = c.args.sets.now.held.entries in
     let card = c.args.card.now in
     let key : c.in-Ok.key ≡ setting c.args.id card.field c.args.place = c.in-Ok.ensures in
     on_ok_map c.remove.result

@@ -4,9 +4,6 @@ use Rattle.fsl_table.proofs.Linking.{unlink-step}
 use Rattle.fsl_ticket.specs.Kept.{is_kept_set, is_keyed, is_set, is_set_of, replaces}
 use Rattle.fsl_ticket.proofs.sets.take_sets.Goals as goal
 
-pub returns-in_err-take_set-clause-undoes : goal.returns-in_err-take_set-clause-undoes
-returns-in_err-take_set-clause-undoes g c = λ before u. c.take_set.ensures.undoes before (c.loop-card.invariant.undoes before u)
-
 pub loop-card-preserved : goal.loop-card-preserved
 loop-card-preserved g c =
     let i = c.loop-card.card-index in
@@ -14,7 +11,7 @@ loop-card-preserved g c =
     let card = c.card-item.result in
     let id = c.args.id in
     let place = c.args.place in
-    let ss = c.loop-card.sets.entries in
+    let ss = c.loop-card.sets.held.entries in
     let cut : drop i cards ≡ card ∷ drop (i + 1) cards = drop_more cards i card c.loop-card-test.true ∙ ap (λ x. x ∷ drop (i + 1) cards) (sym c.card-item.is) in
     record {
       ordered = c.in_ok-take_set.ensures.ordered;
@@ -22,5 +19,5 @@ loop-card-preserved g c =
           ap (λ b. not (is_set_of id place (drop (i + 1) cards) k) && b) (c.in_ok-take_set.ensures.sets k)
           ∙ unlink-step (is_keyed id place k) (replaces card k.first.field) (is_set (drop (i + 1) cards) k.first.field) (is_kept_set ss k) _
           (ap (λ l. not (is_set_of id place l k) && is_kept_set ss k) (sym cut) ∙ c.loop-card.invariant.sets k);
-      undoes = λ before u. c.take_set.ensures.undoes before (c.loop-card.invariant.undoes before u);
+      was = c.take_set.ensures.was ∙ c.loop-card.invariant.was;
     }

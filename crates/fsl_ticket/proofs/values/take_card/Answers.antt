@@ -4,8 +4,8 @@ use Rattle.std.specs.Str.{bytes_eq}
 use Rattle.std.specs.BTreeMap.{is_at}
 use Rattle.fsl_order.specs.Names.{bytes_cmp}
 use Rattle.fsl_ticket.specs.Tickets.{after}
-use Rattle.fsl_ticket.specs.Seen.{value_in}
-use Rattle.fsl_ticket.proofs.Looking.{look, changed_at}
+use Rattle.fsl_ticket.specs.Seen.{look, value_in}
+use Rattle.fsl_ticket.proofs.Looking.{changed_at}
 use Rattle.fsl_ticket.proofs.values.take_card.Goals as goal
 
 or_none : (b : Bool) (x : List ℕ) (o : Option (List ℕ)) → unwrap_or (cond b (Some x) o) [] ≡ cond b x (unwrap_or o [])

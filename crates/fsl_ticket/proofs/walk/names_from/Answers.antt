@@ -10,21 +10,21 @@ use Rattle.fsl_ticket.specs.Walked.{ends_at, names_until}
 use Rattle.fsl_ticket.proofs.Going.{until_if, shorter}
 use Rattle.fsl_ticket.proofs.walk.names_from.Goals as goal
 
-at_place : (g : _) → (c : goal.After-next_in_walk-next g) → from newest_cmp (option_map (λ b. (b, tt)) c.loop-next.next) (within bytes_cmp c.args.id c.args.spots.now.entries) ≡ (c.in-Some.place, tt) ∷ entries_after newest_cmp c.in-Some.place (within bytes_cmp c.args.id c.args.spots.now.entries)
-at_place g c = ap (λ n. from newest_cmp (option_map (λ b. (b, tt)) n) (within bytes_cmp c.args.id c.args.spots.now.entries)) c.in-Some.is
+at_place : (g : _) → (c : goal.After-next_in_walk-next g) → from newest_cmp (option_map (λ b. (b, tt)) c.loop-next.next) (within bytes_cmp c.args.id c.args.spots.now.held.entries) ≡ (c.in-Some.place, tt) ∷ entries_after newest_cmp c.in-Some.place (within bytes_cmp c.args.id c.args.spots.now.held.entries)
+at_place g c = ap (λ n. from newest_cmp (option_map (λ b. (b, tt)) n) (within bytes_cmp c.args.id c.args.spots.now.held.entries)) c.in-Some.is
 
 pub loop-next-smaller : goal.loop-next-smaller
 loop-next-smaller g c =
-    let ws = within bytes_cmp c.args.id c.args.spots.now.entries in
-    shorter (ends_at (value_at bytes_cmp c.in-Some.place.1 c.args.facts.now.entries) c.args.field.now) (from newest_cmp (option_map (λ b. (b, tt)) c.next_in_walk-next.result) ws) (from newest_cmp (option_map (λ b. (b, tt)) c.loop-next.next) ws)
+    let ws = within bytes_cmp c.args.id c.args.spots.now.held.entries in
+    shorter (ends_at (value_at bytes_cmp c.in-Some.place.1 c.args.facts.now.held.entries) c.args.field.now) (from newest_cmp (option_map (λ b. (b, tt)) c.next_in_walk-next.result) ws) (from newest_cmp (option_map (λ b. (b, tt)) c.loop-next.next) ws)
     (c.in-Some.place, tt) (entries_after newest_cmp c.in-Some.place ws) c.next_in_walk-next.ensures (at_place g c)
 
 pub loop-next-preserved : goal.loop-next-preserved
 loop-next-preserved g c =
-    let es = c.args.facts.now.entries in
+    let es = c.args.facts.now.held.entries in
     let field = c.args.field.now in
     let p = c.in-Some.place in
-    let rest = entries_after newest_cmp p (within bytes_cmp c.args.id c.args.spots.now.entries) in
+    let rest = entries_after newest_cmp p (within bytes_cmp c.args.id c.args.spots.now.held.entries) in
     let ends = ends_at (value_at bytes_cmp p.1 es) field in
     (λ i. (c.in_ok-append.ensures.ok ∙ ap (λ n. c.loop-next.names ++ n ∷ []) c.name.ensures) i ++ (ap (names_until es field) c.next_in_walk-next.ensures ∙ until_if es field ends rest) i)
     ∙ append_assoc c.loop-next.names (p.1 ∷ []) (if ends then [] else names_until es field rest)
@@ -33,7 +33,7 @@ loop-next-preserved g c =
 
 pub returns : goal.returns
 returns g c =
-    let ws = within bytes_cmp c.args.id c.args.spots.now.entries in
+    let ws = within bytes_cmp c.args.id c.args.spots.now.held.entries in
     sym (append-nil c.loop-next.names)
-    ∙ ap (λ n. c.loop-next.names ++ names_until c.args.facts.now.entries c.args.field.now (from newest_cmp (option_map (λ b. (b, tt)) n) ws)) (sym c.in_default.is)
+    ∙ ap (λ n. c.loop-next.names ++ names_until c.args.facts.now.held.entries c.args.field.now (from newest_cmp (option_map (λ b. (b, tt)) n) ws)) (sym c.in_default.is)
     ∙ c.loop-next.invariant

@@ -9,6 +9,6 @@ use Rattle.fsl_ticket.proofs.walk.next_place.Goals as goal
 
 pub returns : goal.returns
 returns g c =
-    let spots = c.args.spots.now.entries in
-    ap (λ o. from newest_cmp o (within bytes_cmp c.args.id spots)) (c.next_within.ensures.next ∙ ap (λ k. first_of (above newest_cmp k.second (within bytes_cmp k.first spots))) c.key.ensures)
+    let spots = c.args.spots.now.held.entries in
+    ap (λ o. from newest_cmp o (within bytes_cmp c.args.id spots)) (c.next_within.ensures.next ∙ (λ i. first_of (above newest_cmp (c.key.ensures i).second (within bytes_cmp (c.key.ensures i).first (c.map.ensures i).entries))))
     ∙ goes_on c.args.id c.args.place spots c.requires

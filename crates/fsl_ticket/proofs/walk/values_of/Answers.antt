@@ -10,12 +10,12 @@ use Rattle.fsl_ticket.proofs.walk.values_of.Goals as goal
 pub loop-left-init : goal.loop-left-init
 loop-left-init g c = record {
   within = omega arith;
-  done = λ q. ap (λ es. value_in es q) c.new-values.ensures.empty ∙ ap (λ ns. value_down c.args.facts.now.entries ns q) (sym (drop-length c.args.names.now));
+  done = λ q. ap (λ es. value_in es q) c.new-values.ensures.empty ∙ ap (λ ns. value_down c.args.facts.now.held.entries ns q) (sym (drop-length c.args.names.now));
 }
 
 pub loop-left-preserved : goal.loop-left-preserved
 loop-left-preserved g c =
-    let es = c.args.facts.now.entries in
+    let es = c.args.facts.now.held.entries in
     let names = c.args.names.now in
     let j = c.loop-left.left - 1 in
     let n = c.index-names-left.result in

@@ -7,7 +7,7 @@ use Rattle.fsl_ticket.proofs.walk.values_of.Given as goal
 abbrev pub invariant-loop-left : goal.invariant-loop-left
 invariant-loop-left g l = record {
   within : l.left ≤ length l.names;
-  done : (q : List ℕ) → value_in l.values.entries q ≡ value_down l.facts.entries (drop l.left l.names) q;
+  done : (q : List ℕ) → value_in l.values.entries q ≡ value_down l.facts.held.entries (drop l.left l.names) q;
 }
 
 abbrev pub decreases-loop-left : goal.decreases-loop-left

@@ -1,11 +1,9 @@
 use Rattle.std.proofs.Common.{not, sym, subst}
-use Rattle.fsl_order.specs.Names.{bytes_cmp}
 use Rattle.fsl_order.specs.Rows.{ListsChanged}
-use Rattle.fsl_table.specs.Contents.{with_entry}
 use Rattle.fsl_table.proofs.Outcomes.{always_ok, if_ok_map}
 use Rattle.fsl_timeline.specs.Timeline.{timeline_row}
-use Rattle.fsl_timeline.specs.Kept.{rows_of}
-use Rattle.fsl_timeline.proofs.Changing.{entry, lists_one, other_with, own_other}
+use Rattle.fsl_timeline.specs.Kept.{entry_of, rows_of, with_row}
+use Rattle.fsl_timeline.proofs.Changing.{lists_one, other_with, own_other}
 use Rattle.fsl_timeline.proofs.rows.put_other.Goals as goal
 
 pub returns-clause-entries : goal.returns-clause-entries
@@ -16,10 +14,10 @@ returns-clause-kept g c = always_ok c.one.result c.in_ok-replace_row.ensures.kep
 
 pub returns-clause-changed : goal.returns-clause-changed
 returns-clause-changed g c =
-    let es = c.args.rows.now.entries in
+    let es = c.args.maps.now.rows.held.entries in
     let row = c.args.row in
-    let fs = with_entry bytes_cmp row.name (entry row) es in
+    let fs = with_row row es in
     if_ok_map c.one.result
     (λ list is. subst (ListsChanged (timeline_row (rows_of es)) (timeline_row (rows_of fs))) (sym is)
-    (lists_one es fs row.name (other_with es row.name (entry row)) (not c.stands-same.result) (own_other es row c.stands-same.result c.stands-same.ensures)))
+    (lists_one es fs row.name (other_with es row.name (entry_of row)) (not c.stands-same.result) (own_other es row c.stands-same.result c.stands-same.ensures)))
     c.one.ensures

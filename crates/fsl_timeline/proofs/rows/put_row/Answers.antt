@@ -6,19 +6,18 @@ use Rattle.fsl_order.proofs.Orders.{bytes_cmp-IsTotalOrder, latest_first-IsTotal
 use Rattle.fsl_table.specs.Contents.{value_at, with_entry}
 use Rattle.fsl_table.proofs.Entries.{sorted-insert_entry}
 use Rattle.fsl_table.proofs.Outcomes.{on_ok_map}
-use Rattle.fsl_timeline.specs.declared.entry.Entry.{Entry}
-use Rattle.fsl_timeline.specs.Kept.{is_time}
+use Rattle.fsl_timeline.specs.Kept.{entry_of, is_time}
 use Rattle.fsl_timeline.proofs.Placing.{places_with}
 use Rattle.fsl_timeline.proofs.rows.put_row.Goals as goal
 
 pub returns-clause-kept : goal.returns-clause-kept
 returns-clause-kept g c =
     let k = c.requires.kept in
-    let es = c.args.rows.now.entries in
-    let ps = c.args.places.now.entries in
+    let es = c.args.maps.now.rows.held.entries in
+    let ps = c.args.maps.now.places.held.entries in
     let name = c.args.row.name in
-    let entry : Entry = record { time = c.args.row.time; kind = c.args.row.kind; user = c.args.row.user; text = c.args.row.text } in
-    let placed : c.put.new.table.entries ≡ with_entry latest_first (entry.time, name) tt ps = c.in_ok-put.ensures.ok ∙ ap (λ p. with_entry latest_first p tt ps) c.new-place.ensures in
+    let entry = entry_of c.args.row in
+    let placed : c.put.new.self.held.entries ≡ with_entry latest_first (entry.time, name) tt ps = c.in_ok-put.ensures.ok ∙ ap (λ p. with_entry latest_first p tt ps) c.new-place.ensures in
     on_ok_map c.put-2.result
     (λ put. record {
       ordered = subst (λ es. IsStrictlySortedBy bytes_cmp (keys_of es)) (sym put) (sorted-insert_entry bytes_cmp-IsTotalOrder name entry es k.ordered);

@@ -9,7 +9,7 @@ use Rattle.fsl_timeline.proofs.rows.retire_row.Goals as goal
 
 pub returns-clause-changed : goal.returns-clause-changed
 returns-clause-changed g c =
-    let es = c.args.rows.now.entries in
+    let es = c.args.maps.now.rows.held.entries in
     let name = c.args.name in
     let sorted = c.requires.kept.ordered in
     let fs = without_key bytes_cmp name es in

@@ -4,22 +4,22 @@ use Rattle.std.proofs.Common.{◌≡◌, ◌+◌, ◌-◌, ◌<◌, ◌∙◌, �
 use Rattle.fsl_order.specs.Names.{bytes_cmp, has}
 use Rattle.fsl_order.specs.Rows.{by_name, AreDistinct}
 use Rattle.fsl_rows.proofs.Built.{distinct-drop, by_name-again}
-use Rattle.fsl_table.specs.Contents.{with_entry}
+use Rattle.fsl_table.specs.Contents.{value_at, with_entry}
 use Rattle.fsl_table.proofs.Facts.{absent-entry, absent_before, facts_with}
 use Rattle.fsl_wiki.specs.Pages.{fact_name}
-use Rattle.fsl_wiki.specs.Kept.{fact_of, facts_of, entry_of}
+use Rattle.fsl_wiki.specs.Kept.{entry_of, fact_of, facts_of, rows_of}
 use Rattle.fsl_wiki.proofs.Canonical.{kept_none, own, fact_again}
 use Rattle.fsl_wiki.proofs.pages.fill.Goals as goal
 
 pub loop-left-init : goal.loop-left-init
 loop-left-init g c = record {
   done = ap facts_of c.requires.entries ∙ ap (by_name fact_name) (sym (drop-length c.args.facts.now));
-  kept = kept_none (record { facts = c.args.entries.now; spots = c.args.spots.now; targets = c.args.targets.now }) c.requires.entries c.requires.spots c.requires.targets;
+  kept = kept_none (rows_of c.args.maps.now) c.requires.entries c.requires.spots c.requires.targets;
   within = omega arith;
 }
 
-pub put_unlogged-requires-clause-absent : goal.put_unlogged-requires-clause-absent
-put_unlogged-requires-clause-absent g c =
+pub put_new-requires-clause-absent : goal.put_new-requires-clause-absent
+put_new-requires-clause-absent g c =
     let facts = c.args.facts.now in
     let j = c.loop-left.left - 1 in
     let r = c.index-facts-left.result in
@@ -28,7 +28,8 @@ put_unlogged-requires-clause-absent g c =
     let less : j < length facts = omega (arith, c.loop-left-test.true, c.loop-left.invariant.within) in
     let cut : drop j facts ≡ r ∷ rest = drop_more facts j r less ∙ (λ i. (sym c.index-facts-left.is) i ∷ drop (e i) facts) in
     let d : AreDistinct (map fact_name (r ∷ rest)) = subst (λ l. AreDistinct (map fact_name l)) cut (distinct-drop fact_name j facts c.requires.distinct) in
-    absent-entry fact_of fact_name own c.loop-left.entries.entries (fact_name c.in_ok-fact.fact)
+    (λ i. value_at bytes_cmp (fact_name c.in_ok-fact.fact) (c.begin.ensures.rows i).facts.entries)
+    ∙ absent-entry fact_of fact_name own c.loop-left.maps.facts.held.entries (fact_name c.in_ok-fact.fact)
     ((λ i. has (map fact_name (c.loop-left.invariant.done i)) (fact_name (c.in_ok-fact.ensures i))) ∙ absent_before fact_name r rest d)
 
 pub loop-left-preserved : goal.loop-left-preserved
@@ -42,9 +43,9 @@ loop-left-preserved g c =
     let cut : drop j facts ≡ r ∷ rest = drop_more facts j r less ∙ (λ i. (sym c.index-facts-left.is) i ∷ drop (e i) facts) in
     let d : AreDistinct (map fact_name (r ∷ rest)) = subst (λ l. AreDistinct (map fact_name l)) cut (distinct-drop fact_name j facts c.requires.distinct) in
     record {
-      done = ap facts_of (c.in_ok-put_unlogged.ensures.entries ∙ (λ i. with_entry bytes_cmp (fact_name (c.in_ok-fact.ensures i)) (entry_of (c.in_ok-fact.ensures i)) c.loop-left.entries.entries))
-          ∙ facts_with fact_of fact_name own (fact_name r) (entry_of r) c.loop-left.entries.entries c.loop-left.invariant.kept.ordered
+      done = ap facts_of (c.in_ok-put_new.ensures.entries ∙ (λ i. with_entry bytes_cmp (fact_name (c.in_ok-fact.ensures i)) (entry_of (c.in_ok-fact.ensures i)) (c.begin.ensures.rows i).facts.entries))
+          ∙ facts_with fact_of fact_name own (fact_name r) (entry_of r) c.loop-left.maps.facts.held.entries c.loop-left.invariant.kept.ordered
           ∙ (λ i. by_name fact_name (fact_again r i ∷ c.loop-left.invariant.done i)) ∙ by_name-again fact_name r rest d ∙ ap (by_name fact_name) (sym cut);
-      kept = c.in_ok-put_unlogged.ensures.kept;
+      kept = c.in_ok-put_new.ensures.kept;
       within = omega (arith, c.loop-left.invariant.within);
     }

@@ -21,7 +21,7 @@ one_more es file (o ∷ ps) p =
 
 pub loop-place-preserved : goal.loop-place-preserved
 loop-place-preserved g c file =
-    let es = c.args.facts.now.entries in
+    let es = c.args.facts.now.held.entries in
     let places = c.args.places.now in
     let i = c.loop-place.place-index in
     let p = c.place-item.result in

@@ -1,8 +1,10 @@
 use Rattle.std.proofs.Common.{◌∙◌, ap}
 use Rattle.std.proofs.lemmas.Result.{IfOk-weaker}
+use Rattle.std.specs.Map.{keys_of}
+use Rattle.fsl_cluster.specs.Kept.{tables_in}
 use Rattle.fsl_cluster.specs.Clusters.{missing}
 use Rattle.fsl_cluster.proofs.Reading.{missing_are}
 use Rattle.fsl_cluster.proofs.clusters.Clusters.missing_counted.Goals as goal
 
 pub returns : goal.returns
-returns g c = IfOk-weaker c.keys.result _ _ (λ l e. e ∙ missing_are c.self.inside.tables c.self.invariant ∙ ap (λ h. missing h.facts) c.self.view_is) c.keys.ensures.keys
+returns g c = IfOk-weaker c.keys.result _ _ (λ l e. e ∙ ap (λ t. keys_of t.entries) c.map.ensures ∙ missing_are (tables_in c.self.inside.maps) c.self.invariant ∙ ap (λ h. missing h.facts) c.self.view_is) c.keys.ensures.keys

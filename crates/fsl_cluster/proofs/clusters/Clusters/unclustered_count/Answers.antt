@@ -1,7 +1,8 @@
 use Rattle.std.proofs.Common.{◌∙◌, ap, length}
+use Rattle.fsl_cluster.specs.Kept.{tables_in}
 use Rattle.fsl_cluster.specs.Clusters.{unclustered}
 use Rattle.fsl_cluster.proofs.Reading.{unclustered_length}
 use Rattle.fsl_cluster.proofs.clusters.Clusters.unclustered_count.Goals as goal
 
 pub returns : goal.returns
-returns c = c.len.ensures.len ∙ unclustered_length c.self.inside.tables c.self.invariant ∙ ap (λ h. length (unclustered h.facts)) c.self.view_is
+returns c = c.len.ensures.len ∙ ap (λ t. length t.entries) c.map.ensures ∙ unclustered_length (tables_in c.self.inside.maps) c.self.invariant ∙ ap (λ h. length (unclustered h.facts)) c.self.view_is

@@ -13,10 +13,10 @@ pub returns-in-None : goal.returns-in-None
 returns-in-None g c =
     let name = c.args.name in
     ap (option_map differ) (c.in-None.ensures.both ∙ ap (λ l. both_at l name) c.of.ensures)
-    ∙ sym (changes-at c.self.inside.facts.entries name) ∙ ap (λ h. changes h.facts name) c.self.view_is
+    ∙ sym (changes-at c.self.inside.maps.facts.held.entries name) ∙ ap (λ h. changes h.facts name) c.self.view_is
 
 pub returns : goal.returns
 returns g c =
     let name = c.args.name in
     ap Some c.in_ok-differences-in-Some.ensures ∙ ap (option_map differ) (c.in-Some.ensures.both ∙ ap (λ l. both_at l name) c.of.ensures)
-    ∙ sym (changes-at c.self.inside.facts.entries name) ∙ ap (λ h. changes h.facts name) c.self.view_is
+    ∙ sym (changes-at c.self.inside.maps.facts.held.entries name) ∙ ap (λ h. changes h.facts name) c.self.view_is

@@ -1,57 +1,17 @@
 use Rattle.std.proofs.Common.{sym, ap, subst}
 use Rattle.fsl_order.specs.TableState.{IsAsBefore}
-use Rattle.fsl_files.specs.Kept.{Rows, Logs, TakesBack, held_of, undone_rows}
-use Rattle.fsl_files.proofs.Canonical.{kept_as, chain}
+use Rattle.fsl_files.specs.Kept.{ends_of, held_of, rows_of, starts_of}
+use Rattle.fsl_files.proofs.Canonical.{as_good, good_as, kept_good}
 use Rattle.fsl_files.proofs.files.Files.take_back.Goals as goal
 
 pub undo-requires : goal.undo-requires
 undo-requires g c =
-    let now : Rows = record { facts = c.self.inside.facts; deltas = c.self.inside.deltas; children = c.self.inside.children } in
-    let logs : Logs = record { facts = c.undo.inside.facts; deltas = c.undo.inside.deltas; children = c.undo.inside.children } in
-    let t : TakesBack logs c.args.undo.before now =
-    subst (λ b. TakesBack logs b now) (ap (λ u. u.before) c.undo.view_is)
-    (c.undo.invariant now c.self.invariant
-    (subst (λ a. IsAsBefore a (held_of now)) (sym (ap (λ u. u.after) c.undo.view_is)) (subst (λ h. IsAsBefore c.args.undo.after h) (sym c.self.view_is) c.requires.last))) in
-    t.facts_can
-
-pub undo-requires-2 : goal.undo-requires-2
-undo-requires-2 g c =
-    let now : Rows = record { facts = c.self.inside.facts; deltas = c.self.inside.deltas; children = c.self.inside.children } in
-    let logs : Logs = record { facts = c.undo.inside.facts; deltas = c.undo.inside.deltas; children = c.undo.inside.children } in
-    let t : TakesBack logs c.args.undo.before now =
-    subst (λ b. TakesBack logs b now) (ap (λ u. u.before) c.undo.view_is)
-    (c.undo.invariant now c.self.invariant
-    (subst (λ a. IsAsBefore a (held_of now)) (sym (ap (λ u. u.after) c.undo.view_is)) (subst (λ h. IsAsBefore c.args.undo.after h) (sym c.self.view_is) c.requires.last))) in
-    t.deltas_can
-
-pub undo-requires-3 : goal.undo-requires-3
-undo-requires-3 g c =
-    let now : Rows = record { facts = c.self.inside.facts; deltas = c.self.inside.deltas; children = c.self.inside.children } in
-    let logs : Logs = record { facts = c.undo.inside.facts; deltas = c.undo.inside.deltas; children = c.undo.inside.children } in
-    let t : TakesBack logs c.args.undo.before now =
-    subst (λ b. TakesBack logs b now) (ap (λ u. u.before) c.undo.view_is)
-    (c.undo.invariant now c.self.invariant
-    (subst (λ a. IsAsBefore a (held_of now)) (sym (ap (λ u. u.after) c.undo.view_is)) (subst (λ h. IsAsBefore c.args.undo.after h) (sym c.self.view_is) c.requires.last))) in
-    t.children_can
+    good_as (ends_of c.undo.inside.ways) (rows_of c.self.inside.maps) c.undo.invariant.1 c.self.invariant
+    (subst (λ a. IsAsBefore a (held_of (rows_of c.self.inside.maps))) (sym (ap (λ u. u.after) c.undo.view_is)) (subst (IsAsBefore c.args.undo.after) (sym c.self.view_is) c.requires.last))
 
 pub invariant_of-self : goal.invariant_of-self
-invariant_of-self g c =
-    let now : Rows = record { facts = c.self.inside.facts; deltas = c.self.inside.deltas; children = c.self.inside.children } in
-    let logs : Logs = record { facts = c.undo.inside.facts; deltas = c.undo.inside.deltas; children = c.undo.inside.children } in
-    let t : TakesBack logs c.args.undo.before now =
-    subst (λ b. TakesBack logs b now) (ap (λ u. u.before) c.undo.view_is)
-    (c.undo.invariant now c.self.invariant
-    (subst (λ a. IsAsBefore a (held_of now)) (sym (ap (λ u. u.after) c.undo.view_is)) (subst (λ h. IsAsBefore c.args.undo.after h) (sym c.self.view_is) c.requires.last))) in
-    kept_as (undone_rows logs now) (record { facts = c.undo-2.new.table; deltas = c.undo-3.new.table; children = c.undo-4.new.table })
-    c.undo-2.ensures.good.entries c.undo-3.ensures.good.entries c.undo-4.ensures.good.entries t.kept
+invariant_of-self g c = kept_good (starts_of c.undo.inside.ways) (rows_of c.undo-2.new.self) c.undo-2.ensures c.undo.invariant.0
 
 pub returns : goal.returns
 returns g c =
-    let now : Rows = record { facts = c.self.inside.facts; deltas = c.self.inside.deltas; children = c.self.inside.children } in
-    let logs : Logs = record { facts = c.undo.inside.facts; deltas = c.undo.inside.deltas; children = c.undo.inside.children } in
-    let t : TakesBack logs c.args.undo.before now =
-    subst (λ b. TakesBack logs b now) (ap (λ u. u.before) c.undo.view_is)
-    (c.undo.invariant now c.self.invariant
-    (subst (λ a. IsAsBefore a (held_of now)) (sym (ap (λ u. u.after) c.undo.view_is)) (subst (λ h. IsAsBefore c.args.undo.after h) (sym c.self.view_is) c.requires.last))) in
-    chain c.args.undo.before (undone_rows logs now) (record { facts = c.undo-2.new.table; deltas = c.undo-3.new.table; children = c.undo-4.new.table })
-    t.back c.undo-2.ensures.good c.undo-3.ensures.good c.undo-4.ensures.good
+    subst (λ b. IsAsBefore b (held_of (rows_of c.undo-2.new.self))) (ap (λ u. u.before) c.undo.view_is) (as_good (starts_of c.undo.inside.ways) (rows_of c.undo-2.new.self) c.undo-2.ensures)

@@ -10,9 +10,9 @@ use Rattle.fsl_forum.proofs.threads.Threads.thread_counted.Goals as goal
 
 pub returns : goal.returns
 returns g c =
-    let es = c.self.inside.posts.entries in
+    let es = c.self.inside.maps.posts.held.entries in
     if_ok_map c.posts_of.result
     (λ list e.
     e ∙ ap (λ ns. map shown (map (λ e. e.1) (keyed dated_cmp (λ f. (f.date, f.name)) (filter_map (post (facts_of es)) ns)))) (c.items.ensures ∙ c.in_ok-names.ensures.seconds)
-    ∙ thread-posts es c.self.inside.placed.entries c.args.root c.self.invariant.ordered c.self.invariant.placed ∙ ap (λ h. thread h.facts c.args.root) c.self.view_is)
+    ∙ thread-posts es c.self.inside.maps.placed.held.entries c.args.root c.self.invariant.ordered c.self.invariant.placed ∙ ap (λ h. thread h.facts c.args.root) c.self.view_is)
     c.posts_of.ensures

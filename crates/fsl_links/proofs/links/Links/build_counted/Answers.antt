@@ -1,18 +1,19 @@
 use Rattle.std.proofs.lemmas.List.{drop_more}
 use Rattle.std.proofs.Math.Seq.{drop-length}
 use Rattle.std.proofs.Common.{◌≡◌, ◌+◌, ◌-◌, ◌<◌, ◌∙◌, ◌∷◌, map, drop, length, refl, sym, ap, subst, arith}
-use Rattle.fsl_order.specs.Names.{has}
+use Rattle.fsl_order.specs.Names.{bytes_cmp, has}
+use Rattle.fsl_table.specs.Contents.{value_at, with_entry}
 use Rattle.fsl_order.specs.Rows.{by_name, AreDistinct}
 use Rattle.fsl_rows.proofs.Built.{distinct-drop, by_name-again}
 use Rattle.fsl_table.proofs.Facts.{absent-entry, absent_before, facts_with}
-use Rattle.fsl_links.specs.Kept.{fact_of, facts_of}
+use Rattle.fsl_links.specs.Kept.{fact_of, facts_of, rows_of}
 use Rattle.fsl_links.proofs.Canonical.{kept_none}
 use Rattle.fsl_links.proofs.links.Links.build_counted.Goals as goal
 
 pub loop-left-init : goal.loop-left-init
 loop-left-init g c = record {
-  done = ap facts_of c.new-rows.ensures ∙ ap (by_name (λ f. f.name)) (sym (drop-length c.args.facts.now));
-  kept = kept_none c.new-rows.result c.new-children.result c.new-rows.ensures c.new-children.ensures;
+  done = ap facts_of c.new-maps.ensures.facts ∙ ap (by_name (λ f. f.name)) (sym (drop-length c.args.facts.now));
+  kept = kept_none (rows_of c.new-maps.result) c.new-maps.ensures.facts c.new-maps.ensures.children;
   within = omega arith;
 }
 
@@ -26,7 +27,8 @@ put_fact-requires-clause-absent g c =
     let less : j < length facts = omega (arith, c.loop-left-test.true, c.loop-left.invariant.within) in
     let cut : drop j facts ≡ r ∷ rest = drop_more facts j r less ∙ (λ i. (sym c.index-facts-left.is) i ∷ drop (e i) facts) in
     let d : AreDistinct (map (λ f. f.name) (r ∷ rest)) = subst (λ l. AreDistinct (map (λ f. f.name) l)) cut (distinct-drop (λ f. f.name) j facts c.requires.distinct) in
-    absent-entry fact_of (λ f. f.name) (λ e. refl) c.loop-left.rows.entries c.in_ok-fact.fact.name
+    ap (λ r. value_at bytes_cmp c.in_ok-fact.fact.name r.facts.entries) c.begin.ensures.rows
+    ∙ absent-entry fact_of (λ f. f.name) (λ e. refl) c.loop-left.maps.facts.held.entries c.in_ok-fact.fact.name
     ((λ i. has (map (λ f. f.name) (c.loop-left.invariant.done i)) (c.in_ok-fact.ensures i).name) ∙ absent_before (λ f. f.name) r rest d)
 
 pub loop-left-preserved : goal.loop-left-preserved
@@ -41,7 +43,8 @@ loop-left-preserved g c =
     let d : AreDistinct (map (λ f. f.name) (r ∷ rest)) = subst (λ l. AreDistinct (map (λ f. f.name) l)) cut (distinct-drop (λ f. f.name) j facts c.requires.distinct) in
     record {
       done = ap facts_of c.in_ok-put_fact.ensures.entries
-          ∙ facts_with fact_of (λ f. f.name) (λ e. refl) _ _ c.loop-left.rows.entries c.loop-left.invariant.kept.ordered
+          ∙ ap (λ r. facts_of (with_entry bytes_cmp c.in_ok-fact.fact.name c.in_ok-fact.fact.parents r.facts.entries)) c.begin.ensures.rows
+          ∙ facts_with fact_of (λ f. f.name) (λ e. refl) _ _ c.loop-left.maps.facts.held.entries c.loop-left.invariant.kept.ordered
           ∙ (λ i. by_name (λ f. f.name) (c.in_ok-fact.ensures i ∷ c.loop-left.invariant.done i)) ∙ by_name-again (λ f. f.name) r rest d ∙ ap (by_name (λ f. f.name)) (sym cut);
       kept = c.in_ok-put_fact.ensures.kept;
       within = omega (arith, c.loop-left.invariant.within);

@@ -1,71 +1,24 @@
-use Rattle.std.proofs.Common.{◌≡◌, ◌∙◌, ◌∷◌, length, arith, map, refl, sym, ap, subst}
-use Rattle.fsl_order.specs.Names.{bytes_cmp, latest_first, has}
+use Rattle.std.proofs.Common.{◌∙◌, ◌∷◌, arith, map, refl, ap}
+use Rattle.fsl_order.specs.Names.{bytes_cmp, has}
 use Rattle.fsl_order.specs.Rows.{by_name}
-use Rattle.fsl_order.specs.TableState.{IsAsBefore}
-use Rattle.fsl_table.specs.Undo.{Undoes, IsAsGood, undone}
-use Rattle.fsl_table.proofs.Steps.{undoes-none, good_chain}
+use Rattle.fsl_table.specs.Contents.{value_at}
 use Rattle.fsl_table.proofs.Facts.{absent-entry, facts_with}
-use Rattle.fsl_timeline.specs.Kept.{Rows, TakesBack, held_of, row_of, rows_of}
-use Rattle.fsl_timeline.proofs.Canonical.{kept_as, takes_back, as_good}
+use Rattle.fsl_timeline.specs.Kept.{entry_of, row_of, rows_of, with_row}
 use Rattle.fsl_timeline.proofs.timeline.Timeline.put.Goals as goal
 
 pub put_either-requires-clause-absent : goal.put_either-requires-clause-absent
 put_either-requires-clause-absent g c = λ new.
-    absent-entry row_of (λ r. r.name) (λ e. refl) c.self.inside.rows.entries c.args.fact.name (ap (λ h. has (map (λ r. r.name) h.facts) c.args.fact.name) c.self.view_is ∙ c.requires.absent new)
-
-pub invariant_of-result : goal.invariant_of-result
-invariant_of-result g c = λ now kept same.
-    let old : Rows = record { rows = c.self.inside.rows; places = c.self.inside.places } in
-    let ur : Undoes bytes_cmp c.put_either.new.rows_log c.put_either.new.rows old.rows = c.in-Ok.ensures.undoes_rows old.rows (undoes-none bytes_cmp c.new-rows.result old.rows c.new-rows.ensures) in
-    let up : Undoes latest_first c.put_either.new.places_log c.put_either.new.places old.places = c.in-Ok.ensures.undoes_places old.places (undoes-none latest_first c.new-places.result old.places c.new-places.ensures) in
-    let new : Rows = record { rows = c.put_either.new.rows; places = c.put_either.new.places } in
-    subst (λ b. TakesBack c.put_either.new.rows_log c.put_either.new.places_log b now) (c.self.view_is ∙ sym c.of-before.ensures)
-    (takes_back c.put_either.new.rows_log c.put_either.new.places_log old new now c.self.invariant c.in-Ok.ensures.kept kept (subst (λ a. IsAsBefore a (held_of now)) c.of-after.ensures same) ur up)
-
-pub undo-requires : goal.undo-requires
-undo-requires g c =
-    let old : Rows = record { rows = c.self.inside.rows; places = c.self.inside.places } in
-    let ur : Undoes bytes_cmp c.put_either.new.rows_log c.put_either.new.rows old.rows = c.in-Err.ensures.undoes_rows old.rows (undoes-none bytes_cmp c.new-rows.result old.rows c.new-rows.ensures) in
-    let up : Undoes latest_first c.put_either.new.places_log c.put_either.new.places old.places = c.in-Err.ensures.undoes_places old.places (undoes-none latest_first c.new-places.result old.places c.new-places.ensures) in
-    ur.possible
-
-pub undo-requires-in-Err : goal.undo-requires-in-Err
-undo-requires-in-Err g c =
-    let old : Rows = record { rows = c.self.inside.rows; places = c.self.inside.places } in
-    let ur : Undoes bytes_cmp c.put_either.new.rows_log c.put_either.new.rows old.rows = c.in-Err.ensures.undoes_rows old.rows (undoes-none bytes_cmp c.new-rows.result old.rows c.new-rows.ensures) in
-    let up : Undoes latest_first c.put_either.new.places_log c.put_either.new.places old.places = c.in-Err.ensures.undoes_places old.places (undoes-none latest_first c.new-places.result old.places c.new-places.ensures) in
-    up.possible
-
-pub invariant_of-self-in-Err-1 : goal.invariant_of-self-in-Err-1
-invariant_of-self-in-Err-1 g c =
-    let old : Rows = record { rows = c.self.inside.rows; places = c.self.inside.places } in
-    let ur : Undoes bytes_cmp c.put_either.new.rows_log c.put_either.new.rows old.rows = c.in-Err.ensures.undoes_rows old.rows (undoes-none bytes_cmp c.new-rows.result old.rows c.new-rows.ensures) in
-    let up : Undoes latest_first c.put_either.new.places_log c.put_either.new.places old.places = c.in-Err.ensures.undoes_places old.places (undoes-none latest_first c.new-places.result old.places c.new-places.ensures) in
-    let gr : IsAsGood old.rows c.undo.new.table = good_chain old.rows (undone bytes_cmp c.put_either.new.rows_log c.put_either.new.rows) c.undo.new.table ur.back c.undo.ensures.good in
-    let gp : IsAsGood old.places c.undo-in-Err.new.table = good_chain old.places (undone latest_first c.put_either.new.places_log c.put_either.new.places) c.undo-in-Err.new.table up.back c.undo-in-Err.ensures.good in
-    let new : Rows = record { rows = c.undo.new.table; places = c.undo-in-Err.new.table } in
-    kept_as old new gr.entries gp.entries c.self.invariant
-
-pub returns-in-Err-clause-err : goal.returns-in-Err-clause-err
-returns-in-Err-clause-err g c =
-    let old : Rows = record { rows = c.self.inside.rows; places = c.self.inside.places } in
-    let ur : Undoes bytes_cmp c.put_either.new.rows_log c.put_either.new.rows old.rows = c.in-Err.ensures.undoes_rows old.rows (undoes-none bytes_cmp c.new-rows.result old.rows c.new-rows.ensures) in
-    let up : Undoes latest_first c.put_either.new.places_log c.put_either.new.places old.places = c.in-Err.ensures.undoes_places old.places (undoes-none latest_first c.new-places.result old.places c.new-places.ensures) in
-    let gr : IsAsGood old.rows c.undo.new.table = good_chain old.rows (undone bytes_cmp c.put_either.new.rows_log c.put_either.new.rows) c.undo.new.table ur.back c.undo.ensures.good in
-    let gp : IsAsGood old.places c.undo-in-Err.new.table = good_chain old.places (undone latest_first c.put_either.new.places_log c.put_either.new.places) c.undo-in-Err.new.table up.back c.undo-in-Err.ensures.good in
-    let new : Rows = record { rows = c.undo.new.table; places = c.undo-in-Err.new.table } in
-    subst (λ h. IsAsBefore h (held_of new)) c.self.view_is (as_good old new gr gp)
+    ap (λ r. value_at bytes_cmp c.args.fact.name r.rows.entries) c.begin.ensures.held
+    ∙ absent-entry row_of (λ r. r.name) (λ e. refl) c.self.inside.maps.rows.held.entries c.args.fact.name (ap (λ h. has (map (λ r. r.name) h.facts) c.args.fact.name) c.self.view_is ∙ c.requires.absent new)
 
 pub returns-in-Ok-clause-facts : goal.returns-in-Ok-clause-facts
 returns-in-Ok-clause-facts g c =
-    ap rows_of c.in-Ok.ensures.entries
-    ∙ facts_with row_of (λ r. r.name) (λ e. refl) c.args.fact.name (record { time = c.args.fact.time; kind = c.args.fact.kind; user = c.args.fact.user; text = c.args.fact.text }) c.self.inside.rows.entries c.self.invariant.ordered
+    ap (λ r. rows_of r.rows.entries) c.ways.ensures.held ∙ ap rows_of c.in-Ok.ensures.entries ∙ ap (λ r. rows_of (with_row c.args.fact r.rows.entries)) c.begin.ensures.held
+    ∙ facts_with row_of (λ r. r.name) (λ e. refl) c.args.fact.name (entry_of c.args.fact) c.self.inside.maps.rows.held.entries c.self.invariant.ordered
     ∙ ap (λ h. by_name (λ r. r.name) (c.args.fact ∷ h.facts)) c.self.view_is
 
 pub returns-in-Err-clause-cost : goal.returns-in-Err-clause-cost
 returns-in-Err-clause-cost g c = λ new.
-    let no_rows : length c.new-rows.result ≡ 0 = ap length c.new-rows.ensures in
-    let no_places : length c.new-places.result ≡ 0 = ap length c.new-places.ensures in
     let cost = c.in-Err.ensures.cost new in
-    let logged = c.in-Err.ensures.logged new in
-    omega (arith, no_rows, no_places, cost, logged, c.undo.ensures.cost, c.undo-in-Err.ensures.cost)
+    let back = c.in-Err.ensures.back new in
+    omega (arith, c.begin.ensures.back, cost, back, c.turn_back.ensures.cost)

@@ -1,41 +1,17 @@
 use Rattle.std.proofs.Common.{sym, ap, subst}
 use Rattle.fsl_order.specs.TableState.{IsAsBefore}
-use Rattle.fsl_timeline.specs.Kept.{Rows, TakesBack, held_of, undone_rows}
-use Rattle.fsl_timeline.proofs.Canonical.{kept_as, chain}
+use Rattle.fsl_timeline.specs.Kept.{ends_of, held_of, rows_in, starts_of}
+use Rattle.fsl_timeline.proofs.Canonical.{as_good, good_as, kept_good}
 use Rattle.fsl_timeline.proofs.timeline.Timeline.take_back.Goals as goal
 
 pub undo-requires : goal.undo-requires
 undo-requires g c =
-    let now : Rows = record { rows = c.self.inside.rows; places = c.self.inside.places } in
-    let t : TakesBack c.undo.inside.rows c.undo.inside.places c.args.undo.before now =
-    subst (λ b. TakesBack c.undo.inside.rows c.undo.inside.places b now) (ap (λ u. u.before) c.undo.view_is)
-    (c.undo.invariant now c.self.invariant
-    (subst (λ a. IsAsBefore a (held_of now)) (sym (ap (λ u. u.after) c.undo.view_is)) (subst (λ h. IsAsBefore c.args.undo.after h) (sym c.self.view_is) c.requires.last))) in
-    t.rows_can
-
-pub undo-requires-2 : goal.undo-requires-2
-undo-requires-2 g c =
-    let now : Rows = record { rows = c.self.inside.rows; places = c.self.inside.places } in
-    let t : TakesBack c.undo.inside.rows c.undo.inside.places c.args.undo.before now =
-    subst (λ b. TakesBack c.undo.inside.rows c.undo.inside.places b now) (ap (λ u. u.before) c.undo.view_is)
-    (c.undo.invariant now c.self.invariant
-    (subst (λ a. IsAsBefore a (held_of now)) (sym (ap (λ u. u.after) c.undo.view_is)) (subst (λ h. IsAsBefore c.args.undo.after h) (sym c.self.view_is) c.requires.last))) in
-    t.places_can
+    good_as (ends_of c.undo.inside.ways) (rows_in c.self.inside.maps) c.undo.invariant.1 c.self.invariant
+    (subst (λ a. IsAsBefore a (held_of (rows_in c.self.inside.maps))) (sym (ap (λ u. u.after) c.undo.view_is)) (subst (IsAsBefore c.args.undo.after) (sym c.self.view_is) c.requires.last))
 
 pub invariant_of-self : goal.invariant_of-self
-invariant_of-self g c =
-    let now : Rows = record { rows = c.self.inside.rows; places = c.self.inside.places } in
-    let t : TakesBack c.undo.inside.rows c.undo.inside.places c.args.undo.before now =
-    subst (λ b. TakesBack c.undo.inside.rows c.undo.inside.places b now) (ap (λ u. u.before) c.undo.view_is)
-    (c.undo.invariant now c.self.invariant
-    (subst (λ a. IsAsBefore a (held_of now)) (sym (ap (λ u. u.after) c.undo.view_is)) (subst (λ h. IsAsBefore c.args.undo.after h) (sym c.self.view_is) c.requires.last))) in
-    kept_as (undone_rows c.undo.inside.rows c.undo.inside.places now) (record { rows = c.undo-2.new.table; places = c.undo-3.new.table }) c.undo-2.ensures.good.entries c.undo-3.ensures.good.entries t.kept
+invariant_of-self g c = kept_good (starts_of c.undo.inside.ways) (rows_in c.undo-2.new.self) c.undo-2.ensures c.undo.invariant.0
 
 pub returns : goal.returns
 returns g c =
-    let now : Rows = record { rows = c.self.inside.rows; places = c.self.inside.places } in
-    let t : TakesBack c.undo.inside.rows c.undo.inside.places c.args.undo.before now =
-    subst (λ b. TakesBack c.undo.inside.rows c.undo.inside.places b now) (ap (λ u. u.before) c.undo.view_is)
-    (c.undo.invariant now c.self.invariant
-    (subst (λ a. IsAsBefore a (held_of now)) (sym (ap (λ u. u.after) c.undo.view_is)) (subst (λ h. IsAsBefore c.args.undo.after h) (sym c.self.view_is) c.requires.last))) in
-    chain c.args.undo.before (undone_rows c.undo.inside.rows c.undo.inside.places now) (record { rows = c.undo-2.new.table; places = c.undo-3.new.table }) t.back c.undo-2.ensures.good c.undo-3.ensures.good
+    subst (λ b. IsAsBefore b (held_of (rows_in c.undo-2.new.self))) (ap (λ u. u.before) c.undo.view_is) (as_good (starts_of c.undo.inside.ways) (rows_in c.undo-2.new.self) c.undo-2.ensures)

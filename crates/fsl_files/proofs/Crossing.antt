@@ -1,0 +1,11 @@
+-- The table may go to another thread, and be shared.
+use denote.Param.Send.{IsSend, IsSync, sendable}
+use Rattle.std.proofs.Crossing.{crosses as std_cross}
+use Rattle.fsl_table.proofs.Crossing.{crosses as table_cross}
+use Rattle.fsl_files.specs.contracts.files.Files.{the_row}
+
+pub files_send : IsSend the_row
+files_send = search (sendable, std_cross, table_cross) depth 60 fits 40000
+
+pub files_sync : IsSync the_row
+files_sync = search (sendable, std_cross, table_cross) depth 60 fits 40000

@@ -1,0 +1,78 @@
+//! The maps in which the facts are held.
+ghost use Rattle.std.specs.Prelude.{◌≡◌, ◌+◌, []};
+ghost use Rattle.fsl_links.specs.Kept.{AreAsGood, ends_of, rows_before, rows_of, starts_of, steps_back};
+
+use fsl_name::Name;
+use fsl_table::{Pair, Tracked, Way};
+use fsl_text::{List, Steps};
+use std::alloc::Global;
+use std::sync::ledger::Ledger;
+
+/// The maps of a table of parentage.
+#[derive(Drop)]
+pub struct Maps {
+    /// The names of each P card, by the name of its check-in.
+    pub facts: Tracked<Name, List<Name>>,
+    /// A pair for each name of a P card and the check-in that has it.
+    pub children: Tracked<Pair, ()>,
+}
+
+/// The ways back of a change.
+#[derive(Drop)]
+pub struct Ways {
+    pub facts: Way<Name, List<Name>>,
+    pub children: Way<Pair, ()>,
+}
+
+impl Maps {
+    /// The maps without check-ins. Takes no memory.
+    pub fn new(alloc: Global) -> Maps
+        ensures facts { result.facts.held.entries ≡ [] }
+        ensures children { result.children.held.entries ≡ [] }
+    {
+        Maps {
+            facts: Tracked::new(alloc),
+            children: Tracked::new(alloc),
+        }
+    }
+
+    /// Begins a change.
+    pub fn begin(&mut self)
+        ensures rows { rows_of self.new ≡ rows_of self.old }
+        ensures was { rows_before self.new ≡ rows_of self.old }
+        ensures back { steps_back self.new ≡ 0 }
+    {
+        self.facts.begin();
+        self.children.begin();
+    }
+
+    /// Goes back to where the change began. It takes no memory.
+    pub fn turn_back<L: Ledger>(&mut self, steps: &mut Steps<L>)
+        ensures good { AreAsGood (rows_before self.old) (rows_of self.new) }
+        ensures cost { steps.new ≡ steps.old + steps_back self.old }
+    {
+        self.facts.turn_back(steps);
+        self.children.turn_back(steps);
+    }
+
+    /// Hands the ways back out.
+    pub fn ways(&mut self, alloc: Global) -> Ways
+        ensures ends { ends_of result ≡ rows_of self.old }
+        ensures starts { starts_of result ≡ rows_before self.old }
+        ensures rows { rows_of self.new ≡ rows_of self.old }
+    {
+        Ways {
+            facts: self.facts.way(alloc),
+            children: self.children.way(alloc),
+        }
+    }
+
+    /// Goes these ways back from what is as good as their ends. It takes no memory.
+    pub fn undo<L: Ledger>(&mut self, ways: Ways, steps: &mut Steps<L>)
+        requires { AreAsGood (ends_of ways) (rows_of self.old) }
+        ensures { AreAsGood (starts_of ways) (rows_of self.new) }
+    {
+        self.facts.undo(ways.facts, steps);
+        self.children.undo(ways.children, steps);
+    }
+}

@@ -1,0 +1,4 @@
+use Rattle.fsl_table.proofs.tracked.Tracked.put.Goals as goal
+
+pub invariant_of-self : goal.invariant_of-self
+invariant_of-self g c = c.put.ensures.undoes c.self.inside.was.value c.self.invariant

@@ -1,0 +1,11 @@
+-- The table may go to another thread, and be shared.
+use denote.Param.Send.{IsSend, IsSync, sendable}
+use Rattle.std.proofs.Crossing.{crosses as std_cross}
+use Rattle.fsl_table.proofs.Crossing.{crosses as table_cross}
+use Rattle.fsl_timeline.specs.contracts.timeline.Timeline.{the_row}
+
+pub timeline_send : IsSend the_row
+timeline_send = search (sendable, std_cross, table_cross) depth 60 fits 40000
+
+pub timeline_sync : IsSync the_row
+timeline_sync = search (sendable, std_cross, table_cross) depth 60 fits 40000
