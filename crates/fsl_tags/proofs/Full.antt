@@ -82,6 +82,3 @@ unchanged name row now same x =
 pub is_none : (row : List Assertion) → (length row == 0) ≡ true → row ≡ []
 is_none [] h = refl
 is_none (a ∷ row) h = absurd (true≢false (sym h ∙ eqb-suc-zero (length row)))
-
-pub is_some_row : (row : List Assertion) → (length row == 0) ≡ false → row ≡ [] → ⊥
-is_some_row row h e = true≢false (sym (ap (λ r. length r == 0) e) ∙ h)

@@ -4,12 +4,13 @@ pub mod Climb
 pub mod Chosen
 pub mod RowsOf
 pub mod Merging
+pub mod Trees
+pub mod Blending
 pub mod Limits
 pub mod SameRows
 pub mod Climbs
 pub mod Full
 pub mod Settled
-pub mod Searching
 pub mod Renewal
 pub mod Linked
 pub mod Scans
@@ -27,7 +28,6 @@ pub mod Filling
 pub mod Holding
 pub mod Others
 pub mod Grouping
-pub mod Blending
 pub mod Ends
 pub mod Refreshed
 pub mod Nodes

@@ -4,6 +4,8 @@ pub mod Passing
 pub mod Gathered
 pub mod Kept
 pub mod Joined
+pub mod Put
+pub mod Sums
 pub mod Climbed
 pub mod Same
 pub mod Spread

@@ -20,7 +20,8 @@ ghost use Rattle.fsl_tags.specs.declared.node.Node as given;
 use super::Fact;
 use super::changed::changed_names;
 use super::node::Node;
-use super::shared::{Shared, share};
+use super::row::Row;
+use super::shared::share;
 use super::take::{cut, set_node, take_all};
 use fsl_name::Name;
 use fsl_table::{Log, Pair, Table};
@@ -44,12 +45,12 @@ pub(crate) fn take_in<L: Ledger>(
     alloc: Global,
     facts: &mut Table<Name, Node>,
     children: &mut Table<Pair, ()>,
-    own: &mut Table<Name, List<Shared>>,
-    rows: &mut Table<Name, List<Shared>>,
+    own: &mut Table<Name, Row>,
+    rows: &mut Table<Name, Row>,
     facts_log: &mut Log<Name, Node>,
     children_log: &mut Log<Pair, ()>,
-    own_log: &mut Log<Name, List<Shared>>,
-    rows_log: &mut Log<Name, List<Shared>>,
+    own_log: &mut Log<Name, Row>,
+    rows_log: &mut Log<Name, Row>,
     fact: Fact,
     steps: &mut Steps<L>,
 ) -> Result<List<Name>, Memory>
@@ -126,12 +127,12 @@ fn move_node<L: Ledger>(
     alloc: Global,
     facts: &mut Table<Name, Node>,
     children: &mut Table<Pair, ()>,
-    own: &Table<Name, List<Shared>>,
-    rows: &mut Table<Name, List<Shared>>,
+    own: &Table<Name, Row>,
+    rows: &mut Table<Name, Row>,
     facts_log: &mut Log<Name, Node>,
     children_log: &mut Log<Pair, ()>,
-    rows_log: &mut Log<Name, List<Shared>>,
-    noted: &mut BTreeMap<Name, List<Shared>>,
+    rows_log: &mut Log<Name, Row>,
+    noted: &mut BTreeMap<Name, Row>,
     name: Name,
     node: Node,
     steps: &mut Steps<L>,
@@ -185,11 +186,11 @@ pub(crate) fn give_parent<L: Ledger>(
     alloc: Global,
     facts: &mut Table<Name, Node>,
     children: &mut Table<Pair, ()>,
-    own: &Table<Name, List<Shared>>,
-    rows: &mut Table<Name, List<Shared>>,
+    own: &Table<Name, Row>,
+    rows: &mut Table<Name, Row>,
     facts_log: &mut Log<Name, Node>,
     children_log: &mut Log<Pair, ()>,
-    rows_log: &mut Log<Name, List<Shared>>,
+    rows_log: &mut Log<Name, Row>,
     fact: Fact,
     steps: &mut Steps<L>,
 ) -> Result<List<Name>, Memory>

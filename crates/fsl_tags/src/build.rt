@@ -13,8 +13,8 @@ use super::Fact;
 use super::changed::pop;
 use super::lay::{lay, put_row};
 use super::node::Node;
+use super::row::Row;
 use super::settle::settle_all;
-use super::shared::Shared;
 use fsl_name::Name;
 use fsl_table::{Pair, Table};
 use fsl_text::{List, Memory, Steps};
@@ -25,8 +25,8 @@ use std::sync::ledger::Ledger;
 /// Puts rows into an empty table, those that aren't empty. They are moved.
 fn keep<L: Ledger>(
     alloc: Global,
-    settled: BTreeMap<Name, List<Shared>>,
-    rows: &mut Table<Name, List<Shared>>,
+    settled: BTreeMap<Name, Row>,
+    rows: &mut Table<Name, Row>,
     steps: &mut Steps<L>,
 ) -> Result<(), Memory>
     requires ordered { IsStrictlySortedBy bytes_cmp (keys_of settled.entries) }
@@ -48,8 +48,8 @@ pub(crate) fn fill<L: Ledger>(
     given: &[Fact],
     facts: &mut Table<Name, Node>,
     children: &mut Table<Pair, ()>,
-    own: &mut Table<Name, List<Shared>>,
-    rows: &mut Table<Name, List<Shared>>,
+    own: &mut Table<Name, Row>,
+    rows: &mut Table<Name, Row>,
     steps: &mut Steps<L>,
 ) -> Result<(), Memory>
     requires fit { table.AreTagFacts given.now }

@@ -6,9 +6,9 @@ ghost use Rattle.fsl_tags.specs.Laid.{row_in, AreNoted};
 ghost use Rattle.fsl_tags.specs.Same.{same_rows};
 ghost use Rattle.fsl_tags.specs.declared.Assertion as made;
 
+use super::row::Row;
 use super::rows::row_of;
 use super::same::is_same;
-use super::shared::Shared;
 use fsl_name::Name;
 use fsl_table::Table;
 use fsl_text::{List, Memory, Steps};
@@ -30,20 +30,16 @@ fn append_unless(same: bool, list: &mut List<Name>, name: Name) -> Result<(), Me
 }
 
 /// Whether the row of a name is this.
-fn is_row<L: Ledger>(
-    rows: &Table<Name, List<Shared>>,
-    name: Name,
-    row: &[Shared],
-    steps: &mut Steps<L>,
-) -> bool
+fn is_row<L: Ledger>(rows: &Table<Name, Row>, name: Name, row: &Row, steps: &mut Steps<L>) -> bool
     ensures cost { steps.new ≡ steps.old + 1 }
     ensures same { result ≡ same_rows row.now (row_in rows.now.entries name) }
 {
-    is_same(row, row_of(rows, name, steps))
+    let none = Row::new();
+    is_same(row, row_of(rows, name, &none, steps))
 }
 
 /// The first of what was noted.
-pub(crate) fn pop(noted: &mut BTreeMap<Name, List<Shared>>) -> Option<(Name, List<Shared>)>
+pub(crate) fn pop<V: Drop>(noted: &mut BTreeMap<Name, V>) -> Option<(Name, V)>
     ensures { MatchOption result ((noted.old.entries ≡ []) × (noted.new.entries ≡ [])) (λ e. noted.old.entries ≡ e ∷ noted.new.entries) }
 {
     noted.pop_first()
@@ -51,23 +47,23 @@ pub(crate) fn pop(noted: &mut BTreeMap<Name, List<Shared>>) -> Option<(Name, Lis
 
 /// Puts a name at the end, unless its row is the one that was noted.
 fn append_changed<L: Ledger>(
-    rows: &Table<Name, List<Shared>>,
+    rows: &Table<Name, Row>,
     list: &mut List<Name>,
     name: Name,
-    row: List<Shared>,
+    row: Row,
     steps: &mut Steps<L>,
 ) -> Result<(), Memory>
     ensures cost { steps.new ≡ steps.old + 1 }
     ensures list { OnOk result (list.new ≡ list.old ++ cond (same_rows row (row_in rows.now.entries name)) [] (name ∷ [])) }
 {
-    let same = is_row(rows, name, row.items(), steps);
+    let same = is_row(rows, name, &row, steps);
     append_unless(same, list, name)
 }
 
 /// Lists the names whose rows aren't those that are noted, and takes all that is noted out.
 fn list_changed<L: Ledger>(
-    noted: &mut BTreeMap<Name, List<Shared>>,
-    rows: &Table<Name, List<Shared>>,
+    noted: &mut BTreeMap<Name, Row>,
+    rows: &Table<Name, Row>,
     list: &mut List<Name>,
     steps: &mut Steps<L>,
 ) -> Result<(), Memory>
@@ -84,8 +80,8 @@ fn list_changed<L: Ledger>(
 /// The names whose rows aren't those that were noted.
 fn listed<L: Ledger>(
     alloc: Global,
-    noted: BTreeMap<Name, List<Shared>>,
-    rows: &Table<Name, List<Shared>>,
+    noted: BTreeMap<Name, Row>,
+    rows: &Table<Name, Row>,
     steps: &mut Steps<L>,
 ) -> Result<List<Name>, Memory>
     ensures cost { steps.new ≤ steps.old + length noted.entries }
@@ -102,8 +98,8 @@ fn listed<L: Ledger>(
 /// The names whose rows have changed since the first was noted, ascending.
 pub(crate) fn changed_names<L: Ledger>(
     alloc: Global,
-    noted: BTreeMap<Name, List<Shared>>,
-    rows: &Table<Name, List<Shared>>,
+    noted: BTreeMap<Name, Row>,
+    rows: &Table<Name, Row>,
     steps: &mut Steps<L>,
 ) -> Result<List<Name>, Memory>
     ensures cost { steps.new ≤ steps.old + length noted.entries }

@@ -9,8 +9,8 @@ ghost use Rattle.fsl_tags.specs.Gathered.{puts, is_shown};
 ghost use Rattle.fsl_tags.specs.Laid.{Rises, row_in};
 ghost use Rattle.fsl_tags.specs.Laying.{shows};
 
-use super::find::find;
 use super::order::cancels;
+use super::row::{Row, find, listed};
 use super::rows::row_of;
 use super::shared::Shared;
 use super::{Assertion, copy};
@@ -47,8 +47,8 @@ fn append_shown(
     }
 }
 
-/// Copies of those assertions of a row that don't take their tag away. `Memory` is the only error.
-pub fn in_force(alloc: Global, row: &[Shared]) -> Result<List<Assertion>, Memory>
+/// Copies of those of some assertions that don't take their tag away. `Memory` is the only error.
+fn shown(alloc: Global, row: &[Shared]) -> Result<List<Assertion>, Memory>
     ensures { IfOk result (λ list. list ≡ filter puts row.now) }
 {
     let mut list = List::new(alloc);
@@ -56,6 +56,14 @@ pub fn in_force(alloc: Global, row: &[Shared]) -> Result<List<Assertion>, Memory
         append_shown(alloc, &mut list, shared.get())?;
     }
     Ok(list)
+}
+
+/// Copies of those assertions of a row that don't take their tag away. `Memory` is the only error.
+pub(crate) fn in_force(alloc: Global, row: &Row) -> Result<List<Assertion>, Memory>
+    ensures { IfOk result (λ list. list ≡ filter puts row.now) }
+{
+    let items = listed(alloc, row)?;
+    shown(alloc, items.items())
 }
 
 /// Puts a name at the end of a list, where it is wanted.
@@ -72,7 +80,7 @@ fn append_if(wanted: bool, list: &mut List<Name>, name: Name) -> Result<(), Memo
 }
 
 /// The first name that has a row.
-fn first_name<L: Ledger>(rows: &Table<Name, List<Shared>>, steps: &mut Steps<L>) -> Option<Name>
+fn first_name<L: Ledger>(rows: &Table<Name, Row>, steps: &mut Steps<L>) -> Option<Name>
     ensures { result ≡ option_map (λ e. e.0) (first_of rows.now.entries) }
 {
     let (name, _) = rows.first(steps)?;
@@ -80,11 +88,7 @@ fn first_name<L: Ledger>(rows: &Table<Name, List<Shared>>, steps: &mut Steps<L>)
 }
 
 /// The name after another that has a row.
-fn name_after<L: Ledger>(
-    rows: &Table<Name, List<Shared>>,
-    name: Name,
-    steps: &mut Steps<L>,
-) -> Option<Name>
+fn name_after<L: Ledger>(rows: &Table<Name, Row>, name: Name, steps: &mut Steps<L>) -> Option<Name>
     ensures { result ≡ option_map (λ e. e.0) (first_of (entries_after bytes_cmp name rows.now.entries)) }
 {
     let (next, _) = rows.next_after(&name, steps)?;
@@ -94,7 +98,7 @@ fn name_after<L: Ledger>(
 /// The names whose rows show a tag, ascending.
 pub(crate) fn holders<L: Ledger>(
     alloc: Global,
-    rows: &Table<Name, List<Shared>>,
+    rows: &Table<Name, Row>,
     tag: &[u8],
     steps: &mut Steps<L>,
 ) -> Result<List<Name>, Memory>
@@ -103,9 +107,10 @@ pub(crate) fn holders<L: Ledger>(
     ensures { IfOk result (λ names. names ≡ filter (shows rows.now.entries tag.now) (keys_of rows.now.entries)) }
 {
     let mut list = List::new(alloc);
+    let none = Row::new();
     let mut next = first_name(rows, steps);
     while let Some(name) = next {
-        let wanted = is_shown(find(row_of(rows, name, steps), tag));
+        let wanted = is_shown(find(row_of(rows, name, &none, steps), tag));
         append_if(wanted, &mut list, name)?;
         next = name_after(rows, name, steps);
     }

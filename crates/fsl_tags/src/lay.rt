@@ -17,6 +17,7 @@ use super::blend::folded;
 use super::changed::pop;
 use super::group::add_all;
 use super::node::Node;
+use super::row::Row;
 use super::rows::{row_of, set};
 use super::shared::{Shared, share_copies};
 use fsl_name::Name;
@@ -29,9 +30,9 @@ use std::sync::ledger::Ledger;
 /// Puts the row of a name, or takes it out where it is empty.
 pub(crate) fn put_row<L: Ledger>(
     alloc: Global,
-    rows: &mut Table<Name, List<Shared>>,
+    rows: &mut Table<Name, Row>,
     name: Name,
-    row: List<Shared>,
+    row: Row,
     steps: &mut Steps<L>,
 ) -> Result<(), Memory>
     requires { AreFull rows.old.entries }
@@ -45,7 +46,7 @@ pub(crate) fn put_row<L: Ledger>(
 /// Puts the newest assertions of a group, which are all on one name, into the own row of that name.
 fn put_newest<L: Ledger>(
     alloc: Global,
-    own: &mut Table<Name, List<Shared>>,
+    own: &mut Table<Name, Row>,
     target: Name,
     group: &[Shared],
     steps: &mut Steps<L>,
@@ -54,7 +55,8 @@ fn put_newest<L: Ledger>(
     ensures kept { OnOk result (AreOwn own.new.entries) }
     ensures own { OnOk result (HasTaken target group.now own.old.entries own.new.entries) }
 {
-    let near = row_of(own, target, steps);
+    let none = Row::new();
+    let near = row_of(own, target, &none, steps);
     let row = folded(alloc, near, group)?;
     put_row(alloc, own, target, row, steps)
 }
@@ -63,7 +65,7 @@ fn put_newest<L: Ledger>(
 fn put_groups<L: Ledger>(
     alloc: Global,
     groups: BTreeMap<Name, List<Shared>>,
-    own: &mut Table<Name, List<Shared>>,
+    own: &mut Table<Name, Row>,
     steps: &mut Steps<L>,
 ) -> Result<(), Memory>
     requires ordered { IsStrictlySortedBy bytes_cmp (keys_of groups.entries) }
@@ -141,7 +143,7 @@ pub(crate) fn lay<L: Ledger>(
     given: &[Fact],
     facts: &mut Table<Name, Node>,
     children: &mut Table<Pair, ()>,
-    own: &mut Table<Name, List<Shared>>,
+    own: &mut Table<Name, Row>,
     steps: &mut Steps<L>,
 ) -> Result<(), Memory>
     requires fit { table.AreTagFacts given.now }

@@ -3,12 +3,14 @@
 //! came: `fsl_order::by_name_in_any_order`.
 //!
 //! The table keeps the facts by name, the pairs of a primary parent and a child, the newest assertions on each name, and for each
-//! name the row of its effective assertions by rising tag, where it has any; rows share the assertions. `build` takes time by n log n
-//! in the facts and assertions, and by the sizes of the rows: each row is merged from the assertions on its name and from the row of
-//! the primary parent, which is made before it. Only for parents in a circle, which no hashes make, it climbs along as many ancestors
-//! as there are facts. `add` and `change` write the row of the name that they change, and those of its descendants as far as they
-//! differ. `effective` is a look-up of a name and a binary search in its row, `in_force` copies the row of its name, and `holders`
-//! searches each row.
+//! name the row of its effective assertions by rising tag, where it has any. A row is a tree, and rows share its branches and the
+//! assertions: a row that is made of another one, or noted, or put back, is no copy. `build` takes time by n log n in the facts and
+//! assertions: the row of a name is made from the assertions on it and from the row of the primary parent, which is made before it, by
+//! as many steps as the shorter of both has assertions, times a logarithm, or by the sizes of both where neither is much shorter. Only
+//! for parents in a circle, which no hashes make, it climbs along as many ancestors as there are facts. `add` and `change` make the row
+//! of the name that they change, and those of its descendants as far as they differ, in the same way; so each row that changes costs as
+//! many steps as its name has assertions of its own, times a logarithm. `effective` is a look-up of a name and one in its row,
+//! `in_force` copies the row of its name, and `holders` searches each row.
 #![tactic(auto)]
 
 ghost use Rattle.std.specs.Prelude.{◌≡◌, IfOk};
@@ -19,7 +21,6 @@ mod arrive;
 mod blend;
 mod build;
 mod changed;
-mod find;
 mod gathered;
 mod group;
 mod lay;
@@ -27,6 +28,7 @@ mod merge;
 mod node;
 mod order;
 mod renew;
+mod row;
 mod rows;
 mod same;
 mod settle;

@@ -1,6 +1,6 @@
 //! A new row of a name, and the rows of its descendants by it.
 ghost use Rattle.std.specs.List.{AllByRecursion};
-ghost use Rattle.std.specs.Prelude.{◌≡◌, ◌⊎◌, ◌+◌, ◌≤◌, List, ℕ, length, true, false, OnOk};
+ghost use Rattle.std.specs.Prelude.{◌≡◌, [], ◌⊎◌, ◌+◌, ◌≤◌, List, ℕ, length, true, false, OnOk};
 ghost use Rattle.std.specs.Str.{bytes_eq};
 ghost use Rattle.fsl_order.specs.Names.{bytes_cmp};
 ghost use Rattle.fsl_table.specs.Contents.{Contents};
@@ -13,29 +13,31 @@ ghost use Rattle.fsl_tags.specs.declared.Assertion as assertion;
 
 use super::merge::merged;
 use super::node::Node;
+use super::row::Row;
 use super::rows::{place, row_of};
 use super::same::is_same;
-use super::shared::Shared;
 use super::spread::spread;
 use fsl_name::Name;
 use fsl_table::{Log, Pair, Table};
-use fsl_text::{List, Memory, Steps};
+use fsl_text::{Memory, Steps};
 use std::alloc::Global;
 use std::collections::BTreeMap;
 use std::sync::ledger::Ledger;
 
 /// The row of what may be there.
 fn row_above<'a, L: Ledger>(
-    rows: &'a Table<Name, List<Shared>>,
+    rows: &'a Table<Name, Row>,
     up: Option<Name>,
+    none: &'a Row,
     steps: &mut Steps<L>,
-) -> &'a [Shared]
+) -> &'a Row
+    requires { none.now ≡ [] }
     ensures row { result.now ≡ row_up (row_in rows.now.entries) up }
     ensures cost { steps.new ≤ steps.old + 1 }
 {
     match up {
-        Some(up) => row_of(rows, up, steps),
-        None => &[],
+        Some(up) => row_of(rows, up, none, steps),
+        None => none,
     }
 }
 
@@ -44,10 +46,10 @@ pub(crate) fn renew<L: Ledger>(
     alloc: Global,
     facts: &Table<Name, Node>,
     children: &Table<Pair, ()>,
-    own: &Table<Name, List<Shared>>,
-    rows: &mut Table<Name, List<Shared>>,
-    log: &mut Log<Name, List<Shared>>,
-    noted: &mut BTreeMap<Name, List<Shared>>,
+    own: &Table<Name, Row>,
+    rows: &mut Table<Name, Row>,
+    log: &mut Log<Name, Row>,
+    noted: &mut BTreeMap<Name, Row>,
     root: Name,
     up: Option<Name>,
     steps: &mut Steps<L>,
@@ -67,13 +69,15 @@ pub(crate) fn renew<L: Ledger>(
     ensures more { AllByRecursion (λ c. bytes_eq c root ≡ true) (seconds root children.now.entries) → length noted.new.entries ≤ length noted.old.entries + 1 }
     ensures logged { AllByRecursion (λ c. bytes_eq c root ≡ true) (seconds root children.now.entries) → length log.new ≤ length log.old + 1 }
 {
-    let above = row_above(rows, up, steps);
-    let near = row_of(own, root, steps);
+    let none = Row::new();
+    let empty = Row::new();
+    let above = row_above(rows, up, &empty, steps);
+    let near = row_of(own, root, &none, steps);
     let row = merged(alloc, near, above)?;
-    let before = row_of(rows, root, steps);
-    if is_same(before, row.items()) {
+    let before = row_of(rows, root, &none, steps);
+    if is_same(before, &row) {
         return Ok(());
     }
-    place(alloc, rows, log, noted, root, row, steps)?;
+    place(rows, log, noted, root, row, steps)?;
     spread(alloc, facts, children, own, rows, log, noted, root, steps)
 }

@@ -8,14 +8,14 @@ ghost use Rattle.fsl_tags.specs.Laying.{AreSettled, IsKnown, AreKnown, line, dow
 
 use super::merge::merged;
 use super::node::Node;
+use super::row::Row;
 use super::rows::row_of;
-use super::shared::{Shared, again};
 use super::spread::pop as pop_name;
 use super::take::parent_of;
 use super::{Assertion, Fact};
 use fsl_name::Name;
 use fsl_table::Table;
-use fsl_text::{List, Memory, Steps};
+use fsl_text::{Memory, Steps};
 use std::alloc::Global;
 use std::collections::BTreeMap;
 use std::sync::ledger::Ledger;
@@ -48,18 +48,19 @@ fn ancestors<L: Ledger>(
 /// The row that own rows make along a line of names, from the last to the first.
 fn descend<L: Ledger>(
     alloc: Global,
-    own: &Table<Name, List<Shared>>,
+    own: &Table<Name, Row>,
     names: Vec<Name>,
     steps: &mut Steps<L>,
-) -> Result<List<Shared>, Memory>
+) -> Result<Row, Memory>
     requires { (x : List ℕ) → Rises (row_in own.now.entries x) }
     ensures { IfOk result (λ row. row ≡ down (row_in own.now.entries) names.items []) }
 {
     let mut left = names;
-    let mut row = List::new(alloc);
+    let none = Row::new();
+    let mut row = Row::new();
     while let Some(at) = pop_name(&mut left) {
-        let near = row_of(own, at, steps);
-        row = merged(alloc, near, row.items())?;
+        let near = row_of(own, at, &none, steps);
+        row = merged(alloc, near, &row)?;
     }
     Ok(row)
 }
@@ -68,11 +69,11 @@ fn descend<L: Ledger>(
 fn climbed<L: Ledger>(
     alloc: Global,
     facts: &Table<Name, Node>,
-    own: &Table<Name, List<Shared>>,
+    own: &Table<Name, Row>,
     name: Name,
     most: u64,
     steps: &mut Steps<L>,
-) -> Result<List<Shared>, Memory>
+) -> Result<Row, Memory>
     requires { (x : List ℕ) → Rises (row_in own.now.entries x) }
     ensures { IfOk result (λ row. row ≡ climbed_row (parent_in facts.now.entries) (row_in own.now.entries) most name) }
 {
@@ -84,23 +85,24 @@ fn climbed<L: Ledger>(
 fn row_for<L: Ledger>(
     alloc: Global,
     facts: &Table<Name, Node>,
-    own: &Table<Name, List<Shared>>,
-    settled: &BTreeMap<Name, List<Shared>>,
+    own: &Table<Name, Row>,
+    settled: &BTreeMap<Name, Row>,
     name: Name,
     most: u64,
     steps: &mut Steps<L>,
-) -> Result<List<Shared>, Memory>
+) -> Result<Row, Memory>
     requires rise { (x : List ℕ) → Rises (row_in own.now.entries x) }
     requires most { most ≡ length facts.now.entries }
     requires right { AreSettled facts.now.entries own.now.entries settled.now.entries }
     ensures { IfOk result (λ row. row ≡ settled_row facts.now.entries own.now.entries name) }
 {
-    let near = row_of(own, name, steps);
+    let none = Row::new();
+    let near = row_of(own, name, &none, steps);
     let Some(up) = parent_of(facts, name, steps) else {
-        return again(alloc, near);
+        return near.again();
     };
     match settled.get(&up) {
-        Some(above) => merged(alloc, near, above.items()),
+        Some(above) => merged(alloc, near, above),
         None => climbed(alloc, facts, own, name, most, steps),
     }
 }
@@ -109,8 +111,8 @@ fn row_for<L: Ledger>(
 fn settle_one<L: Ledger>(
     alloc: Global,
     facts: &Table<Name, Node>,
-    own: &Table<Name, List<Shared>>,
-    settled: &mut BTreeMap<Name, List<Shared>>,
+    own: &Table<Name, Row>,
+    settled: &mut BTreeMap<Name, Row>,
     name: Name,
     most: u64,
     steps: &mut Steps<L>,
@@ -136,7 +138,7 @@ fn settle_one<L: Ledger>(
 fn waiting<L: Ledger>(
     alloc: Global,
     facts: &Table<Name, Node>,
-    settled: &BTreeMap<Name, List<Shared>>,
+    settled: &BTreeMap<Name, Row>,
     name: Name,
     most: u64,
     steps: &mut Steps<L>,
@@ -162,8 +164,8 @@ fn waiting<L: Ledger>(
 fn settle<L: Ledger>(
     alloc: Global,
     facts: &Table<Name, Node>,
-    own: &Table<Name, List<Shared>>,
-    settled: &mut BTreeMap<Name, List<Shared>>,
+    own: &Table<Name, Row>,
+    settled: &mut BTreeMap<Name, Row>,
     name: Name,
     most: u64,
     steps: &mut Steps<L>,
@@ -186,8 +188,8 @@ fn settle<L: Ledger>(
 fn settle_targets<L: Ledger>(
     alloc: Global,
     facts: &Table<Name, Node>,
-    own: &Table<Name, List<Shared>>,
-    settled: &mut BTreeMap<Name, List<Shared>>,
+    own: &Table<Name, Row>,
+    settled: &mut BTreeMap<Name, Row>,
     assertions: &[Assertion],
     most: u64,
     steps: &mut Steps<L>,
@@ -210,8 +212,8 @@ pub(crate) fn settle_all<L: Ledger>(
     alloc: Global,
     given: &[Fact],
     facts: &Table<Name, Node>,
-    own: &Table<Name, List<Shared>>,
-    settled: &mut BTreeMap<Name, List<Shared>>,
+    own: &Table<Name, Row>,
+    settled: &mut BTreeMap<Name, Row>,
     most: u64,
     steps: &mut Steps<L>,
 ) -> Result<(), Memory>

@@ -17,12 +17,12 @@ ghost use Rattle.fsl_tags.specs.declared.Assertion as assertion;
 
 use super::merge::merged;
 use super::node::Node;
+use super::row::Row;
 use super::rows::{place, row_of};
 use super::same::is_same;
-use super::shared::{Shared, again};
 use fsl_name::Name;
 use fsl_table::{Log, Pair, Table, pairs};
-use fsl_text::{List, Memory, Steps};
+use fsl_text::{Memory, Steps};
 use std::alloc::Global;
 use std::collections::BTreeMap;
 use std::sync::ledger::Ledger;
@@ -31,13 +31,13 @@ use std::sync::ledger::Ledger;
 /// child wait.
 fn refresh<L: Ledger>(
     alloc: Global,
-    own: &Table<Name, List<Shared>>,
-    rows: &mut Table<Name, List<Shared>>,
-    log: &mut Log<Name, List<Shared>>,
-    noted: &mut BTreeMap<Name, List<Shared>>,
+    own: &Table<Name, Row>,
+    rows: &mut Table<Name, Row>,
+    log: &mut Log<Name, Row>,
+    noted: &mut BTreeMap<Name, Row>,
     waiting: &mut Vec<Name>,
     name: Name,
-    above: &[Shared],
+    above: &Row,
     steps: &mut Steps<L>,
 ) -> Result<(), Memory>
     requires full { AreFull rows.old.entries }
@@ -49,29 +49,30 @@ fn refresh<L: Ledger>(
     ensures noted { OnOk result ((before : List ℕ → List assertion.Assertion) → AreNoted before noted.old.entries rows.old.entries → AreNoted before noted.new.entries rows.new.entries) }
     ensures undoes { (before : Contents (List ℕ) (List assertion.Assertion)) → Undoes bytes_cmp log.old rows.old before → Undoes bytes_cmp log.new rows.new before }
 {
-    let near = row_of(own, name, steps);
+    let none = Row::new();
+    let near = row_of(own, name, &none, steps);
     let row = merged(alloc, near, above)?;
-    let before = row_of(rows, name, steps);
-    if is_same(before, row.items()) {
+    let before = row_of(rows, name, &none, steps);
+    if is_same(before, &row) {
         return Ok(());
     }
     waiting.push(name)?;
-    place(alloc, rows, log, noted, name, row, steps)
+    place(rows, log, noted, name, row, steps)
 }
 
 /// Takes the row of a name down to some of its children; the root stays as it is.
 fn follow<L: Ledger>(
     alloc: Global,
     facts: &Table<Name, Node>,
-    own: &Table<Name, List<Shared>>,
-    rows: &mut Table<Name, List<Shared>>,
-    log: &mut Log<Name, List<Shared>>,
-    noted: &mut BTreeMap<Name, List<Shared>>,
+    own: &Table<Name, Row>,
+    rows: &mut Table<Name, Row>,
+    log: &mut Log<Name, Row>,
+    noted: &mut BTreeMap<Name, Row>,
     waiting: &mut Vec<Name>,
     root: Name,
     at: Name,
     kids: &[Name],
-    above: &[Shared],
+    above: &Row,
     steps: &mut Steps<L>,
 ) -> Result<(), Memory>
     requires rise { (x : List ℕ) → Rises (row_in own.now.entries x) }
@@ -101,10 +102,10 @@ fn spread_one<L: Ledger>(
     alloc: Global,
     facts: &Table<Name, Node>,
     children: &Table<Pair, ()>,
-    own: &Table<Name, List<Shared>>,
-    rows: &mut Table<Name, List<Shared>>,
-    log: &mut Log<Name, List<Shared>>,
-    noted: &mut BTreeMap<Name, List<Shared>>,
+    own: &Table<Name, Row>,
+    rows: &mut Table<Name, Row>,
+    log: &mut Log<Name, Row>,
+    noted: &mut BTreeMap<Name, Row>,
     waiting: &mut Vec<Name>,
     root: Name,
     at: Name,
@@ -122,7 +123,8 @@ fn spread_one<L: Ledger>(
     ensures noted_idle { AllByRecursion (λ c. bytes_eq c root ≡ true) (seconds at children.now.entries) → length noted.new.entries ≡ length noted.old.entries }
     ensures done { OnOk result (AllByRecursion (λ c. bytes_eq c root ≡ true) (seconds at children.now.entries) → waiting.new.items ≡ waiting.old.items) }
 {
-    let above = again(alloc, row_of(rows, at, steps))?;
+    let none = Row::new();
+    let above = row_of(rows, at, &none, steps).again()?;
     let kids = pairs::seconds(alloc, children, at, steps)?;
     follow(
         alloc,
@@ -135,7 +137,7 @@ fn spread_one<L: Ledger>(
         root,
         at,
         kids.items(),
-        above.items(),
+        &above,
         steps,
     )
 }
@@ -152,10 +154,10 @@ pub(crate) fn spread<L: Ledger>(
     alloc: Global,
     facts: &Table<Name, Node>,
     children: &Table<Pair, ()>,
-    own: &Table<Name, List<Shared>>,
-    rows: &mut Table<Name, List<Shared>>,
-    log: &mut Log<Name, List<Shared>>,
-    noted: &mut BTreeMap<Name, List<Shared>>,
+    own: &Table<Name, Row>,
+    rows: &mut Table<Name, Row>,
+    log: &mut Log<Name, Row>,
+    noted: &mut BTreeMap<Name, Row>,
     root: Name,
     steps: &mut Steps<L>,
 ) -> Result<(), Memory>

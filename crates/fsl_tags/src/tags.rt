@@ -10,10 +10,9 @@ ghost use Rattle.fsl_tags.specs.Tags as table;
 
 use super::arrive::{give_parent, take_in};
 use super::build::fill;
-use super::find::find;
 use super::node::Node;
+use super::row::{Row, find};
 use super::rows::row_of;
-use super::shared::Shared;
 use super::{Assertion, Fact, gathered};
 use fsl_name::Name;
 use fsl_table::{Log, Pair, Table, log};
@@ -28,8 +27,8 @@ use std::sync::ledger::{Blank, Ledger};
 pub struct Tags {
     facts: Table<Name, Node>,
     children: Table<Pair, ()>,
-    own: Table<Name, List<Shared>>,
-    rows: Table<Name, List<Shared>>,
+    own: Table<Name, Row>,
+    rows: Table<Name, Row>,
 }
 
 impl Model for Tags {
@@ -49,8 +48,8 @@ impl Model for Tags {
 pub struct Undo {
     facts: Log<Name, Node>,
     children: Log<Pair, ()>,
-    own: Log<Name, List<Shared>>,
-    rows: Log<Name, List<Shared>>,
+    own: Log<Name, Row>,
+    rows: Log<Name, Row>,
     changed: List<Name>,
     before: Snapshot<Tags>,
     after: Snapshot<Tags>,
@@ -300,7 +299,7 @@ impl Tags {
     {
         let mut steps: Steps<L> = Steps::new(blank);
         match self.rows.get(&name, &mut steps) {
-            Some(row) => find(row.items(), tag),
+            Some(row) => find(row, tag),
             None => None,
         }
     }
@@ -325,7 +324,8 @@ impl Tags {
         ensures { IfOk result (λ list. list ≡ table.in_force self.now.facts name) }
     {
         let mut steps: Steps<L> = Steps::new(blank);
-        gathered::in_force(alloc, row_of(&self.rows, name, &mut steps))
+        let none = Row::new();
+        gathered::in_force(alloc, row_of(&self.rows, name, &none, &mut steps))
     }
 
     /// The names on which a tag is in force, ascending. `Memory` is the only error.

@@ -22,6 +22,7 @@ use super::blend::folded;
 use super::group::{grouped, take_out};
 use super::node::Node;
 use super::renew::renew;
+use super::row::Row;
 use super::rows::{row_of, set};
 use super::shared::{Shared, again};
 use fsl_name::Name;
@@ -51,11 +52,11 @@ fn take_group<L: Ledger>(
     alloc: Global,
     facts: &Table<Name, Node>,
     children: &Table<Pair, ()>,
-    own: &mut Table<Name, List<Shared>>,
-    own_log: &mut Log<Name, List<Shared>>,
-    rows: &mut Table<Name, List<Shared>>,
-    rows_log: &mut Log<Name, List<Shared>>,
-    noted: &mut BTreeMap<Name, List<Shared>>,
+    own: &mut Table<Name, Row>,
+    own_log: &mut Log<Name, Row>,
+    rows: &mut Table<Name, Row>,
+    rows_log: &mut Log<Name, Row>,
+    noted: &mut BTreeMap<Name, Row>,
     target: Name,
     group: &[Shared],
     steps: &mut Steps<L>,
@@ -70,7 +71,8 @@ fn take_group<L: Ledger>(
     ensures touches { seconds target children.now.entries ≡ [] → steps.new ≤ steps.old + 11 }
     ensures logged { seconds target children.now.entries ≡ [] → length own_log.new + length rows_log.new ≤ length own_log.old + length rows_log.old + 2 }
 {
-    let near = row_of(own, target, steps);
+    let none = Row::new();
+    let near = row_of(own, target, &none, steps);
     let row = folded(alloc, near, group)?;
     set(own, own_log, target, row, steps)?;
     let up = parent_of(facts, target, steps);
@@ -84,11 +86,11 @@ fn take_left<L: Ledger>(
     alloc: Global,
     facts: &Table<Name, Node>,
     children: &Table<Pair, ()>,
-    own: &mut Table<Name, List<Shared>>,
-    own_log: &mut Log<Name, List<Shared>>,
-    rows: &mut Table<Name, List<Shared>>,
-    rows_log: &mut Log<Name, List<Shared>>,
-    noted: &mut BTreeMap<Name, List<Shared>>,
+    own: &mut Table<Name, Row>,
+    own_log: &mut Log<Name, Row>,
+    rows: &mut Table<Name, Row>,
+    rows_log: &mut Log<Name, Row>,
+    noted: &mut BTreeMap<Name, Row>,
     groups: &mut BTreeMap<Name, List<Shared>>,
     target: Name,
     steps: &mut Steps<L>,
@@ -132,10 +134,10 @@ pub(crate) fn set_node<L: Ledger>(
     facts_log: &mut Log<Name, Node>,
     children: &mut Table<Pair, ()>,
     children_log: &mut Log<Pair, ()>,
-    own: &Table<Name, List<Shared>>,
-    rows: &mut Table<Name, List<Shared>>,
-    rows_log: &mut Log<Name, List<Shared>>,
-    noted: &mut BTreeMap<Name, List<Shared>>,
+    own: &Table<Name, Row>,
+    rows: &mut Table<Name, Row>,
+    rows_log: &mut Log<Name, Row>,
+    noted: &mut BTreeMap<Name, Row>,
     name: Name,
     up: Option<Name>,
     node: Node,
@@ -170,11 +172,11 @@ pub(crate) fn take_all<L: Ledger>(
     alloc: Global,
     facts: &Table<Name, Node>,
     children: &Table<Pair, ()>,
-    own: &mut Table<Name, List<Shared>>,
-    own_log: &mut Log<Name, List<Shared>>,
-    rows: &mut Table<Name, List<Shared>>,
-    rows_log: &mut Log<Name, List<Shared>>,
-    noted: &mut BTreeMap<Name, List<Shared>>,
+    own: &mut Table<Name, Row>,
+    own_log: &mut Log<Name, Row>,
+    rows: &mut Table<Name, Row>,
+    rows_log: &mut Log<Name, Row>,
+    noted: &mut BTreeMap<Name, Row>,
     assertions: &[Shared],
     steps: &mut Steps<L>,
 ) -> Result<(), Memory>
@@ -216,10 +218,10 @@ pub(crate) fn cut<L: Ledger>(
     facts_log: &mut Log<Name, Node>,
     children: &mut Table<Pair, ()>,
     children_log: &mut Log<Pair, ()>,
-    own: &Table<Name, List<Shared>>,
-    rows: &mut Table<Name, List<Shared>>,
-    rows_log: &mut Log<Name, List<Shared>>,
-    noted: &mut BTreeMap<Name, List<Shared>>,
+    own: &Table<Name, Row>,
+    rows: &mut Table<Name, Row>,
+    rows_log: &mut Log<Name, Row>,
+    noted: &mut BTreeMap<Name, Row>,
     name: Name,
     checkin: bool,
     tags: &[Shared],

@@ -30,11 +30,11 @@ returns-in_err-row g c =
 
 pub returns-then-is_same : goal.returns-then-is_same
 returns-then-is_same g c =
-    let same : c.row_of-before.result.now ≡ c.items.result.now = rows-one c.row_of-before.result.now c.items.result.now (sym c.is_same.ensures ∙ c.if-is_same.true) in record {
+    let same : c.row_of-before.result.now ≡ c.in_ok-row.row = rows-one c.row_of-before.result.now c.in_ok-row.row (sym c.is_same.ensures ∙ c.if-is_same.true) in record {
       full = c.requires.full;
       each = λ x. inl refl;
       root =
-          sym c.row_of-before.ensures.row ∙ same ∙ c.items.ensures ∙ c.in_ok-row.ensures.whole
+          sym c.row_of-before.ensures.row ∙ same ∙ c.in_ok-row.ensures.whole
           ∙ (λ i. joined (c.row_above-above.ensures.row i) (c.row_of-near.ensures.row i)) ∙ c.requires.root;
       even = c.requires.even;
       noted = λ before n. n;

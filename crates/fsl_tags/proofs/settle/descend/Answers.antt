@@ -17,7 +17,7 @@ loop-at-preserved g c =
     let rest = c.pop.new.names.items in
     record {
       whole =
-          ap (down own rest) (c.in_ok-row.ensures.whole ∙ (λ i. joined (c.items.ensures i) (c.row_of-near.ensures.row i)))
+          ap (down own rest) (c.in_ok-row.ensures.whole ∙ ap (joined c.loop-at.row) c.row_of-near.ensures.row)
           ∙ sym (down-last own rest c.in-Some.at c.loop-at.row) ∙ ap (λ names. down own names c.loop-at.row) (sym c.in-Some.ensures) ∙ c.loop-at.invariant.whole;
       rise = c.in_ok-row.ensures.rising;
     }

@@ -23,7 +23,7 @@ merged-requires-clause-above g c =
     let up = c.in-Some.up in
     let found : value_at bytes_cmp up c.args.settled.now.entries ≡ Some c.in-Some-get.above.now = sym c.get.ensures.value ∙ ap option_copied c.in-Some-get.is in
     let right : c.in-Some-get.above.now ≡ settled facts own up = subst (λ o. IfSome o (λ row. row ≡ settled facts own up)) found (c.requires.right up) in
-    subst Rises (sym (c.items.ensures ∙ right)) (settled-rises facts own c.requires.rise up)
+    subst Rises (sym right) (settled-rises facts own c.requires.rise up)
 
 pub returns-in-Some-get : goal.returns-in-Some-get
 returns-in-Some-get g c =
@@ -33,5 +33,5 @@ returns-in-Some-get g c =
     let found : value_at bytes_cmp up c.args.settled.now.entries ≡ Some c.in-Some-get.above.now = sym c.get.ensures.value ∙ ap option_copied c.in-Some-get.is in
     let right : c.in-Some-get.above.now ≡ settled facts own up = subst (λ o. IfSome o (λ row. row ≡ settled facts own up)) found (c.requires.right up) in
     if_ok_map c.merged.result
-    (λ row whole. whole ∙ (λ i. joined (c.items.ensures i) (c.row_of-near.ensures.row i)) ∙ below-row facts own c.requires.rise c.args.name up c.in-Some-get.above.now (sym c.parent_of.ensures.parent ∙ c.in-Some.is) right)
+    (λ row whole. whole ∙ ap (joined c.in-Some-get.above.now) c.row_of-near.ensures.row ∙ below-row facts own c.requires.rise c.args.name up c.in-Some-get.above.now (sym c.parent_of.ensures.parent ∙ c.in-Some.is) right)
     c.merged.ensures.whole

@@ -51,7 +51,7 @@ follow-requires g c =
       rise = c.requires.laid.rise;
       full = c.requires.full;
       kids = subst (AllByRecursion (λ x. parent_in facts x ≡ Some c.args.at)) is (kids-parents facts c.args.children.now.entries own c.requires.laid c.args.at);
-      above = c.items-2.ensures ∙ c.in_ok-above.ensures ∙ c.row_of.ensures.row ∙ c.requires.spread.ready c.args.at (has-at c.args.waiting.now.items c.args.at);
+      above = c.in_ok-above.ensures ∙ c.row_of.ensures.row ∙ c.requires.spread.ready c.args.at (has-at c.args.waiting.now.items c.args.at);
       spread =
           subst (λ ks. IsSpreading (parent_in facts) (row_in own) (settled facts own) c.args.root c.args.at ks c.args.waiting.now.items rows rows) is
           (spreading-begin (parent_in facts) (row_in own) (settled facts own) c.args.root (settled-law facts own c.requires.laid.rise) c.args.at kids c.args.waiting.now.items rows rows
