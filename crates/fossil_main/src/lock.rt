@@ -31,12 +31,6 @@ pub fn alone(file: File) -> Opened {
     under(file, answer)
 }
 
-/// A file for all that only read it: none where a process holds it for itself.
-pub fn beside_readers(file: File) -> Opened {
-    let answer = file.try_lock_shared();
-    under(file, answer)
-}
-
 /// A file, by what the system answered to the call for its lock.
 fn under(file: File, answer: Result<(), TryLockError>) -> Opened
     ensures taken { IsOk answer → (result.disk.is_open ≡ true) × (result.is_unguarded ≡ false) }

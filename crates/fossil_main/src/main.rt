@@ -2,6 +2,7 @@
 #![tactic(auto)]
 
 mod crews;
+mod folder;
 mod lock;
 mod open;
 mod sockets;

@@ -1,24 +1,29 @@
 //! Opens what the words name.
-use crate::lock::{Opened, alone, beside_readers};
-use fsl_disk::FileDisk;
+use crate::folder::has_name_on_disk;
+use crate::lock::{Opened, alone};
+use fsl_disk::{EitherDisk, FileDisk, FrontDisk, SharedFile};
+use fsl_journal::front_of;
 use fsl_outside::{StdSource, TcpDial};
 use fsl_text::Text;
 use fsl_words::{Command, Unversioned, Words};
 use std::alloc::{AllocError, Global};
 use std::env::VarError;
 use std::fs::{File, OpenOptions};
-use std::io::{ErrorKind, Stderr};
+use std::io::Stderr;
 use std::net::TcpListener;
-use std::{io, str};
+use std::{fs, str};
 
 /// What standard error says where a file system has no locks.
 const UNGUARDED: &str =
     "fossil: this file system has no locks, so nothing keeps another process from the file meanwhile";
 
+/// A disk over a file that this process has alone, or over the front of one that another process may write to.
+pub type AnyDisk = EitherDisk<FileDisk, FrontDisk<SharedFile>>;
+
 /// The disks of a command: that of its file, and that of the peer's file.
 pub struct Disks {
-    pub own: FileDisk,
-    pub peer: FileDisk,
+    pub own: AnyDisk,
+    pub peer: AnyDisk,
 }
 
 /// A word as the text that it was on the command line. Each word is UTF-8; one that weren't would name nothing.
@@ -28,16 +33,64 @@ fn text_of(word: &Text) -> Option<&str> {
 
 /// The disks of the files that a command opens.
 pub fn open(rt: &HostRuntime, words: &Words) -> Disks {
-    let Opened {
-        disk: own,
-        is_unguarded: is_own_unguarded,
-    } = open_own(rt, words);
-    let Opened {
-        disk: peer,
-        is_unguarded: is_peer_unguarded,
-    } = open_peer(rt, &words.command);
+    let (own, is_own_unguarded) = if only_reads(&words.command) {
+        (open_beside(rt, &words.repository), false)
+    } else {
+        under_lock(open_own(rt, words))
+    };
+    let (peer, is_peer_unguarded) = open_peer(rt, &words.command);
     tell_unguarded(rt, is_own_unguarded || is_peer_unguarded);
     Disks { own, peer }
+}
+
+/// The disk of a file that this process has alone, and whether nothing keeps other processes from it.
+fn under_lock(opened: Opened) -> (AnyDisk, bool) {
+    let Opened { disk, is_unguarded } = opened;
+    (EitherDisk::One(disk), is_unguarded)
+}
+
+/// Whether a command only reads the repository's file, which another process may write to meanwhile.
+fn only_reads(command: &Command) -> bool {
+    matches!(
+        command,
+        Command::Ask(_)
+            | Command::Export { .. }
+            | Command::Verify { .. }
+            | Command::Push { .. }
+            | Command::Unversioned(Unversioned::List | Unversioned::Cat { .. })
+    )
+}
+
+/// The disk of the front of a file that is only read, beside whoever writes to it. Its calls fail where the file can't be opened
+/// or read, and for what is no regular file.
+fn open_beside(rt: &HostRuntime, word: &Text) -> AnyDisk {
+    match text_of(word) {
+        Some(path) if is_regular(rt, path) => match File::open(rt, path) {
+            Ok(file) => beside(SharedFile::over(file)),
+            Err(_) => EitherDisk::One(FileDisk::none()),
+        },
+        _ => EitherDisk::One(FileDisk::none()),
+    }
+}
+
+/// Whether a regular file is there. To open a pipe for reading alone would wait until somebody writes to it.
+fn is_regular(rt: &HostRuntime, path: &str) -> bool {
+    match fs::metadata(rt, path) {
+        Ok(found) => found.is_file(),
+        Err(_) => false,
+    }
+}
+
+/// The disk of the front of a file.
+fn beside(file: SharedFile) -> AnyDisk {
+    let mut file = file;
+    match front_of(&mut file) {
+        Ok(front) => EitherDisk::Other(FrontDisk::over(file, front)),
+        Err(_) => {
+            drop(file);
+            EitherDisk::One(FileDisk::none())
+        }
+    }
 }
 
 /// The disk of the file that a serve opens.
@@ -60,15 +113,11 @@ fn open_own(rt: &HostRuntime, words: &Words) -> Opened {
     let Some(path) = text_of(&words.repository) else {
         return Opened::none();
     };
-    let mut options = OpenOptions::new();
-    options.read(true).write(true);
     match &words.command {
-        Command::Ingest | Command::Gen { .. } => return Opened::none(),
+        Command::Ingest | Command::Gen { .. } => Opened::none(),
         Command::Init { .. }
         | Command::Clone { .. }
-        | Command::Unversioned(Unversioned::Init { .. }) => {
-            options.create(true);
-        }
+        | Command::Unversioned(Unversioned::Init { .. }) => open_made(rt, path),
         Command::Put
         | Command::Shun { .. }
         | Command::Unshun { .. }
@@ -81,10 +130,32 @@ fn open_own(rt: &HostRuntime, words: &Words) -> Opened {
         | Command::Push { .. }
         | Command::PullLocal { .. }
         | Command::Scrub { .. }
-        | Command::Unversioned(_) => {}
+        | Command::Unversioned(_) => open_present(rt, path),
     }
-    match options.open(rt, path) {
+}
+
+/// A file that is there, for reading and writing.
+fn open_present(rt: &HostRuntime, path: &str) -> Opened {
+    match OpenOptions::new().read(true).write(true).open(rt, path) {
         Ok(file) => alone(file),
+        Err(_) => Opened::none(),
+    }
+}
+
+/// A file for reading and writing, which is made where it is missing. Its name is on the disk before anything is written to it; where it
+/// can't be brought there, the disk's calls fail.
+fn open_made(rt: &HostRuntime, path: &str) -> Opened {
+    let mut options = OpenOptions::new();
+    options.read(true).write(true).create(true);
+    match options.open(rt, path) {
+        Ok(file) => {
+            if has_name_on_disk(rt, &file, path) {
+                alone(file)
+            } else {
+                drop(file);
+                Opened::none()
+            }
+        }
         Err(_) => Opened::none(),
     }
 }
@@ -92,7 +163,7 @@ fn open_own(rt: &HostRuntime, words: &Words) -> Opened {
 /// What a command does with a peer's file.
 #[derive(Clone, Copy)]
 enum Peer {
-    /// It reads it. It writes to it only where a load cuts what stands behind the closed gate.
+    /// It only reads it.
     Read,
     /// It writes to it.
     Written,
@@ -110,45 +181,25 @@ fn peer_of(command: &Command) -> Option<(Peer, &Text)> {
     }
 }
 
-/// The peer's file of a `pull-local`, a `uv-sync` or a `scrub`, as `open_peer_at` opens it; for every other command the disk's calls fail.
-fn open_peer(rt: &HostRuntime, command: &Command) -> Opened {
+/// The peer's file of a `pull-local`, a `uv-sync` or a `scrub`; for every other command the disk's calls fail.
+fn open_peer(rt: &HostRuntime, command: &Command) -> (AnyDisk, bool) {
     match peer_of(command) {
+        Some((Peer::Read, word)) => (open_beside(rt, word), false),
         Some((peer, word)) => match text_of(word) {
-            Some(path) => open_peer_at(rt, peer, path),
-            None => Opened::none(),
+            Some(path) => under_lock(open_peer_at(rt, peer, path)),
+            None => under_lock(Opened::none()),
         },
-        None => Opened::none(),
+        None => under_lock(Opened::none()),
     }
 }
 
-/// A peer's file: for writing where that is allowed; where it is only read else for reading alone. `scrub` makes it where it is missing.
-/// The disk's calls fail where the file can't be opened, and where another process holds it or this one does as its own.
+/// A peer's file for writing, which `scrub` makes where it is missing. The disk's calls fail where the file can't be opened, and
+/// where another process holds it or this one does as its own.
 fn open_peer_at(rt: &HostRuntime, peer: Peer, path: &str) -> Opened {
-    let mut options = OpenOptions::new();
-    options.read(true).write(true);
     if matches!(peer, Peer::Made) {
-        options.create(true);
-    }
-    match options.open(rt, path) {
-        Ok(file) => alone(file),
-        Err(fault) if matches!(peer, Peer::Read) && is_read_only(fault) => open_to_read(rt, path),
-        Err(_) => Opened::none(),
-    }
-}
-
-/// Whether a call to open a file for writing failed since nobody, or not this user, may write to it.
-fn is_read_only(fault: io::Error) -> bool {
-    matches!(
-        fault.kind(),
-        ErrorKind::PermissionDenied | ErrorKind::ReadOnlyFilesystem
-    )
-}
-
-/// A file that is only read.
-fn open_to_read(rt: &HostRuntime, path: &str) -> Opened {
-    match File::open(rt, path) {
-        Ok(file) => beside_readers(file),
-        Err(_) => Opened::none(),
+        open_made(rt, path)
+    } else {
+        open_present(rt, path)
     }
 }
 

@@ -1,8 +1,11 @@
 pub mod Change
 pub mod Disk
+pub mod Either
 pub mod File
 pub mod Flip
+pub mod Front
 pub mod Fuse
 pub mod History
 pub mod Images
 pub mod Memory
+pub mod Shared

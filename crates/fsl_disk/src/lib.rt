@@ -5,17 +5,23 @@
 
 mod change;
 mod disk;
+mod either;
 mod file;
 mod flip;
+mod front;
 mod fuse;
 mod history;
 mod law;
 mod memory;
+mod shared;
 mod tearing;
 
 pub use disk::Disk;
+pub use either::EitherDisk;
 pub use file::FileDisk;
 pub use flip::FlipDisk;
+pub use front::{Front, FrontDisk, Seen};
 pub use fuse::FuseDisk;
 pub use law::images_by_place;
 pub use memory::MemoryDisk;
+pub use shared::{Shared, SharedFile};

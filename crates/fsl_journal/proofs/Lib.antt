@@ -1,5 +1,6 @@
 mod Appended
 pub mod Belonging
+mod Besides
 pub mod Standing
 mod Kept
 mod Lengths

@@ -1,3 +1,4 @@
+pub mod Beside
 pub mod Commit
 pub mod Create
 pub mod File

@@ -16,6 +16,7 @@ mod commit;
 mod contents;
 mod creating;
 mod found;
+mod fronts;
 mod journal;
 mod laws;
 mod loading;
@@ -31,10 +32,14 @@ ghost use Rattle.fsl_journal.specs.declared.CreateFault.TheVariants as create_fa
 ghost use Rattle.fsl_journal.specs.declared.LoadFault.TheVariants as load_fault;
 
 pub use creating::create;
+pub use fronts::front_of;
 use fsl_outside::Failed;
 use fsl_text::Memory;
 pub use journal::Journal;
-pub use laws::{fails_once, is_no_file, is_one_file, some_file};
+pub use laws::{
+    behind_is_nothing, commit_keeps, fails_once, front_is_whole, is_no_file, is_one_file,
+    seen_is_right, some_file,
+};
 use std::alloc::AllocError;
 pub use taking::Taker;
 use thiserror::Error;

@@ -1,0 +1,11 @@
+use Rattle.std.proofs.Common.{◌∙◌, ap}
+use Rattle.fsl_disk.specs.Front.{fronted}
+use Rattle.fsl_disk.proofs.Fronting.{fronted_read, on_same, on_both}
+use Rattle.fsl_disk.proofs.front.FrontDiskDisk.read_at.Goals as goal
+
+pub returns-clause-answer : goal.returns-clause-answer
+returns-clause-answer g c =
+    let i = c.self.inside in
+    let told = c.read_front-answer in
+    on_same c.settle.result told.result _ _ c.settle.ensures.same (on_both told.result _ _ told.ensures.inside told.ensures.answer)
+    (λ read held is. fronted_read g.F.Shared.state i.first.value i.file i.front i.faults c.args.at _ told.new.into c.self.invariant told.ensures.length read.0 read.1 held (ap (λ d. (fronted g.F.Shared.state d.first d.front d.faults).contents) c.self.view_is ∙ is))
