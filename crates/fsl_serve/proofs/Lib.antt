@@ -12,3 +12,5 @@ pub mod Moving
 pub mod Settling
 pub mod Ordering
 pub mod Undamaged
+pub mod Midst
+pub mod Acknowledged

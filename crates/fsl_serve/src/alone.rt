@@ -9,6 +9,7 @@ ghost use Rattle.fsl_serve.specs.Points.{Serves, Passes, points_of};
 
 use crate::said::SessionEnd;
 use crate::serving::session;
+use crate::turning::Waiting;
 use fsl_disk::Disk;
 use fsl_login::Users;
 use fsl_name::Name;
@@ -39,7 +40,8 @@ pub fn session_alone<D: Disk, K: Link, G: Gate, C: Clock, R: Wait>(
     ensures same { result ≢ end_as.Link → (K.state link.new).faults ≡ (K.state link.old).faults }
     ensures stands { (K.state link.new).standing ≡ (K.state link.old).standing }
 {
+    let waiting = Waiting::new(turns, rt);
     session(
-        rt, alloc, turns, pass, users, project, link, gate, clock, number,
+        alloc, &waiting, pass, users, project, link, gate, clock, number,
     )
 }

@@ -10,16 +10,15 @@ ghost use Rattle.fsl_serve.specs.Session.{arrival_of, arrivals, mark_after, noti
 use crate::calls::{call, heed};
 use crate::said::Halt;
 use crate::shared::Serving;
+use crate::turning::Calls;
 use fsl_disk::Disk;
 use fsl_name::Name;
 use fsl_record::Receipt;
 use fsl_repo::{Answer, ArriveFault, Event, Repo};
 use fsl_text::{List, Memory, Text};
-use fsl_turn::Turns;
 use fsl_wire::WireCard;
 use std::alloc::Global;
 use std::mem;
-use std::sync::Wait;
 
 /// These words, and a name.
 fn words_and_name(alloc: Global, words: &[u8], name: Name) -> Result<Text, Memory>
@@ -109,8 +108,8 @@ fn give_back(made: Event, bytes: &mut Text, receipt: &mut Receipt)
 }
 
 /// One arrival. The bytes and the receipt are moved into its event and back out of it.
-fn arrive<T: Turns<Repo<D>>, D: Disk, R: Wait>(
-    serving: &Serving<T, R>,
+fn arrive<T: Calls<Repo<D>>, D: Disk>(
+    serving: &Serving<T>,
     pass: &mut T::Pass,
     receipt: &mut Receipt,
     name: Name,
@@ -137,8 +136,8 @@ fn arrive<T: Turns<Repo<D>>, D: Disk, R: Wait>(
 }
 
 /// The arrival of a card, where it has one.
-fn arrive_card<T: Turns<Repo<D>>, D: Disk, R: Wait>(
-    serving: &Serving<T, R>,
+fn arrive_card<T: Calls<Repo<D>>, D: Disk>(
+    serving: &Serving<T>,
     pass: &mut T::Pass,
     receipt: &mut Receipt,
     card: &mut WireCard,
@@ -170,8 +169,8 @@ fn marks(card: &WireCard, marked: bool) -> bool
 }
 
 /// The arrivals of a message, all with this receipt, and the notices that they add to its reply. The message is as before.
-pub(crate) fn arrive_all<T: Turns<Repo<D>>, D: Disk, R: Wait>(
-    serving: &Serving<T, R>,
+pub(crate) fn arrive_all<T: Calls<Repo<D>>, D: Disk>(
+    serving: &Serving<T>,
     pass: &mut T::Pass,
     receipt: &mut Receipt,
     cards: &mut [WireCard],

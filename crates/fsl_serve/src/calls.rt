@@ -5,14 +5,13 @@ ghost use Rattle.fsl_serve.specs.Calls.{Gains, May, halt_of};
 
 use crate::said::Halt;
 use crate::shared::Serving;
+use crate::turning::Calls;
 use fsl_disk::Disk;
 use fsl_repo::{Answer, ArriveFault, Event, Repo};
-use fsl_turn::Turns;
-use std::sync::Wait;
 
 /// One event, under the lock for that time alone.
-pub(crate) fn call<T: Turns<Repo<D>>, D: Disk, R: Wait>(
-    serving: &Serving<T, R>,
+pub(crate) fn call<T: Calls<Repo<D>>, D: Disk>(
+    serving: &Serving<T>,
     pass: &mut T::Pass,
     event: &Event,
 ) -> Answer
@@ -20,7 +19,7 @@ pub(crate) fn call<T: Turns<Repo<D>>, D: Disk, R: Wait>(
     ensures may { May D.state event.now result }
     ensures made { Gains D.state (T.calls pass.old) (T.calls pass.new) (λ made. made ≡ (event.now, result) ∷ []) }
 {
-    serving.turns.turn(serving.rt, pass, event)
+    serving.turns.call(pass, event)
 }
 
 /// Whether a session goes on after this answer, and if not, why.

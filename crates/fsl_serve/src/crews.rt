@@ -8,6 +8,7 @@ ghost use Rattle.fsl_serve.specs.Crews.{AreWorked, AreGated, AreAllCommitted};
 ghost use Rattle.fsl_serve.specs.Ordered.{LeavesOneHistory, steps_by};
 
 use crate::staff::{dismissed, staffed};
+use crate::turning::Waiting;
 use crate::work::{Crew, Work, worker};
 use fsl_disk::Disk;
 use fsl_history::{Chronicle, Housed, Ticketed};
@@ -41,10 +42,10 @@ fn run_one<T: Turns<Repo<D>>, D: Disk, A: Door, G: Gate, C: Clock, R: Wait>(
     ensures grown { T.grows job.old.pass job.new.pass }
     ensures worked { HasPassed D.state users.now project requests (A.state, G.passed, C.told, job.old.crew, job.new.crew) (T.calls, job.old.pass, job.new.pass) job.new.work }
 {
+    let waiting = Waiting::new(turns, rt);
     job.work = worker(
-        rt,
         alloc,
-        turns,
+        &waiting,
         &mut job.pass,
         users,
         project,

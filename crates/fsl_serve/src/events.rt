@@ -14,19 +14,18 @@ use crate::arrivals::arrive_all;
 use crate::calls::{call, heed};
 use crate::said::{Halt, Said};
 use crate::shared::Serving;
+use crate::turning::Calls;
 use fsl_disk::Disk;
 use fsl_name::Name;
 use fsl_outside::{Gate, Point};
 use fsl_record::Receipt;
 use fsl_repo::{Answer, Ask, BuildFault, Event, Repo};
 use fsl_text::{List, Text};
-use fsl_turn::Turns;
 use fsl_wire::{Caps, Message, WireCard};
-use std::sync::Wait;
 
 /// One announcement.
-fn announce<T: Turns<Repo<D>>, D: Disk, R: Wait>(
-    serving: &Serving<T, R>,
+fn announce<T: Calls<Repo<D>>, D: Disk>(
+    serving: &Serving<T>,
     pass: &mut T::Pass,
     name: Name,
 ) -> Result<(), Halt>
@@ -37,8 +36,8 @@ fn announce<T: Turns<Repo<D>>, D: Disk, R: Wait>(
 }
 
 /// The announcement of a card, where it has one.
-fn announce_card<T: Turns<Repo<D>>, D: Disk, R: Wait>(
-    serving: &Serving<T, R>,
+fn announce_card<T: Calls<Repo<D>>, D: Disk>(
+    serving: &Serving<T>,
     pass: &mut T::Pass,
     card: &WireCard,
     caps: Caps,
@@ -63,8 +62,8 @@ fn announced(card: &WireCard, caps: Caps) -> Option<Name>
 }
 
 /// An announcement for each card that may have one.
-fn announce_all<T: Turns<Repo<D>>, D: Disk, R: Wait>(
-    serving: &Serving<T, R>,
+fn announce_all<T: Calls<Repo<D>>, D: Disk>(
+    serving: &Serving<T>,
     pass: &mut T::Pass,
     cards: &[WireCard],
     caps: Caps,
@@ -82,10 +81,7 @@ fn announce_all<T: Turns<Repo<D>>, D: Disk, R: Wait>(
 }
 
 /// A cluster.
-fn cluster<T: Turns<Repo<D>>, D: Disk, R: Wait>(
-    serving: &Serving<T, R>,
-    pass: &mut T::Pass,
-) -> Result<(), Halt>
+fn cluster<T: Calls<Repo<D>>, D: Disk>(serving: &Serving<T>, pass: &mut T::Pass) -> Result<(), Halt>
     ensures grown { T.grows pass.old pass.new }
     ensures made { Gains D.state (T.calls pass.old) (T.calls pass.new) (λ made. Phase (event.Cluster ∷ []) made (result_err result) × IsTrue (list_any is_late (asked made))) }
 {
@@ -111,8 +107,8 @@ fn has_pull(cards: &[WireCard]) -> bool
 }
 
 /// The announcements, where a push card stands.
-fn announce_where_pushed<T: Turns<Repo<D>>, D: Disk, R: Wait>(
-    serving: &Serving<T, R>,
+fn announce_where_pushed<T: Calls<Repo<D>>, D: Disk>(
+    serving: &Serving<T>,
     pass: &mut T::Pass,
     cards: &[WireCard],
     caps: Caps,
@@ -128,8 +124,8 @@ fn announce_where_pushed<T: Turns<Repo<D>>, D: Disk, R: Wait>(
 }
 
 /// The cluster, where a pull card stands.
-fn cluster_where_pulled<T: Turns<Repo<D>>, D: Disk, R: Wait>(
-    serving: &Serving<T, R>,
+fn cluster_where_pulled<T: Calls<Repo<D>>, D: Disk>(
+    serving: &Serving<T>,
     pass: &mut T::Pass,
     cards: &[WireCard],
 ) -> Result<(), Halt>
@@ -144,8 +140,8 @@ fn cluster_where_pulled<T: Turns<Repo<D>>, D: Disk, R: Wait>(
 }
 
 /// All events before the build, and the notices for the reply. Passes the gate behind the arrivals and announcements.
-fn before_build<T: Turns<Repo<D>>, D: Disk, G: Gate, R: Wait>(
-    serving: &Serving<T, R>,
+fn before_build<T: Calls<Repo<D>>, D: Disk, G: Gate>(
+    serving: &Serving<T>,
     pass: &mut T::Pass,
     gate: &mut G,
     number: u64,
@@ -189,11 +185,7 @@ fn conclusion(built: Answer, committed: Answer) -> Said
 
 /// The build and the commit. A message that pushes stands back before its commit, so that the commit may serve the arrivals of those
 /// who wait too, and theirs find nothing left to do.
-fn conclude<T: Turns<Repo<D>>, D: Disk, R: Wait>(
-    serving: &Serving<T, R>,
-    pass: &mut T::Pass,
-    ask: Ask,
-) -> Said
+fn conclude<T: Calls<Repo<D>>, D: Disk>(serving: &Serving<T>, pass: &mut T::Pass, ask: Ask) -> Said
     ensures grown { T.grows pass.old pass.new }
     ensures made { Gains D.state (T.calls pass.old) (T.calls pass.new) (λ made. IsConcluded ask made (sent_of result)) }
 {
@@ -207,8 +199,8 @@ fn conclude<T: Turns<Repo<D>>, D: Disk, R: Wait>(
 }
 
 /// The events of a message that nothing refuses, whose arrivals have this receipt, and what they say.
-pub(crate) fn run<T: Turns<Repo<D>>, D: Disk, G: Gate, R: Wait>(
-    serving: &Serving<T, R>,
+pub(crate) fn run<T: Calls<Repo<D>>, D: Disk, G: Gate>(
+    serving: &Serving<T>,
     pass: &mut T::Pass,
     gate: &mut G,
     number: u64,

@@ -18,11 +18,13 @@ mod sending;
 mod serving;
 mod shared;
 mod staff;
+mod turning;
 mod work;
 
 pub use alone::session_alone;
 pub use crews::{Served, serve_crews};
-pub use laws::nothing_is_damaged;
+pub use laws::{answered_stays, nothing_is_damaged, nothing_is_lost};
 pub use said::SessionEnd;
 pub use serving::session;
+pub use turning::{Calls, Waiting};
 pub use work::{Crew, Work, worker};

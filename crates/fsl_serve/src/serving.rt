@@ -19,6 +19,7 @@ use crate::receipts::receipt_now;
 use crate::said::{Halt, Said, SessionEnd};
 use crate::sending::send;
 use crate::shared::Serving;
+use crate::turning::Calls;
 use fsl_answer::refusal;
 use fsl_disk::Disk;
 use fsl_http::{Asked, HttpFault, ask};
@@ -27,10 +28,8 @@ use fsl_name::Name;
 use fsl_outside::{Clock, Gate, Link};
 use fsl_repo::Repo;
 use fsl_text::Text;
-use fsl_turn::Turns;
 use fsl_wire::{Caps, Draft, Message};
 use std::alloc::Global;
-use std::sync::Wait;
 
 /// The message of a body and what its logins allow, or what is said in place of more. The body is let go. A login that isn't
 /// accepted ends the hashing: the tails behind it are never made.
@@ -52,8 +51,8 @@ fn hear(alloc: Global, users: &Users, body: Text) -> Result<(Message, Caps), Sai
 }
 
 /// What is said to a message with these privileges: its refusal, or its events, for which the clock is asked once.
-fn said_to_message<T: Turns<Repo<D>>, D: Disk, G: Gate, C: Clock, R: Wait>(
-    serving: &Serving<T, R>,
+fn said_to_message<T: Calls<Repo<D>>, D: Disk, G: Gate, C: Clock>(
+    serving: &Serving<T>,
     pass: &mut T::Pass,
     gate: &mut G,
     clock: &mut C,
@@ -76,8 +75,8 @@ fn said_to_message<T: Turns<Repo<D>>, D: Disk, G: Gate, C: Clock, R: Wait>(
 }
 
 /// What is said to the body of a request, which is let go before the first event.
-fn said_to<T: Turns<Repo<D>>, D: Disk, G: Gate, C: Clock, R: Wait>(
-    serving: &Serving<T, R>,
+fn said_to<T: Calls<Repo<D>>, D: Disk, G: Gate, C: Clock>(
+    serving: &Serving<T>,
     pass: &mut T::Pass,
     gate: &mut G,
     clock: &mut C,
@@ -99,8 +98,7 @@ fn said_to<T: Turns<Repo<D>>, D: Disk, G: Gate, C: Clock, R: Wait>(
 /// Serves the present connection: reads one request, makes its events one by one, and writes one reply. Behind its refusal test and
 /// before its first arrival it asks the clock once, for the receipt of all that it brings, which has the user of the first login
 /// or `nobody`. The gate is passed behind the arrivals and announcements, and once the reply is written.
-pub fn session<T: Turns<Repo<D>>, D: Disk, K: Link, G: Gate, C: Clock, R: Wait>(
-    rt: &R,
+pub fn session<T: Calls<Repo<D>>, D: Disk, K: Link, G: Gate, C: Clock>(
     alloc: Global,
     turns: &T,
     pass: &mut T::Pass,
@@ -119,7 +117,6 @@ pub fn session<T: Turns<Repo<D>>, D: Disk, K: Link, G: Gate, C: Clock, R: Wait>(
 {
     let serving = Serving {
         turns,
-        rt,
         alloc,
         users,
         project,
@@ -128,8 +125,8 @@ pub fn session<T: Turns<Repo<D>>, D: Disk, K: Link, G: Gate, C: Clock, R: Wait>(
 }
 
 /// The same, with what all sessions share in one place.
-pub(crate) fn serve_link<T: Turns<Repo<D>>, D: Disk, K: Link, G: Gate, C: Clock, R: Wait>(
-    serving: &Serving<T, R>,
+pub(crate) fn serve_link<T: Calls<Repo<D>>, D: Disk, K: Link, G: Gate, C: Clock>(
+    serving: &Serving<T>,
     pass: &mut T::Pass,
     link: &mut K,
     gate: &mut G,

@@ -3,12 +3,11 @@ use fsl_login::Users;
 use fsl_name::Name;
 use std::alloc::Global;
 
-/// What all sessions of a server share: the turns on its repository, what these wait by, where memory comes from, the users, and
+/// What all sessions of a server share: the turns on its repository, where memory comes from, the users, and
 /// the project's code.
 #[derive(Drop)]
-pub(crate) struct Serving<'a, T, R> {
+pub(crate) struct Serving<'a, T> {
     pub(crate) turns: &'a T,
-    pub(crate) rt: &'a R,
     pub(crate) alloc: Global,
     pub(crate) users: &'a Users,
     pub(crate) project: Name,

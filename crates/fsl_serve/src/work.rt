@@ -3,14 +3,13 @@ ghost use Rattle.fsl_serve.specs.Workers.{HasWorked, HasPassed};
 
 use crate::serving::serve_link;
 use crate::shared::Serving;
+use crate::turning::Calls;
 use fsl_disk::Disk;
 use fsl_login::Users;
 use fsl_name::Name;
 use fsl_outside::{Accepted, Clock, Door, Gate};
 use fsl_repo::Repo;
-use fsl_turn::Turns;
 use std::alloc::Global;
-use std::sync::Wait;
 
 /// What a worker works with.
 #[derive(Drop)]
@@ -34,8 +33,7 @@ pub struct Work {
 
 /// Serves as many connections as are asked for, or up to where the door fails or is closed. Each connection is let go once its session
 /// ended. The sessions are numbered from 0 where they pass the gate. Each asks the clock at most once.
-pub fn worker<T: Turns<Repo<D>>, D: Disk, A: Door, G: Gate, C: Clock, R: Wait>(
-    rt: &R,
+pub fn worker<T: Calls<Repo<D>>, D: Disk, A: Door, G: Gate, C: Clock>(
     alloc: Global,
     turns: &T,
     pass: &mut T::Pass,
@@ -50,7 +48,6 @@ pub fn worker<T: Turns<Repo<D>>, D: Disk, A: Door, G: Gate, C: Clock, R: Wait>(
 {
     let serving = Serving {
         turns,
-        rt,
         alloc,
         users,
         project,

@@ -1,10 +1,12 @@
-// A door that counts how often it lets its connection go.
+// A door that counts how often it lets go a connection that it has answered.
 use fsl_outside::{Accepted, Door, Failed, Link};
 
-/// Another door, and how often it was left.
+/// Another door, whether its connection took bytes yet, and how often one was let go that had: a worker that lets go before it
+/// answers isn't counted.
 #[derive(Drop)]
 pub struct CountingDoor<D> {
     pub door: D,
+    pub wrote: bool,
     pub left: u64,
 }
 
@@ -20,6 +22,7 @@ impl<D: Link> Link for CountingDoor<D> {
     }
 
     fn write(&mut self, piece: &[u8]) -> Result<usize, Failed> {
+        self.wrote = true;
         self.door.write(piece)
     }
 }
@@ -34,11 +37,14 @@ impl<D: Door> Door for CountingDoor<D> {
     }
 
     fn accept(&mut self) -> Result<Accepted, Failed> {
+        self.wrote = false;
         self.door.accept()
     }
 
     fn leave(&mut self) {
-        self.left = self.left.saturating_add(1);
+        if self.wrote {
+            self.left = self.left.saturating_add(1);
+        }
         self.door.leave();
     }
 }

@@ -48,7 +48,11 @@ fn crew(
     connections.push(request)?;
     let door = MemoryDoor::new(alloc, connections, Vec::new(alloc), Vec::new(alloc));
     Ok(Crew {
-        door: CountingDoor { door, left: 0 },
+        door: CountingDoor {
+            door,
+            wrote: false,
+            left: 0,
+        },
         gate: TurnGate { signals, is_first },
         clock: set_clock(),
     })
@@ -116,7 +120,7 @@ fn watched(served: Served<MemoryDisk, CountingDoor<MemoryDoor>, TurnGate, SetClo
     }
 }
 
-/// Whether a crew's connection took bytes that end so, and was let go once.
+/// Whether a crew's connection took bytes that end so, and was let go once, behind its answer.
 fn is_served(crews: &[TurnCrew], at: usize, end: &[u8]) -> bool {
     match crews.get(at) {
         Some(crew) => match crew.door.door.sent(0) {

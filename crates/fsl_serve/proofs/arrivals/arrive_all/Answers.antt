@@ -31,14 +31,14 @@ returns-in-Err-clause-made g c =
     let eq = ap (arrivals r m) (at_same c.loop-at.cards cs i c.index-cards-at-in-loop-at.result c.loop-at.invariant.2 c.loop-at-test.true) in
     let Q : List Call → Type 0 = λ made. c.loop-at.texts ≡ notices (asked made) (told made) in
     let R : List Call → Type 0 = λ made. OnOk c.arrive_card.result (c.arrive_card.new.texts ≡ c.loop-at.texts ++ notices (asked made) (told made)) in
-    let F : List Event → Type 0 = λ d. Gains g.D.Disk.state (g.T.Turns.calls c.args.pass.now) (g.T.Turns.calls c.loop-at.pass) (λ made. IsAt (arrivals r false cs) made d × Q made) in
-    let A : Brought → Type 0 = λ b. Gains g.D.Disk.state (g.T.Turns.calls c.loop-at.pass) (g.T.Turns.calls c.arrive_card.new.pass) (λ made. Phase (option_to_list (arrival_of b m x)) made (result_err c.arrive_card.result) × OnOk c.arrive_card.result (c.arrive_card.new.texts ≡ c.loop-at.texts ++ notices (asked made) (told made))) in
+    let F : List Event → Type 0 = λ d. Gains g.D.Disk.state (g.T.Calls.calls c.args.pass.now) (g.T.Calls.calls c.loop-at.pass) (λ made. IsAt (arrivals r false cs) made d × Q made) in
+    let A : Brought → Type 0 = λ b. Gains g.D.Disk.state (g.T.Calls.calls c.loop-at.pass) (g.T.Calls.calls c.arrive_card.new.pass) (λ made. Phase (option_to_list (arrival_of b m x)) made (result_err c.arrive_card.result) × OnOk c.arrive_card.result (c.arrive_card.new.texts ≡ c.loop-at.texts ++ notices (asked made) (told made))) in
     let arrived = subst A c.loop-at.invariant.3 c.arrive_card.ensures.made in
     loop_halts _ _ _ (arrivals r false cs) (option_to_list (arrival_of r m x)) (arrivals r (mark_after m x) (drop (i + 1) cs)) Q R c.arrive_card.result c.in-Err.halt (subst F eq c.loop-at.invariant.1) arrived c.in-Err.is
 
 pub loop-at-preserved : goal.loop-at-preserved
 loop-at-preserved g c = (
-  g.met.T.Turns.grows_through c.args.pass.now c.loop-at.pass c.arrive_card.new.pass c.loop-at.invariant.0 c.arrive_card.ensures.grown,
+  g.met.T.Calls.grows_through c.args.pass.now c.loop-at.pass c.arrive_card.new.pass c.loop-at.invariant.0 c.arrive_card.ensures.grown,
   let i = c.loop-at.at in
       let cs = c.args.cards.now in
       let r = c.args.receipt.now in
@@ -47,11 +47,11 @@ loop-at-preserved g c = (
       let eq = ap (arrivals r m) (at_same c.loop-at.cards cs i c.index-cards-at-in-loop-at.result c.loop-at.invariant.2 c.loop-at-test.true) in
       let old = c.loop-at.texts in
       let new = c.arrive_card.new.texts in
-      let F : List Event → Type 0 = λ d. Gains g.D.Disk.state (g.T.Turns.calls c.args.pass.now) (g.T.Turns.calls c.loop-at.pass) (λ made. IsAt (arrivals r false cs) made d × (old ≡ notices (asked made) (told made))) in
-      let A : Brought → Type 0 = λ b. Gains g.D.Disk.state (g.T.Turns.calls c.loop-at.pass) (g.T.Turns.calls c.arrive_card.new.pass) (λ made. Phase (option_to_list (arrival_of b m x)) made (result_err c.arrive_card.result) × OnOk c.arrive_card.result (c.arrive_card.new.texts ≡ c.loop-at.texts ++ notices (asked made) (told made))) in
+      let F : List Event → Type 0 = λ d. Gains g.D.Disk.state (g.T.Calls.calls c.args.pass.now) (g.T.Calls.calls c.loop-at.pass) (λ made. IsAt (arrivals r false cs) made d × (old ≡ notices (asked made) (told made))) in
+      let A : Brought → Type 0 = λ b. Gains g.D.Disk.state (g.T.Calls.calls c.loop-at.pass) (g.T.Calls.calls c.arrive_card.new.pass) (λ made. Phase (option_to_list (arrival_of b m x)) made (result_err c.arrive_card.result) × OnOk c.arrive_card.result (c.arrive_card.new.texts ≡ c.loop-at.texts ++ notices (asked made) (told made))) in
       let arrived = subst A c.loop-at.invariant.3 c.arrive_card.ensures.made in
       let end = loop_goes_on _ _ _ (arrivals r false cs) (option_to_list (arrival_of r m x)) (arrivals r (mark_after m x) (drop (i + 1) cs)) old old new c.arrive_card.result (subst F eq c.loop-at.invariant.1) arrived c.in-Ok.is in
-      let H : Bool → Type 0 = λ b. Gains g.D.Disk.state (g.T.Turns.calls c.args.pass.now) (g.T.Turns.calls c.arrive_card.new.pass) (λ made. IsAt (arrivals r false cs) made (arrivals r b (drop (i + 1) cs)) × (new ≡ notices (asked made) (told made))) in
+      let H : Bool → Type 0 = λ b. Gains g.D.Disk.state (g.T.Calls.calls c.args.pass.now) (g.T.Calls.calls c.arrive_card.new.pass) (λ made. IsAt (arrivals r false cs) made (arrivals r b (drop (i + 1) cs)) × (new ≡ notices (asked made) (told made))) in
       let next = c.marks-next.ensures ∙ ap (mark_after m) (same_within c.loop-at.cards i c.index-cards-at.result c.index-cards-at-in-loop-at.result c.loop-at-test.true) in
       subst H (sym next) end,
   ap (λ (w : WireCard). slice_set c.loop-at.cards c.loop-at.at w) c.arrive_card.ensures.kept ∙ set-get_or c.loop-at.cards c.loop-at.at c.index-cards-at-in-loop-at.result ∙ c.loop-at.invariant.2,

@@ -6,8 +6,8 @@ use Rattle.fsl_serve.proofs.arrivals.arrive_all.Given as goal
 
 abbrev pub invariant-loop-at : goal.invariant-loop-at
 invariant-loop-at g l =
-    g.T.Turns.grows l.initial.pass l.pass
-    × Gains g.D.Disk.state (g.T.Turns.calls l.initial.pass) (g.T.Turns.calls l.pass) (λ made. IsAt (arrivals l.initial.receipt false l.initial.cards) made (arrivals l.initial.receipt l.marked (drop l.at l.initial.cards)) × (l.texts ≡ notices (asked made) (told made)))
+    g.T.Calls.grows l.initial.pass l.pass
+    × Gains g.D.Disk.state (g.T.Calls.calls l.initial.pass) (g.T.Calls.calls l.pass) (λ made. IsAt (arrivals l.initial.receipt false l.initial.cards) made (arrivals l.initial.receipt l.marked (drop l.at l.initial.cards)) × (l.texts ≡ notices (asked made) (told made)))
     × (l.cards ≡ l.initial.cards)
     × (l.receipt ≡ l.initial.receipt)
 

@@ -13,17 +13,17 @@ returns-in-Err-clause-made g c =
     let cs = c.args.cards.now in
     let x = c.card-item.result in
     let eq = ap (filter_map f) (at_card cs i x c.loop-card-test.true c.card-item.is) ∙ filter_map_first f x (drop (i + 1) cs) in
-    let F : List Event → Type 0 = λ d. Gains g.D.Disk.state (g.T.Turns.calls c.args.pass.now) (g.T.Turns.calls c.loop-card.pass) (λ made. IsAt (filter_map f cs) made d) in
+    let F : List Event → Type 0 = λ d. Gains g.D.Disk.state (g.T.Calls.calls c.args.pass.now) (g.T.Calls.calls c.loop-card.pass) (λ made. IsAt (filter_map f cs) made d) in
     loop_halts_plain _ _ _ (filter_map f cs) (option_to_list (f x)) (filter_map f (drop (i + 1) cs)) c.announce_card.result c.in-Err.halt (subst F eq c.loop-card.invariant.1) c.announce_card.ensures.made c.in-Err.is
 
 pub loop-card-preserved : goal.loop-card-preserved
 loop-card-preserved g c = (
-  g.met.T.Turns.grows_through c.args.pass.now c.loop-card.pass c.announce_card.new.pass c.loop-card.invariant.0 c.announce_card.ensures.grown,
+  g.met.T.Calls.grows_through c.args.pass.now c.loop-card.pass c.announce_card.new.pass c.loop-card.invariant.0 c.announce_card.ensures.grown,
   let f = announcement c.args.caps in
       let i = c.loop-card.card-index in
       let cs = c.args.cards.now in
       let x = c.card-item.result in
       let eq = ap (filter_map f) (at_card cs i x c.loop-card-test.true c.card-item.is) ∙ filter_map_first f x (drop (i + 1) cs) in
-      let F : List Event → Type 0 = λ d. Gains g.D.Disk.state (g.T.Turns.calls c.args.pass.now) (g.T.Turns.calls c.loop-card.pass) (λ made. IsAt (filter_map f cs) made d) in
+      let F : List Event → Type 0 = λ d. Gains g.D.Disk.state (g.T.Calls.calls c.args.pass.now) (g.T.Calls.calls c.loop-card.pass) (λ made. IsAt (filter_map f cs) made d) in
       loop_goes_on_plain _ _ _ (filter_map f cs) (option_to_list (f x)) (filter_map f (drop (i + 1) cs)) c.announce_card.result (subst F eq c.loop-card.invariant.1) c.announce_card.ensures.made c.in-Ok.is,
 )

@@ -28,7 +28,7 @@ pub returns-in-Err-announce_where_pushed-clause-made : goal.returns-in-Err-annou
 returns-in-Err-announce_where_pushed-clause-made g c =
     let m = c.args.cards.now in
     let r = c.args.receipt.now in
-    let A : List WireCard → Type 0 = λ l. Gains g.D.Disk.state (g.T.Turns.calls c.arrive_all.new.pass) (g.T.Turns.calls c.announce_where_pushed.new.pass) (λ made. Phase (where_so (list_any is_push l) (filter_map (announcement c.args.caps) l)) made (result_err c.announce_where_pushed.result)) in
+    let A : List WireCard → Type 0 = λ l. Gains g.D.Disk.state (g.T.Calls.calls c.arrive_all.new.pass) (g.T.Calls.calls c.announce_where_pushed.new.pass) (λ made. Phase (where_so (list_any is_push l) (filter_map (announcement c.args.caps) l)) made (result_err c.announce_where_pushed.result)) in
     let announced = subst A c.in-Ok.ensures.kept c.announce_where_pushed.ensures.made in
     let announcements = where_so (list_any is_push m) (filter_map (announcement c.args.caps) m) in
     second_halts (arrivals r false m) announcements (where_so (list_any is_pull m) (event.Cluster ∷ [])) c.arrive_all.result c.announce_where_pushed.result c.announce_where_pushed.result _ _ _
@@ -43,9 +43,9 @@ pub returns-in-Err-cluster_where_pulled-clause-made : goal.returns-in-Err-cluste
 returns-in-Err-cluster_where_pulled-clause-made g c =
     let m = c.args.cards.now in
     let r = c.args.receipt.now in
-    let A : List WireCard → Type 0 = λ l. Gains g.D.Disk.state (g.T.Turns.calls c.arrive_all.new.pass) (g.T.Turns.calls c.announce_where_pushed.new.pass) (λ made. Phase (where_so (list_any is_push l) (filter_map (announcement c.args.caps) l)) made (result_err c.announce_where_pushed.result)) in
+    let A : List WireCard → Type 0 = λ l. Gains g.D.Disk.state (g.T.Calls.calls c.arrive_all.new.pass) (g.T.Calls.calls c.announce_where_pushed.new.pass) (λ made. Phase (where_so (list_any is_push l) (filter_map (announcement c.args.caps) l)) made (result_err c.announce_where_pushed.result)) in
     let announced = subst A c.in-Ok.ensures.kept c.announce_where_pushed.ensures.made in
-    let B : List WireCard → Type 0 = λ l. Gains g.D.Disk.state (g.T.Turns.calls c.announce_where_pushed.new.pass) (g.T.Turns.calls c.cluster_where_pulled.new.pass) (λ made. Phase (where_so (list_any is_pull l) (event.Cluster ∷ [])) made (result_err c.cluster_where_pulled.result) × OnErr c.cluster_where_pulled.result (IsTrue (list_any is_late (asked made)))) in
+    let B : List WireCard → Type 0 = λ l. Gains g.D.Disk.state (g.T.Calls.calls c.announce_where_pushed.new.pass) (g.T.Calls.calls c.cluster_where_pulled.new.pass) (λ made. Phase (where_so (list_any is_pull l) (event.Cluster ∷ [])) made (result_err c.cluster_where_pulled.result) × OnErr c.cluster_where_pulled.result (IsTrue (list_any is_late (asked made)))) in
     let clustered = subst B c.in-Ok.ensures.kept c.cluster_where_pulled.ensures.made in
     let a = arrivals r false m in
     let b = where_so (list_any is_push m) (filter_map (announcement c.args.caps) m) in
@@ -62,9 +62,9 @@ pub returns-clause-made : goal.returns-clause-made
 returns-clause-made g c =
     let m = c.args.cards.now in
     let r = c.args.receipt.now in
-    let A : List WireCard → Type 0 = λ l. Gains g.D.Disk.state (g.T.Turns.calls c.arrive_all.new.pass) (g.T.Turns.calls c.announce_where_pushed.new.pass) (λ made. Phase (where_so (list_any is_push l) (filter_map (announcement c.args.caps) l)) made (result_err c.announce_where_pushed.result)) in
+    let A : List WireCard → Type 0 = λ l. Gains g.D.Disk.state (g.T.Calls.calls c.arrive_all.new.pass) (g.T.Calls.calls c.announce_where_pushed.new.pass) (λ made. Phase (where_so (list_any is_push l) (filter_map (announcement c.args.caps) l)) made (result_err c.announce_where_pushed.result)) in
     let announced = subst A c.in-Ok.ensures.kept c.announce_where_pushed.ensures.made in
-    let B : List WireCard → Type 0 = λ l. Gains g.D.Disk.state (g.T.Turns.calls c.announce_where_pushed.new.pass) (g.T.Turns.calls c.cluster_where_pulled.new.pass) (λ made. Phase (where_so (list_any is_pull l) (event.Cluster ∷ [])) made (result_err c.cluster_where_pulled.result) × OnErr c.cluster_where_pulled.result (IsTrue (list_any is_late (asked made)))) in
+    let B : List WireCard → Type 0 = λ l. Gains g.D.Disk.state (g.T.Calls.calls c.announce_where_pushed.new.pass) (g.T.Calls.calls c.cluster_where_pulled.new.pass) (λ made. Phase (where_so (list_any is_pull l) (event.Cluster ∷ [])) made (result_err c.cluster_where_pulled.result) × OnErr c.cluster_where_pulled.result (IsTrue (list_any is_late (asked made)))) in
     let clustered = subst B c.in-Ok.ensures.kept c.cluster_where_pulled.ensures.made in
     let a = arrivals r false m in
     let b = where_so (list_any is_push m) (filter_map (announcement c.args.caps) m) in

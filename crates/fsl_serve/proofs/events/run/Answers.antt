@@ -20,8 +20,8 @@ returns-in-Ok-clause-made g c =
     let cards = c.as_mut_slice.ensures.value ∙ c.into_vec-cards.ensures ∙ c.into_cards.ensures in
     let kept = c.in-Ok.ensures.kept in
     let same = c.of.ensures ∙ c.from_vec.ensures ∙ take_at c.before_build-before.new.cards _ _ (ap (λ (l : List WireCard). length l) kept ∙ c.as_mut_slice.ensures.len) ∙ kept ∙ cards in
-    let F : List WireCard → Type 0 = λ m. Gains g.D.Disk.state (g.T.Turns.calls c.args.pass.now) (g.T.Turns.calls c.before_build-before.new.pass) (Before m c.args.caps c.args.receipt.now r Q) in
-    let K : List WireCard → Type 0 = λ m. Gains g.D.Disk.state (g.T.Turns.calls c.before_build-before.new.pass) (g.T.Turns.calls c.conclude.new.pass)
+    let F : List WireCard → Type 0 = λ m. Gains g.D.Disk.state (g.T.Calls.calls c.args.pass.now) (g.T.Calls.calls c.before_build-before.new.pass) (Before m c.args.caps c.args.receipt.now r Q) in
+    let K : List WireCard → Type 0 = λ m. Gains g.D.Disk.state (g.T.Calls.calls c.before_build-before.new.pass) (g.T.Calls.calls c.conclude.new.pass)
     (λ made. IsConcluded (record { caps = c.args.caps; message = m; notices = c.in-Ok.notices }) made (sent_of c.conclude.result)) in
     run_whole _ _ _ c.args.message c.args.caps c.args.receipt.now c.in-Ok.notices r (sent_of c.conclude.result) Q R c.in-Ok.is (λ xs ys p late. did_arrive old new c.args.number xs ys p late)
     (subst F cards c.before_build-before.ensures.made) (subst K same c.conclude.ensures.made)
@@ -31,5 +31,5 @@ returns-in-Err-clause-made g c =
     let r = c.before_build-before.result in
     let Q : Result (List (List ℕ)) Halt → List Call → Type 0 = λ r made. Passes (g.G.Gate.passed c.args.gate.now) (g.G.Gate.passed c.before_build-before.new.gate) c.args.number (reached r made) in
     let cards = c.as_mut_slice.ensures.value ∙ c.into_vec-cards.ensures ∙ c.into_cards.ensures in
-    let F : List WireCard → Type 0 = λ m. Gains g.D.Disk.state (g.T.Turns.calls c.args.pass.now) (g.T.Turns.calls c.before_build-before.new.pass) (Before m c.args.caps c.args.receipt.now r Q) in
+    let F : List WireCard → Type 0 = λ m. Gains g.D.Disk.state (g.T.Calls.calls c.args.pass.now) (g.T.Calls.calls c.before_build-before.new.pass) (Before m c.args.caps c.args.receipt.now r Q) in
     run_early _ _ c.args.message c.args.caps c.args.receipt.now r c.in-Err.halt Q c.in-Err.is (subst F cards c.before_build-before.ensures.made)

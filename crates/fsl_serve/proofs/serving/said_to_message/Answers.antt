@@ -40,7 +40,7 @@ returns-in-Ok-clause-made g c =
     let moment = c.in-Ok.receipt.moment in
     let J : Option ℕ → List Call → Type 0 = λ moment made. (users : List User) → granted users message ≡ Ok c.args.caps → IsJudged users project message moment made sent in
     let R : List Call → Type 0 = λ made. AtMoment before after (λ moment. J moment made) × Passes old new c.args.number (arrived made) in
-    let F : Brought → Type 0 = λ b. Gains g.D.Disk.state (g.T.Turns.calls c.args.pass.now) (g.T.Turns.calls c.run.new.pass) (λ made. IsRun message c.args.caps b made sent × Passes old new c.args.number (arrived made)) in
+    let F : Brought → Type 0 = λ b. Gains g.D.Disk.state (g.T.Calls.calls c.args.pass.now) (g.T.Calls.calls c.run.new.pass) (λ made. IsRun message c.args.caps b made sent × Passes old new c.args.number (arrived made)) in
     gains_weaker _ _ (λ made. IsRun message c.args.caps (receipt_of message moment) made sent × Passes old new c.args.number (arrived made)) R (subst F now.0 c.run.ensures.made)
     (λ xs p. ((Some moment, λ users so. run c.args.caps moment so (sym c.refusal.ensures ∙ c.in-None.is) refl p.0, now.1), p.1))
 

@@ -8,11 +8,11 @@ use Rattle.fsl_serve.proofs.Working.{IsServing, serving_none, serving_more, gate
 use Rattle.fsl_serve.proofs.work.worker.Goals as goal
 
 pub loop-number-init : goal.loop-number-init
-loop-number-init g c = (g.met.T.Turns.grows_self c.args.pass.now, serving_none c.args.users.now c.args.project _ _ _ _ _)
+loop-number-init g c = (g.met.T.Calls.grows_self c.args.pass.now, serving_none c.args.users.now c.args.project _ _ _ _ _)
 
 pub loop-number-preserved : goal.loop-number-preserved
 loop-number-preserved g c = (
-  g.met.T.Turns.grows_through c.args.pass.now c.loop-number.pass c.serve_link.new.pass c.loop-number.invariant.0 c.serve_link.ensures.grown,
+  g.met.T.Calls.grows_through c.args.pass.now c.loop-number.pass c.serve_link.new.pass c.loop-number.invariant.0 c.serve_link.ensures.grown,
   let q = (g.A.Link.state c.loop-number.crew.door).present in
       let t = (g.A.Link.state c.loop-number.crew.door).standing in
       let b = (g.A.Link.state c.accept.new.self).present in
@@ -23,7 +23,7 @@ loop-number-preserved g c = (
       let counts = subst G (c.in-Ok-Connection.is ∙ ap Ok c.in-Ok-Connection.field-0-is) c.accept.ensures.counts in
       let served = serving_more c.args.users.now c.args.project c.loop-number.number _ _ q t b u (g.A.Link.state c.serve_link.new.link).present (g.A.Link.state c.serve_link.new.link).standing _ _ _ (g.G.Gate.passed c.args.crew.now.gate) (g.G.Gate.passed c.loop-number.crew.gate) (g.G.Gate.passed c.serve_link.new.gate) (g.C.Clock.told c.args.crew.now.clock) (g.C.Clock.told c.loop-number.crew.clock) (g.C.Clock.told c.serve_link.new.clock) c.serve_link.result
       c.loop-number.invariant.1 lists.begun lists.told lists.earlier counts.0 counts.1 c.serve_link.ensures.stands c.serve_link.ensures.session in
-      let H : LinkState → Type 0 = λ l. IsServing g.D.Disk.state c.args.users.now c.args.project (c.loop-number.number + 1) (g.A.Link.state c.args.crew.now.door).present (g.A.Link.state c.args.crew.now.door).standing l.present l.standing (g.T.Turns.calls c.args.pass.now) (g.T.Turns.calls c.serve_link.new.pass) (g.G.Gate.passed c.args.crew.now.gate) (g.G.Gate.passed c.serve_link.new.gate) (g.C.Clock.told c.args.crew.now.clock) (g.C.Clock.told c.serve_link.new.clock) in
+      let H : LinkState → Type 0 = λ l. IsServing g.D.Disk.state c.args.users.now c.args.project (c.loop-number.number + 1) (g.A.Link.state c.args.crew.now.door).present (g.A.Link.state c.args.crew.now.door).standing l.present l.standing (g.T.Calls.calls c.args.pass.now) (g.T.Calls.calls c.serve_link.new.pass) (g.G.Gate.passed c.args.crew.now.gate) (g.G.Gate.passed c.serve_link.new.gate) (g.C.Clock.told c.args.crew.now.clock) (g.C.Clock.told c.serve_link.new.clock) in
       subst H (sym c.leave.ensures.same) served,
 )
 
