@@ -183,3 +183,10 @@ AllSurvive states first sessions pasts last =
     × ((old : List Record) → IsModelled (states.disk first) → IsSettled old (states.disk first).images →
     StandThrough states false old pasts steps last
     × (AreFirm states false pasts → (records : List Record) × IsBehind old steps records × IsSettled records (states.disk last).images))
+
+-- Law. Whatever runs follow one another over a disk of this type, and whatever ends each of them, what they leave survives: no body that makes the runs, or that
+-- makes the power fail, has a part in it
+abbrev pub RunsSurvive : {S K P N C D : Type 0} → States S K P N C D → Type 0
+RunsSurvive {S} {K} {P} {N} {C} {D} states =
+    (sessions : List (Session S K P N C)) (pasts : List (Past S K P N C D)) (first last : D) → AreRuns states first sessions pasts last →
+    AllSurvive states first sessions pasts last

@@ -4,10 +4,12 @@
 #![tactic(auto)]
 
 mod ending;
+mod laws;
 mod reboot;
 mod running;
 mod session;
 
+pub use laws::runs_survive;
 pub use reboot::Reboot;
 pub use running::{Lives, run_all};
 pub use session::{End, Past, Session};

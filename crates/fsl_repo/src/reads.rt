@@ -4,7 +4,7 @@ ghost use Rattle.std.specs.Option.{option_copied};
 ghost use Rattle.std.specs.FinMap as map_of;
 ghost use Rattle.std.specs.FinSet as set;
 ghost use Rattle.fsl_order.specs.Rows.{ascending};
-ghost use Rattle.fsl_blobs.specs.Fold.{held_from};
+ghost use Rattle.fsl_blobs.specs.Fold.{held_bytes, held_from, private_names};
 ghost use Rattle.fsl_blobs.specs.Held.{state_of, matching, found};
 ghost use Rattle.fsl_blobs.specs.declared.BlobFault.TheVariants.{Absent as AbsentFault};
 ghost use Rattle.fsl_disk.specs.Disk.{Quiet};
@@ -42,6 +42,27 @@ impl<D: Disk> Repo<D> {
         ensures { (now self.now.seen.state).config ≡ Some result.now }
     {
         self.blobs.config()
+    }
+
+    /// The sum of the sizes of all held artifacts, in bytes. Takes no memory.
+    pub fn bytes(&self) -> u128
+        ensures { result ≡ held_bytes (now self.now.seen.state).held }
+    {
+        self.blobs.bytes()
+    }
+
+    /// How many artifacts are held. Takes no memory.
+    pub fn count(&self) -> u64
+        ensures { result ≡ map_of.len (now self.now.seen.state).held }
+    {
+        self.blobs.count()
+    }
+
+    /// The names of the held artifacts that are private, ascending. `Memory` is the only error.
+    pub fn privates(&self) -> Result<List<Name>, Memory>
+        ensures { IfOk result (λ names. names ≡ private_names (now self.now.seen.state).held) }
+    {
+        self.blobs.privates(self.alloc)
     }
 
     /// What a name is. Takes no memory.
