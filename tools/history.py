@@ -2,7 +2,8 @@
 from collections import defaultdict
 from typing import Iterable, NamedTuple
 
-from points import Artifact, Point
+from artifacts import Artifact
+from points import Point, plain
 
 
 class Assertion(NamedTuple):
@@ -35,6 +36,7 @@ class History:
         self.tags: dict[tuple[str, str], list[Assertion]] = defaultdict(list)
         self.known: set[str] = set()
         self.posts: dict[str, Post] = {}
+        self.moved: set[str] = set()
         for name, content in contents:
             self.take(name, Artifact(content))
 
@@ -52,6 +54,14 @@ class History:
             text = tag.decode('utf-8', 'replace')
             self.known.add(text[1:])
             self.tags[on, text[1:]].append(Assertion(moment(artifact.word('D')), name, text[:1], repr(value)))
+            if text[1:] == 'parent':
+                self.move(on, plain(value[0]).split(' ') if value else [])
+
+    def move(self, name: str, parents: list[str]) -> None:
+        """Notes that a tag gives a check-in other parents, which Fossil alone heeds."""
+        self.moved.add(name)
+        for parent in parents:
+            self.children[parent].add(name)
 
     def above(self, name: str) -> Iterable[str]:
         """A check-in, its primary parent, and so on."""
@@ -71,7 +81,7 @@ class History:
             own = self.tags.get((checkin, tag), [])
             from_above = [assertion for assertion in own if checkin == name or assertion.prefix == '*']
             point = next((self.apart[assertion.artifact] for assertion in own if assertion.artifact in self.apart), None) or (own and broken)
-            point = point or dated_point(own, from_above, nearer)
+            point = point or dated_point(own, from_above, nearer) or (Point.PARENT_TAG if checkin in self.moved else None)
             if point:
                 return point
             nearer = max([nearer, *(assertion.date for assertion in own)])
@@ -81,6 +91,7 @@ class History:
         """The point by which a check-in may be a leaf on one side alone: its own, or one of a child."""
         children = sorted(self.children.get(name, ()))
         points = [self.apart.get(checkin) for checkin in [name, *children]] + [self.tag_point(checkin, 'branch') for checkin in [name, *children]]
+        points += [Point.PARENT_TAG for child in children if child in self.moved]
         return next(filter(None, points), None)
 
     def is_in_other_thread(self, name: str) -> bool:

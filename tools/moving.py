@@ -1,20 +1,24 @@
 """What move-in and move-out share: the two programs, the repository file, and a place for what isn't whole yet."""
 import hashlib
 import os
+import resource
 import shutil
 import signal
 import sqlite3
 import subprocess
 import sys
 import tempfile
-from typing import Iterator, NamedTuple
+import time
+from typing import BinaryIO, Callable, Iterable, Iterator, NamedTuple, TypeVar
 from urllib.parse import quote
 
 TOP = os.path.dirname(os.path.dirname(os.path.abspath(__file__)))
-ARTIFACT, MESSAGE = 1 << 24, 1 << 27
+ARTIFACT = 1 << 24
+PAUSE = 2.0
 LONGEST_LOGIN = 1 << 20
 # the milliseconds from the beginning of the year 0 to the end of the year 9999
 LAST_MOMENT = 3_652_425 * 86_400_000
+HEAD, NOTHING = b'fossil-blobs-', memoryview(b'')
 SIGNALS = signal.SIGTERM, signal.SIGHUP, signal.SIGINT
 told: list[int] = []
 
@@ -24,14 +28,16 @@ class Stop(Exception):
 
 
 def say(text: str) -> None:
-    """Says on standard error how far a move is."""
-    print(f'{os.path.basename(sys.argv[0])}: {text}', file=sys.stderr, flush=True)
+    """Says on standard error how far a move is. Signs that a terminal would obey are written out: what a project has came from anybody."""
+    plain = ''.join(sign if sign.isprintable() or sign == '\n' else ascii(sign)[1:-1] for sign in text)
+    print(f'{os.path.basename(sys.argv[0])}: {plain}', file=sys.stderr, flush=True)
 
 
 def program() -> str:
     """The built program, or the script that builds it."""
     built = os.path.join(TOP, 'crates', 'fossil_main', 'out', 'fossil_main')
-    for path in (os.environ.get('FOSSIL_PROGRAM'), built, os.path.join(TOP, 'fossil')):
+    # (an installed one stands beside the folder of the tools)
+    for path in (os.environ.get('FOSSIL_PROGRAM'), built, os.path.join(TOP, 'fossil_main'), os.path.join(TOP, 'fossil')):
         if path and os.access(path, os.X_OK):
             return path
     raise Stop("the program isn't built, and FOSSIL_PROGRAM names none")
@@ -49,13 +55,47 @@ def go_on() -> None:
         sys.exit(128 + told[0])
 
 
-def run(words: list[str], given: bytes = b'') -> bytes:
-    """What a command prints; stops where it fails, and ends the command where the move is broken off."""
+Item = TypeVar('Item')
+
+
+def counted(items: Iterable[Item], what: str = '', total: int | None = None) -> Iterator[Item]:
+    """Hands items on, and ends the move where it was told to. Says every few seconds, and at the end, of how many items that are; `total`
+    has how many there are where `items` itself doesn't say so."""
+    count = len(items) if total is None else total
+    last = time.monotonic()
+    for number, item in enumerate(items, 1):
+        go_on()
+        yield item
+        if what and (number == count or time.monotonic() - last > PAUSE):
+            say(f'{number} of {count} {what}')
+            last = time.monotonic()
+
+
+class Limits(NamedTuple):
+    """What a command may take: the bytes of a file that it writes and those of its memory. `look` is called every moment, and may stop it."""
+    file: int
+    memory: int
+    look: Callable[[], None] = lambda: None
+
+    def set(self) -> None:
+        """Sets the limits for this process."""
+        resource.setrlimit(resource.RLIMIT_FSIZE, (self.file, self.file))
+        resource.setrlimit(resource.RLIMIT_AS, (self.memory, self.memory))
+
+
+def bound(words: list[str]) -> list[str]:
+    """The words of a command that ends when this process is gone, also where that is killed (by setpriv of util-linux). It is told by a
+    signal that the script `fossil` hands on to the program."""
+    return ['setpriv', '--pdeathsig', 'TERM', '--', *words] if shutil.which('setpriv') else words
+
+
+def run(words: list[str], given: Iterable[bytes] = (), limits: Limits | None = None) -> bytes:
+    """What a command prints that gets these pieces as its input; stops where it fails, and ends the command where the move is broken off."""
     # (a file, since communicate sends no input after its first time out)
     with tempfile.TemporaryFile() as source:
-        source.write(given)
+        source.writelines(given)
         source.seek(0)
-        process = subprocess.Popen(words, stdin=source, stdout=subprocess.PIPE, stderr=subprocess.PIPE)
+        process = subprocess.Popen(bound(words), stdin=source, stdout=subprocess.PIPE, stderr=subprocess.PIPE, preexec_fn=limits and limits.set)
     try:
         while True:
             try:
@@ -63,14 +103,23 @@ def run(words: list[str], given: bytes = b'') -> bytes:
                 break
             except subprocess.TimeoutExpired:
                 go_on()
+                if limits:
+                    limits.look()
     finally:
         process.kill()
         process.wait()
     go_on()
     if process.returncode != 0:
-        why = (out + said).decode('utf-8', 'replace').strip()
-        raise Stop(f'{os.path.basename(words[0])} ended with status {process.returncode}: {why[-500:]}')
+        raise Stop(failure(words[0], process.returncode, (out + said).decode('utf-8', 'replace').strip()[-500:], limits))
     return out
+
+
+def failure(command: str, status: int, said: str, limits: Limits | None) -> str:
+    """What is said of a command that failed."""
+    if limits and status == -signal.SIGXFSZ:
+        return f'{os.path.basename(command)} was ended: an artifact has more bytes than OLD says ({limits.file} are the most that it may write)'
+    bounds = f' (it may take {limits.memory >> 20} MiB of memory)' if limits else ''
+    return f'{os.path.basename(command)} ended with status {status}{bounds}: {said}'
 
 
 def name_of(content: bytes) -> str:
@@ -132,30 +181,38 @@ class Records:
         return is_private, name, self.take(self.bounded(8, ARTIFACT + 1))
 
 
-def kinds_of(data: memoryview) -> bytes:
+def kinds_of(head: bytes) -> bytes:
     """The letters of the records that a file may have behind its Config, by the version that its header tells."""
-    if bytes(data[:13]) != b'fossil-blobs-' or bytes(data[14:15]) != b'\n':
+    if head[:-2] != HEAD or head[-1:] != b'\n':
         raise Stop('this is no repository')
-    return b'BPS' if data[13:14] == b'1' else b'BRPSU'
+    return b'BPS' if head[-2:-1] == b'1' else b'BRPSU'
 
 
-def groups_of(data: memoryview) -> Iterator[memoryview]:
-    """The records of each open group, up to the first closed gate."""
-    at = 15
-    while bytes(data[at:at + 1]) == b'O':
-        size = int.from_bytes(data[at + 1:at + 9], 'big')
-        if size == 0 or at + 9 + size >= len(data):
+def groups_of(file: BinaryIO) -> Iterator[memoryview]:
+    """The records of each open group, up to the first closed gate. A group is read when it is asked for."""
+    at, gate = len(HEAD) + 2, file.read(1)
+    while gate == b'O':
+        size = int.from_bytes(file.read(8), 'big')
+        if not 0 < size < rest_of(file):
             raise Stop(f'this is no repository from byte {at} on')
-        yield data[at + 9:at + 9 + size]
-        at += 9 + size
+        yield memoryview(file.read(size))
+        at, gate = at + 9 + size, file.read(1)
 
 
-def fold(found: Repository, kind: bytes, records: Records) -> None:
+def rest_of(file: BinaryIO) -> int:
+    """How many bytes of a file weren't read yet."""
+    at = file.tell()
+    end = file.seek(0, os.SEEK_END)
+    file.seek(at)
+    return end - at
+
+
+def fold(found: Repository, kind: bytes, records: Records, kept: Callable[[str, memoryview], memoryview]) -> None:
     """Does what one record behind Config says."""
     if kind in (b'B', b'R'):
         is_private, name, content = records.blob(kind == b'R')
         if name not in found.held and name not in found.shunned:
-            found.held[name] = is_private, content
+            found.held[name] = is_private, kept(name, content)
         return
     name = records.name()
     if kind == b'P' and name in found.held:
@@ -167,11 +224,11 @@ def fold(found: Repository, kind: bytes, records: Records) -> None:
         found.shunned.discard(name)
 
 
-def repository_in(data: memoryview) -> Repository:
-    """What the bytes of a file stand for."""
+def repository_in(file: BinaryIO, kept: Callable[[str, memoryview], memoryview]) -> Repository:
+    """What the bytes of a file stand for, with what `kept` makes of the name and the bytes of each held artifact."""
     found = None
-    kinds = kinds_of(data)
-    for body in groups_of(data):
+    kinds = kinds_of(file.read(len(HEAD) + 2))
+    for body in groups_of(file):
         records = Records(body)
         while records.at < len(body):
             kind = bytes(records.take(1))
@@ -182,22 +239,24 @@ def repository_in(data: memoryview) -> Repository:
             elif kind not in kinds:
                 raise Stop(f'this is no repository: a record of kind {kind!r}')
             else:
-                fold(found, kind, records)
+                fold(found, kind, records, kept)
     if found is None:
         raise Stop('this is no repository')
     return found
 
 
-def repository_of(path: str) -> Repository:
-    """What a file stands for, which is only read. Each artifact is held against its name."""
-    with open(path, 'rb') as file:
-        # (from the front to the end, so that a file that is served may get groups meanwhile: docs/DEPLOY.md, Backup)
-        found = repository_in(memoryview(file.read()))
-    for name, (_, content) in found.held.items():
+def repository_of(path: str, has_contents: bool = True) -> Repository:
+    """What a file stands for, which is only read. Each artifact is held against its name; where only the names are wanted, none has its
+    bytes."""
+    def kept(name: str, content: memoryview) -> memoryview:
         go_on()
         if name_of(content) != name:
             raise Stop(f'{path}: {name} has other bytes')
-    return found
+        return content if has_contents else NOTHING
+
+    with open(path, 'rb') as file:
+        # (from the front to the end, so that a file that is served may get groups meanwhile: docs/DEPLOY.md, Backup)
+        return repository_in(file, kept)
 
 
 # ---- a repository of Fossil 2
@@ -207,6 +266,10 @@ def rows_of(path: str, query: str) -> list[tuple]:
     """The rows of a query on a repository of Fossil, which is only read."""
     try:
         with sqlite3.connect(f'file:{quote(path)}?mode=ro', uri=True) as database:
+            # (nor does it run what the file brings along)
+            database.execute('PRAGMA trusted_schema = OFF')
+            # (a text that isn't UTF-8 is no reason to stop: as little as in a report of the program)
+            database.text_factory = lambda text: text.decode('utf-8', 'replace')
             return database.execute(query).fetchall()
     except sqlite3.Error as fault:
         raise Stop(f'{path} is no repository of Fossil 2: {fault}') from None
@@ -221,16 +284,16 @@ def fields_of(path: str) -> list[str]:
 
 
 class Workroom:
-    """A folder beside the file that is asked for, which is gone at the end (`ended`); the whole file gets its name there, and no other file
-    loses it."""
+    """A folder beside the first of the files that are asked for, which is gone at the end (`ended`); whole files get their names there, and
+    no other file loses its name."""
 
     folders: list[str] = []
 
-    def __init__(self, wanted: str):
-        self.wanted = os.path.abspath(wanted)
-        if os.path.lexists(self.wanted):
-            raise Stop(f'{wanted} is there already')
-        self.folder = os.path.join(os.path.dirname(self.wanted), f'.move-{os.getpid()}-{os.urandom(4).hex()}')
+    def __init__(self, *wanted: str):
+        for path in wanted:
+            if os.path.lexists(path):
+                raise Stop(f'{path} is there already')
+        self.folder = os.path.join(os.path.dirname(os.path.abspath(wanted[0])), f'.move-{os.getpid()}-{os.urandom(4).hex()}')
         self.folders.append(self.folder)
         os.mkdir(self.folder, 0o700)
 
@@ -238,17 +301,30 @@ class Workroom:
         """A place in the folder."""
         return os.path.join(self.folder, name)
 
-    def give(self, name: str) -> None:
-        """Gives a whole file of the folder the name that was asked for."""
+    def give(self, files: dict[str, str]) -> None:
+        """Gives whole files of the folder, by their names there, the names that were asked for: all of them, or none."""
+        given: list[str] = []
         try:
-            os.link(self.path(name), self.wanted)
-        except FileExistsError:
-            raise Stop(f'{self.wanted} is there by now') from None
-        except OSError:
-            # (a file system without links: there a file that comes between the look and the renaming is lost)
-            if os.path.lexists(self.wanted):
-                raise Stop(f'{self.wanted} is there by now') from None
-            os.rename(self.path(name), self.wanted)
+            for name, wanted in files.items():
+                named(self.path(name), wanted)
+                given.append(wanted)
+        except BaseException:
+            for wanted in given:
+                os.unlink(wanted)
+            raise
+
+
+def named(path: str, wanted: str) -> None:
+    """Gives a file another name that no file has."""
+    try:
+        os.link(path, wanted)
+    except FileExistsError:
+        raise Stop(f'{wanted} is there by now') from None
+    except OSError:
+        # (a file system without links: there a file that comes between the look and the renaming is lost)
+        if os.path.lexists(wanted):
+            raise Stop(f'{wanted} is there by now') from None
+        os.rename(path, wanted)
 
 
 def ended(main, *words: str) -> None:

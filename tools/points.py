@@ -1,17 +1,14 @@
 """The points of docs/DIFFERENCES.md by which reports of Fossil and of this program differ, and the texts that only one of both reads."""
-import hashlib
 import re
 from datetime import datetime
 from enum import Enum
-from typing import Callable, NamedTuple
+from typing import Callable
+
+from artifacts import Artifact, unescaped
 
 DATE = re.compile(r'(\d{4})-(\d\d-\d\dT\d\d:\d\d:\d\d)(\.\d{3})?', re.ASCII)
 CAPITALS = re.compile(rb'[+-]?(?=.*[A-F])([0-9A-Fa-f]{32}|[0-9A-Fa-f]{40}|[0-9A-Fa-f]{64})')
 FOREIGN = re.compile(rb'[0-9a-f]{64}')
-SIGNED = b'-----BEGIN PGP SIGNED MESSAGE-----'
-SIGNATURE = b'\n-----BEGIN PGP SIGNATURE-----'
-SEAL = re.compile(rb'Z ([0-9a-f]{32})\n\Z')
-ESCAPES = {'s': ' ', 'n': '\n', 't': '\t', 'r': '\r', 'v': '\v', 'f': '\f', '0': '\0'}
 LONGEST_TITLE = 100
 
 
@@ -42,9 +39,13 @@ class Point(Enum):
     TITLE = 'a title with blanks at its ends or two in a row, with a tab or a newline, or of more than 100 bytes reads here alone'
     ATTACHED = "an attached file whose name isn't a simple path reads here alone"
     # what isn't taken
-    LEFT_OUT = 'an artifact under a name of 64 digits, or above 16 MiB, was left out'
+    LEFT_OUT = "an artifact under a name of 64 digits, above 16 MiB, or of a name that isn't its SHA-1, was left out"
     SHUNNED = 'Fossil goes by a shunned artifact until the next rebuild'
+    # what is read otherwise
+    NO_BASELINE = "a check-in over a baseline that isn't held reads here alone, without files"
+    COPY = "a file that has the bytes of an artifact may read as one too, under its own name"
     # tags and dates
+    PARENT_TAG = 'a tag `parent` gives a check-in other parents in Fossil alone'
     NEWER_ABOVE = 'a newer tag that comes from above counts here, where Fossil lets an own one of the check-in stand'
     EQUAL_DATES = 'of two tags with equal dates Fossil takes the one that came first'
     NO_DATE = "a tag `date` whose value isn't a date has no meaning here"
@@ -54,15 +55,9 @@ class Point(Enum):
     OTHER_THREAD = 'a post whose chain ends at another post than its G card names has no row here'
 
 
-class Card(NamedTuple):
-    """A line of an artifact: its letter, and its arguments as they stand there."""
-    letter: str
-    words: list[bytes]
-
-
 def plain(word: bytes) -> str:
     """A text without its escapes."""
-    return re.sub(r'\\(.)', lambda found: ESCAPES.get(found[1], found[1]), word.decode('utf-8', 'replace'), flags=re.DOTALL)
+    return unescaped(word).decode('utf-8', 'replace')
 
 
 def is_date(text: str) -> bool:
@@ -73,58 +68,6 @@ def is_date(text: str) -> bool:
         return bool(found) and bool(datetime.strptime(f'{int(found[1]) or 4:04}-{found[2]}', '%Y-%m-%dT%H:%M:%S')) and found[2][-2:] < '60'
     except ValueError:
         return False
-
-
-def unsigned(content: bytes) -> bytes:
-    """What stands within a PGP signature; a text without one as it is."""
-    if not content.startswith(SIGNED):
-        return content
-    begin, end = content.find(b'\n\n'), content.find(SIGNATURE)
-    return content[begin + 2:end + 1] if 0 <= begin < end else b''
-
-
-def cards_of(content: bytes) -> list[Card]:
-    """The cards of a text, or none where it isn't one of cards behind which their checksum comes. Their order and forms aren't looked at."""
-    text = unsigned(content)
-    seal = SEAL.search(text[-64:])
-    if not seal or hashlib.md5(text[:-35]).hexdigest().encode() != seal[1]:
-        return []
-    cards, at = [], 0
-    while at < len(text):
-        end = text.find(b'\n', at)
-        letter, *words = text[at:end].split(b' ')
-        has_text = letter == b'W'
-        if end < 0 or not re.fullmatch(b'[A-Z]', letter) or has_text and not (len(words) == 1 and words[0].isdigit()):
-            return []
-        cards.append(Card(letter.decode(), words))
-        at = end + 1 + (int(words[0]) + 1 if has_text else 0)
-    return cards
-
-
-class Artifact:
-    """An artifact by its cards."""
-
-    def __init__(self, content: bytes):
-        self.is_signed = content.startswith(SIGNED)
-        self.cards = cards_of(content)
-        self.letters = {card.letter for card in self.cards}
-
-    def of(self, letters: str) -> list[list[bytes]]:
-        """The arguments of each card of these letters."""
-        return [card.words for card in self.cards if card.letter in letters]
-
-    def word(self, letter: str, place: int = 0) -> str:
-        """An argument of the first card of a letter, or an empty text."""
-        words = next(iter(self.of(letter)), [])
-        return words[place].decode('latin-1') if place < len(words) else ''
-
-    def is_checkin(self) -> bool:
-        """Whether it has the cards of a check-in and of no other kind."""
-        return bool(self.letters & set('BCFPQR')) and self.letters <= set('BCDFNPQRTUZ')
-
-    def is_post(self) -> bool:
-        """Whether it has the cards of a forum post."""
-        return 'W' in self.letters and not self.letters & set('LEC')
 
 
 # ---- what one of both doesn't read: each function asks whether an artifact has that

@@ -4,9 +4,10 @@ from datetime import datetime, timedelta
 from functools import cached_property
 from typing import Callable, Iterable, Iterator, NamedTuple
 
+from artifacts import Artifact, content_in, contents_in
 from history import History
 from moving import Stop, program, run, say
-from old import Old, contents_in, place_in
+from old import Old
 from points import Point, Side, is_date, plain, read_alone
 
 KINDS = {'ci': 'ci', 'w': 'wiki', 't': 'tkt', 'e': 'note', 'f': 'forum', 'g': 'tag'}
@@ -70,20 +71,25 @@ class Reports:
         self.theirs = {name: row for name, row in self.events.items() if name in self.taken}
         self.apart = {name: Point.LEFT_OUT for name in old.out} | {name: Point.SHUNNED for name in old.shunned}
         for name in self.ours.keys() ^ self.theirs.keys():
-            point = read_alone(self.content(name), Side.OLD if name in self.theirs else Side.NEW)
+            point = self.point_of_one_side(name)
             self.apart |= {name: point} if point else {}
 
-    def content(self, name: str) -> bytes:
-        """The bytes of an artifact."""
-        with open(place_in(self.folder, name), 'rb') as source:
-            return source.read()
+    def point_of_one_side(self, name: str) -> Point | None:
+        """The point by which one side alone has a row of an artifact."""
+        content = content_in(self.folder, name)
+        baseline = Artifact(content).word('B')
+        if name in self.old.copies:
+            return Point.COPY
+        if name in self.ours and baseline and baseline not in self.taken:
+            return Point.NO_BASELINE
+        return read_alone(content, Side.OLD if name in self.theirs else Side.NEW)
 
     def contents(self) -> Iterator[tuple[str, bytes]]:
         """The artifacts that have a row on either side. Fossil writes no shunned one out, but gives each alone."""
         wanted = self.events.keys() | self.ours.keys()
         yield from contents_in(self.folder, wanted - self.old.shunned)
         for name in sorted(wanted & self.old.shunned):
-            yield name, run(['fossil', 'artifact', name, '-R', self.old.path])
+            yield name, self.old.shunned_content(name)
 
     @cached_property
     def history(self) -> History:
@@ -109,7 +115,7 @@ class Reports:
         query = (f"SELECT uuid, type, {form.format('mtime')}, {form.format('coalesce(omtime, mtime)')}, coalesce(euser, user, ''), "
                  "coalesce(ecomment, comment, '') FROM event JOIN blob ON objid = rid")
         for name, kind, time, before, user, text in self.old.rows(query):
-            self.events[name] = Row(KINDS.get(kind, kind), time, user, text.strip() if kind == 'ci' else '')
+            self.events[name] = Row(KINDS.get(kind, kind), time, user, self.old.said(text).strip() if kind == 'ci' else '')
             self.moments[name] = {time, before} - {None}
 
     def row_point(self, name: str) -> Point | None:
@@ -177,8 +183,7 @@ class Reports:
     def tags(self, name: str) -> tuple[dict[str, str], dict[str, str]]:
         """The tags in force on an artifact on both sides."""
         ours = {plain(line[0]): plain(line[1]) if len(line) > 1 else '' for line in self.report('tags', name)}
-        return ours, dict(self.old.rows("SELECT tagname, coalesce(value, '') FROM tagxref JOIN tag USING (tagid) JOIN blob USING (rid) "
-                                        f"WHERE tagtype > 0 AND uuid = '{name}'"))
+        return ours, self.old.tags_of(name)
 
     def tag_point(self, name: str, tag: str) -> Point | None:
         """The point by which a tag of a check-in differs."""
@@ -195,8 +200,8 @@ class Reports:
 
     def compare(self) -> None:
         """Stops unless leaves, timeline and the tags of the leaves are the same on both sides, but for what a point explains."""
+        what = 'leaves and timeline' if not self.old.out else 'of what was taken, leaves and timeline'
         count = stop_where('timeline', differences(self.ours, self.theirs, self.row_point))
         count += stop_where('leaves', differences(*self.leaves, self.leaf_point))
         count += self.compare_tags(self.leaves[0])
-        say(f'leaves and timeline are the same but for {count} rows, each by a point of docs/DIFFERENCES.md' if count else
-            'leaves and timeline are the same')
+        say(f'{what} are the same' + (f' but for {count} rows, each by a point of docs/DIFFERENCES.md' if count else ''))
