@@ -5,13 +5,14 @@ import zlib
 from dataclasses import dataclass, field
 from typing import Callable
 
-from deltas import DeltaFault, apply
+from deltas import DeltaFault, TooLong, apply
 from users import User, is_signed, login_of, sha1
 
 MESSAGE = 1 << 27
 ARTIFACT = 1 << 24
 FILES = 1 << 16
 ANNOUNCED = 1 << 17
+SHUNS = 1 << 17
 BLANKS = b' \t\r'
 NAME = re.compile(rb'[0-9a-f]{40}\Z')
 LONG_NAME = re.compile(rb'[0-9a-f]{64}\Z')
@@ -21,13 +22,30 @@ DECODED = {b's': b' ', b'n': b'\n', b't': b'\t', b'r': b'\r', b'v': b'\v', b'f':
 KNOWN = {b'push', b'pull', b'clone', b'clone_seqno', b'igot', b'gimme', b'private', b'error', b'message', b'cookie', b'pragma'}
 # cards that it doesn't know
 DROPPED = {b'reqconfig', b'config', b'uvigot', b'uvgimme', b'uvfile'}
+# the settings of a project that are kept here: the list of shunned names alone, which Fossil's client asks for by either word
+OF_SHUNS = {b'/shun', b'/all'}
 NO_CONFIGURATION, NO_UNVERSIONED = b"configuration isn't kept here", b"unversioned files aren't kept here"
 # Fossil's own answer to a client that asks for private artifacts and may not have them
 NO_PRIVATE = b'error not\\sauthorized\\sto\\ssync\\sprivate\\scontent\n'
+# how a member takes a check-in back that can't be taken here
+TAKE_BACK = 'fossil update PARENT; fossil purge checkins HASH'
 
 
 class Refused(Exception):
-    """A message that isn't sent on. Its text goes to the client in an error card."""
+    """A message that isn't sent on. Its text goes to the client in an error card. `artifact` is the name of the one that can't be taken, where it
+    is for that."""
+
+    def __init__(self, said: str, artifact: bytes = b''):
+        super().__init__(said)
+        self.artifact = artifact
+
+
+class NoBase(Refused):
+    """A message has a delta over what neither it nor the server has; `name` is what is missing."""
+
+    def __init__(self, name: bytes, said: str):
+        super().__init__(f'no base {name.decode()} at the server{said}')
+        self.name = name
 
 
 def unescaped(text: bytes) -> bytes:
@@ -55,6 +73,10 @@ class File:
     data: memoryview
     unpacked: int | None
 
+    def size(self) -> int:
+        """How many bytes it has, or its delta."""
+        return len(self.data) if self.unpacked is None else self.unpacked
+
 
 @dataclass(slots=True)
 class Message:
@@ -63,12 +85,14 @@ class Message:
     files: dict[bytes, File] = field(default_factory=dict)
     count: int = 0
     user: bytes | None = None
+    claimed: bytes = b''
     codes: tuple[bytes, bytes] | None = None
     wants_private: bool = False
     is_clone: bool = False
     announced: dict[bytes, int] = field(default_factory=dict)
     unasked: int = 0
     notes: set[bytes] = field(default_factory=set)
+    wants_shuns: bool = False
     counts: dict[bytes, int] = field(default_factory=dict)
 
     def add(self, line: bytes) -> None:
@@ -134,7 +158,8 @@ class Reader:
     def name(self, word: bytes) -> bytes:
         """A word that is a name of 40 digits."""
         if LONG_NAME.match(word):
-            raise Refused(f'a name of 64 digits, and only SHA-1 names are taken here: {word.decode()}')
+            raise Refused('a name of 64 digits (SHA3), and only SHA-1 names are taken here: type "fossil hash-policy sha1" and commit again, or '
+                          f'bring the whole project in by "move-in --rename": {word.decode()}')
         if not NAME.match(word):
             raise self.fault()
         return word
@@ -149,7 +174,7 @@ class Reader:
         """The login, which stands once and before every other card, since it signs what is behind it."""
         if len(words) != 4 or self.message.counts:
             raise self.fault()
-        name = unescaped(words[1])
+        name = self.message.claimed = unescaped(words[1])
         user = self.users.get(name) if name != b'nobody' else None
         if user is None or not is_signed(user, words[2], words[3], self.view[self.at:]):
             raise Refused('login failed')
@@ -179,7 +204,9 @@ class Reader:
 
     def pass_over(self, words: list[bytes]) -> None:
         """A card that our server doesn't know, with its content; the client is told what isn't kept of it."""
-        if words[0] == b'config':
+        if words[0] == b'reqconfig':
+            self.message.wants_shuns |= words[1:] in ([word] for word in OF_SHUNS)
+        elif words[0] == b'config':
             self.want(words, 3)
             self.content(self.number(words[2]))
             self.message.notes.add(NO_CONFIGURATION)
@@ -231,12 +258,31 @@ def unpacked(data: bytes | memoryview, size: int) -> bytes:
     return out
 
 
+def path_in(message: Message, name: bytes) -> str | None:
+    """The path under which a check-in of the message that comes as it is has a file of this name."""
+    card = re.compile(rb'^F (\S+) ' + name + rb'\b', re.MULTILINE)
+    for part in message.parts:
+        if isinstance(part, File) and part.base is None and part.size() <= 1 << 20:
+            found = card.search(plain(part))
+            if found:
+                return shown(unescaped(found[1]))
+    return None
+
+
+def too_large(message: Message, file: File, size: int) -> Refused:
+    """What is said of an artifact that is too large: its file, its size, the limit, and the way out."""
+    path = path_in(message, file.name)
+    what = f'{path} ({file.name.decode()[:10]})' if path else f'a file ({file.name.decode()})'
+    return Refused(f'{what} has {size:,} bytes, and at most {ARTIFACT:,} can be kept here; take the check-in back: {TAKE_BACK}; fossil sync',
+                   file.name)
+
+
 def plain(file: File) -> bytes:
     """The bytes of a file card: an artifact, or a delta."""
     if file.unpacked is None:
         return bytes(file.data)
     if file.unpacked > ARTIFACT or len(file.data) < 4:
-        raise Refused(f'{file.name.decode()} has {file.unpacked} bytes or is cut off')
+        raise Refused(f'{file.name.decode()} has {file.unpacked} bytes or is cut off', file.name)
     try:
         return unpacked(file.data[4:], file.unpacked)
     except ValueError:
@@ -249,10 +295,12 @@ def made(file: File, base: bytes | None, deadline: float) -> bytes:
     if file.base is not None:
         try:
             out = apply(base or b'', out, ARTIFACT, lambda: stop_behind(deadline))
+        except TooLong:
+            raise
         except DeltaFault as fault:
             raise Refused(f'the delta of {file.name.decode()} over {file.base.decode()}: {fault}') from None
     if (file.base is not None or file.unpacked is not None) and sha1(out) != file.name:
-        raise Refused(f'{file.name.decode()} comes out with another name')
+        raise Refused(f'{file.name.decode()} comes out with another name', file.name)
     return out
 
 
@@ -296,7 +344,10 @@ class Maker:
         stop_behind(self.deadline)
         content = self.made.get(file.name)
         if content is None or file is not self.message.files[file.name]:
-            content = made(file, base, self.deadline)
+            try:
+                content = made(file, base, self.deadline)
+            except TooLong as fault:
+                raise too_large(self.message, file, fault.size) from None
             if file.name in self.kept:
                 self.made.setdefault(file.name, content)
                 self.total += len(content)
@@ -307,6 +358,9 @@ class Maker:
 
 def translated(message: Message, bases: dict[bytes, bytes], deadline: float) -> bytearray:
     """The message as our server reads it, without a login. Raises Refused for a file that can't be made, or where it gets too long."""
+    for part in message.parts:
+        if isinstance(part, File) and part.base is None and (size := part.size()) > ARTIFACT:
+            raise too_large(message, part, size)
     maker, out = Maker(message, bases, deadline), bytearray()
     for part in message.parts:
         if isinstance(part, File):
@@ -325,9 +379,21 @@ def login_for(message: Message, text: bytes | bytearray, users: dict[bytes, User
     return b'' if message.user is None else login_of(escaped(message.user), users[message.user].secret, text)
 
 
+def may(letter: bytes, message: Message, users: dict[bytes, User]) -> bool:
+    """Whether the sender of a message has a letter: what `nobody` may is for every message."""
+    return any(name in users and letter in users[name].letters for name in (message.user, b'nobody'))
+
+
 def may_have_private(message: Message, users: dict[bytes, User]) -> bool:
-    """Whether the sender of a message may have private artifacts: what `nobody` may is for every message."""
-    return any(name in users and b'x' in users[name].letters for name in (message.user, b'nobody'))
+    """Whether the sender of a message may have private artifacts."""
+    return may(b'x', message, users)
+
+
+def shun_card(name: str) -> bytes:
+    """The card by which Fossil's client puts a name on its own list of shunned ones: a moment (long ago, so that the client's own rows
+    stand), the name, and why."""
+    row = f"1 '{name}' scom 'shunned at the server'"
+    return f'config /shun {len(row)}\n{row}\n'.encode()
 
 
 def asked_for(message: Message, names: list[bytes]) -> bytes:
@@ -338,17 +404,20 @@ def asked_for(message: Message, names: list[bytes]) -> bytes:
     return b'pull %s %s\n' % message.codes + private + b''.join(b'gimme %s\n' % name for name in names)
 
 
-def files_of(reply: bytes) -> dict[bytes, bytes]:
-    """The files of a reply of our server."""
-    at, files = 0, {}
+def files_of(reply: bytes, has_private: bool = True) -> dict[bytes, bytes]:
+    """The files of a reply of our server; where it is said, without those behind the card `private`."""
+    at, files, is_private = 0, {}, False
     while at < len(reply):
         end = reply.find(b'\n', at)
         end = len(reply) if end < 0 else end
         words, at = reply[at:end].split(), end + 1
         if len(words) == 3 and words[0] == b'file':
             size = int(words[2])
-            files[words[1]] = reply[at:at + size]
+            if has_private or not is_private:
+                files[words[1]] = reply[at:at + size]
             at += size
+        # (the line behind a file's bytes is empty)
+        is_private = words == [b'private'] or (is_private and not words)
     return files
 
 
@@ -366,7 +435,7 @@ def fetched(message: Message, ask: Callable[[bytes], bytes], deadline: float) ->
         found = files_of(reply)
         left = [name for name in names if name not in found]
         if len(left) == len(names):
-            raise Refused(f'no base {names[0].decode()} at the server{said_in(reply)}')
+            raise NoBase(names[0], said_in(reply))
         bases |= {name: found[name] for name in names if name in found}
         if sum(map(len, bases.values())) > MESSAGE:
             raise Refused(f"the message's bases have more than {MESSAGE} bytes: try a lower setting max-upload")

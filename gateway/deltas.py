@@ -17,6 +17,14 @@ class DeltaFault(Exception):
     """A delta doesn't read, or doesn't fit its base. Its text says how."""
 
 
+class TooLong(DeltaFault):
+    """A delta announces more bytes than are taken; `size` is how many."""
+
+    def __init__(self, size: int):
+        super().__init__(f'it announces {size} bytes')
+        self.size = size
+
+
 def number_at(delta: bytes, at: int) -> tuple[int, int]:
     """The number that begins at a place, and the place behind its digits, of which there are 1 to 6."""
     value, end = 0, at
@@ -41,7 +49,7 @@ def size_of(delta: bytes, limit: int) -> tuple[int, int]:
     if sign_at(delta, at) != b'\n':
         raise DeltaFault('its size has no newline')
     if size > limit:
-        raise DeltaFault(f'it announces {size} bytes')
+        raise TooLong(size)
     return size, at + 1
 
 

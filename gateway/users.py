@@ -4,6 +4,8 @@ import hmac
 from typing import NamedTuple
 
 LONGEST_FILE = 1 << 20
+# the letters that the server knows, and the sign for none
+OURS = b'oigx-'
 
 
 class UsersFault(Exception):
@@ -21,21 +23,28 @@ def sha1(data: bytes | bytearray | memoryview) -> bytes:
     return hashlib.sha1(data).hexdigest().encode()
 
 
+def words_of(line: bytes) -> list[bytes]:
+    """The words of a line, between which blanks, tabs and carriage returns stand, and no other sign."""
+    return [word for word in line.replace(b'\t', b' ').replace(b'\r', b' ').split(b' ') if word]
+
+
 def users_in(text: bytes) -> dict[bytes, User]:
-    """The users of a file's bytes, or UsersFault with the number of its first bad line."""
+    """The users of a file's bytes, or UsersFault with the number of its first bad line and what is wrong there."""
     users: dict[bytes, User] = {}
+    lines: dict[bytes, int] = {}
     end = 0
     for number, line in enumerate(text.split(b'\n'), 1):
         end += len(line) + 1
-        words = line.replace(b'\t', b' ').replace(b'\r', b' ').split(b' ')
-        words = [word for word in words if word]
+        words = words_of(line)
         if min(end, len(text)) > LONGEST_FILE:
             raise UsersFault(f'line {number} reaches past {LONGEST_FILE} bytes')
         if not words or words[0].startswith(b'#'):
             continue
-        if len(words) != 3 or words[0] in users:
-            raise UsersFault(f'line {number}')
-        users[words[0]] = User(words[1], words[2])
+        if len(words) != 3:
+            raise UsersFault(f'line {number}: a line is USER LETTERS SECRET, and this one has {len(words)} words')
+        if words[0] in users:
+            raise UsersFault(f'line {number}: user {ascii(words[0].decode("latin-1"))[1:-1]} stands twice (lines {lines[words[0]]} and {number})')
+        users[words[0]], lines[words[0]] = User(words[1], words[2]), number
     return users
 
 
@@ -44,8 +53,21 @@ def users_of(path: str) -> dict[bytes, User]:
     try:
         with open(path, 'rb') as file:
             return users_in(file.read(LONGEST_FILE + 2))
-    except OSError as error:
-        raise UsersFault(str(error)) from None
+    except OSError as fault:
+        raise UsersFault(f'users file {path}: {fault.strerror}') from None
+    except UsersFault as fault:
+        raise UsersFault(f'users file {path}, {fault}') from None
+
+
+def text_of(users: dict[bytes, User]) -> bytes:
+    """The bytes of a users file that has these users and no more."""
+    return b''.join(b'%s %s %s\n' % (name, user.letters, user.secret) for name, user in users.items())
+
+
+def strange_letters(users: dict[bytes, User]) -> dict[str, str]:
+    """The letters of each user that the server doesn't know, by the user's name; `-` stands for no letter."""
+    strange = {name: bytes(letter for letter in user.letters if letter not in OURS) for name, user in users.items()}
+    return {name.decode('utf-8', 'replace'): letters.decode('latin-1') for name, letters in strange.items() if letters}
 
 
 def secret_of(project: str, user: str, password: str) -> str:

@@ -132,7 +132,7 @@ def wrong_passwords(room):
     room.fossil('push', folder=ann)
     is_same(room, server, 'ann.fossil')
     # the words of a client don't reach the log as more than one line
-    assert all(line.startswith('gateway: ') for line in gateway.lines().splitlines())
+    assert all(line.startswith(('gateway: ', 'up: ', 'fossil: ')) for line in gateway.lines().splitlines())
 
 
 def other_forms_and_what_is_dropped(room):
@@ -152,7 +152,7 @@ def other_forms_and_what_is_dropped(room):
     room.fossil('config', 'pull', 'all', folder=ann)
     said = room.fossil('config', 'push', 'project', folder=ann)
     assert "configuration isn't kept here" in said, said
-    assert DEBUG in gateway.lines() and 'dropped reqconfig' in gateway.lines() and 'dropped config' in gateway.lines(), gateway.lines()
+    assert DEBUG in gateway.lines() and 'reqconfig' in gateway.lines() and 'dropped config' in gateway.lines(), gateway.lines()
     is_same(room, server, 'ann.fossil')
 
 

@@ -39,8 +39,9 @@ def post(date, user, text, title='', thread='', answers='', edits=''):
     return sealed(''.join(f'{letter} {word}\n' for letter, word in lines if word).encode() + b'W %d\n%s\n' % (len(text), text))
 
 
-def thread_of_posts():
-    """A thread, as Fossil writes it: its first post, a reply, an edit of either, the second of which takes the text away, and a reply to that."""
+def thread_of_posts(sha1=sha1):
+    """A thread, as Fossil writes it: its first post, a reply, an edit of either, the second of which takes the text away, and a reply to that.
+    Posts are named by SHA-1, or as it is said."""
     first = post('2024-03-04T05:06:07.089', 'ann', b'first\ntext \xc3\xa4', title='a thread')
     reply = post('2024-03-04T05:06:08', 'bob', b'a reply', thread=sha1(first), answers=sha1(first))
     edit = post('2024-03-04T05:06:09', 'ann', b'edited', title='a better title', thread=sha1(first), edits=sha1(first))
@@ -84,10 +85,10 @@ def secret(user, password, project=PROJECT):
 class Process:
     """A process that runs until it is let go, with its log in a file."""
 
-    def __init__(self, words, log):
+    def __init__(self, words, log, environment=None):
         self.log = log
         with open(log, 'ab') as out:
-            self.process = subprocess.Popen(words, stdin=subprocess.DEVNULL, stdout=out, stderr=out)
+            self.process = subprocess.Popen(words, stdin=subprocess.DEVNULL, stdout=out, stderr=out, env=environment)
 
     def lines(self):
         with open(self.log, encoding='utf-8', errors='replace') as file:
@@ -147,7 +148,8 @@ class Room:
 
     def users(self, rows, project=PROJECT):
         """A users file of rows `name letters password`."""
-        lines = [f'{name} {letters} {secret(name, password, project) if password != "-" else "-"}' for name, letters, password in map(str.split, rows)]
+        word = lambda name, password: secret(name, password, project) if password != '-' else '-'
+        lines = [f'{name} {letters} {word(name, password)}' for name, letters, password in map(str.split, rows)]
         return self.write('users', '\n'.join(lines).encode() + b'\n')
 
     def serve(self, repository, users):
@@ -287,6 +289,10 @@ def held(server, user, password):
     return files
 
 
+class LeftOut(Exception):
+    """A test can't be done on this machine. Its text is why."""
+
+
 def play(tests, of_fossil, what):
     """Runs tests one after the other, those that need Fossil only where it is, and ends with 0 where all hold."""
     if program() is None:
@@ -295,20 +301,26 @@ def play(tests, of_fossil, what):
     if not has_fossil():
         print(f'{what}: what needs Fossil is left out, since the command fossil of its package is not installed')
         tests = [test for test in tests if test not in of_fossil]
-    failed = []
+    failed, left_out = [], []
     for test in tests:
         begin = time.monotonic()
         try:
             with Room() as room:
                 try:
                     test(room)
+                except LeftOut:
+                    raise
                 except BaseException:
                     for process in room.processes:
                         print(process.lines()[-3000:])
                     raise
+        except LeftOut as why:
+            left_out.append(test.__name__)
+            print(f'{what}: {test.__name__} is left out, since {why}', flush=True)
+            continue
         except Exception:
             failed.append(test.__name__)
             traceback.print_exc(file=sys.stdout)
         print(f'{what}: {test.__name__} {"FAILS" if test.__name__ in failed else "holds"}, {time.monotonic() - begin:.1f} s', flush=True)
-    print(f'{what}: {len(tests)} tests, {"of which fail: " + " ".join(failed) if failed else "all hold"}')
+    print(f'{what}: {len(tests) - len(left_out)} tests, {"of which fail: " + " ".join(failed) if failed else "all hold"}')
     sys.exit(1 if failed else 0)
