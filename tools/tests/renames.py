@@ -372,9 +372,9 @@ def users_beside(room):
     project = move(room, MOVE_IN, 'old.fossil', 'new').splitlines()[-1]
     secret = lambda login, password: sha1(f'{project}/{login}/{password}'.encode())
     lines = users_of(room, 'new')
-    # (nobody pushes unnamed; who administers Fossil has every right here, and its letter on the pages)
+    # (nobody pushes unnamed; who administers Fossil has every right here, and on the pages all but the letter for a shell)
     assert 'nobody gh -' in lines and f'carl o {secret("carl", "plain")}' in lines, lines
-    assert f'fay oigxs {secret("fay", "pw of fay")}' in lines and f'bob i {secret("bob", "pw of bob")}' in lines, lines
+    assert f'fay oigxa {secret("fay", "pw of fay")}' in lines and f'bob i {secret("bob", "pw of bob")}' in lines, lines
     assert f'# dora xk SECRET: has no password in OLD: gateway/gateway secret {project} dora' in lines, lines
     assert f'eve - {secret("eve", "pw of eve")}' in lines and not any(line.startswith(('anonymous', 'developer', 'reader')) for line in lines), lines
     # (a name and letters that somebody made so do nothing in a shell, and bring no line of their own)
