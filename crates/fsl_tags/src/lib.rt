@@ -24,6 +24,7 @@ mod changed;
 mod gathered;
 mod group;
 mod lay;
+mod maps;
 mod merge;
 mod node;
 mod order;

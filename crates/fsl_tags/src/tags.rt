@@ -10,61 +10,51 @@ ghost use Rattle.fsl_tags.specs.Tags as table;
 
 use super::arrive::{give_parent, take_in};
 use super::build::fill;
-use super::node::Node;
+use super::maps::{Maps, Ways};
 use super::row::{Row, find};
 use super::rows::row_of;
 use super::{Assertion, Fact, gathered};
 use fsl_name::Name;
-use fsl_table::{Log, Pair, Table, log};
 use fsl_text::{List, Memory, Steps};
 use std::alloc::Global;
 use std::marker::{Brand, Model};
-use std::snapshot::Snapshot;
 use std::sync::ledger::{Blank, Ledger};
 
 /// The tags of artifacts. Contracts see it as the facts by name, and what each table inside has to spare.
 #[derive(Drop)]
 pub struct Tags {
-    facts: Table<Name, Node>,
-    children: Table<Pair, ()>,
-    own: Table<Name, Row>,
-    rows: Table<Name, Row>,
+    maps: Maps,
 }
 
 impl Model for Tags {
     ghost use Rattle.fsl_order.specs.TableState.{TableState};
     ghost use Rattle.fsl_tags.specs.declared.Fact.{Fact};
-    ghost use Rattle.fsl_tags.specs.Held.{held_of, IsKept};
+    ghost use Rattle.fsl_tags.specs.Held.{held_of, rows_of, IsKept};
 
     ghost Value = { TableState Fact };
 
-    ghost view = { λ t. held_of (record { facts = t.facts; children = t.children; own = t.own; rows = t.rows }) };
+    ghost view = { λ t. held_of (rows_of t.maps) };
 
-    ghost invariant = { λ t. IsKept (record { facts = t.facts; children = t.children; own = t.own; rows = t.rows }) };
+    ghost invariant = { λ t. IsKept (rows_of t.maps) };
 }
 
 /// What takes a change back.
 #[derive(Drop)]
 pub struct Undo {
-    facts: Log<Name, Node>,
-    children: Log<Pair, ()>,
-    own: Log<Name, Row>,
-    rows: Log<Name, Row>,
+    ways: Ways,
     changed: List<Name>,
-    before: Snapshot<Tags>,
-    after: Snapshot<Tags>,
 }
 
 impl Model for Undo {
-    ghost use Rattle.fsl_order.specs.TableState.{Change, IsAsBefore};
+    ghost use Rattle.fsl_order.specs.TableState.{Change};
     ghost use Rattle.fsl_tags.specs.declared.Fact.{Fact};
-    ghost use Rattle.fsl_tags.specs.Held.{Rows, IsKept, held_of, TakesBack};
+    ghost use Rattle.fsl_tags.specs.Held.{IsKept, ends_of, held_of, starts_of};
 
     ghost Value = { Change Fact };
 
-    ghost view = { λ u. record { before = u.before.value; after = u.after.value; changed = u.changed } };
+    ghost view = { λ u. record { before = held_of (starts_of u.ways); after = held_of (ends_of u.ways); changed = u.changed } };
 
-    ghost invariant = { λ u. (now : Rows) → IsKept now → IsAsBefore u.after.value (held_of now) → TakesBack (record { facts = u.facts; children = u.children; own = u.own; rows = u.rows }) u.before.value now };
+    ghost invariant = { λ u. IsKept (starts_of u.ways) × IsKept (ends_of u.ways) };
 }
 
 impl Undo {
@@ -81,15 +71,8 @@ impl Tags {
     pub fn new(alloc: Global) -> Tags
         ensures { result.facts ≡ [] }
     {
-        let facts = Table::new(alloc);
-        let children = Table::new(alloc);
-        let own = Table::new(alloc);
-        let rows = Table::new(alloc);
         Tags {
-            facts,
-            children,
-            own,
-            rows,
+            maps: Maps::new(alloc),
         }
     }
 
@@ -110,30 +93,11 @@ impl Tags {
         ensures { IfOk result (λ t. t.facts ≡ by_name (λ f. f.name) given.now) }
     {
         let mut steps: Steps<L> = Steps::new(blank);
-        let mut facts = Table::new(alloc);
-        let mut children = Table::new(alloc);
-        let mut own = Table::new(alloc);
-        let mut rows = Table::new(alloc);
-        match fill(
-            alloc,
-            given,
-            &mut facts,
-            &mut children,
-            &mut own,
-            &mut rows,
-            &mut steps,
-        ) {
-            Ok(()) => Ok(Tags {
-                facts,
-                children,
-                own,
-                rows,
-            }),
+        let mut maps = Maps::new(alloc);
+        match fill(alloc, given, &mut maps, &mut steps) {
+            Ok(()) => Ok(Tags { maps }),
             Err(Memory) => {
-                drop(facts);
-                drop(children);
-                drop(own);
-                drop(rows);
+                drop(maps);
                 Err(Memory)
             }
         }
@@ -155,41 +119,14 @@ impl Tags {
         ensures err { OnErr result (IsAsBefore self.old self.new) }
         ensures cost { AllByRecursion (λ a. a.target ≡ fact.name) fact.tags → steps.new ≤ steps.old + 20 * (1 + length fact.tags) }
     {
-        let before = Snapshot::of(&*self);
-        let mut facts = Log::new(alloc);
-        let mut children = Log::new(alloc);
-        let mut own = Log::new(alloc);
-        let mut rows = Log::new(alloc);
-        match take_in(
-            alloc,
-            &mut self.facts,
-            &mut self.children,
-            &mut self.own,
-            &mut self.rows,
-            &mut facts,
-            &mut children,
-            &mut own,
-            &mut rows,
-            fact,
-            steps,
-        ) {
-            Ok(changed) => {
-                let after = Snapshot::of(&*self);
-                Ok(Undo {
-                    facts,
-                    children,
-                    own,
-                    rows,
-                    changed,
-                    before,
-                    after,
-                })
-            }
+        self.maps.begin();
+        match take_in(alloc, &mut self.maps, fact, steps) {
+            Ok(changed) => Ok(Undo {
+                ways: self.maps.ways(alloc),
+                changed,
+            }),
             Err(Memory) => {
-                log::undo(&mut self.facts, facts, steps);
-                log::undo(&mut self.children, children, steps);
-                log::undo(&mut self.own, own, steps);
-                log::undo(&mut self.rows, rows, steps);
+                self.maps.turn_back(steps);
                 Err(Memory)
             }
         }
@@ -210,39 +147,14 @@ impl Tags {
         ensures changed { IfOk result (λ undo. ListsChanged (table.tags_row self.old.facts) (table.tags_row self.new.facts) undo.changed) }
         ensures err { OnErr result (IsAsBefore self.old self.new) }
     {
-        let before = Snapshot::of(&*self);
-        let mut facts = Log::new(alloc);
-        let mut children = Log::new(alloc);
-        let own = Log::new(alloc);
-        let mut rows = Log::new(alloc);
-        match give_parent(
-            alloc,
-            &mut self.facts,
-            &mut self.children,
-            &self.own,
-            &mut self.rows,
-            &mut facts,
-            &mut children,
-            &mut rows,
-            fact,
-            steps,
-        ) {
-            Ok(changed) => {
-                let after = Snapshot::of(&*self);
-                Ok(Undo {
-                    facts,
-                    children,
-                    own,
-                    rows,
-                    changed,
-                    before,
-                    after,
-                })
-            }
+        self.maps.begin();
+        match give_parent(alloc, &mut self.maps, fact, steps) {
+            Ok(changed) => Ok(Undo {
+                ways: self.maps.ways(alloc),
+                changed,
+            }),
             Err(Memory) => {
-                log::undo(&mut self.facts, facts, steps);
-                log::undo(&mut self.children, children, steps);
-                log::undo(&mut self.rows, rows, steps);
+                self.maps.turn_back(steps);
                 Err(Memory)
             }
         }
@@ -256,17 +168,8 @@ impl Tags {
         ensures { IsAsBefore undo.before self.new }
     {
         let mut steps: Steps<L> = Steps::new(blank);
-        let Undo {
-            facts,
-            children,
-            own,
-            rows,
-            ..
-        } = undo;
-        log::undo(&mut self.facts, facts, &mut steps);
-        log::undo(&mut self.children, children, &mut steps);
-        log::undo(&mut self.own, own, &mut steps);
-        log::undo(&mut self.rows, rows, &mut steps);
+        let Undo { ways, .. } = undo;
+        self.maps.undo(ways, &mut steps);
     }
 
     /// Takes the last change back that wasn't taken back. It takes no memory.
@@ -298,7 +201,7 @@ impl Tags {
         ensures { option_copied result ≡ table.effective self.now.facts name tag.now }
     {
         let mut steps: Steps<L> = Steps::new(blank);
-        match self.rows.get(&name, &mut steps) {
+        match self.maps.flow.rows.get(&name, &mut steps) {
             Some(row) => find(row, tag),
             None => None,
         }
@@ -325,7 +228,7 @@ impl Tags {
     {
         let mut steps: Steps<L> = Steps::new(blank);
         let none = Row::new();
-        gathered::in_force(alloc, row_of(&self.rows, name, &none, &mut steps))
+        gathered::in_force(alloc, row_of(&self.maps.flow.rows, name, &none, &mut steps))
     }
 
     /// The names on which a tag is in force, ascending. `Memory` is the only error.
@@ -347,6 +250,6 @@ impl Tags {
         ensures { IfOk result (λ names. names ≡ table.holders self.now.facts tag.now) }
     {
         let mut steps: Steps<L> = Steps::new(blank);
-        gathered::holders(alloc, &self.rows, tag, &mut steps)
+        gathered::holders(alloc, &self.maps.flow.rows, tag, &mut steps)
     }
 }
