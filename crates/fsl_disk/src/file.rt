@@ -52,7 +52,7 @@ impl FileDisk {
 }
 
 // Counts a fault where there is one.
-fn settle<T>(faults: &mut u64, answer: Result<T, Failed>) -> Result<T, Failed>
+pub(crate) fn settle<T>(faults: &mut u64, answer: Result<T, Failed>) -> Result<T, Failed>
     ensures same { result ≡ answer }
     ensures cause { HasCause faults.old faults.new result }
 {
@@ -62,7 +62,7 @@ fn settle<T>(faults: &mut u64, answer: Result<T, Failed>) -> Result<T, Failed>
     answer
 }
 
-fn length_of(file: &File) -> Result<u64, Failed>
+pub(crate) fn length_of(file: &File) -> Result<u64, Failed>
     ensures { IfOk result (λ len. len < 2 ^ 63) }
 {
     match file.metadata() {

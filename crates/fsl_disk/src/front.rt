@@ -1,10 +1,11 @@
-ghost use Rattle.std.specs.Prelude.{◌≡◌, ◌+◌, ◌^◌, ◌<◌, ◌≤◌, ℕ, length, take, drop, slice_index, Some, IsTrue, IfOk, OnOk};
-ghost use Rattle.fsl_order.specs.Causes.{HasCause};
+ghost use Rattle.std.specs.Prelude.{◌≡◌, ◌+◌, ◌^◌, ◌<◌, ◌≤◌, ℕ, length, take, drop, slice_index, Some, IsTrue, IfOk, OnOk, OnErr};
+ghost use Rattle.fsl_order.specs.Causes.{HasCause, Rose};
 ghost use Rattle.fsl_disk.specs.Disk.{Told, Calls, Same, Torn, CutShort, Only, written};
 ghost use Rattle.fsl_disk.specs.Front.{Stays, AreShown, fronted, byte_at};
-ghost use Rattle.fsl_disk.specs.Shared.{ToldOf, Sees};
+ghost use Rattle.fsl_disk.specs.Shared.{ToldOf, Sees, ReadFailed};
 
 use crate::Disk;
+use crate::file::settle;
 use crate::shared::Shared;
 use fsl_outside::Failed;
 use std::marker::Model;
@@ -75,23 +76,13 @@ fn put_seen(seen: Option<Seen>, at: u64, into: &mut [u8])
     }
 }
 
-// Counts a fault where there is one.
-fn settle<T>(faults: &mut u64, answer: Result<T, Failed>) -> Result<T, Failed>
-    ensures same { result ≡ answer }
-    ensures cause { HasCause faults.old faults.new result }
-{
-    if answer.is_err() {
-        *faults = faults.saturating_add(1);
-    }
-    answer
-}
-
 // Bytes of a front, where they lie in it.
 fn read_front<F: Shared>(file: &mut F, front: Front, at: u64, into: &mut [u8]) -> Result<(), Failed>
     ensures sees { Sees (F.state file.old) (F.state file.new) }
     ensures length { length into.new ≡ length into.old }
     ensures inside { OnOk result (at + length into.new ≤ front.len) }
     ensures answer { OnOk result (ToldOf (F.state file.old) (λ held. AreShown front held (F.state file.old).moment at into.new)) }
+    ensures cause { OnErr result (at + length into.old ≤ front.len → ReadFailed (F.state file.old) (F.state file.new) (at + length into.old)) }
 {
     if at > front.len || into.len() as u64 > front.len - at {
         return Err(Failed);
@@ -129,6 +120,8 @@ impl<F: Shared> Disk for FrontDisk<F> {
         ensures contents { (fronted F.state self.new.first self.new.front self.new.faults).contents ≡ (fronted F.state self.old.first self.old.front self.old.faults).contents }
         ensures call { Calls Same (fronted F.state self.old.first self.old.front self.old.faults) (fronted F.state self.new.first self.new.front self.new.faults) }
         ensures cause { HasCause self.old.faults self.new.faults result }
+        // Inside the front a read fails only where a call of the file failed, and never because of a writer.
+        ensures served { OnErr result (at + length into.old ≤ self.old.front.len → Rose (F.state self.old.file).faults (F.state self.new.file).faults) }
     {
         let answer = read_front(&mut self.file, self.front, at, into);
         settle(&mut self.faults, answer)
