@@ -2,6 +2,8 @@ pub mod Beside
 pub mod Commit
 pub mod Create
 pub mod File
+pub mod Gates
+pub mod Lives
 pub mod Inside
 pub mod Journal
 pub mod Laws

@@ -1,6 +1,10 @@
 //! How much of a file stands for its committed records, while another process may append to it.
-ghost use Rattle.std.specs.Prelude.{◌≡◌, ◌<◌, ◌≤◌, ◌+◌, ◌^◌, IfOk, IfSome};
-ghost use Rattle.fsl_disk.specs.Shared.{Sees};
+ghost use Rattle.std.specs.Prelude.{◌≡◌, ◌⊎◌, ℕ, ◌<◌, ◌≤◌, ◌+◌, ◌^◌, Some, IfOk, IfSome, OnOk, OnErr};
+ghost use Rattle.fsl_order.specs.Causes.{HasCause, Rose};
+ghost use Rattle.fsl_disk.specs.Shared.{ToldOf, Sees, AreOf, IsLengthOf, ReadCause};
+ghost use Rattle.fsl_journal.specs.Beside.{closed_front, IsByteOf, IsFrontOf};
+ghost use Rattle.fsl_journal.specs.Commit.{eight};
+ghost use Rattle.fsl_journal.specs.Gates.{From, Grows, IsOpenAt};
 
 use crate::commit::OPEN;
 use fsl_disk::{Front, Seen, Shared};
@@ -11,7 +15,9 @@ const MARK_AT: u64 = 13;
 
 /// The byte at this place.
 fn byte_at<F: Shared>(file: &mut F, at: u64) -> Result<u8, Failed>
-    ensures { Sees (F.state file.old) (F.state file.new) }
+    ensures sees { Sees (F.state file.old) (F.state file.new) }
+    ensures answer { IfOk result (λ byte. ToldOf (F.state file.old) (λ held. IsByteOf (F.state file.old) (F.state file.new) held at byte)) }
+    ensures cause { ReadCause (F.state file.old) (F.state file.new) (at + 1) result }
 {
     let mut byte = [0];
     file.read_at(at, &mut byte)?;
@@ -20,7 +26,10 @@ fn byte_at<F: Shared>(file: &mut F, at: u64) -> Result<u8, Failed>
 
 /// The number in the 8 bytes at this place.
 fn number_at<F: Shared>(file: &mut F, at: u64) -> Result<u64, Failed>
-    ensures { Sees (F.state file.old) (F.state file.new) }
+    ensures sees { Sees (F.state file.old) (F.state file.new) }
+    ensures fits { IfOk result (λ number. number < 2 ^ 64) }
+    ensures answer { IfOk result (λ number. ToldOf (F.state file.old) (λ held. AreOf (F.state file.old) (F.state file.new) held at (eight number))) }
+    ensures cause { ReadCause (F.state file.old) (F.state file.new) (at + 8) result }
 {
     let mut head = [0; 8];
     file.read_at(at, &mut head)?;
@@ -30,8 +39,10 @@ fn number_at<F: Shared>(file: &mut F, at: u64) -> Result<u64, Failed>
 /// A length of the file with a byte at this place, or its present length: the one that is known, unless it is too short.
 fn len_with<F: Shared>(file: &mut F, at: u64, len: u64) -> Result<u64, Failed>
     requires { len < 2 ^ 63 }
-    ensures fits { IfOk result (λ len. len < 2 ^ 63) }
+    ensures fits { IfOk result (λ found. found < 2 ^ 63) }
+    ensures answer { IfOk result (λ found. (at < found) ⊎ ToldOf (F.state file.old) (λ held. IsLengthOf (F.state file.old) (F.state file.new) held found)) }
     ensures sees { Sees (F.state file.old) (F.state file.new) }
+    ensures cause { HasCause (F.state file.old).faults (F.state file.new).faults result }
 {
     if at < len { Ok(len) } else { file.len() }
 }
@@ -42,18 +53,20 @@ fn next_gate<F: Shared>(file: &mut F, gate: u64, len: u64) -> Result<(Option<u64
     requires fits { gate < 2 ^ 63 }
     requires len { len < 2 ^ 63 }
     ensures len { IfOk result (λ next. next.1 < 2 ^ 63) }
-    ensures next { IfOk result (λ next. IfSome next.0 (λ place. (gate + 9 < place) × (place < next.1))) }
+    ensures next { IfOk result (λ next. IfSome next.0 (λ place. (gate + 9 ≤ place) × (place < next.1))) }
+    // Of a group that stays there it is the gate behind it, ..
+    ensures on { IfOk result (λ next. (size : ℕ) → ToldOf (F.state file.old) (λ held. From held (F.state file.old).moment (IsOpenAt gate size) → next.0 ≡ Some (gate + 9 + size))) }
     ensures sees { Sees (F.state file.old) (F.state file.new) }
+    // .. and such a group is read, unless a call of the file fails.
+    ensures cause { OnErr result ((size : ℕ) → ToldOf (F.state file.old) (λ held. From held (F.state file.old).moment (IsOpenAt gate size)) → Rose (F.state file.old).faults (F.state file.new).faults) }
+    ensures count { OnOk result ((F.state file.new).faults ≡ (F.state file.old).faults) }
 {
     let len = len_with(file, gate + 9, len)?;
     if gate + 9 >= len {
         return Ok((None, len));
     }
     let size = number_at(file, gate + 1)?;
-    if size == 0 || size >= (1 << 63) - gate - 9 {
-        return Ok((None, len));
-    }
-    let place = gate + 9 + size;
+    let place = size.saturating_add(gate + 9);
     let len = len_with(file, place, len)?;
     if place >= len {
         return Ok((None, len));
@@ -66,7 +79,9 @@ fn next_gate<F: Shared>(file: &mut F, gate: u64, len: u64) -> Result<(Option<u64
 fn closed_at<F: Shared>(file: &mut F, gate: u64, byte: u8) -> Result<Front, Failed>
     requires { gate + 1 < 2 ^ 63 }
     ensures fits { IfOk result (λ front. front.len < 2 ^ 63) }
+    ensures front { IfOk result (λ front. (mark : ℕ) × (front ≡ closed_front gate byte mark) × ToldOf (F.state file.old) (λ held. IsByteOf (F.state file.old) (F.state file.new) held 13 mark)) }
     ensures sees { Sees (F.state file.old) (F.state file.new) }
+    ensures cause { ReadCause (F.state file.old) (F.state file.new) 14 result }
 {
     let mark = byte_at(file, MARK_AT)?;
     Ok(Front {
@@ -94,9 +109,15 @@ fn whole(len: u64) -> Front
 /// How much of a file stands for its committed records, while another process may append groups to it: what stands up to its
 /// first gate that isn't open, with this gate and the mark of the version as they are seen now. Each gate is read before what
 /// stands behind it. Of a file that stands for no records it is the whole.
+///
+/// Errors: a call of the file failed. A writer that appends groups, or cuts what stands behind the closed gate, is no reason.
 pub fn front_of<F: Shared>(file: &mut F) -> Result<Front, Failed>
     ensures fits { IfOk result (λ front. front.len < 2 ^ 63) }
     ensures sees { Sees (F.state file.old) (F.state file.new) }
+    // Of a file that grows it shows what the file held at one moment of the call, and that stays.
+    ensures front { IfOk result (λ front. ToldOf (F.state file.old) (λ held. Grows held (F.state file.old).moment → IsFrontOf front held (F.state file.old).moment (F.state file.new).moment)) }
+    // It is never refused because of a writer.
+    ensures refused { OnErr result (ToldOf (F.state file.old) (λ held. Grows held (F.state file.old).moment) → Rose (F.state file.old).faults (F.state file.new).faults) }
 {
     let mut len = file.len()?;
     let mut gate = 15;

@@ -37,8 +37,8 @@ use fsl_outside::Failed;
 use fsl_text::Memory;
 pub use journal::Journal;
 pub use laws::{
-    behind_is_nothing, commit_keeps, fails_once, front_is_whole, is_no_file, is_one_file,
-    seen_is_right, some_file,
+    behind_is_nothing, beside_is_right, commit_in_steps, commit_keeps, cut_is_a_step, fails_once,
+    file_has_groups, front_is_whole, is_no_file, is_one_file, life_grows, seen_is_right, some_file,
 };
 use std::alloc::AllocError;
 pub use taking::Taker;
