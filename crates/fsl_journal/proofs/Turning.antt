@@ -1,6 +1,8 @@
 -- One turn of a walk over the gates of a file that another process writes to.
-use Rattle.std.proofs.Common.{◌≡◌, ◌≢◌, ◌⊎◌, inl, inr, ℕ, ◌+◌, ◌-◌, ◌<◌, ◌≤◌, ◌^◌, List, length, min, Option, None, Some, refl, sym, ◌∙◌, ap, subst, arith}
-use Rattle.std.specs.Prelude.{slice_index}
+use Rattle.std.proofs.Common.{◌≡◌, ◌≢◌, ◌⊎◌, inl, inr, ℕ, ◌+◌, ◌-◌, ◌<◌, ◌≤◌, ◌^◌, List, length, get_or, Option, None, Some, Result, Ok, Err, refl, sym, ◌∙◌, ap, subst, arith}
+use Rattle.std.specs.Prelude.{slice_index, IfOk, OnErr}
+use Rattle.std.specs.Int.{from_be_bytes, w64}
+use Rattle.std.proofs.lemmas.Nat.{be_bytes_8}
 use Rattle.fsl_disk.specs.Shared.{SharedState, ToldOf, Sees, Within, IsLengthOf, AreOf, IsShort, ReadFailed}
 use Rattle.fsl_order.specs.Causes.{Rose}
 use Rattle.fsl_journal.specs.Beside.{IsByteOf}
@@ -62,10 +64,11 @@ long_enough X now old new held gate size len place opened le (inr (m, between, i
     absurd (omega (arith, is, open_long held now.moment gate size m opened (omega (arith, le, between.0)), within, short))
 
 -- the number is there to be read
-pub number_failed : (now old new : SharedState) (gate size : ℕ) → Sees now old → old.faults ≡ now.faults → ReadFailed old new (gate + 1 + 8) → ToldOf now (λ held. From held now.moment (IsOpenAt gate size)) → Rose now.faults new.faults
-number_failed now old new gate size sees count (inl rose) opened = subst (λ (n : ℕ). Rose n new.faults) count rose
-number_failed now old new gate size sees count (inr short) opened =
-    absurd (omega (arith, short.short, open_long short.held now.moment gate size short.moment (opened short.held (sym sees.same ∙ short.told)) (omega (arith, sees.later, short.within.0))))
+pub number_failed : (now old new : SharedState) (gate : ℕ) → Sees now old → old.faults ≡ now.faults → ReadFailed old new (gate + 1 + 8) → ToldOf now (λ held. (size : ℕ) × From held now.moment (IsOpenAt gate size)) → Rose now.faults new.faults
+number_failed now old new gate sees count (inl rose) opened = subst (λ (n : ℕ). Rose n new.faults) count rose
+number_failed now old new gate sees count (inr short) opened =
+    let there = opened short.held (sym sees.same ∙ short.told) in
+    absurd (omega (arith, short.short, open_long short.held now.moment gate there.0 short.moment there.1 (omega (arith, sees.later, short.within.0))))
 
 -- so is a gate, and the mark
 pub gate_failed : (first now new : SharedState) (gate end : ℕ) → Sees first now → now.faults ≡ first.faults → ToldOf first (λ held. Grows held first.moment → From held now.moment (IsGateAt gate)) → end ≤ gate + 1 → ReadFailed now new end → ToldOf first (λ held. Grows held first.moment) → Rose first.faults new.faults
@@ -76,3 +79,19 @@ gate_failed first now new gate end sees count there inside (inr short) grows =
 
 pub rose_on : (a b c : ℕ) → b ≡ a → Rose b c → Rose a c
 rose_on a b c same rose = subst (λ (n : ℕ). Rose n c) same rose
+
+pub told_or : {A : Type 0} (file : SharedState) (P : (ℕ → List ℕ) → Type 0) (held : ℕ → List ℕ) → file.held ≡ Some held → A ⊎ ToldOf file P → A ⊎ P held
+told_or file P held told (inl a) = inl a
+told_or file P held told (inr of) = inr (of held told)
+
+pub eight_back : (bytes : List ℕ) (n : ℕ) → length bytes ≡ 8 → ((i : ℕ) → get_or bytes i 0 < 256) → n ≡ from_be_bytes w64 bytes → eight n ≡ bytes
+unfolding eight
+eight_back bytes n long all is = be_bytes_8 bytes n long all is
+
+pub if_ok_on : {X E : Type 0} (r : Result X E) (P Q : X → Type 0) → IfOk r P → ((x : X) → P x → Q x) → IfOk r Q
+if_ok_on (Ok x) P Q p more = more x p
+if_ok_on (Err e) P Q p more = tt
+
+pub if_err_on : {X E : Type 0} (r : Result X E) (P Q : Type 0) → OnErr r P → (P → Q) → OnErr r Q
+if_err_on (Ok x) P Q p more = tt
+if_err_on (Err e) P Q p more = more p

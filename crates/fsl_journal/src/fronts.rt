@@ -24,6 +24,13 @@ fn byte_at<F: Shared>(file: &mut F, at: u64) -> Result<u8, Failed>
     Ok(byte[0])
 }
 
+/// The number in 8 bytes.
+fn number_of(head: &[u8; 8]) -> u64
+    ensures { eight result ≡ head.now }
+{
+    u64::from_be_bytes(*head)
+}
+
 /// The number in the 8 bytes at this place.
 fn number_at<F: Shared>(file: &mut F, at: u64) -> Result<u64, Failed>
     ensures sees { Sees (F.state file.old) (F.state file.new) }
@@ -33,7 +40,7 @@ fn number_at<F: Shared>(file: &mut F, at: u64) -> Result<u64, Failed>
 {
     let mut head = [0; 8];
     file.read_at(at, &mut head)?;
-    Ok(u64::from_be_bytes(head))
+    Ok(number_of(&head))
 }
 
 /// A length of the file with a byte at this place, or its present length: the one that is known, unless it is too short.
@@ -58,7 +65,7 @@ fn next_gate<F: Shared>(file: &mut F, gate: u64, len: u64) -> Result<(Option<u64
     ensures on { IfOk result (λ next. (size : ℕ) → ToldOf (F.state file.old) (λ held. From held (F.state file.old).moment (IsOpenAt gate size) → next.0 ≡ Some (gate + 9 + size))) }
     ensures sees { Sees (F.state file.old) (F.state file.new) }
     // .. and such a group is read, unless a call of the file fails.
-    ensures cause { OnErr result ((size : ℕ) → ToldOf (F.state file.old) (λ held. From held (F.state file.old).moment (IsOpenAt gate size)) → Rose (F.state file.old).faults (F.state file.new).faults) }
+    ensures cause { OnErr result (ToldOf (F.state file.old) (λ held. (size : ℕ) × From held (F.state file.old).moment (IsOpenAt gate size)) → Rose (F.state file.old).faults (F.state file.new).faults) }
     ensures count { OnOk result ((F.state file.new).faults ≡ (F.state file.old).faults) }
 {
     let len = len_with(file, gate + 9, len)?;
