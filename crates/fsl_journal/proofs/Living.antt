@@ -100,8 +100,7 @@ goes_mark mark groups one other has (is, (later, same)) =
 goes_open : (mark : ℕ) (groups : List (List ℕ)) (one other : List ℕ) → HasGroups mark groups one → OpensGate (gate_of groups) one other → HasOn mark groups other
 goes_open mark groups one other has (group, next, same) =
     let front = front_of mark groups one (has.gate ∷ has.rest) has.layout in
-    let is : other ≡ upto mark groups ++ 79 ∷ (eight (length group) ++ group ++ next.gate ∷ next.rest) = same ∙ (λ i. front i ++ 79 ∷ next.layout i) in
-    (
+    let is : other ≡ upto mark groups ++ 79 ∷ (eight (length group) ++ group ++ next.gate ∷ next.rest) = same ∙ (λ i. front i ++ 79 ∷ next.layout i) in (
       mark,
       (
         group ∷ [],
@@ -196,13 +195,14 @@ module _ (mark : ℕ) (groups : List (List ℕ)) (one bytes : List ℕ) (has : H
       shut other =
           let here = is ∙ gated_is gate in
           (c, next_keep mark groups one c gate (body_of bytes) has here other, next_same mark groups c (shut_behind mark groups one c gate (body_of bytes) has here other))
+
       not_open : (g : ℕ) → g ≡ 67 → g ≢ 79
       not_open g closed e = absurd (omega (arith, closed, e))
+
       by : (gate ≡ 79) ⊎ (gate ≡ 79 → ⊥) → (e : List ℕ) × Next one e × Next e c
       by (inl open_now) =
           let e = gated one (gate_of groups) 67 (body_of bytes) in
-          let closed_there = shut_behind mark groups one e 67 (body_of bytes) has (gated_is 67) (not_open 67 refl) in
-          (
+          let closed_there = shut_behind mark groups one e 67 (body_of bytes) has (gated_is 67) (not_open 67 refl) in (
             e,
             next_keep mark groups one e 67 (body_of bytes) has (gated_is 67) (not_open 67 refl),
             next_open mark groups e c bytes 67 67 [] closed_there (gated_is 67) (not_open 67 refl) fits (is ∙ gated_is gate ∙ ap (λ (g : ℕ). upto mark groups ++ g ∷ body_of bytes) open_now),
@@ -237,6 +237,7 @@ module _ (mark : ℕ) (groups : List (List ℕ)) (one bytes : List ℕ) (has : H
     where
       at : (d : List ℕ) → carried mark one ≡ d → c ≡ gated d (gate_of groups) gate (body_of bytes)
       at d is = gated_there ∙ ap (λ (l : List ℕ). gated l (gate_of groups) gate (body_of bytes)) is
+
       by : (mark ≡ mark_1) ⊎ (mark ≡ mark_1 → ⊥) → Reached one c
       by (inl is) =
           marked_reached mark_2 c is

@@ -102,7 +102,7 @@ impl Shared for Played {
     }
 }
 
-fn played(alloc: Global, before: &[u8], after: &[u8], turn: u64) -> Result<Played, AllocError> {
+fn file_of(alloc: Global, before: &[u8], after: &[u8], turn: u64) -> Result<Played, AllocError> {
     Ok(Played {
         film: Film {
             before: before.to_vec(alloc)?,
@@ -121,7 +121,7 @@ fn counted(
     after: &[u8],
     turn: u64,
 ) -> Result<Result<u64, LoadFault>, AllocError> {
-    let mut file = played(alloc, before, after, turn)?;
+    let mut file = file_of(alloc, before, after, turn)?;
     let Ok(front) = front_of(&mut file) else {
         return Ok(Err(LoadFault::Disk));
     };
@@ -134,6 +134,7 @@ fn counted(
 
 /// A moment of the commit that carries a file over and adds the third record: the mark, so many of the bytes, and the gate
 /// at 109 behind which the group stands.
+#[derive(Clone, Copy)]
 struct Stage(u8, usize, u8);
 
 // Before it; the mark; the length, half the record, all of it and a closed gate, one after the other; the open gate.
@@ -147,7 +148,7 @@ const STAGES: [Stage; 7] = [
     Stage(b'2', 161, b'O'),
 ];
 
-fn at_stage(alloc: Global, stage: &Stage) -> Result<Vec<u8>, AllocError> {
+fn at_stage(alloc: Global, stage: Stage) -> Result<Vec<u8>, AllocError> {
     let mut bytes = TWO_BLOBS.to_vec(alloc)?;
     bytes[13] = stage.0;
     bytes[109] = stage.2;
@@ -161,7 +162,7 @@ const LAST_GATE: u64 = 19;
 
 /// Whether an opening finds three records where the gate was open when it was read, and two where it wasn't, whatever
 /// moment the file goes from one of these stages to the other at.
-fn sees_one_moment(alloc: Global, from: &Stage, to: &Stage) -> Result<bool, AllocError> {
+fn sees_one_moment(alloc: Global, from: Stage, to: Stage) -> Result<bool, AllocError> {
     let before = at_stage(alloc, from)?;
     let after = at_stage(alloc, to)?;
     for turn in 0..240 {
@@ -178,7 +179,7 @@ fn sees_one_moment(alloc: Global, from: &Stage, to: &Stage) -> Result<bool, Allo
 fn reads_beside_a_commit(rt: HostRuntime) -> Result<(), Fail> {
     for k in 0..STAGES.len() {
         for n in k..STAGES.len() {
-            let right = sees_one_moment(rt.alloc(), &STAGES[k], &STAGES[n])?;
+            let right = sees_one_moment(rt.alloc(), STAGES[k], STAGES[n])?;
             assert!(rt; right, "{k} {n}");
         }
     }
@@ -190,14 +191,14 @@ fn reads_beside_a_commit(rt: HostRuntime) -> Result<(), Fail> {
 fn reads_beside_a_cut(rt: HostRuntime) -> Result<(), Fail> {
     for left in 2..6 {
         for next in 1..4 {
-            let right = sees_one_moment(rt.alloc(), &STAGES[left], &STAGES[next])?;
+            let right = sees_one_moment(rt.alloc(), STAGES[left], STAGES[next])?;
             assert!(rt; right, "{left} {next}");
         }
     }
     let mut other = ONE_BLOB.to_vec(rt.alloc())?;
     other[13] = b'2';
     other.extend_from_slice(b"xxxxxxxxxxxxxxxxxxxxxxxxxxxxxxxxxxxxxxxxxxxxxxxx")?;
-    let half = at_stage(rt.alloc(), &STAGES[4])?;
+    let half = at_stage(rt.alloc(), STAGES[4])?;
     for turn in 0..240 {
         let found = counted(rt.alloc(), &half, &other, turn)?;
         assert_eq!(rt; found, Ok(2));
@@ -211,7 +212,7 @@ const NEW_FILE: &[u8] = b"fossil-blobs-2\nC";
 /// A file that is made: nothing, the header, the first group.
 #[test]
 fn reads_beside_a_making(rt: HostRuntime) -> Result<(), Fail> {
-    let one = &at_stage(rt.alloc(), &STAGES[1])?;
+    let one = &at_stage(rt.alloc(), STAGES[1])?;
     for turn in 0..20 {
         let nothing = counted(rt.alloc(), b"", NEW_FILE, turn)?;
         let at = if turn == 0 { 15 } else { 0 };
@@ -242,7 +243,7 @@ fn walks_over_no_groups(rt: HostRuntime) -> Result<(), Fail> {
 /// A front that was found can't be written to, and a file that fails is no front.
 #[test]
 fn only_reads(rt: HostRuntime) -> Result<(), Fail> {
-    let mut file = played(rt.alloc(), ONE_BLOB, ONE_BLOB, 0)?;
+    let mut file = file_of(rt.alloc(), ONE_BLOB, ONE_BLOB, 0)?;
     let front = front_of(&mut file).map_err(|_| AllocError)?;
     assert_eq!(rt; front.len, 110);
     let mut disk = FrontDisk::over(file, front);
