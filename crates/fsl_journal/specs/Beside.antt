@@ -2,12 +2,13 @@
 use Rattle.std.specs.Prelude.{◌≡◌, ◌⊎◌, ℕ, ◌+◌, ◌<◌, ◌≤◌, Option, Some, List, length, take, slice_index}
 use Rattle.fsl_disk.specs.Disk.{Begins}
 use Rattle.fsl_disk.specs.Front.{Stays, shown}
-use Rattle.fsl_disk.specs.Shared.{SharedState, Within}
+use Rattle.fsl_disk.specs.Shared.{SharedState, ToldOf, Within}
 use Rattle.fsl_disk.specs.declared.front.Front.{Front}
 use Rattle.fsl_disk.specs.declared.front.Seen.{Seen}
 use Rattle.fsl_record.specs.declared.Record.{Record}
 use Rattle.fsl_journal.specs.Commit.{marked, HeldOrCarried}
 use Rattle.fsl_journal.specs.File.{IsFileOf, FailsAt, mark_1}
+use Rattle.fsl_journal.specs.Gates.{From, Grows, IsOpenAt}
 use Rattle.fsl_journal.specs.Log.{IsLog}
 
 -- a front of what the file held at a moment; where the file had version 1 then, the byte that tells the version may have been read later
@@ -49,16 +50,13 @@ pub record IsFrontOf (front : Front) (held : ℕ → List ℕ) (from now : ℕ) 
   -- with all records that the file stood for then
   pub whole : (records : List Record) → IsFileOf (held moment) records → IsFileOf (shown front (held now)) records
 
--- the file that is told got shorter within a call
-pub record Shrinks (old new : SharedState) : Type 0 where
-  pub held : ℕ → List ℕ
-  pub told : old.held ≡ Some held
-  pub first : ℕ
-  pub later : ℕ
-  pub since : old.moment ≤ first
-  pub order : first ≤ later
-  pub until : later ≤ new.moment
-  pub less : length (held later) < length (held first)
+-- the file grows from now on, where it is told
+abbrev pub IsGrowing : SharedState → Type 0
+IsGrowing file = ToldOf file (λ held. Grows held file.moment)
+
+-- what a walk over the gates answers of such a file
+abbrev pub ShowsFront : SharedState → SharedState → Front → Type 0
+ShowsFront old new front = ToldOf old (λ held. Grows held old.moment → IsFrontOf front held old.moment new.moment)
 
 -- an opening of these bytes answers these records, and doesn't refuse them as no repository
 pub record IsReadAs (committed : List Record) (bytes : List ℕ) : Type 0 where
@@ -68,6 +66,17 @@ pub record IsReadAs (committed : List Record) (bytes : List ℕ) : Type 0 where
 -- a byte that was read at this place: that of the file at a moment within the call
 abbrev pub IsByteOf : SharedState → SharedState → (ℕ → List ℕ) → ℕ → ℕ → Type 0
 IsByteOf old new held at byte = (m : ℕ) × Within old new m × (at < length (held m)) × (byte ≡ slice_index (held m) at)
+
+-- up to this gate, with the mark that was read within the call
+abbrev pub IsClosedFront : SharedState → SharedState → ℕ → ℕ → Front → Type 0
+IsClosedFront old new gate byte front = (mark : ℕ) × (front ≡ closed_front gate byte mark) × ToldOf old (λ held. IsByteOf old new held 13 mark)
+
+-- from now on a group stands behind the gate at this place, and the next gate behind it is this one
+abbrev pub HasOpen : SharedState → ℕ → Type 0
+HasOpen file gate = ToldOf file (λ held. (size : ℕ) × From held file.moment (IsOpenAt gate size))
+
+abbrev pub LeadsTo : SharedState → ℕ → Option ℕ → Type 0
+LeadsTo file gate next = (size : ℕ) → ToldOf file (λ held. From held file.moment (IsOpenAt gate size) → next ≡ Some (gate + 9 + size))
 
 -- What is read beside a writer is what was committed when the reader began, or later: of the records that the file stood for at one moment between, what the
 -- front shows, which are the contents of a disk over it, stands for these alone, and doesn't fail to be a file.

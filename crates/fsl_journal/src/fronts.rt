@@ -1,10 +1,9 @@
 //! How much of a file stands for its committed records, while another process may append to it.
-ghost use Rattle.std.specs.Prelude.{◌≡◌, ◌⊎◌, ℕ, ◌<◌, ◌≤◌, ◌+◌, ◌^◌, Some, IfOk, IfSome, OnOk, OnErr};
+ghost use Rattle.std.specs.Prelude.{◌≡◌, ◌⊎◌, ◌<◌, ◌≤◌, ◌+◌, ◌^◌, IfOk, IfSome, OnOk, OnErr};
 ghost use Rattle.fsl_order.specs.Causes.{HasCause, Rose};
 ghost use Rattle.fsl_disk.specs.Shared.{ToldOf, Sees, AreOf, IsLengthOf, ReadCause};
-ghost use Rattle.fsl_journal.specs.Beside.{closed_front, IsByteOf, IsFrontOf};
+ghost use Rattle.fsl_journal.specs.Beside.{HasOpen, IsByteOf, IsClosedFront, IsGrowing, LeadsTo, ShowsFront};
 ghost use Rattle.fsl_journal.specs.Commit.{eight};
-ghost use Rattle.fsl_journal.specs.Gates.{From, Grows, IsOpenAt};
 
 use crate::commit::OPEN;
 use fsl_disk::{Front, Seen, Shared};
@@ -62,10 +61,10 @@ fn next_gate<F: Shared>(file: &mut F, gate: u64, len: u64) -> Result<(Option<u64
     ensures len { IfOk result (λ next. next.1 < 2 ^ 63) }
     ensures next { IfOk result (λ next. IfSome next.0 (λ place. (gate + 9 ≤ place) × (place < next.1))) }
     // Of a group that stays there it is the gate behind it, ..
-    ensures on { IfOk result (λ next. (size : ℕ) → ToldOf (F.state file.old) (λ held. From held (F.state file.old).moment (IsOpenAt gate size) → next.0 ≡ Some (gate + 9 + size))) }
+    ensures on { IfOk result (λ next. LeadsTo (F.state file.old) gate next.0) }
     ensures sees { Sees (F.state file.old) (F.state file.new) }
     // .. and such a group is read, unless a call of the file fails.
-    ensures cause { OnErr result (ToldOf (F.state file.old) (λ held. (size : ℕ) × From held (F.state file.old).moment (IsOpenAt gate size)) → Rose (F.state file.old).faults (F.state file.new).faults) }
+    ensures cause { OnErr result (HasOpen (F.state file.old) gate → Rose (F.state file.old).faults (F.state file.new).faults) }
     ensures count { OnOk result ((F.state file.new).faults ≡ (F.state file.old).faults) }
 {
     let len = len_with(file, gate + 9, len)?;
@@ -86,7 +85,7 @@ fn next_gate<F: Shared>(file: &mut F, gate: u64, len: u64) -> Result<(Option<u64
 fn closed_at<F: Shared>(file: &mut F, gate: u64, byte: u8) -> Result<Front, Failed>
     requires { gate + 1 < 2 ^ 63 }
     ensures fits { IfOk result (λ front. front.len < 2 ^ 63) }
-    ensures front { IfOk result (λ front. (mark : ℕ) × (front ≡ closed_front gate byte mark) × ToldOf (F.state file.old) (λ held. IsByteOf (F.state file.old) (F.state file.new) held 13 mark)) }
+    ensures front { IfOk result (IsClosedFront (F.state file.old) (F.state file.new) gate byte) }
     ensures sees { Sees (F.state file.old) (F.state file.new) }
     ensures cause { ReadCause (F.state file.old) (F.state file.new) 14 result }
 {
@@ -122,9 +121,9 @@ pub fn front_of<F: Shared>(file: &mut F) -> Result<Front, Failed>
     ensures fits { IfOk result (λ front. front.len < 2 ^ 63) }
     ensures sees { Sees (F.state file.old) (F.state file.new) }
     // Of a file that grows it shows what the file held at one moment of the call, and that stays.
-    ensures front { IfOk result (λ front. ToldOf (F.state file.old) (λ held. Grows held (F.state file.old).moment → IsFrontOf front held (F.state file.old).moment (F.state file.new).moment)) }
+    ensures front { IfOk result (ShowsFront (F.state file.old) (F.state file.new)) }
     // It is never refused because of a writer.
-    ensures refused { OnErr result (ToldOf (F.state file.old) (λ held. Grows held (F.state file.old).moment) → Rose (F.state file.old).faults (F.state file.new).faults) }
+    ensures refused { OnErr result (IsGrowing (F.state file.old) → Rose (F.state file.old).faults (F.state file.new).faults) }
 {
     let mut len = file.len()?;
     let mut gate = 15;
