@@ -1,12 +1,12 @@
 -- A file by its gates.
-use Rattle.std.proofs.Common.{◌≡◌, ◌≢◌, ◌⊎◌, inl, inr, ℕ, ◌+◌, ◌-◌, ◌<◌, ◌≤◌, ◌^◌, List, [], ◌∷◌, ◌++◌, length, get_or, take, drop, refl, sym, ◌∙◌, ap, subst, arith, append_assoc, length-append}
+use Rattle.std.proofs.Common.{◌≡◌, ◌≢◌, ◌⊎◌, inl, inr, ℕ, ◌+◌, ◌<◌, ◌≤◌, ◌^◌, List, [], ◌∷◌, ◌++◌, length, get_or, drop, refl, sym, ◌∙◌, ap, subst, arith, append_assoc, length-append}
 use Rattle.std.specs.Prelude.{slice_index}
 use Rattle.std.specs.List.{AllByRecursion, flat_map}
 use Rattle.std.proofs.lemmas.List.{append-nil, get_or_append_left, get_or-append-add, ext_get_or}
 use Rattle.std.proofs.lemmas.List.Concat.{flat_map-append}
 use Rattle.fsl_journal.specs.Commit.{eight}
-use Rattle.fsl_journal.specs.File.{header, mark_1}
-use Rattle.fsl_journal.specs.Gates.{part_bytes, gate_of, HasGroups, GoesOn, Grows, IsGateAt, IsOpenAt, From}
+use Rattle.fsl_journal.specs.File.{header}
+use Rattle.fsl_journal.specs.Gates.{part_bytes, gate_of, HasGroups, GoesOn, IsGateAt, IsOpenAt, From}
 use Rattle.fsl_journal.proofs.Files.{length-eight}
 use Rattle.fsl_journal.proofs.Unique.{eight_same, sized_same, gates_same, behind_same}
 

@@ -7,7 +7,7 @@ use Rattle.std.proofs.lemmas.List.Concat.{flat_map-append}
 use Rattle.fsl_disk.specs.Disk.{Begins, CutShort}
 use Rattle.fsl_journal.specs.Commit.{eight, marked, carried, gated, body_of, HeldOrCarried}
 use Rattle.fsl_journal.specs.File.{header, mark_1, mark_2}
-use Rattle.fsl_journal.specs.Gates.{part_bytes, gate_of, HasGroups, GoesOn, Grows, HasNext, KeepsGate, OpensGate, CarriesMark, Next}
+use Rattle.fsl_journal.specs.Gates.{part_bytes, gate_of, HasGroups, GoesOn, Grows, KeepsGate, OpensGate, CarriesMark, Next}
 use Rattle.fsl_journal.proofs.Gates.{parts, upto, length_upto, one_row}
 use Rattle.fsl_journal.proofs.Versions.{carries, stays}
 

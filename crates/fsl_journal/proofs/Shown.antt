@@ -1,13 +1,13 @@
 -- What the front shows that was found by the gates.
-use Rattle.std.proofs.Common.{◌≡◌, ◌≢◌, ◌⊎◌, inl, inr, ℕ, ◌+◌, ◌<◌, ◌≤◌, List, [], ◌∷◌, ◌++◌, length, take, drop, refl, sym, ◌∙◌, ap, subst, arith, append_assoc, length-append}
+use Rattle.std.proofs.Common.{◌≡◌, ◌≢◌, ◌⊎◌, inl, inr, ℕ, ◌+◌, ◌<◌, ◌≤◌, List, [], ◌∷◌, ◌++◌, length, take, refl, sym, ◌∙◌, ap, arith, append_assoc, length-append}
 use Rattle.std.specs.Prelude.{slice_index, slice_set}
 use Rattle.std.proofs.lemmas.Bool.{cases_eq}
 use Rattle.std.proofs.lemmas.List.{take_at, get_or_append_left, get_or-set_other, take_more_set}
 use Rattle.fsl_disk.specs.Disk.{Begins}
-use Rattle.fsl_disk.specs.Front.{shown, Stays, IsAt}
+use Rattle.fsl_disk.specs.Front.{shown, Stays}
 use Rattle.fsl_journal.specs.Beside.{IsSeen, closed_front}
 use Rattle.fsl_journal.specs.Commit.{marked}
-use Rattle.fsl_journal.specs.File.{header, mark_1}
+use Rattle.fsl_journal.specs.File.{mark_1}
 use Rattle.fsl_journal.specs.Gates.{gate_of, HasGroups, GoesOn}
 use Rattle.fsl_journal.proofs.Gates.{parts, upto, length_upto, at_gate, gate_inside}
 

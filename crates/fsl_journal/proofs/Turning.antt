@@ -1,15 +1,14 @@
 -- One turn of a walk over the gates of a file that another process writes to.
-use Rattle.std.proofs.Common.{◌≡◌, ◌≢◌, ◌⊎◌, inl, inr, ℕ, ◌+◌, ◌-◌, ◌<◌, ◌≤◌, ◌^◌, List, length, get_or, Option, None, Some, Result, Ok, Err, refl, sym, ◌∙◌, ap, subst, arith}
+use Rattle.std.proofs.Common.{◌≡◌, ◌⊎◌, inl, inr, ℕ, ◌+◌, ◌<◌, ◌≤◌, ◌^◌, List, length, get_or, None, Some, Result, Ok, Err, sym, ◌∙◌, ap, subst, arith}
 use Rattle.std.specs.Prelude.{slice_index, IfOk, OnErr}
 use Rattle.std.specs.Int.{from_be_bytes, w64}
 use Rattle.std.proofs.lemmas.Nat.{be_bytes_8}
-use Rattle.fsl_disk.specs.Shared.{SharedState, ToldOf, Sees, Within, IsLengthOf, AreOf, IsShort, ReadFailed}
+use Rattle.fsl_disk.specs.Shared.{SharedState, ToldOf, Sees, IsLengthOf, AreOf, ReadFailed}
 use Rattle.fsl_order.specs.Causes.{Rose}
 use Rattle.fsl_journal.specs.Beside.{IsByteOf}
 use Rattle.fsl_journal.specs.Commit.{eight}
 use Rattle.fsl_journal.specs.Gates.{Grows, IsGateAt, IsOpenAt, From}
-use Rattle.fsl_journal.proofs.Files.{length-eight}
-use Rattle.fsl_journal.proofs.Gates.{first_gate, gate_on, open_at, open_on, open_gate_at, next_at, gate_inside, number_is}
+use Rattle.fsl_journal.proofs.Gates.{first_gate, gate_on, open_at, open_on, next_at, gate_inside, number_is}
 
 some_place : {a b : ℕ} → Some a ≡ Some b → a ≡ b
 some_place e = cc

@@ -1,22 +1,21 @@
 -- A walk over the gates that ended at a closed one.
-use Rattle.std.proofs.Common.{◌≡◌, ◌≢◌, ◌⊎◌, inl, inr, ℕ, ◌+◌, ◌<◌, ◌≤◌, ◌^◌, List, [], ◌∷◌, ◌++◌, length, map, take, refl, sym, ◌∙◌, ap, subst, arith, Some}
+use Rattle.std.proofs.Common.{◌≡◌, ◌≢◌, ◌⊎◌, inl, inr, ℕ, ◌+◌, ◌<◌, ◌≤◌, ◌^◌, List, [], ◌∷◌, ◌++◌, length, map, take, refl, sym, ◌∙◌, ap, subst, arith}
 use Rattle.std.specs.Prelude.{slice_index}
 use Rattle.std.specs.List.{AllByRecursion, flat_map}
 use Rattle.fsl_disk.specs.Disk.{CutShort}
 use Rattle.fsl_disk.specs.Front.{shown}
-use Rattle.fsl_disk.specs.Shared.{SharedState, Within}
-use Rattle.fsl_disk.specs.declared.front.Front.{Front}
+use Rattle.fsl_disk.specs.Shared.{SharedState}
 use Rattle.fsl_record.specs.declared.Record.{Record}
 use Rattle.fsl_record.specs.Records.{records_bytes}
-use Rattle.fsl_journal.specs.Beside.{closed_front, IsByteOf, IsFrontOf, IsReadAs, IsBesideRight}
+use Rattle.fsl_journal.specs.Beside.{closed_front, IsByteOf, IsFrontOf, IsBesideRight}
 use Rattle.fsl_journal.specs.Commit.{eight, marked, body_of, HeldOrCarried}
-use Rattle.fsl_journal.specs.File.{header, mark_1, group_bytes, IsGroup, IsFileOf, FailsAt}
-use Rattle.fsl_journal.specs.Gates.{part_bytes, gate_of, HasGroups, GoesOn, Grows, IsGateAt, From, Next}
-use Rattle.fsl_journal.specs.Lives.{HasFileGroups, IsLifeGrown, IsReached, IsCommitInSteps, IsCutAStep}
+use Rattle.fsl_journal.specs.File.{header, mark_1, group_bytes, IsGroup, IsFileOf}
+use Rattle.fsl_journal.specs.Gates.{part_bytes, gate_of, HasGroups, Grows, IsGateAt, From}
+use Rattle.fsl_journal.specs.Lives.{HasFileGroups, IsLifeGrown, IsCommitInSteps, IsCutAStep}
 use Rattle.fsl_journal.specs.Log.{IsLog}
 use Rattle.fsl_journal.proofs.Besides.{front_whole, seen_right}
 use Rattle.fsl_journal.proofs.Failing.{no_file}
-use Rattle.fsl_journal.proofs.Gates.{parts, upto, one_row, shut_at, shut_byte, IsShutAt}
+use Rattle.fsl_journal.proofs.Gates.{parts, upto, one_row, shut_at, shut_byte}
 use Rattle.fsl_journal.proofs.Living as living
 use Rattle.fsl_journal.proofs.Shown.{shown_is, seen_is, stays_is}
 
@@ -90,6 +89,9 @@ whole_is mark byte other before one seen has byte_is marks is records file =
 
 -- ---- the front that was found
 
+mark_there : (mark : ℕ) (groups : List (List ℕ)) (bytes : List ℕ) → HasGroups mark groups bytes → slice_index bytes 13 ≡ mark
+mark_there mark groups bytes has = ap (λ (l : List ℕ). slice_index l 13) has.layout
+
 pub front_is : (old now last : SharedState) (held : ℕ → List ℕ) (from gate byte mark : ℕ) → Grows held from → from ≤ old.moment → From held old.moment (IsGateAt gate) → IsByteOf old now held gate byte → byte ≢ 79 → IsByteOf now last held 13 mark → IsFrontOf (closed_front gate byte mark) held from last.moment
 front_is old now last held from gate byte mark grows since there (m, within, inside, byte_is) shut (at, within_mark, inside_mark, mark_is) =
     let is = shut_at gate (held m) (there m within.0) (λ e. shut (byte_is ∙ e)) in
@@ -97,7 +99,7 @@ front_is old now last held from gate byte mark grows since there (m, within, ins
     let here = go m last.moment (omega arith) (omega (arith, within.1, within_mark.0, within_mark.1)) is.mark is.before is.has in
     let then = go m at (omega arith) (omega (arith, within.1, within_mark.0)) is.mark is.before is.has in
     let gate_is : byte ≡ is.has.gate = byte_is ∙ shut_byte gate is.mark is.before (held m) is.has is.at in
-    let mark_then : mark ≡ then.0 = mark_is ∙ ap (λ (l : List ℕ). slice_index l 13) then.1.1.layout in
+    let mark_then : mark ≡ then.0 = mark_is ∙ mark_there then.0 (is.before ++ then.1.0) (held at) then.1.1 in
     let marks = either then.1.2 mark_then in
     let shows = shown_is gate byte mark here.0 is.before here.1.0 (held last.moment) here.1.1 is.at in
     record {

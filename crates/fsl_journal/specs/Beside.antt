@@ -4,7 +4,6 @@ use Rattle.fsl_disk.specs.Disk.{Begins}
 use Rattle.fsl_disk.specs.Front.{Stays, shown}
 use Rattle.fsl_disk.specs.Shared.{SharedState, ToldOf, Within}
 use Rattle.fsl_disk.specs.declared.front.Front.{Front}
-use Rattle.fsl_disk.specs.declared.front.Seen.{Seen}
 use Rattle.fsl_record.specs.declared.Record.{Record}
 use Rattle.fsl_journal.specs.Commit.{marked, HeldOrCarried}
 use Rattle.fsl_journal.specs.File.{IsFileOf, FailsAt, mark_1}

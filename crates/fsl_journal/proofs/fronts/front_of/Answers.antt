@@ -1,4 +1,4 @@
-use Rattle.std.proofs.Common.{◌≡◌, ◌+◌, ◌<◌, ◌≤◌, ◌∙◌, Some, arith, subst, sym}
+use Rattle.std.proofs.Common.{◌+◌, ◌<◌, ◌≤◌, ◌∙◌, arith, subst, sym}
 use Rattle.std.specs.Prelude.{IfSome}
 use Rattle.fsl_journal.specs.Beside.{IsFrontOf}
 use Rattle.fsl_journal.proofs.Ends.{on_fault}
