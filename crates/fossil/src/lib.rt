@@ -3,8 +3,9 @@
 //! login, `shun NAME` takes a name out, and `unshun NAME` takes it off the list of the shunned ones. `timeline COUNT` prints so
 //! many of the latest events, `leaves` the check-ins without a child in their branch, `tags PREFIX` the
 //! tags in force on an artifact, `tip SYMBOL` the latest check-in of a symbolic name, `files PREFIX` the files of a check-in
-//! and what it changed, `wiki TITLE` the versions of a page, `ticket ID` the fields of a ticket, `thread NAME` the posts of
-//! a thread, and `phantoms` the names that are referred to and neither held nor shunned. `ingest` reads a message of files
+//! and what it changed, `wiki TITLE` the versions of a page, `ticket PREFIX` the fields of a ticket, `thread PREFIX` the posts of
+//! a thread, and `phantoms` the names that are referred to and neither held nor shunned. `info` prints the codes of the repository
+//! and how much it holds, `branches`, `pages`, `tickets [FIELD ...]` and `threads` what there is, a line each. `ingest` reads a message of files
 //! into a set of its own, and prints which of its names stand in no cluster and which are named and not there. `serve
 //! ADDRESS USERS WORKERS N` serves the repository to the users of a file. `pull ADDRESS [USER SECRET]` pulls artifacts from
 //! the repository that is served at an address, `push ADDRESS [USER SECRET]` sends it those that it asks for, and `pull-local PEER`

@@ -7,19 +7,27 @@ ghost use Rattle.fsl_query.specs.declared.QueryFault.TheVariants as query_fault;
 
 mod answering;
 mod attachments;
+mod beginning;
+mod branches;
 mod files;
 mod finding;
+mod info;
 mod leaves;
 mod lines;
+mod listing;
 mod loaded;
+mod newest;
 mod noting;
+mod pages;
 mod phantoms;
 mod receipt;
 mod refusals;
 mod summing;
 mod tags;
 mod thread;
+mod threads;
 mod ticket;
+mod tickets;
 mod timeline;
 mod tip;
 mod wiki;
@@ -61,10 +69,14 @@ pub enum Refused {
     NoCheckin { symbol: Text },
     /// No page has the title.
     NoPage { title: Text },
-    /// No ticket has the id.
-    NoTicket { id: Name },
-    /// The name is that of no thread.
-    NoThread { name: Name },
+    /// The id of no ticket begins with the prefix.
+    NoTicket { prefix: Text },
+    /// The name of no thread begins with the prefix.
+    NoThread { prefix: Text },
+    /// Those of several tickets, or of several threads, do.
+    Several { prefix: Text },
+    /// The field isn't configured.
+    NoField { field: Text },
 }
 
 /// Why a question isn't answered.

@@ -34,7 +34,7 @@ fn escaped(alloc: Global, words: &[u8], bytes: &Text) -> Result<Text, Memory>
     Ok(text)
 }
 
-/// The text of a refusal: the words of its reason, and what was asked for. A symbolic name and a title are escaped.
+/// The text of a refusal: the words of its reason, and what was asked for. A symbolic name, a title and a field are escaped.
 /// `Memory` is the only error.
 pub fn refusal_text(alloc: Global, refused: &Refused) -> Result<Text, Memory>
     ensures { IfOk result (λ text. text ≡ refusal_text refused.now) }
@@ -46,7 +46,9 @@ pub fn refusal_text(alloc: Global, refused: &Refused) -> Result<Text, Memory>
         Refused::NoBaseline { name } => named(alloc, b"baseline not held ", name),
         Refused::NoCheckin { symbol } => escaped(alloc, b"no check-in ", symbol),
         Refused::NoPage { title } => escaped(alloc, b"no page ", title),
-        Refused::NoTicket { id } => named(alloc, b"no ticket ", id),
-        Refused::NoThread { name } => named(alloc, b"no thread ", name),
+        Refused::NoTicket { prefix } => plain(alloc, b"no ticket ", prefix.bytes()),
+        Refused::NoThread { prefix } => plain(alloc, b"no thread ", prefix.bytes()),
+        Refused::Several { prefix } => plain(alloc, b"several ", prefix.bytes()),
+        Refused::NoField { field } => escaped(alloc, b"no field ", field),
     }
 }

@@ -27,7 +27,9 @@ pub(crate) fn report(alloc: Global, table: &Threads, name: Name) -> Result<Text,
 {
     let posts = table.thread(alloc, name)?;
     if posts.items().is_empty() {
-        return Err(QueryFault::Refused(Refused::NoThread { name }));
+        return Err(QueryFault::Refused(Refused::NoThread {
+            prefix: Text::of(alloc, &name.text())?,
+        }));
     }
     let mut text = Text::empty(alloc);
     append_posts(&mut text, posts.items())?;
