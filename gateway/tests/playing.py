@@ -293,6 +293,37 @@ class LeftOut(Exception):
     """A test can't be done on this machine. Its text is why."""
 
 
+def tried(test):
+    """Whether a test holds in a room of its own. What a test that doesn't hold has seen is printed."""
+    try:
+        with Room() as room:
+            try:
+                test(room)
+            except LeftOut:
+                raise
+            except BaseException:
+                for process in room.processes:
+                    print(process.lines()[-3000:])
+                raise
+    except LeftOut:
+        raise
+    except Exception:
+        traceback.print_exc(file=sys.stdout)
+        return False
+    return True
+
+
+def verdict(test, what):
+    """What is said of a test. One that fails is tried once more, since clocks and a full machine have a part in these tests."""
+    try:
+        if tried(test):
+            return 'holds'
+        print(f'{what}: {test.__name__} failed, and is tried once more', flush=True)
+        return 'holds at the second try' if tried(test) else 'FAILS'
+    except LeftOut as why:
+        return f'is left out, since {why}'
+
+
 def play(tests, of_fossil, what):
     """Runs tests one after the other, those that need Fossil only where it is, and ends with 0 where all hold."""
     if program() is None:
@@ -301,26 +332,12 @@ def play(tests, of_fossil, what):
     if not has_fossil():
         print(f'{what}: what needs Fossil is left out, since the command fossil of its package is not installed')
         tests = [test for test in tests if test not in of_fossil]
-    failed, left_out = [], []
+    said = {}
     for test in tests:
         begin = time.monotonic()
-        try:
-            with Room() as room:
-                try:
-                    test(room)
-                except LeftOut:
-                    raise
-                except BaseException:
-                    for process in room.processes:
-                        print(process.lines()[-3000:])
-                    raise
-        except LeftOut as why:
-            left_out.append(test.__name__)
-            print(f'{what}: {test.__name__} is left out, since {why}', flush=True)
-            continue
-        except Exception:
-            failed.append(test.__name__)
-            traceback.print_exc(file=sys.stdout)
-        print(f'{what}: {test.__name__} {"FAILS" if test.__name__ in failed else "holds"}, {time.monotonic() - begin:.1f} s', flush=True)
-    print(f'{what}: {len(tests) - len(left_out)} tests, {"of which fail: " + " ".join(failed) if failed else "all hold"}')
+        said[test.__name__] = verdict(test, what)
+        print(f'{what}: {test.__name__} {said[test.__name__]}, {time.monotonic() - begin:.1f} s', flush=True)
+    failed = [name for name, text in said.items() if text == 'FAILS']
+    count = sum(not text.startswith('is left out') for text in said.values())
+    print(f'{what}: {count} tests, {"of which fail: " + " ".join(failed) if failed else "all hold"}')
     sys.exit(1 if failed else 0)
