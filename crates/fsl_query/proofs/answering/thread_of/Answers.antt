@@ -10,8 +10,8 @@ use Rattle.fsl_query.proofs.Beginnings.{beginning_err, beginning_one}
 use Rattle.fsl_query.proofs.RepoLemmas.{own_posts}
 use Rattle.fsl_query.proofs.answering.thread_of.Goals as goal
 
-pub thread_name-name-requires : goal.thread_name-name-requires
-thread_name-name-requires g c =
+pub thread_name-requires : goal.thread_name-requires
+thread_name-requires g c =
     let own = c.tables-tables.ensures in
     own_posts c.args.repo.now.seen c.is_whole.ensures.seen.items c.items.result.now (c.items.ensures ∙ own.items)
     ∙ sym (c.forum.ensures.facts ∙ (λ i. (cross.tables (own.fields i) (own.items i)).threads))

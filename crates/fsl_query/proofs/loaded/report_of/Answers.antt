@@ -1,10 +1,13 @@
-use Rattle.std.proofs.Common.{Ok, ap, sym, subst, ◌∙◌}
+use Rattle.std.proofs.Common.{[], Ok, ap, sym, subst, ◌∙◌}
 use Rattle.fsl_blobs.specs.Fold.{contents}
 use Rattle.fsl_cross.specs.Tables.{tables}
 use Rattle.fsl_repo.specs.Machine.{configured}
+use Rattle.std.specs.Option.{option_map_or}
 use Rattle.fsl_query.specs.Answers.{IsAnswer}
+use Rattle.fsl_query.specs.Listings.{tickets_report}
+use Rattle.fsl_query.proofs.Alone.{tickets-alone}
 use Rattle.fsl_repo.proofs.ItemLemmas.{items_rise}
-use Rattle.fsl_query.specs.Reports.{report, files_report, tags_report, thread_of_prefix, wiki_report}
+use Rattle.fsl_query.specs.Reports.{report, files_report, tags_report, thread_of_prefix, ticket_of_prefix, wiki_report}
 use Rattle.fsl_query.proofs.Prefixes.{of_one}
 use Rattle.fsl_query.proofs.loaded.report_of.Goals as goal
 
@@ -72,3 +75,18 @@ pub returns-in_ok-info_of-in-Info : goal.returns-in_ok-info_of-in-Info
 returns-in_ok-info_of-in-Info c =
     let k = contents c.args.blobs.now.records in
     ap (report k c.args.items.now) c.in-Info.is ∙ ap Ok (sym c.in_ok-info_of-in-Info.ensures)
+
+pub returns-in-Ticket : goal.returns-in-Ticket
+returns-in-Ticket c =
+    let k = contents c.args.blobs.now.records in
+    let fields = sym (ap (λ o. option_map_or (λ config. config.fields) o []) c.config.ensures) in
+    subst (λ d. IsAnswer d c.ticket_of.result)
+    ((λ i. ticket_of_prefix (tables (fields i) c.args.items.now) (c.bytes-in-Ticket.ensures i)) ∙ sym (ap (report k c.args.items.now) c.in-Ticket.is)) c.ticket_of.ensures
+
+pub returns-in-Tickets : goal.returns-in-Tickets
+returns-in-Tickets c =
+    let k = contents c.args.blobs.now.records in
+    let fields = c.items-in-Tickets.ensures ∙ sym (ap (λ o. option_map_or (λ config. config.fields) o []) c.config-in-Tickets.ensures) in
+    let alone = tickets-alone c.args.items.now (items_rise k.held c.args.items.now c.requires.held) in
+    subst (λ d. IsAnswer d c.tickets_report.result)
+    ((λ i. tickets_report (fields i) c.in-Tickets.fields (alone i)) ∙ sym (ap (report k c.args.items.now) c.in-Tickets.is)) c.tickets_report.ensures
