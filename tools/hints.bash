@@ -52,7 +52,7 @@ foreign_among() {
 }
 
 # the commands of Fossil's own client that aren't commands here
-fossils=' 3-way-merge add addremove alerts all amend annotate artifact attachment backup bisect blame branch bundle cgi changes chat checkout cherry-pick clean close commit ci co configuration config dbstat deconstruct delete descendants describe diff extras finfo forget gdiff git grep hash-policy hook http import info json login-group ls merge mv open patch praise publish purge rebuild reconstruct redo remote remote-url rename reparent revert rm rss search server settings shell sql sqlite3 ssl-config stash status sync tag tarball touch ui undo unset unversioned update user uv whatis xdiff zip '
+fossils=' 3-way-merge add addremove alerts all amend annotate artifact attachment backup bisect blame branch bundle cgi changes chat checkout cherry-pick clean close commit ci co configuration config dbstat deconstruct delete descendants describe diff extras finfo forget gdiff git grep hash-policy hook http import json login-group ls merge mv open patch praise publish purge rebuild reconstruct redo remote remote-url rename reparent revert rm rss search server settings shell sql sqlite3 ssl-config stash status sync tag tarball touch ui undo unset unversioned update user uv whatis xdiff zip '
 
 is_fossils() {
   [[ $fossils == *" $1 "* ]]
@@ -94,11 +94,11 @@ say_of_no_command() {
 say_of_place() {
   local LC_ALL=C
   case "$1" in
-    PROJECT | SERVER | NAME | ID)
+    PROJECT | SERVER | NAME)
       [[ $2 =~ ^[0-9a-f]{40}$ ]] || say "'$2' is no $1: a $1 is 40 digits, 0 to 9 and a to f, and this word has ${#2} characters"
       ;;
     PREFIX)
-      [[ $2 =~ ^[0-9a-f]{4,40}$ ]] || say "'$2' is no PREFIX: a PREFIX is the first 4 to 40 digits of a name, 0 to 9 and a to f"
+      [[ $2 =~ ^[0-9a-f]{4,40}$ ]] || say "'$2' is no PREFIX: a PREFIX is the first 4 to 40 digits of a name or an id, 0 to 9 and a to f"
       ;;
     PARENT)
       [[ $2 =~ ^([0-9a-f]{4,40}|-)$ ]] || say "'$2' is no PARENT: a PARENT is the first digits of a check-in's name, or '-' for none; 'tip $2' prints the newest check-in of a branch"

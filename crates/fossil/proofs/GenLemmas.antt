@@ -16,8 +16,8 @@ use Rattle.fsl_order.specs.Names.{bytes_cmp, has}
 use Rattle.fsl_text.specs.declared.memory.Memory.{Memory}
 use Rattle.fsl_order.specs.Rows.{by_name}
 use Rattle.fsl_order.proofs.Orders.{bytes_cmp-IsAntisymmetric}
-use Rattle.fsl_rows.specs.Kept.{IsKept}
-use Rattle.fsl_rows.proofs.Keeping.{values-insert}
+use Rattle.fsl_name.specs.RowsKept.{IsKept}
+use Rattle.fsl_name.proofs.RowsKeeping.{values-insert}
 use Rattle.fsl_blobs.specs.Fold.{Held, HeldSet, Contents, contents, nothing, after}
 use Rattle.fsl_cross.specs.declared.Item.{Item}
 use Rattle.fsl_cross.specs.Tables.{Seen, tables, with_item}

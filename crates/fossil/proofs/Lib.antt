@@ -2,9 +2,7 @@ pub mod DamagedLine
 pub mod OneReport
 pub mod GenLemmas
 pub mod UvOutcomes
-pub mod SomeTree
 pub mod OneTree
-pub mod SomeTreeText
 pub mod OneCheckin
 pub mod OneOutcome
 pub mod SomeOutcome

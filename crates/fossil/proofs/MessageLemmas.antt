@@ -4,6 +4,7 @@ use Rattle.std.specs.Prelude.{nat_lt, slice_get, find}
 use Rattle.std.specs.Option.{option_map}
 use Rattle.std.specs.List.{position_or_len}
 use Rattle.std.proofs.lemmas.List.{append-nil}
+use Rattle.fsl_text.proofs.Bytewise.{none_past}
 use Rattle.fsl_wire.specs.declared.WireCard.{WireCard}
 use Rattle.fsl_wire.specs.declared.WireCard.TheVariants as wire_card
 use Rattle.fsl_wire.specs.declared.WireFault.{WireFault}
@@ -98,9 +99,6 @@ past_all (l ∷ lines) h =
       | true ↦ λ f. absurd (omega (arith, f))
       | false ↦ λ f. past_all lines (omega (arith, f))
     ] h
-
-none_past : (i n : ℕ) → cond (nat_lt i n) (Some i) None ≡ None → n ≤ i
-none_past i n h = grind (arith)
 
 some_at : (i n m : ℕ) → cond (nat_lt i n) (Some i) None ≡ Some m → m ≡ i
 some_at i n m h = grind (arith)

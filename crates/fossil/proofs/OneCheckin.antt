@@ -13,13 +13,13 @@ use Rattle.fsl_query.specs.Refusals.{refusal_text}
 use Rattle.fsl_checkin.specs.declared.types.TreeItem.{TreeItem}
 use Rattle.fsl_checkin.proofs.LawLemmas.{one_tree}
 use Rattle.fsl_checkin.proofs.OneLemmas.{bad_is_no_tree, bad_is_one}
+use Rattle.fsl_checkin.proofs.SomeTreeText.{IsSomeText, some_text}
 use Rattle.fossil.specs.Arrivals.{none_taken}
 use Rattle.fossil.specs.Printed.{Printed}
 use Rattle.fossil.specs.Printed as printing
 use Rattle.fossil.specs.Put.{appended_by, put_receipt}
 use Rattle.fossil.specs.Checkins.{IsCheckedIn, IsCheckin, IsCheckinRead, IsOver, arrivals_of, bad_item, checked_in, checkin_text, parent_of}
 use Rattle.fossil.proofs.ArrivalLemmas.{one_arrive, some_arrive}
-use Rattle.fossil.proofs.SomeTreeText.{IsSomeText, some_text}
 
 -- an input that isn't too long
 pub short_of : (n : ℕ) → nat_lt (2 ^ 27) n ≡ false → n < 2 ^ 64

@@ -26,10 +26,10 @@ use Rattle.fsl_checkin.specs.Reads.{IsExportRead, IsLacking, IsMissingIn, IsRead
 use Rattle.fsl_checkin.proofs.FilesLemmas.{export_due, no_files, verdict_due}
 use Rattle.fsl_checkin.proofs.HavingLemmas.{all_read}
 use Rattle.fsl_checkin.proofs.OneLemmas.{export_is_one, verdict_is_one}
+use Rattle.fsl_checkin.proofs.SomeTree.{some_export, some_verdict}
 use Rattle.fossil.specs.Printed.{Printed}
 use Rattle.fossil.specs.Printed as printing
 use Rattle.fossil.specs.Trees.{export_printed, verdict_printed, IsExported, IsVerified}
-use Rattle.fossil.proofs.SomeTree.{some_export, some_verdict}
 
 -- what is printed by what was found
 abbrev IsBy : {X : Type 0} → (List Item → List ℕ → X → Type 0) → (List ℕ → X → Printed) → Contents → Result (List ℕ) Refused → Printed → Type 0

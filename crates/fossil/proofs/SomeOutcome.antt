@@ -106,9 +106,14 @@ some_report honest c (question_of.Tags prefix) = let i = some_items c.held in (r
 some_report honest c (question_of.Tip symbol) = let i = some_items c.held in (report c i.0 (question_of.Tip symbol), (i.0, i.1, refl))
 some_report honest c (question_of.Files prefix) = let i = some_items c.held in (report c i.0 (question_of.Files prefix), (i.0, i.1, refl))
 some_report honest c (question_of.Wiki title) = let i = some_items c.held in (report c i.0 (question_of.Wiki title), (i.0, i.1, refl))
-some_report honest c (question_of.Ticket id) = let i = some_items c.held in (report c i.0 (question_of.Ticket id), (i.0, i.1, refl))
-some_report honest c (question_of.Thread name) = let i = some_items c.held in (report c i.0 (question_of.Thread name), (i.0, i.1, refl))
+some_report honest c (question_of.Ticket prefix) = let i = some_items c.held in (report c i.0 (question_of.Ticket prefix), (i.0, i.1, refl))
+some_report honest c (question_of.Thread prefix) = let i = some_items c.held in (report c i.0 (question_of.Thread prefix), (i.0, i.1, refl))
 some_report honest c question_of.Phantoms = let i = some_items c.held in (report c i.0 question_of.Phantoms, (i.0, i.1, refl))
+some_report honest c question_of.Info = let i = some_items c.held in (report c i.0 question_of.Info, (i.0, i.1, refl))
+some_report honest c question_of.Branches = let i = some_items c.held in (report c i.0 question_of.Branches, (i.0, i.1, refl))
+some_report honest c question_of.Pages = let i = some_items c.held in (report c i.0 question_of.Pages, (i.0, i.1, refl))
+some_report honest c (question_of.Tickets fields) = let i = some_items c.held in (report c i.0 (question_of.Tickets fields), (i.0, i.1, refl))
+some_report honest c question_of.Threads = let i = some_items c.held in (report c i.0 question_of.Threads, (i.0, i.1, refl))
 
 -- ---- a run
 

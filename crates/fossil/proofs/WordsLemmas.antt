@@ -11,12 +11,13 @@ use Rattle.fsl_text.specs.Decimals.{is_decimal_text, decimal_value}
 use Rattle.fsl_record.specs.Records.{is_field, AreFields}
 use Rattle.fsl_order.proofs.Booleans.{first_holds, second_holds}
 use Rattle.fsl_words.specs.declared.Question.{Question}
+use Rattle.fsl_words.specs.declared.Question.TheVariants as question_of
 use Rattle.fsl_words.specs.declared.Command.{Command}
 use Rattle.fsl_words.specs.declared.Command.TheVariants as command_of
 use Rattle.fsl_words.specs.declared.Unversioned.{Unversioned}
 use Rattle.fsl_words.specs.declared.Unversioned.TheVariants as uv
 use Rattle.fsl_words.specs.declared.Words.{Words}
-use Rattle.fsl_words.specs.Grammar.{words_in, parts_in, command_in, plain_command, other_command, question_in, init_command, serve_command, gen_command, clone_command, checkin_command, uv_init_command, served_in, prefix_in, parent_in, path_in, is_path, number_in, is_up_to, fields_in, are_fields, all_differ, is_word}
+use Rattle.fsl_words.specs.Grammar.{words_in, parts_in, command_in, plain_command, other_command, bare_question, question_in, init_command, serve_command, gen_command, clone_command, checkin_command, uv_init_command, served_in, prefix_in, parent_in, path_in, is_path, number_in, is_up_to, fields_in, are_fields, all_differ, is_word}
 use Rattle.fossil.specs.Outcome.{said}
 use Rattle.fossil.specs.Unversioned.{IsUvObeyable}
 use Rattle.fossil.specs.Acts.{IsObeyable}
@@ -148,10 +149,14 @@ other_obeyed command word =
     (command_by (bytes_eq command (codes "uv-remove")) _ _ (unversioned uv.Remove (path_in word) (path_fit word))
     (command_by (bytes_eq command (codes "uv-cat")) _ _ (unversioned uv.Cat (path_in word) (any_path word)) (command_by (bytes_eq command (codes "uv-sync")) _ _ tt (asked (question_in command word)))))
 
+tickets_obeyed : (fields : Option (List (List ℕ))) → Obeyed (option_map (λ fields. command_of.Ask (question_of.Tickets fields)) fields)
+tickets_obeyed None = tt
+tickets_obeyed (Some fields) = tt
+
 plain_obeyed : (command : List ℕ) (words : List (List ℕ)) → Obeyed (plain_command command words)
 plain_obeyed command [] =
     command_by (bytes_eq command (codes "ingest")) _ _ tt
-    (command_by (bytes_eq command (codes "put")) _ _ tt (command_by (bytes_eq command (codes "leaves")) _ _ tt (command_by (bytes_eq command (codes "phantoms")) _ _ tt (command_by (bytes_eq command (codes "uv-list")) _ _ tt tt))))
+    (command_by (bytes_eq command (codes "put")) _ _ tt (command_by (bytes_eq command (codes "uv-list")) _ _ tt (asked (bare_question command))))
 plain_obeyed command (word ∷ []) = command_by (bytes_eq command (codes "shun")) _ _ (shunned (name_in word))
     (command_by (bytes_eq command (codes "unshun")) _ _ (unshunned (name_in word))
     (command_by (bytes_eq command (codes "pull-local")) _ _ tt (command_by (bytes_eq command (codes "export")) _ _ (exported (prefix_in word))
@@ -235,7 +240,7 @@ parts_obeyed (repository ∷ []) all = tt
 parts_obeyed (repository ∷ command ∷ words) all =
     let behind = second_holds (is_word command) (list_all is_word words) (second_holds (is_word repository) (list_all is_word (command ∷ words)) all) in
     named_by repository (command_in command words)
-    (command_by (bytes_eq command (codes "init")) _ _ (init_obeyed words) (command_by (bytes_eq command (codes "serve")) _ _ (serve_obeyed words) (command_by (bytes_eq command (codes "gen")) _ _ (gen_obeyed words) (command_by (bytes_eq command (codes "pull")) _ _ (pull_by (served_in words)) (command_by (bytes_eq command (codes "push")) _ _ (push_by (served_in words)) (command_by (bytes_eq command (codes "clone")) _ _ (clone_obeyed words) (command_by (bytes_eq command (codes "checkin")) _ _ (checkin_obeyed words behind) (command_by (bytes_eq command (codes "uv-init")) _ _ (uv_init_obeyed words) (plain_obeyed command words)))))))))
+    (command_by (bytes_eq command (codes "init")) _ _ (init_obeyed words) (command_by (bytes_eq command (codes "serve")) _ _ (serve_obeyed words) (command_by (bytes_eq command (codes "gen")) _ _ (gen_obeyed words) (command_by (bytes_eq command (codes "pull")) _ _ (pull_by (served_in words)) (command_by (bytes_eq command (codes "push")) _ _ (push_by (served_in words)) (command_by (bytes_eq command (codes "clone")) _ _ (clone_obeyed words) (command_by (bytes_eq command (codes "checkin")) _ _ (checkin_obeyed words behind) (command_by (bytes_eq command (codes "uv-init")) _ _ (uv_init_obeyed words) (command_by (bytes_eq command (codes "tickets")) _ _ (tickets_obeyed (fields_in words)) (plain_obeyed command words))))))))))
 
 words_by : (words : List (List ℕ)) (fit : Bool) → list_all is_word words ≡ fit → IfSome (cond fit (parts_in words) None) (λ w. IsObeyable w.command)
 words_by words true all = parts_obeyed words all

@@ -1,4 +1,4 @@
-//! What commands answer: statuses, texts and reports, and how they are written.
+//! Makes the answers of commands: statuses, texts and reports.
 
 pub(crate) mod answer;
 pub(crate) mod due;

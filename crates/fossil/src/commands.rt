@@ -1,4 +1,4 @@
-//! What each command does.
+//! Has a module for each command.
 
 pub(crate) mod checkin;
 pub(crate) mod clone;

@@ -1,4 +1,4 @@
-//! What a run ends with.
+//! Has the result of a run.
 
 /// What a command ends with that asks no peer: the status, and the disk that it was handed.
 #[derive(Drop)]
@@ -7,7 +7,7 @@ pub(crate) struct Done<D> {
     pub repo: D,
 }
 
-/// What a run ends with: the status, and the disks of the repository and of the peer that it was handed.
+/// The result of a run: the status, and the disks of the repository and of the peer that it was handed.
 #[derive(Drop)]
 pub struct Ran<D, P> {
     pub status: u8,

@@ -1,4 +1,4 @@
-//! What commands read: the file, messages, users and the artifacts in them.
+//! Reads what commands take: the file, messages, users and the artifacts in them.
 
 pub(crate) mod arrivals;
 pub(crate) mod checking;

@@ -1,4 +1,4 @@
-//! The program over whatever source, sink and disk it is handed.
+//! Runs a command over whatever source, sink and disk it is handed.
 ghost use Rattle.std.specs.Prelude.{◌≡◌, false};
 ghost use Rattle.fsl_artifact.specs.Kind.{IsKind, IsOneAtMost};
 ghost use Rattle.fossil.specs.Outcome.{HasOneOutcome, HasSomeOutcome};
@@ -231,52 +231,91 @@ fn start<S: Source, K: Sink, D: Disk, P: Disk, N: Dial, C: Clock>(
     }
 }
 
-/// Runs the command that the words say over the input and the repository's disk, prints to the output, and gives the status
-/// and the disks: 0 after a report, 1 for words outside the grammar and for `serve`, 2 where a file isn't a repository, 3
-/// where the command or its input is refused, 4, 5, 6 and 7 where a disk, the input, the output or the dial failed, 8 where
-/// a reply of the peer is wrong, 9 for want of memory, 10 where a name that the peer announced isn't sent, 11 after 100,000
-/// rounds of a sync, 12 where the bytes that were read for an artifact have another name. Only `cat`, `export`, `verify`,
-/// `scrub`, `push` and `pull-local` read contents, and over a disk that tells its contents and meets the disk model none is
-/// damaged. A command that reads no input leaves it, and so `ingest` leaves the disk; `gen` and words outside the grammar
-/// leave both. Only `pull-local`, `uv-sync` and `scrub` use the peer's disk, only `pull`, `push` and `clone` use the dial,
-/// and only `put`, `checkin`, `uv-add` and `uv-remove` ask the clock. Where the line of a refusal or of a fault can't be
-/// written, the status stays. A call of a disk, of the input or of the dial failed only where the status is 4, 5 or 7: behind
-/// 9 none did.
+/// Runs the command that the words say. It takes the input, the disks of the repository and of a peer, a dial and a clock,
+/// prints to the output, and gives the status and both disks.
 ///
-/// The file is loaded first, then the input is read, then its form, then `put` or `checkin` takes its one moment, then what
-/// it appends is committed, then the text is printed. A `put` takes no moment over a file that is no repository, nor where
-/// its message is too long or is refused for a line or a card; each other one takes one, also where its message has no file
-/// or a file is refused. A `checkin` takes one where its file is a repository and its tree and its parent aren't refused,
-/// and else none. Behind a disk that failed when the file was loaded nothing was read and no moment taken, and behind one
-/// that failed in the commit one was, as if it hadn't; behind an input that failed none is taken, and for want of memory
-/// one that is due may be.
+/// # Status
+///
+/// - 0: the command is done.
+/// - 1: the words are outside the grammar, or they say `serve`.
+/// - 2: a file isn't a repository.
+/// - 3: the command or its input is refused.
+/// - 4, 5, 6 and 7: a disk, the input, the output or the dial failed.
+/// - 8: a reply of the peer is wrong.
+/// - 9: out of memory.
+/// - 10: the peer announced a name and didn't send it.
+/// - 11: a sync took 100,000 rounds.
+/// - 12: the bytes that were read for an artifact have another name. Only `cat`, `export`, `verify`, `scrub`, `push` and
+///   `pull-local` read contents. No content is damaged over a disk that tells its contents and meets the disk model.
+///
+/// Where the line of a refusal or of a fault can't be written, the status stays. A call of a disk, of the input or of the
+/// dial failed only where the status is 4, 5 or 7. Before a 9 none failed.
+///
+/// # What is used
+///
+/// - The input: a command that reads none leaves it as it is.
+/// - The repository's disk: `ingest`, `gen` and words outside the grammar leave it as it is.
+/// - The peer's disk: only `pull-local`, `uv-sync` and `scrub` use it.
+/// - The dial: only `pull`, `push` and `clone` use it.
+/// - The clock: only `put`, `checkin`, `uv-add` and `uv-remove` ask it.
+///
+/// # Order
+///
+/// First the file is loaded, then the input is read, then its form is checked, then `put` or `checkin` takes its one
+/// moment, then what it appends is committed, then the text is printed.
+///
+/// A `put` takes no moment where the file is no repository, and none where its message is too long or is refused for a line
+/// or a card. Each other `put` takes one, also where its message has no file or a file is refused. A `checkin` takes one
+/// where its file is a repository and its tree and its parent aren't refused, and else none.
+///
+/// Where the disk failed while the file was loaded, nothing was read and no moment was taken. Where it failed in the
+/// commit, a moment was taken as if it hadn't failed. Where the input failed, none is taken. Out of memory, one that is due
+/// may be taken.
 ///
 /// Of the commands of unversioned files all but `uv-init` load the file as a store, and refuse it where one of its Blobs is
-/// no entry, before `uv-add` reads its input; `uv-add` takes one moment behind an input that isn't too long, and `uv-remove`
-/// one where its path is there.
+/// no entry, before `uv-add` reads its input. `uv-add` takes one moment after an input that isn't too long, and `uv-remove`
+/// takes one where its path is there.
 ///
-/// Of a command that meets no peer: after status 0 and 6 the file stands for the records that it stood for and those of the
-/// command, after 4 for the old ones, with all or none of the command's, and after each other status for the old ones.
-/// Whatever moment a crash comes at, what it leaves stands for the old ones with all or none of the command's; after status
-/// 0 and 6, for all, whatever a crash before the run might have left.
+/// # What the file holds
 ///
-/// A sync has one commit for each round that stored or published something and that no fault ended: after 7, 12 and each
-/// status of its end all of them stand there, after 4 and 9 all, or all but that of the last round, and at each moment a
-/// crash leaves some first ones. A clone refuses a file with bytes, which stays as it is; into an empty one the commit of
-/// its first reply writes the record of the repository too. What the peer's file stands for stays, unless its disk failed;
-/// and it isn't looked at where the repository's own file isn't one.
+/// Of a command that meets no peer:
 ///
-/// A sync of unversioned files opens its own file and then the peer's, and has one commit for each, its own first. At each
-/// moment each of them stands for its old records, or for these with its one commit; the peer's file takes nothing in unless
-/// the own one has, and it isn't looked at unless that was opened. After status 0 both stand for stores whose map is the
-/// merge of the two, as far as versions of a path with one moment and one hash are the same. After 9 none, the own or both
-/// commits were made.
+/// - After status 0 and 6 the file holds its old records and those of the command.
+/// - After status 4 it holds the old records, with all or none of the command's.
+/// - After each other status it holds the old records.
 ///
-/// A scrub opens its own file, which stands for the same records at each moment, and then writes a new file of them over a
-/// peer's file without bytes; one with bytes is refused, and stays as it is, as it does where the own file isn't a
-/// repository. At each moment the peer's file is no repository or the whole new one; after status 0 and 6 it is exactly that file,
-/// and so is each of its images, so no byte is left of what is shunned. It stands for records that leave what those of the
-/// own file leave.
+/// At whatever moment a crash comes, what it leaves holds the old records, with all or none of the command's. After status
+/// 0 and 6 it holds all, whatever a crash before the run might have left.
+///
+/// # Sync and clone
+///
+/// A sync makes one commit for each round that stored or published something and that no fault ended. After 7, after 12 and
+/// after each status of its end, the file holds all of these commits. After 4 and 9 it holds all, or all but that of the
+/// last round. At each moment a crash leaves some first ones.
+///
+/// A clone refuses a file with bytes and leaves it as it is. Into an empty file the commit of its first reply also writes
+/// the record of the repository.
+///
+/// The peer's file holds what it held, unless its disk failed. Nobody looks at it where the repository's own file isn't a
+/// repository.
+///
+/// # Sync of unversioned files
+///
+/// It opens its own file and then the peer's, and makes one commit for each, its own first. At each moment each file holds
+/// its old records, or these with its one commit. The peer's file takes nothing in unless the own one has, and nobody looks
+/// at it unless that was opened.
+///
+/// After status 0 both files hold stores whose map is the merge of the two, as far as versions of a path with one moment
+/// and one hash are the same. After 9 none, the own or both commits were made.
+///
+/// # Scrub
+///
+/// A scrub opens its own file, which holds the same records at each moment. Then it writes a new file of them over a peer's
+/// file without bytes. A peer's file with bytes is refused and stays as it is. It also stays where the own file isn't a
+/// repository.
+///
+/// At each moment the peer's file is no repository or the whole new one. After status 0 and 6 it is exactly that file, and
+/// so is each of its images, so no byte is left of what is shunned. Its records leave what those of the own file leave.
 pub fn run<S: Source, K: Sink, D: Disk, P: Disk, N: Dial, C: Clock>(
     alloc: Global,
     words: &[String],

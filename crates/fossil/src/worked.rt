@@ -1,4 +1,4 @@
-//! What is said after the workers.
+//! Answers behind the workers of a serve.
 ghost use Rattle.std.specs.Prelude.{◌≡◌, ◌≤◌, ◌++◌, length, decimal, IfOk, OnOk};
 ghost use Rattle.std.specs.List.{list_any};
 ghost use Rattle.fsl_repo.specs.Whole.{IsWholeOn};

@@ -1,4 +1,4 @@
-//! Crews over one listening socket.
+//! Makes crews over one listening socket.
 ghost use Rattle.std.specs.Prelude.{◌≡◌, vec_len, IfOk, IfSome};
 
 use fsl_outside::{NoGate, StdClock, StdSink, TcpDoor};
@@ -13,10 +13,11 @@ use std::time::Clock;
 /// A crew over real sockets and the system's clock.
 pub type RealCrew<R> = Crew<TcpDoor<R>, NoGate, StdClock<R>>;
 
-/// One whose door puts out a line for each connection on standard error.
+/// A crew whose door writes a line for each connection to standard error.
 pub type LoggedCrew<R> = Crew<LoggedDoor<TcpDoor<R>, StdSink<Stderr>, R>, NoGate, StdClock<R>>;
 
-/// So many crews, whose doors take the connections of one listening socket; where there is none, each call of a door fails.
+/// Makes so many crews, whose doors take the connections of one listening socket. Where there is none, each call of a
+/// door fails.
 pub fn crews<R: Net + Clock + Clone + Drop>(
     rt: &R,
     alloc: Global,
@@ -72,7 +73,8 @@ fn failing<R: Net + Clock + Clone + Drop>(
     Ok(crews)
 }
 
-/// The same crews, whose doors put out a line for each connection; none where there was no memory for one of them.
+/// Gives the same crews doors that write a line for each connection, or `None` where the program is out of memory for
+/// one.
 pub fn logged<R: Net + Clock + Clone + Drop>(
     rt: &R,
     alloc: Global,

@@ -1,11 +1,11 @@
-//! The name of a file on the disk, which stands in its folder: a sync of the file alone needn't bring it there.
+//! Brings the name of a new file onto the disk: a folder has it, and a sync of the file alone needn't bring it there.
 use std::fs::File;
 use std::io::ErrorKind;
 use std::{fs, io};
 
-/// Whether the name of a file that was just opened outlasts a power failure. A file without bytes is new, or a process made it that
-/// ended before this point: its folder is synced. A file with bytes got the first of them behind such a sync. It is false where a call
-/// fails, and where there is no memory for the path of the folder.
+/// Tells whether the name of a file that was just opened outlasts a power failure. A file without bytes is new, or a
+/// process made it that ended before this point: its folder is synced. A file with bytes got the first of them behind
+/// such a sync. It is false where a call fails, and where the program is out of memory for the path of the folder.
 pub fn has_name_on_disk(rt: &HostRuntime, file: &File, path: &str) -> bool {
     match file.metadata() {
         Ok(found) if found.len() > 0 => true,
@@ -14,7 +14,7 @@ pub fn has_name_on_disk(rt: &HostRuntime, file: &File, path: &str) -> bool {
     }
 }
 
-/// Syncs the folder in which a file stands, also where the path is a link to the file. Where the path of the file itself can't be
+/// Syncs the folder that has a file, also where the path is a link to the file. Where the path of the file itself can't be
 /// told, as one that isn't UTF-8, it is the folder of the path as it is given. It fails as the calls for it do.
 fn sync_folder(rt: &HostRuntime, path: &str) -> io::Result<()> {
     match fs::canonicalize(rt, path) {
@@ -27,7 +27,7 @@ fn sync_folder(rt: &HostRuntime, path: &str) -> io::Result<()> {
     }
 }
 
-/// The folder of a path: what stands before its last `/`.
+/// The folder of a path: the part before its last `/`.
 fn folder_of(path: &str) -> &str {
     match path.rsplit_once('/') {
         Some(("", _)) => "/",

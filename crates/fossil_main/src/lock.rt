@@ -1,4 +1,4 @@
-//! One process for one file: a lock on the open file, which the kernel keeps, and lets go with the process that holds it.
+//! Locks an open file for one process: the kernel keeps the lock, and lets it go with the process that holds it.
 ghost use Rattle.std.specs.Prelude.{◌≡◌, true, false, Err, IsOk};
 ghost use Rattle.std.specs.declared.fs.locks.TryLockError.TheVariants.{WouldBlock};
 
@@ -7,14 +7,15 @@ use std::fs::{File, TryLockError};
 use std::io;
 use std::io::ErrorKind;
 
-/// A file that was opened, and whether nothing keeps other processes from it, since its file system has no locks.
+/// A file that was opened, and whether its file system has no locks, so that nothing keeps other processes from it.
 pub struct Opened {
     pub disk: FileDisk,
     pub is_unguarded: bool,
 }
 
 impl Opened {
-    /// What stands for a file that couldn't be opened, or that another process holds: each call of its disk fails.
+    /// Makes what takes the place of a file that couldn't be opened, or that another process holds: each call of its disk
+    /// fails.
     pub fn none() -> Opened
         ensures { result.disk.is_open ≡ false }
     {
@@ -25,7 +26,7 @@ impl Opened {
     }
 }
 
-/// A file for this process alone: none where another one holds it.
+/// Locks a file for this process alone. Where another one holds it, each call of its disk fails.
 pub fn alone(file: File) -> Opened {
     let answer = file.try_lock();
     under(file, answer)

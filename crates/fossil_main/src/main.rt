@@ -1,4 +1,4 @@
-//! The program: it makes the real objects and hands them to `fossil::run` and `fossil::serve`.
+//! Makes the real objects, and hands them to `fossil::run` and `fossil::serve`.
 #![tactic(auto)]
 
 mod crews;

@@ -31,7 +31,7 @@ fn text_of(word: &Text) -> Option<&str> {
     str::from_utf8(word.bytes()).ok()
 }
 
-/// The disks of the files that a command opens.
+/// Opens the files of a command, and gives their disks. Each call of the disk of a file that can't be opened fails.
 pub fn open(rt: &HostRuntime, words: &Words) -> Disks {
     let (own, is_own_unguarded) = if only_reads(&words.command) {
         (open_beside(rt, &words.repository), false)
@@ -93,7 +93,7 @@ fn beside(file: SharedFile) -> AnyDisk {
     }
 }
 
-/// The disk of the file that a serve opens.
+/// Opens the file of a serve, and gives its disk. Each call of it fails where the file can't be opened.
 pub fn open_served(rt: &HostRuntime, words: &Words) -> FileDisk {
     let Opened { disk, is_unguarded } = open_own(rt, words);
     tell_unguarded(rt, is_unguarded);
@@ -213,7 +213,8 @@ fn dialled(command: &Command) -> Option<&Text> {
     }
 }
 
-/// The dial of a pull, a push or a clone; each call of it fails for every other command. None for want of memory.
+/// Makes the dial of a pull, a push or a clone; each call of it fails for every other command. `None` where the program
+/// is out of memory.
 pub fn dial(rt: &HostRuntime, command: &Command) -> Option<TcpDial<HostRuntime>> {
     match dialled(command) {
         Some(word) => match text_of(word) {
@@ -233,7 +234,7 @@ fn dial_to(
     Ok(TcpDial::new(rt.clone()?, address.to_string(alloc)?))
 }
 
-/// The users file of a serve. Each read fails where it can't be opened.
+/// Opens the users file of a serve. Each read fails where it can't be opened.
 pub fn open_users(rt: &HostRuntime, users: &Text) -> StdSource<File> {
     match text_of(users) {
         Some(path) => match File::open(rt, path) {
@@ -244,7 +245,7 @@ pub fn open_users(rt: &HostRuntime, users: &Text) -> StdSource<File> {
     }
 }
 
-/// The socket of a serve, which listens at an address, and says so on standard error. None where nothing can listen there.
+/// Listens at the address of a serve, and says so on standard error. `None` where nothing can listen there.
 pub fn listen(rt: &HostRuntime, address: &Text) -> Option<TcpListener> {
     let address = text_of(address)?;
     let listener = TcpListener::bind(rt, address).ok()?;
@@ -268,8 +269,8 @@ pub fn tell_ended(rt: &HostRuntime, has_listened: bool) {
     }
 }
 
-/// Where the lines of a server's connections go: to standard error where the variable FOSSIL_LOG is set and neither empty nor `0`, else
-/// nowhere.
+/// Gives standard error for the lines of a server's connections, where the variable FOSSIL_LOG is set and neither empty
+/// nor `0`, and else nothing.
 pub fn log_of(rt: &HostRuntime) -> Option<Stderr> {
     match std::env::var(rt, "FOSSIL_LOG") {
         Ok(value) if value.is_empty() || value.as_str() == "0" => None,

@@ -1,4 +1,4 @@
-//! A serve over real sockets.
+//! Serves over real sockets.
 ghost use Rattle.std.specs.Prelude.{map, string_bytes};
 ghost use Rattle.fossil.specs.Served.{AreStaffed};
 
@@ -13,7 +13,8 @@ use std::sync::Wait;
 use std::thread::Threads;
 use std::time::Clock;
 
-/// How a serve takes its connections: by this socket, if there is one, with so many workers, and where a line for each goes, if anywhere.
+/// The means of a serve: the socket for its connections, if there is one, the number of workers, and where a line for
+/// each connection goes, if anywhere.
 #[derive(Drop)]
 pub struct Staff {
     pub listener: Option<TcpListener>,

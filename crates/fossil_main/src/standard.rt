@@ -1,15 +1,15 @@
-//! The numbers of the standard streams.
+//! Holds the numbers of the standard streams.
 use std::fs::File;
 
-/// What stands at the numbers of the standard streams that were closed.
+/// The files at the numbers of the standard streams that were closed.
 #[derive(Drop)]
 pub struct Standard {
     files: [Option<File>; 3],
 }
 
-/// Takes the numbers of standard input, output and error where these were closed when the program began, for as long as what it gives is
-/// there. The system gives a file that is opened the lowest free number, so what is printed would else be written into a repository. From
-/// what stands there nothing can be read, and nothing can be written to it, as with a stream that is closed.
+/// Takes the numbers of standard input, output and error where these were closed when the program began, for as long as
+/// the result lives. The system gives a file that is opened the lowest free number, so what is printed would else be
+/// written into a repository. A read or a write at these numbers fails, as with a stream that is closed.
 pub fn hold(rt: &HostRuntime) -> Standard {
     Standard {
         files: [of_nothing(rt), of_nothing(rt), of_nothing(rt)],

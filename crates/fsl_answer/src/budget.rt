@@ -1,11 +1,11 @@
-//! How many files a reply takes.
+//! Chooses how many files a reply takes.
 ghost use Rattle.std.specs.Prelude.{◌≡◌};
 ghost use Rattle.fsl_answer.specs.Replies.{taken};
 
 use fsl_text::{BUDGET, SHARE};
 
-/// How many leading files the budget takes, by their sizes in bytes: a file is taken while the sum before it, 64 bytes
-/// more for each, is below 1,000,000. So the first is always taken. Takes no memory.
+/// Returns how many leading files the budget takes, by their sizes in bytes. A file is taken as long as the sum before it, 64
+/// bytes more for each, is below 1,000,000. So the first is always taken. Takes no memory.
 pub fn taken(sizes: &[u64]) -> u64
     ensures { result ≡ taken sizes.now }
 {

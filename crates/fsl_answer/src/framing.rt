@@ -1,4 +1,4 @@
-//! The bytes of a reply.
+//! Writes the bytes of a reply.
 ghost use Rattle.std.specs.Prelude.{◌≡◌, ◌++◌, IfOk, OnOk, flat_map, option_to_list, take};
 ghost use Rattle.fsl_answer.specs.Replies.{error_line, push_line, igot_line, gimme_line, file_lines, seqno_line, reply_text};
 
@@ -8,7 +8,7 @@ use fsl_text::{MOST_NOTICES, Memory, Text};
 use fsl_wire::{append_error, append_file, append_gimme, append_igot, append_line, append_seqno};
 use std::alloc::Global;
 
-/// Puts an error card for each notice at the end of a text, and none for those behind the first 100.
+/// Adds an error card for each notice, and none for those behind the first 100.
 fn append_notices(into: &mut Text, notices: &[Text]) -> Result<(), Memory>
     ensures { OnOk result (into.new ≡ into.old ++ flat_map error_line (take 100 notices.now)) }
 {
@@ -19,7 +19,7 @@ fn append_notices(into: &mut Text, notices: &[Text]) -> Result<(), Memory>
     Ok(())
 }
 
-/// Puts a push card at the end of a text, where there are codes.
+/// Adds a push card, if there are codes.
 fn append_codes(into: &mut Text, codes: &Option<(Name, Name)>) -> Result<(), Memory>
     ensures { OnOk result (into.new ≡ into.old ++ flat_map push_line (option_to_list codes.now)) }
 {
@@ -29,7 +29,7 @@ fn append_codes(into: &mut Text, codes: &Option<(Name, Name)>) -> Result<(), Mem
     }
 }
 
-/// Puts an igot card for each name at the end of a text.
+/// Adds an igot card for each name.
 fn append_igots(into: &mut Text, igots: &[(Name, bool)]) -> Result<(), Memory>
     ensures { OnOk result (into.new ≡ into.old ++ flat_map igot_line igots.now) }
 {
@@ -39,7 +39,7 @@ fn append_igots(into: &mut Text, igots: &[(Name, bool)]) -> Result<(), Memory>
     Ok(())
 }
 
-/// Puts a gimme card for each name at the end of a text.
+/// Adds a gimme card for each name.
 fn append_gimmes(into: &mut Text, gimmes: &[Name]) -> Result<(), Memory>
     ensures { OnOk result (into.new ≡ into.old ++ flat_map gimme_line gimmes.now) }
 {
@@ -49,7 +49,7 @@ fn append_gimmes(into: &mut Text, gimmes: &[Name]) -> Result<(), Memory>
     Ok(())
 }
 
-/// Puts a file at the end of a text; a private one follows a private card.
+/// Adds a file, and before a private one a private card.
 fn append_sent(into: &mut Text, file: &SentFile) -> Result<(), Memory>
     ensures { OnOk result (into.new ≡ into.old ++ file_lines file.now) }
 {
@@ -59,7 +59,7 @@ fn append_sent(into: &mut Text, file: &SentFile) -> Result<(), Memory>
     append_file(into, &file.name, file.bytes.bytes())
 }
 
-/// Puts files at the end of a text.
+/// Adds files.
 fn append_files(into: &mut Text, files: &[SentFile]) -> Result<(), Memory>
     ensures { OnOk result (into.new ≡ into.old ++ flat_map file_lines files.now) }
 {
@@ -69,7 +69,7 @@ fn append_files(into: &mut Text, files: &[SentFile]) -> Result<(), Memory>
     Ok(())
 }
 
-/// Puts a clone_seqno card at the end of a text, where a clone goes on.
+/// Adds a clone_seqno card, if a clone goes on.
 fn append_sequel(into: &mut Text, sequel: &Option<u64>) -> Result<(), Memory>
     ensures { OnOk result (into.new ≡ into.old ++ flat_map seqno_line (option_to_list sequel.now)) }
 {
@@ -79,8 +79,9 @@ fn append_sequel(into: &mut Text, sequel: &Option<u64>) -> Result<(), Memory>
     }
 }
 
-/// The bytes of a reply: an error card for each of the first 100 notices, a push card with the codes, igot cards, gimme
+/// Writes the bytes of a reply: an error card for each of the first 100 notices, a push card with the codes, igot cards, gimme
 /// cards, file cards, each private one behind a private card, and a clone_seqno card. `Memory` is the only error.
+/// FORMATS: Users, logins and replies
 pub fn frame(alloc: Global, lists: &Lists) -> Result<Text, Memory>
     ensures { IfOk result (λ text. text ≡ reply_text lists.now) }
 {

@@ -1,7 +1,7 @@
-//! Laws of replies, as contracts of functions without code.
+//! Laws of replies.
 ghost use Rattle.fsl_answer.specs.Keeps.{RepliesKeep};
 
-/// A law and no code: a reply names private artifacts to nobody but one who may see them and asks for them.
+/// Says that a reply names private artifacts only to a sender who may see them and asks for them. This is a law and runs no code.
 pub fn replies_keep()
     ensures { RepliesKeep }
 {}

@@ -1,4 +1,4 @@
-//! What is answered to a message: why it is refused, how many files a reply takes, and the bytes of a reply.
+//! Answers a message. It says why a message is refused and how many files a reply takes, and writes the bytes of a reply.
 #![tactic(auto)]
 
 mod budget;
@@ -23,18 +23,18 @@ pub struct SentFile {
     pub bytes: Text,
 }
 
-/// What a reply has, in its order.
+/// The content of a reply, in its order.
 #[derive(Drop)]
 pub struct Lists {
     /// Notices, as plain texts. A reply has the first 100.
     pub notices: List<Text>,
     /// The codes of the server and of its project.
     pub codes: Option<(Name, Name)>,
-    /// The names that the server has, with true where the artifact is private.
+    /// The names that the server has, with true if the artifact is private.
     pub igots: List<(Name, bool)>,
     /// The names that the server asks for.
     pub gimmes: List<Name>,
     pub files: List<SentFile>,
-    /// Where a clone goes on: the place of the first artifact that wasn't sent, or 0.
+    /// The place at which a clone goes on: that of the first artifact that wasn't sent, or 0.
     pub sequel: Option<u64>,
 }

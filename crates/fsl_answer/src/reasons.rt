@@ -1,16 +1,16 @@
-//! Why messages are refused.
+//! Reasons to refuse a message.
 
-/// Why a message is refused.
+/// Says why a message is refused.
 #[derive(Clone, Copy, Debug, PartialEq, Eq)]
 pub enum Refusal {
     /// The code is that of another project.
     Project,
-    /// Who sent it may not push, or a file has no push card before it.
+    /// The sender may not push, or a file has no push card before it.
     Write,
-    /// Who sent it may not pull.
+    /// The sender may not pull.
     Read,
-    /// Who sent it may not clone.
+    /// The sender may not clone.
     Clone,
-    /// Who sent it may send no private artifacts.
+    /// The sender may send no private artifacts.
     Private,
 }

@@ -1,4 +1,4 @@
-//! Which message is refused, and why.
+//! Decides which message is refused, and why.
 ghost use Rattle.std.specs.Prelude.{◌≡◌};
 ghost use Rattle.std.specs.Str.{bytes_eq};
 ghost use Rattle.fsl_name.specs.Name.{name_text};
@@ -9,21 +9,21 @@ use crate::Refusal;
 use fsl_name::Name;
 use fsl_wire::{Caps, Message, WireCard};
 
-/// A reason, unless a test holds.
+/// Returns a reason, unless a test holds.
 fn unless(holds: bool, reason: Refusal) -> Option<Refusal>
     ensures { result ≡ unless holds reason }
 {
     if holds { None } else { Some(reason) }
 }
 
-/// Whether a code is that of the project.
+/// Returns whether a code is that of the project.
 fn is_code(code: &[u8], project: Name) -> bool
     ensures { result ≡ bytes_eq code.now (name_text project) }
 {
     code == project.text().as_slice()
 }
 
-/// Why a card with a project's code is refused: the code is another one, or else the sender isn't allowed.
+/// Returns why a card with a project's code is refused: the code is another one, or else the sender isn't allowed.
 fn code_refusal(code: &[u8], project: Name, allowed: bool, reason: Refusal) -> Option<Refusal>
     ensures { result ≡ or_else (unless (bytes_eq code.now (name_text project)) refusal_is.Project) (unless allowed reason) }
 {
@@ -34,7 +34,7 @@ fn code_refusal(code: &[u8], project: Name, allowed: bool, reason: Refusal) -> O
     }
 }
 
-/// Why a card is refused, behind cards among which a push card stands or not.
+/// Returns why a card is refused. `pushed` says whether a push card came before it.
 fn card_refusal(card: &WireCard, caps: Caps, project: Name, pushed: bool) -> Option<Refusal>
     ensures { result ≡ refusal_of caps project pushed card.now }
 {
@@ -58,10 +58,11 @@ fn is_push(card: &WireCard) -> bool
     matches!(card, WireCard::Push { .. })
 }
 
-/// Why a message is refused, by who sent it and the project's code: the first card that refuses decides. A `push` or a
-/// `pull` card refuses where its project code differs, or else without the right to push or pull; a `clone` card without
-/// that to clone; a `file` card without a push card before it; and a `private` card without the right to private
-/// artifacts. `None` where no card refuses. Takes no memory.
+/// Returns why a message is refused, by its sender and the project's code. The first card that refuses decides. A `push` or a
+/// `pull` card refuses if its project code differs, or else without the right to push or pull. A `clone` card refuses without the
+/// right to clone, a `file` card without a push card before it, and a `private` card without the right to private artifacts.
+/// Returns `None` if no card refuses. Takes no memory.
+/// FORMATS: Users, logins and replies
 pub fn refusal(message: &Message, caps: Caps, project: Name) -> Option<Refusal>
     ensures { result ≡ refusal message.now caps project }
 {

@@ -1,4 +1,4 @@
-//! What some bytes are.
+//! Finds the kind of some bytes.
 ghost use Rattle.std.specs.Prelude.{◌≡◌, ◌+◌, IfOk};
 ghost use Rattle.fsl_card.specs.Cards.{IsReading};
 ghost use Rattle.fsl_artifact.specs.Kind.{AreOfKind, IsKind};
@@ -11,8 +11,8 @@ use fsl_text::{Memory, Steps};
 use std::alloc::Global;
 use std::sync::ledger::Ledger;
 
-/// The artifact that cards are, or `None` where they are of no kind. Each kind refuses cards whose letters aren't its
-/// own before it reads any of them, so that one kind at most does so.
+/// Reads the artifact of some cards, or returns `None` if they are of no kind. Each kind refuses cards with other letters than
+/// its own before it reads any of them, so that one kind at most does so.
 fn of_kind(alloc: Global, cards: &Cards) -> Result<Option<Artifact>, Memory>
     ensures { IfOk result (IsReading AreOfKind cards.now) }
 {
@@ -43,7 +43,7 @@ fn of_kind(alloc: Global, cards: &Cards) -> Result<Option<Artifact>, Memory>
     Ok(None)
 }
 
-/// The artifact that some bytes are.
+/// Reads the artifact of some bytes.
 fn artifact_of(alloc: Global, bytes: &[u8]) -> Result<Artifact, Memory>
     ensures { IfOk result (IsKind bytes.now) }
 {
@@ -56,11 +56,12 @@ fn artifact_of(alloc: Global, bytes: &[u8]) -> Result<Artifact, Memory>
     }
 }
 
-/// The artifact that some bytes are, in time linear in them.
+/// Reads the artifact of some bytes, in time linear in them.
 ///
-/// The bytes are of a kind exactly where they are a structural text whose cards have the letters of the kind, each as
-/// often as the kind says, and each card the form of its letter. All other bytes are `Plain`. Adds one to the count of
-/// steps, whatever it answers. `Memory` is the only error.
+/// The bytes are of a kind exactly if they are a structural text whose cards have the letters of the kind, each as often as the
+/// kind says, and each card has the form of its letter. All other bytes are `Plain`. Each call adds one to the count of steps.
+/// `Memory` is the only error.
+/// FORMATS: Kinds
 pub fn parse<L: Ledger>(
     alloc: Global,
     bytes: &[u8],

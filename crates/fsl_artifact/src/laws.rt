@@ -1,17 +1,17 @@
-//! Laws of artifacts, of which each function's contract is one.
+//! Laws of artifacts.
 ghost use Rattle.fsl_artifact.specs.Kind.{IsOfOneKind, IsOneArtifact, IsSomeArtifact};
 
-/// A text is one artifact at most.
+/// Says that a text is one artifact at most.
 pub fn text_is_one_artifact()
     ensures { IsOneArtifact }
 {}
 
-/// A text is some artifact.
+/// Says that each text is some artifact.
 pub fn text_is_some_artifact()
     ensures { IsSomeArtifact }
 {}
 
-/// A text has one value of one kind at most, so that no text is of two kinds.
+/// Says that a text has one value of one kind at most, so that no text is of two kinds.
 pub fn text_is_of_one_kind()
     ensures { IsOfOneKind }
 {}

@@ -1,8 +1,8 @@
-//! What an artifact is, and which artifacts it names.
+//! Reads artifacts, and finds the artifacts that they name.
 //!
-//! The bytes of an artifact are a structural text of one of eight kinds, or else plain content. `parse` says which, and
-//! gives the value that the text has; a text has one value of one kind at most. `refs` gives the names that the cards
-//! of an artifact name, ascending, each once.
+//! The bytes of an artifact are a structural text of one of eight kinds, or else plain content. `parse` finds the kind and the
+//! value of the text. A text has one value of one kind at most. `refs` gives the names in the cards of an artifact, ascending,
+//! each once.
 #![tactic(auto)]
 
 mod kind;
@@ -19,11 +19,11 @@ pub use references::{members, refs};
 /// An artifact: of one of eight kinds, or plain content.
 #[derive(Drop)]
 pub enum Artifact {
-    /// Of none of the kinds.
+    /// The content is plain: it is of none of the kinds.
     Plain,
     /// A check-in.
     Manifest(manifests::Manifest),
-    /// A list of artifacts that are known.
+    /// A list of known artifacts.
     Cluster(forms::Cluster),
     /// Tags on other artifacts.
     Control(forms::Control),

@@ -1,4 +1,4 @@
-//! The own names that stand in the cards of an artifact, put behind others. Foreign ones are left out.
+//! Adds the own names in the cards of an artifact behind others. Foreign ones are left out.
 ghost use Rattle.std.specs.Prelude.{◌≡◌, ◌∷◌, ◌++◌, OnOk, flat_map, option_to_list};
 ghost use Rattle.fsl_name.specs.Ref.{own_names};
 ghost use Rattle.fsl_artifact.specs.References.{manifest_names, names_in, tag_targets};
@@ -10,7 +10,7 @@ use fsl_manifest::{FileCard, Manifest, Pick};
 use fsl_name::{Name, Ref};
 use fsl_text::Memory;
 
-/// Puts a name at the end, where there is one.
+/// Adds a name at the end, if there is one.
 fn append_optional(names: &mut Vec<Name>, name: Option<Name>) -> Result<(), Memory>
     ensures { OnOk result (names.new.items ≡ names.old.items ++ option_to_list name) }
 {
@@ -20,7 +20,7 @@ fn append_optional(names: &mut Vec<Name>, name: Option<Name>) -> Result<(), Memo
     Ok(())
 }
 
-/// Puts the name of a reference at the end, where there is one that isn't foreign.
+/// Adds the name of a reference at the end, if there is one that isn't foreign.
 fn append_ref(names: &mut Vec<Name>, reference: &Option<Ref>) -> Result<(), Memory>
     ensures { OnOk result (names.new.items ≡ names.old.items ++ own_names (option_to_list reference.now)) }
 {
@@ -30,7 +30,7 @@ fn append_ref(names: &mut Vec<Name>, reference: &Option<Ref>) -> Result<(), Memo
     }
 }
 
-/// Puts the names of references at the end.
+/// Adds the names of references at the end. `Memory` is the only error.
 pub fn append_refs(names: &mut Vec<Name>, refs: &[Ref]) -> Result<(), Memory>
     ensures { OnOk result (names.new.items ≡ names.old.items ++ own_names refs.now) }
 {
@@ -40,7 +40,7 @@ pub fn append_refs(names: &mut Vec<Name>, refs: &[Ref]) -> Result<(), Memory>
     Ok(())
 }
 
-/// Puts the targets of tags at the end.
+/// Adds the targets of tags at the end.
 fn append_targets(names: &mut Vec<Name>, tags: &[TagCard]) -> Result<(), Memory>
     ensures { OnOk result (names.new.items ≡ names.old.items ++ tag_targets tags.now) }
 {
@@ -50,7 +50,7 @@ fn append_targets(names: &mut Vec<Name>, tags: &[TagCard]) -> Result<(), Memory>
     Ok(())
 }
 
-/// Puts the contents of files at the end.
+/// Adds the contents of files at the end.
 fn append_files(names: &mut Vec<Name>, files: &[FileCard]) -> Result<(), Memory>
     ensures { OnOk result (names.new.items ≡ names.old.items ++ flat_map (λ file. own_names (option_to_list file.hash)) files.now) }
 {
@@ -60,7 +60,7 @@ fn append_files(names: &mut Vec<Name>, files: &[FileCard]) -> Result<(), Memory>
     Ok(())
 }
 
-/// Puts the check-ins that were picked or backed out at the end.
+/// Adds the check-ins that were picked or backed out at the end.
 fn append_picks(names: &mut Vec<Name>, picks: &[Pick]) -> Result<(), Memory>
     ensures { OnOk result (names.new.items ≡ names.old.items ++ flat_map (λ pick. own_names (pick.target ∷ option_to_list pick.other)) picks.now) }
 {
@@ -71,7 +71,7 @@ fn append_picks(names: &mut Vec<Name>, picks: &[Pick]) -> Result<(), Memory>
     Ok(())
 }
 
-/// Puts the names in a check-in at the end.
+/// Adds the names in a check-in at the end.
 fn append_manifest(names: &mut Vec<Name>, manifest: &Manifest) -> Result<(), Memory>
     ensures { OnOk result (names.new.items ≡ names.old.items ++ manifest_names manifest.now) }
 {
@@ -82,7 +82,7 @@ fn append_manifest(names: &mut Vec<Name>, manifest: &Manifest) -> Result<(), Mem
     append_targets(names, manifest.tags.items())
 }
 
-/// Puts the names in a technote at the end.
+/// Adds the names in a technote at the end.
 fn append_technote(names: &mut Vec<Name>, note: &Technote) -> Result<(), Memory>
     ensures { OnOk result (names.new.items ≡ names.old.items ++ (own_names note.now.parents ++ tag_targets note.now.tags)) }
 {
@@ -90,7 +90,7 @@ fn append_technote(names: &mut Vec<Name>, note: &Technote) -> Result<(), Memory>
     append_targets(names, note.tags.items())
 }
 
-/// Puts the names in a forum post at the end.
+/// Adds the names in a forum post at the end.
 fn append_forum(names: &mut Vec<Name>, post: &Forum) -> Result<(), Memory>
     ensures { OnOk result (names.new.items ≡ names.old.items ++ (option_to_list post.now.root ++ option_to_list post.now.reply ++ option_to_list post.now.prior)) }
 {
@@ -99,7 +99,7 @@ fn append_forum(names: &mut Vec<Name>, post: &Forum) -> Result<(), Memory>
     append_optional(names, post.prior)
 }
 
-/// Puts the names in an artifact at the end.
+/// Adds the names in an artifact at the end. `Memory` is the only error.
 pub fn append_names(names: &mut Vec<Name>, artifact: &Artifact) -> Result<(), Memory>
     ensures { OnOk result (names.new.items ≡ names.old.items ++ names_in artifact.now) }
 {

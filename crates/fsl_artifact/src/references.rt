@@ -1,4 +1,4 @@
-//! The artifacts that an artifact names.
+//! Finds the artifacts that an artifact names.
 ghost use Rattle.std.specs.Prelude.{◌≡◌, ◌++◌, IfOk, OnOk};
 ghost use Rattle.fsl_artifact.specs.References.{members, names_in, references};
 
@@ -8,7 +8,7 @@ use fsl_name::{Name, ordered};
 use fsl_text::{List, Memory};
 use std::alloc::Global;
 
-/// The own names that stand in the cards of an artifact.
+/// Returns the own names in the cards of an artifact.
 fn names_in(alloc: Global, artifact: &Artifact) -> Result<Vec<Name>, Memory>
     ensures { IfOk result (λ names. names.items ≡ names_in artifact.now) }
 {
@@ -17,8 +17,8 @@ fn names_in(alloc: Global, artifact: &Artifact) -> Result<Vec<Name>, Memory>
     Ok(names)
 }
 
-/// The names that an artifact refers to, ascending, each once: those of 40 digits in its B, F, P, Q, T, M, G and I
-/// cards, and the source in its A card. The target `*` of a tag is no name. Plain content and tickets refer to none. `Memory` is the
+/// Finds the names that an artifact refers to, ascending, each once: those of 40 digits in its B, F, P, Q, T, M, G and I cards,
+/// and the source in its A card. The target `*` of a tag is no name. Plain content and tickets refer to none. `Memory` is the
 /// only error.
 pub fn refs(alloc: Global, artifact: &Artifact) -> Result<List<Name>, Memory>
     ensures { IfOk result (λ names. names ≡ references artifact.now) }
@@ -27,8 +27,8 @@ pub fn refs(alloc: Global, artifact: &Artifact) -> Result<List<Name>, Memory>
     Ok(List::from_vec(ordered(names)))
 }
 
-/// The names of 40 digits in the M cards of a cluster, in their order; of every other artifact none. `Memory` is the
-/// only error.
+/// Finds the names of 40 digits in the M cards of a cluster, in their order. Every other artifact has none. `Memory` is the only
+/// error.
 pub fn members(alloc: Global, artifact: &Artifact) -> Result<List<Name>, Memory>
     ensures { IfOk result (λ names. names ≡ members artifact.now) }
 {
@@ -37,7 +37,7 @@ pub fn members(alloc: Global, artifact: &Artifact) -> Result<List<Name>, Memory>
     Ok(List::from_vec(names))
 }
 
-/// Puts the names in the M cards of a cluster at the end.
+/// Adds the names in the M cards of a cluster at the end.
 fn append_members(names: &mut Vec<Name>, artifact: &Artifact) -> Result<(), Memory>
     ensures { OnOk result (names.new.items ≡ names.old.items ++ members artifact.now) }
 {

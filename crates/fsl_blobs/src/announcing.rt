@@ -1,4 +1,4 @@
-//! Announced names.
+//! Announces names.
 ghost use Rattle.std.specs.Prelude.{◌≡◌, ℕ, List, true, IfOk, OnErr};
 ghost use Rattle.std.specs.FinSet as set;
 ghost use Rattle.fsl_blobs.specs.Fold.{contents, is_new};
@@ -9,14 +9,14 @@ use crate::{Blobs, Known};
 use fsl_name::Name;
 use fsl_text::Memory;
 
-/// So many names may be announced.
+/// The most names that may be announced.
 const MOST_ANNOUNCED: usize = 65_536;
 
 impl Blobs {
-    /// Announces a name, unless it is held, shunned, announced already or one too many: the first of these that is so is
-    /// the answer, and then all stays as it was.
+    /// Announces a name, unless it is held, shunned, announced already or one too many. The first of these that holds is the
+    /// answer, and then everything stays as it was.
     ///
-    /// `Memory` is the only error. It comes in place of `New` alone, and then too all stays as it was.
+    /// `Memory` is the only error. It comes in place of `New` alone, and then too everything stays as it was.
     pub fn announce(&mut self, name: Name) -> Result<Known, Memory>
         ensures known { IfOk result (λ known. known ≡ known_of self.old name) }
         ensures value { IfOk result (λ known. self.new ≡ announced_after self.old name known) }
@@ -39,7 +39,7 @@ impl Blobs {
         Ok(Known::New)
     }
 
-    /// Announced names are neither held nor shunned. This call does nothing: by it a caller learns so.
+    /// Says that announced names are neither held nor shunned. This call only proves it to its caller, and does nothing.
     pub fn announced_are_new(&self)
         ensures { (name : List ℕ) → set.contains self.now.announced name ≡ true → is_new (contents self.now.records) name ≡ true }
     {

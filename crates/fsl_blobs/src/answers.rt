@@ -1,4 +1,4 @@
-//! What the held artifacts answer.
+//! Answers questions on the held artifacts.
 ghost use Rattle.std.specs.Prelude.{◌≡◌, nat_eq, Some, None, IfOk, IfSome, OnOk, map};
 ghost use Rattle.std.specs.List.{AllByRecursion, IsDistinct};
 ghost use Rattle.std.specs.Option.{option_map, option_copied};
@@ -15,14 +15,14 @@ use fsl_text::{List, Memory};
 use std::alloc::Global;
 
 impl Blobs {
-    /// The codes of the repository, and its configured ticket fields. A second Config changes nothing.
+    /// Returns the codes of the repository, and its configured ticket fields. A second Config changes nothing.
     pub fn config(&self) -> &Config
         ensures { (contents self.now.records).config ≡ Some result.now }
     {
         &self.config
     }
 
-    /// What a name is: held and public, held and private, shunned, or none of these. Takes no memory.
+    /// Returns the state of a name: held and public, held and private, shunned, or none of these. Takes no memory.
     pub fn state(&self, name: Name) -> BlobState
         ensures { result ≡ state_of (contents self.now.records) name }
     {
@@ -40,7 +40,8 @@ impl Blobs {
         }
     }
 
-    /// Who brought a held artifact, and when; none where that wasn't told, or the name isn't held. Takes no memory.
+    /// Returns who brought a held artifact, and when. Returns `None` if that wasn't recorded, or the name isn't held. Takes no
+    /// memory.
     pub fn receipt(&self, name: Name) -> Option<&Receipt>
         ensures { option_copied result ≡ map_of.get (contents self.now.records).receipts name }
     {
@@ -50,15 +51,15 @@ impl Blobs {
         }
     }
 
-    /// Which held name begins with these digits. The prefix may be any bytes, and an empty one begins each name. Takes no
-    /// memory.
+    /// Finds the held name that begins with these digits. The prefix may be any bytes, and an empty one begins each name. Takes
+    /// no memory.
     pub fn find(&self, prefix: &[u8]) -> Found
         ensures { result ≡ found (matching (contents self.now.records).held prefix.now) }
     {
         only_match(&self.held, prefix)
     }
 
-    /// The held names whose place is at least this, by place. A place is that of the record that added the artifact,
+    /// Returns the held names whose place is at least `from`, by place. A place is that of the record that added the artifact,
     /// counted from 1. `Memory` is the only error.
     pub fn held(&self, alloc: Global, from: u64) -> Result<List<Placed>, Memory>
         ensures names { IfOk result (λ names. map (λ p. (p.place, p.name)) names ≡ held_from self.now.records from) }
@@ -73,7 +74,7 @@ impl Blobs {
         Ok(List::from_vec(names))
     }
 
-    /// The names of the artifacts that are held as private ones, or as public ones, by place. The others aren't walked.
+    /// Returns the names of the artifacts that are held as private ones, or as public ones, by place. The others aren't walked.
     /// `Memory` is the only error.
     pub fn names_by_place(&self, alloc: Global, private: bool) -> Result<List<Name>, Memory>
         ensures { IfOk result (λ names. names ≡ map (λ p. p.1) (held_as_from private self.now.records 0)) }
@@ -87,9 +88,9 @@ impl Blobs {
         Ok(List::from_vec(names))
     }
 
-    /// The first public names whose place is at least this, by place: those before which the sizes of their artifacts in
-    /// bytes, and so much for each, don't reach a sum, and one more. No others are walked, so that a round of a clone costs
-    /// what it sends. `Memory` is the only error.
+    /// Returns the first public names whose place is at least `from`, by place. It takes each name before which the sizes of the
+    /// artifacts in bytes, and so much for each, don't reach a sum, and one more. No others are walked, so that a round of a
+    /// clone costs only the files that it sends. `Memory` is the only error.
     pub fn public_front(
         &self,
         alloc: Global,
@@ -104,7 +105,7 @@ impl Blobs {
         Ok(List::from_vec(names))
     }
 
-    /// What is known of a held artifact, public or private; none where the name isn't held. Takes no memory.
+    /// Describes a held artifact, public or private. Returns `None` if the name isn't held. Takes no memory.
     pub fn holding(&self, name: Name) -> Option<Holding<'_>>
         ensures held { option_map held_as result ≡ option_map (λ a. (name, a)) (map_of.get (contents self.now.records).held name) }
         ensures from { IfSome result (IsHolding self.now.records) }
@@ -121,7 +122,7 @@ impl Blobs {
         }
     }
 
-    /// What is known of the held artifacts, public and private, by rising name. `Memory` is the only error.
+    /// Describes the held artifacts, public and private, by rising name. `Memory` is the only error.
     pub fn holdings<'a>(&'a self, alloc: Global) -> Result<Vec<Holding<'a>>, Memory>
         ensures held { IfOk result (λ list. map held_as list.items ≡ map_of.entries (contents self.now.records).held) }
         ensures from { IfOk result (λ list. AllByRecursion (IsHolding self.now.records) list.items) }

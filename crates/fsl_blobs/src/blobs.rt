@@ -1,4 +1,4 @@
-//! The held artifacts, and how records change them.
+//! Holds the artifacts, and changes them by records.
 ghost use Rattle.std.specs.Prelude.{◌≡◌, ◌<◌, ◌++◌, ◌∷◌, [], length, slice_get, Some, IfOk, OnOk, OnErr, IsTrue};
 ghost use Rattle.std.specs.FinSet as set;
 ghost use Rattle.std.specs.List.{AllByRecursion};
@@ -20,16 +20,16 @@ use std::marker::Model;
 use std::num::NonZeroUsize;
 use std::snapshot::Snapshot;
 
-/// So many contents are kept in memory at most.
+/// The most contents that are kept in memory.
 const MOST_CACHED: usize = 64;
 
-/// An artifact that is held. Its bytes are in the file.
+/// A held artifact. Its bytes are in the file.
 #[derive(Drop)]
 pub(crate) struct HeldArtifact {
     /// The place of the record that added it, counted from 1.
     pub(crate) place: u64,
     pub(crate) private: bool,
-    /// Where its content begins in the file.
+    /// The place in the file at which its content begins.
     pub(crate) at: u64,
     /// The number of its bytes.
     pub(crate) size: u64,
@@ -38,9 +38,9 @@ pub(crate) struct HeldArtifact {
     pub(crate) bytes: Snapshot<Text>,
 }
 
-/// The held artifacts, the shunned and the announced names, and the configuration. Contents stay in the file; the last
-/// ones that were read are kept in memory too. Contracts see the records that were read, in order, where the content of
-/// each begins in the file, the announced names, and what is kept in memory; all else is what these records leave.
+/// The held artifacts, the shunned and the announced names, and the configuration. Contents stay in the file, and the last ones
+/// that were read are kept in memory too. Contracts see the records that were read, in order, the place in the file at which the
+/// content of each begins, the announced names, and the contents in memory. All else follows from these records.
 ///
 /// Announced names are neither held nor shunned.
 #[derive(Drop)]
@@ -77,21 +77,21 @@ impl Model for Blobs {
     ghost invariant = { λ b. IsCounted (map (λ s. s.value) b.records.items) (map (λ s. s.value) b.starts.items) b.config b.held.entries b.shunned.keys b.announced.keys b.total b.order b.cache };
 }
 
-/// A record as contracts see it.
+/// Shows a record to contracts.
 fn seen(entry: &Record) -> Snapshot<Record>
     ensures { result.value ≡ entry.now }
 {
     Snapshot::of(entry)
 }
 
-/// A place as contracts see it.
+/// Shows a place to contracts.
 fn told(at: &u64) -> Snapshot<u64>
     ensures { result.value ≡ at.now }
 {
     Snapshot::of(at)
 }
 
-/// The Config that a record is.
+/// Returns the Config of a record.
 fn config_of(first: Record) -> Config
     requires { IsTrue (is_config first) }
     ensures { first ≡ record_of.Config result }
@@ -102,7 +102,7 @@ fn config_of(first: Record) -> Config
     config
 }
 
-/// The place of a record's content in the file, by the number of the records before it.
+/// Returns the place of a record's content in the file, by the number of the records before it.
 fn start_at(starts: &[u64], before: usize) -> u64
     requires { before < length starts.now }
     ensures { slice_get starts.now before ≡ Some result }
@@ -110,7 +110,7 @@ fn start_at(starts: &[u64], before: usize) -> u64
     starts[before]
 }
 
-/// Room for contents, with none of them.
+/// Returns room for contents, with none of them.
 fn no_contents(alloc: Global) -> Result<LruCache<u64, Text>, Memory>
     ensures { IfOk result (λ cache. cache ≡ lru_cache [] 64) }
 {
@@ -121,8 +121,8 @@ fn no_contents(alloc: Global) -> Result<LruCache<u64, Text>, Memory>
 }
 
 impl Blobs {
-    /// What the records of a repository leave: the first is its Config, and no other is. Their contents begin in the file
-    /// at these places, one for each record. `Memory` is the only error.
+    /// Applies the records of a repository: the first is its Config, and no other is. Their contents begin in the file at these
+    /// places, one for each record. `Memory` is the only error.
     pub fn fold(alloc: Global, places: &List<u64>, entries: List<Record>) -> Result<Blobs, Memory>
         requires records { AreRecords entries }
         requires places { length places.now ≡ length entries }
@@ -141,9 +141,8 @@ impl Blobs {
         Ok(blobs)
     }
 
-    /// The same with further records, none of them a Config, whose contents begin in the file at these places, one for each.
-    /// Their contents are not kept. It is for artifacts of which no name is announced. `Memory` is the only error, and then
-    /// nothing comes back.
+    /// Applies further records, none of them a Config, whose contents begin in the file at these places, one for each. Their
+    /// contents are not kept. No name may be announced. `Memory` is the only error, and then nothing comes back.
     pub fn and_more(self, places: &List<u64>, entries: List<Record>) -> Result<Blobs, Memory>
         requires fit { AllByRecursion IsWritable entries }
         requires places { length places.now ≡ length entries }
@@ -160,14 +159,14 @@ impl Blobs {
         Ok(blobs)
     }
 
-    /// How many records were read.
+    /// Returns how many records were read.
     fn read(&self) -> usize
         ensures { result ≡ length self.now.records }
     {
         self.records.len()
     }
 
-    /// What a Config leaves.
+    /// Applies a Config.
     fn configured(alloc: Global, at: u64, first: Record) -> Result<Blobs, Memory>
         requires { IsTrue (is_config first) }
         ensures { IfOk result (λ b. b ≡ record { records = first ∷ []; starts = at ∷ []; announced = set.empty; cached = [] }) }
@@ -193,9 +192,10 @@ impl Blobs {
         })
     }
 
-    /// Reads one record more, whose content begins in the file at this place. A blob's bytes have its name and are at most
-    /// 2^24. An announced name that is held or shunned from now on is no longer announced, and another Config changes
-    /// nothing. For want of memory all stays as it was.
+    /// Applies one more record, whose content begins in the file at this place. A blob's bytes have its name and are at most
+    /// 2^24. An announced name that becomes held or shunned is no longer announced, and another Config changes nothing. `Memory`
+    /// is the only error, and then everything stays as it was.
+    /// FORMATS: Messages of files
     pub fn apply(&mut self, at: u64, entry: Record) -> Result<(), Memory>
         requires fit { IsWritable entry }
         ensures ok { OnOk result (self.new ≡ applied self.old at entry) }

@@ -1,4 +1,4 @@
-//! What one record does to the held artifacts, the shunned and the announced names.
+//! Changes the held artifacts, the shunned and the announced names by one record.
 ghost use Rattle.std.specs.Prelude.{◌≡◌, ℕ, ◌+◌, ◌++◌, ◌∷◌, [], List, length, None, Some, not, ◌&&◌, ◌||◌, Bool, if◌then◌else◌, OnOk, OnErr};
 ghost use Rattle.std.specs.Option.{option_map};
 ghost use Rattle.std.specs.FinSet as set;
@@ -18,7 +18,7 @@ use fsl_text::{Memory, Text};
 use std::collections::{BTreeMap, BTreeSet};
 use std::snapshot::Snapshot;
 
-/// An artifact whose content stands in the file, without its bytes.
+/// Makes an artifact whose content is in the file, without its bytes.
 fn in_file(
     place: u64,
     at: u64,
@@ -87,7 +87,7 @@ fn reveal(held: &BTreeMap<Name, HeldArtifact>, order: &mut Order, name: Name) ->
     }
 }
 
-/// Makes an artifact public where the name is held.
+/// Makes an artifact public if the name is held.
 fn publish(held: &mut BTreeMap<Name, HeldArtifact>, name: &Name)
     ensures { (q : List ℕ) → held_at held.new.entries q ≡ option_map (published name.now q) (held_at held.old.entries q) }
 {

@@ -1,4 +1,4 @@
-//! Contents, which are read through the journal. The last ones are kept in memory.
+//! Reads contents through the journal, and keeps the last ones in memory. The last ones are kept in memory.
 ghost use Rattle.std.specs.Prelude.{◌≡◌, ◌↔◌, ◌≤◌, ℕ, List, length, None, Err, IfOk, IfErr, IfSome, OnOk, Contains, MatchOption};
 ghost use Rattle.std.specs.FinMap as map_of;
 ghost use Rattle.fsl_disk.specs.Disk.{IsModelled, Quiet};
@@ -22,7 +22,7 @@ use std::collections::BTreeMap;
 /// A content of more bytes isn't kept in memory.
 const MOST_KEPT: usize = 1_048_576;
 
-/// Where a content stands: the place of its record, its place in the file and its size.
+/// The place of a record, and the place and the size of its content in the file.
 #[derive(Clone, Copy)]
 pub(crate) struct Spot {
     pub(crate) place: u64,
@@ -30,7 +30,7 @@ pub(crate) struct Spot {
     pub(crate) size: u64,
 }
 
-/// Where the content of a held artifact stands.
+/// Finds the content of a held artifact in the file.
 fn spot_of(held: &BTreeMap<Name, HeldArtifact>, name: Name) -> Option<Spot>
     ensures { MatchOption result (held_at held.now.entries name ≡ None) (λ s. IsSpotOf (held_at held.now.entries name) s) }
 {
@@ -44,14 +44,14 @@ fn spot_of(held: &BTreeMap<Name, HeldArtifact>, name: Name) -> Option<Spot>
     }
 }
 
-/// No more contents are kept than there may be, which the type keeps.
+/// Says that no more contents are kept than there may be, as the type ensures.
 fn know_bound(cache: &LruCache<u64, Text>)
     ensures { length cache.now.entries ≤ cache.now.cap }
 {
     let _ = cache.len();
 }
 
-/// A copy of the content that is kept for a record, where one is. It becomes the last one that was asked for.
+/// Returns a copy of the content that is kept for a record, if one is. It becomes the last one that was asked for.
 fn recalled(
     alloc: Global,
     cache: &mut LruCache<u64, Text>,
@@ -70,7 +70,7 @@ fn recalled(
     }
 }
 
-/// Keeps a copy of the content of a record, where it isn't large and there is memory for it.
+/// Keeps a copy of the content of a record, if it isn't large and there is memory for it.
 fn keep(alloc: Global, cache: &mut LruCache<u64, Text>, place: u64, text: &Text)
     ensures kept { KeepsOrHas cache.old.entries place text.now cache.new.entries }
     ensures cap { cache.new.cap ≡ cache.old.cap }
@@ -116,15 +116,16 @@ fn read_named<D: Disk>(
 }
 
 impl Blobs {
-    /// The content of a held artifact, public or private. It is read through the journal, whose records these are, and its
-    /// name is tested; the last contents that were read are kept in memory, and then no device is called. Nor is one for a
+    /// Reads the content of a held artifact, public or private. It reads through the journal, whose records these are, and tests
+    /// the content's name. The last contents that were read are kept in memory, and then no device is called. Nor is one for a
     /// content that isn't committed.
     ///
-    /// Over a disk that tells its contents and meets the disk model these are the held bytes. Over every other disk they are
+    /// Over a disk that records its contents and meets the disk model these are the held bytes. Over every other disk they are
     /// bytes of the same name and size.
     ///
-    /// Errors: `Absent` where the name isn't held; `Disk` where a call of the disk failed; `Damaged` with the name of the bytes
-    /// that were read, where it is another one; `Memory`.
+    /// Errors: `Absent` if the name isn't held; `Disk` if a call of the disk failed; `Damaged` with the name of the bytes that
+    /// were read, if it is another one; `Memory`.
+    /// FORMATS: The repository file
     pub fn content<D: Disk>(
         &mut self,
         alloc: Global,

@@ -1,9 +1,9 @@
-//! The held artifacts: what the records of a repository leave, kept in memory as the records come. Their contents stay in
-//! the file; of each its place and its size there are known.
+//! Holds the artifacts of a repository, which are kept in memory as the records come. Their contents stay in the file, and the
+//! place and the size of each there are known.
 //!
 //! A blob adds its artifact, with its receipt, unless its name is held or shunned. Publishing makes a held artifact public.
-//! Shunning takes an artifact out, with its receipt, and lists its name; unshunning takes the name off the list. Whatever
-//! is asked is answered as if all records were read again from the first.
+//! Shunning takes an artifact out, with its receipt, and lists its name. Unshunning takes the name off the list. Every answer is
+//! the same as if all records were read again from the first.
 #![tactic(auto)]
 
 mod announcing;
@@ -26,42 +26,42 @@ use fsl_text::{Memory, Text};
 pub use laws::{held_are_named, shunned_are_not_held};
 use std::snapshot::Snapshot;
 
-/// What an announcement met.
+/// The result of an announcement.
 #[derive(Clone, Copy, PartialEq, Eq, Debug)]
 pub enum Known {
     /// The name is held.
     Held,
-    /// It is shunned.
+    /// The name is shunned.
     Shunned,
-    /// It was announced before.
+    /// The name was announced before.
     Again,
-    /// It is none of these, and there is no place for it: 65,536 names are announced, or more.
+    /// The name is none of these, and there is no place for it: 65,536 names are announced, or more.
     Full,
-    /// It is announced from now on.
+    /// The name is announced from now on.
     New,
 }
 
-/// What a name is. Sizes are in bytes.
+/// The state of a name. Sizes are in bytes.
 #[derive(Clone, Copy, PartialEq, Eq, Debug)]
 pub enum BlobState {
     /// A held artifact that is given to others.
     Public { size: u64 },
     /// A held artifact that isn't given to others.
     Private { size: u64 },
-    /// A name that isn't held while it is listed.
+    /// The name isn't held as long as it is listed.
     Shunned,
-    /// Neither held nor shunned.
+    /// The name is neither held nor shunned.
     Absent,
 }
 
-/// What a prefix of digits finds.
+/// The names that a prefix of digits finds.
 #[derive(Clone, Copy, PartialEq, Eq, Debug)]
 pub enum Found {
     /// No held name begins so.
     Nothing,
-    /// More than one does.
+    /// More than one held name begins so.
     Several,
-    /// This one alone.
+    /// Only this held name begins so.
     One(Name),
 }
 
@@ -72,30 +72,30 @@ pub struct Placed {
     pub name: Name,
 }
 
-/// What is known of a held artifact.
+/// The facts on a held artifact.
 #[derive(Clone, Copy)]
 pub struct Holding<'a> {
     pub name: Name,
-    /// Whether it isn't given to others.
+    /// Says whether the artifact is private: it isn't given to others.
     pub private: bool,
     /// The place of the record that added it, counted from 1.
     pub place: u64,
     /// The number of its bytes.
     pub size: u64,
-    /// Its bytes, which clauses alone see.
+    /// Its bytes, which only clauses see.
     pub bytes: &'a Snapshot<Text>,
 }
 
-/// Why a content wasn't given.
+/// Says why a content wasn't given.
 #[derive(Clone, Copy, PartialEq, Eq, Debug)]
 pub enum BlobFault {
     /// The name isn't held.
     Absent,
     /// A call of the disk failed.
     Disk,
-    /// The bytes that were read have this name, which is another one.
+    /// The bytes that were read have this other name.
     Damaged { found: Name },
-    /// There was no memory.
+    /// The content doesn't fit in memory.
     Memory,
 }
 

@@ -1,4 +1,4 @@
-//! Looks held names through.
+//! Walks held names.
 ghost use Rattle.std.specs.Prelude.{◌≡◌, IfOk, map, filter, nat_le, All, Some};
 ghost use Rattle.std.specs.Ordering.{nat_cmp};
 ghost use Rattle.std.specs.BTreeMap as tree;
@@ -18,14 +18,14 @@ use fsl_text::Memory;
 use std::alloc::Global;
 use std::collections::BTreeMap;
 
-/// Whether the name's digits begin with the prefix.
+/// Returns whether the name's digits begin with the prefix.
 fn begins(name: &Name, prefix: &[u8]) -> bool
     ensures { result ≡ begins prefix.now name.now }
 {
     name.text().as_slice().starts_with(prefix)
 }
 
-/// Which name begins with the prefix.
+/// Finds the name that begins with the prefix.
 pub(crate) fn only_match(held: &BTreeMap<Name, HeldArtifact>, prefix: &[u8]) -> Found
     ensures found { result ≡ found (filter (begins prefix.now) (tree.keys held.now)) }
     ensures ordered { IsStrictlySortedBy bytes_cmp (tree.keys held.now) }
@@ -45,7 +45,7 @@ pub(crate) fn only_match(held: &BTreeMap<Name, HeldArtifact>, prefix: &[u8]) -> 
     }
 }
 
-/// The names of a kind whose place is at least this, by place.
+/// Returns the names of a kind whose place is at least this, by place.
 pub(crate) fn placed_from(
     alloc: Global,
     order: &BTreeMap<u64, Name>,
@@ -64,8 +64,8 @@ pub(crate) fn placed_from(
     Ok(names)
 }
 
-/// The first of them: those before which their sizes, and so much for each, don't reach a sum, and one more. The names
-/// behind these aren't walked.
+/// Returns the first of the names: those before which their sizes, and so much for each, don't reach a sum, and one more. The
+/// names behind these aren't walked.
 pub(crate) fn front_from(
     alloc: Global,
     held: &BTreeMap<Name, HeldArtifact>,
@@ -92,7 +92,7 @@ pub(crate) fn front_from(
     Ok(names)
 }
 
-/// The names of a kind, by place.
+/// Returns the names of a kind, by place.
 pub(crate) fn names_over(alloc: Global, order: &BTreeMap<u64, Name>) -> Result<Vec<Name>, Memory>
     ensures names { IfOk result (λ names. names.items ≡ map (λ p. p.1) order.now.entries) }
     ensures ordered { IsStrictlySortedBy nat_cmp (tree.keys order.now) }
@@ -104,7 +104,7 @@ pub(crate) fn names_over(alloc: Global, order: &BTreeMap<u64, Name>) -> Result<V
     Ok(names)
 }
 
-/// What holds of the held artifacts as a map: its names rise, and each is found by its name.
+/// Says that the names of the held artifacts rise, and that each is found by its name.
 pub(crate) fn is_map(held: &BTreeMap<Name, HeldArtifact>)
     ensures found { All (λ e. held_at held.now.entries e.0 ≡ Some e.1) held.now.entries }
     ensures ordered { IsStrictlySortedBy bytes_cmp (tree.keys held.now) }
@@ -112,7 +112,7 @@ pub(crate) fn is_map(held: &BTreeMap<Name, HeldArtifact>)
     let _ = held.iter();
 }
 
-/// What is known of the held artifacts, in the order of their names.
+/// Describes the held artifacts, in the order of their names.
 pub(crate) fn holdings<'a>(
     alloc: Global,
     held: &'a BTreeMap<Name, HeldArtifact>,

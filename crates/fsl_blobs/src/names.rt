@@ -1,4 +1,4 @@
-//! Lists of names, ascending.
+//! Lists names, ascending.
 ghost use Rattle.std.specs.Prelude.{◌≡◌, IfOk, map, filter};
 ghost use Rattle.std.specs.BTreeMap as tree;
 ghost use Rattle.std.specs.List.Sorted.{IsStrictlySortedBy};
@@ -14,7 +14,7 @@ use fsl_text::{List, Memory};
 use std::alloc::Global;
 use std::collections::{BTreeMap, BTreeSet};
 
-/// A copy of a set of names, ascending.
+/// Copies a set of names, ascending.
 fn copied(alloc: Global, names: &BTreeSet<Name>) -> Result<Vec<Name>, Memory>
     ensures names { IfOk result (λ list. list.items ≡ names.now.keys) }
     ensures ordered { IsStrictlySortedBy bytes_cmp names.now.keys }
@@ -26,7 +26,7 @@ fn copied(alloc: Global, names: &BTreeSet<Name>) -> Result<Vec<Name>, Memory>
     Ok(list)
 }
 
-/// The names of the private artifacts of a map, ascending.
+/// Returns the names of the private artifacts of a map, ascending.
 fn private_in(alloc: Global, held: &BTreeMap<Name, HeldArtifact>) -> Result<Vec<Name>, Memory>
     ensures names { IfOk result (λ list. list.items ≡ map (λ e. e.0) (filter (λ e. e.1.private) held.now.entries)) }
     ensures ordered { IsStrictlySortedBy bytes_cmp (tree.keys held.now) }
@@ -41,7 +41,7 @@ fn private_in(alloc: Global, held: &BTreeMap<Name, HeldArtifact>) -> Result<Vec<
 }
 
 impl Blobs {
-    /// The names of the held artifacts that are private, ascending. `Memory` is the only error.
+    /// Returns the names of the held artifacts that are private, ascending. `Memory` is the only error.
     pub fn privates(&self, alloc: Global) -> Result<List<Name>, Memory>
         ensures { IfOk result (λ names. names ≡ private_names (contents self.now.records).held) }
     {
@@ -49,14 +49,14 @@ impl Blobs {
         Ok(List::from_vec(names))
     }
 
-    /// Whether a name is shunned. Takes no memory.
+    /// Returns whether a name is shunned. Takes no memory.
     pub fn is_shunned(&self, name: Name) -> bool
         ensures { result ≡ set.contains (contents self.now.records).shunned name }
     {
         self.shunned.contains(&name)
     }
 
-    /// The shunned names, ascending. `Memory` is the only error.
+    /// Returns the shunned names, ascending. `Memory` is the only error.
     pub fn shuns(&self, alloc: Global) -> Result<List<Name>, Memory>
         ensures { IfOk result (λ names. names ≡ ascending (set.items (contents self.now.records).shunned)) }
     {
@@ -64,7 +64,7 @@ impl Blobs {
         Ok(List::from_vec(names))
     }
 
-    /// The announced names, ascending. `Memory` is the only error.
+    /// Returns the announced names, ascending. `Memory` is the only error.
     pub fn announced(&self, alloc: Global) -> Result<List<Name>, Memory>
         ensures { IfOk result (λ names. names ≡ ascending (set.items self.now.announced)) }
     {

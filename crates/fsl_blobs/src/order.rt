@@ -1,4 +1,4 @@
-//! The held names by their places.
+//! Keeps the held names by their places.
 ghost use Rattle.std.specs.Prelude.{◌≡◌, ℕ, Bool, None, Some, ◌&&◌, if◌then◌else◌, OnOk, OnErr};
 ghost use Rattle.fsl_blobs.specs.Kept.{is_kind, is_place, names_in, name_in};
 
@@ -6,8 +6,8 @@ use fsl_name::Name;
 use fsl_text::Memory;
 use std::collections::BTreeMap;
 
-/// The held names by the places of their artifacts, counted from 1, the public ones and the private ones apart: so either
-/// are walked from a place on without a step for the others.
+/// The held names by the places of their artifacts, counted from 1, the public ones and the private ones apart. So either are
+/// walked from a place on without a step for the others.
 #[derive(Drop)]
 pub(crate) struct Order {
     pub(crate) public: BTreeMap<u64, Name>,

@@ -1,4 +1,4 @@
-//! The sum of the held sizes, as records change it.
+//! Counts the sum of the held sizes, as records change it.
 ghost use Rattle.std.specs.Prelude.{◌≡◌, ◌<◌, ◌≤◌, ◌+◌, ◌^◌, ◌++◌, ◌∷◌, [], ℕ, List};
 ghost use Rattle.std.specs.Option.{option_map_or};
 ghost use Rattle.std.specs.FinMap as map_of;
@@ -13,7 +13,7 @@ use fsl_name::Name;
 use fsl_record::Record;
 use std::collections::{BTreeMap, BTreeSet};
 
-/// The size of a held artifact, in bytes, and 0 where the name isn't held.
+/// Returns the size of a held artifact, in bytes, or 0 if the name isn't held.
 pub(crate) fn size_of(held: &BTreeMap<Name, HeldArtifact>, name: &Name) -> u64
     ensures { result ≡ option_map_or (λ a. a.size) (held_at held.now.entries name.now) 0 }
 {
@@ -23,7 +23,7 @@ pub(crate) fn size_of(held: &BTreeMap<Name, HeldArtifact>, name: &Name) -> u64
     }
 }
 
-/// Whether a name is held or shunned.
+/// Returns whether a name is held or shunned.
 pub(crate) fn is_kept(
     held: &BTreeMap<Name, HeldArtifact>,
     shunned: &BTreeSet<Name>,
@@ -34,7 +34,7 @@ pub(crate) fn is_kept(
     held.contains_key(name) || shunned.contains(name)
 }
 
-/// The sum of the held sizes with one record more.
+/// Returns the sum of the held sizes with one record more.
 pub(crate) fn total_with(
     held: &BTreeMap<Name, HeldArtifact>,
     shunned: &BTreeSet<Name>,
@@ -60,7 +60,7 @@ pub(crate) fn total_with(
 }
 
 impl Blobs {
-    /// The sum of the sizes of all held artifacts, in bytes. Takes no memory.
+    /// Returns the sum of the sizes of all held artifacts, in bytes. Takes no memory.
     pub fn bytes(&self) -> u128
         ensures bytes { result ≡ held_bytes (contents self.now.records).held }
         ensures fits { result < 2 ^ 127 }
@@ -69,7 +69,7 @@ impl Blobs {
         self.total
     }
 
-    /// How many artifacts are held. Takes no memory.
+    /// Returns how many artifacts are held. Takes no memory.
     pub fn count(&self) -> u64
         ensures count { result ≡ map_of.len (contents self.now.records).held }
         ensures fits { result < 2 ^ 63 }

@@ -1,4 +1,4 @@
-//! The arguments of a card.
+//! Reads the arguments of a card.
 ghost use Rattle.std.specs.Prelude.{◌≡◌, ◌++◌, ◌∷◌, ◌≤◌, drop, length, position, IfOk, IfSome, IfNone, List, ℕ, Bool, not, IsTrue};
 ghost use Rattle.fsl_card.specs.Cards.{is_argument_byte, are_arguments};
 ghost use Rattle.fsl_card.specs.Parts.{IsRun, argument_length, arguments_text, next_argument};
@@ -6,28 +6,28 @@ ghost use Rattle.fsl_card.specs.Parts.{IsRun, argument_length, arguments_text, n
 use fsl_text::{List, Memory, Text};
 use std::alloc::Global;
 
-/// The arguments of a line, and how many bytes they take with the newline behind them.
+/// The arguments of a line, and the number of bytes that they take with the newline behind them.
 #[derive(Drop)]
 pub struct ArgumentList {
     pub list: List<Text>,
     pub taken: usize,
 }
 
-/// Whether a byte may stand in an argument: all may but 0, 9 to 13 and 32.
+/// Returns whether a byte may occur in an argument: all may but 0, 9 to 13 and 32.
 fn is_argument_byte(byte: u8) -> bool
     ensures { result ≡ is_argument_byte byte }
 {
     !(byte == 0 || byte == 32 || (9 <= byte && byte <= 13))
 }
 
-/// The place of the first byte that can't stand in an argument.
+/// Finds the place of the first byte that can't occur in an argument.
 fn argument_end(bytes: &[u8]) -> Option<usize>
     ensures { result ≡ position (λ b. not (is_argument_byte b)) bytes.now }
 {
     bytes.iter().position(|byte| !is_argument_byte(*byte))
 }
 
-/// How many bytes stand before the first that can't stand in an argument.
+/// Counts the bytes before the first that can't occur in an argument.
 fn argument_length(bytes: &[u8]) -> usize
     ensures { result ≡ argument_length bytes.now }
 {
@@ -37,7 +37,7 @@ fn argument_length(bytes: &[u8]) -> usize
     }
 }
 
-/// The length of the argument behind the space that the bytes begin with, where there is one.
+/// Returns the length of the argument behind the space that the bytes begin with, if there is one.
 fn next_argument(bytes: &[u8]) -> Option<usize>
     ensures { result ≡ next_argument bytes.now }
 {
@@ -50,7 +50,7 @@ fn next_argument(bytes: &[u8]) -> Option<usize>
     }
 }
 
-/// As many arguments as the bytes begin with, each behind a space.
+/// Reads as many arguments as the bytes begin with, each behind a space.
 fn leading_arguments(alloc: Global, bytes: &[u8]) -> Result<ArgumentList, Memory>
     ensures { IfOk result (λ run. IsRun bytes.now run.list run.taken) }
 {
@@ -67,7 +67,7 @@ fn leading_arguments(alloc: Global, bytes: &[u8]) -> Result<ArgumentList, Memory
     })
 }
 
-/// Whether a text begins with some bytes.
+/// Returns whether a text begins with some bytes.
 fn starts_with(text: &[u8], bytes: &[u8]) -> bool
     ensures yes { IsTrue result → text.now ≡ bytes.now ++ drop (length bytes.now) text.now }
     ensures no { (rest : List ℕ) → text.now ≡ bytes.now ++ rest → IsTrue result }
@@ -75,7 +75,7 @@ fn starts_with(text: &[u8], bytes: &[u8]) -> bool
     text.starts_with(bytes)
 }
 
-/// Whether the arguments are those of a `J` card whose second argument, which is empty, stands at the front of a text.
+/// Returns whether the arguments are those of a `J` card whose second argument is empty and comes at the front of a text.
 fn is_empty_field(letter: u8, args: &[Text], text: &[u8]) -> bool
     ensures letter { IsTrue result → letter ≡ 74 }
     ensures one { IsTrue result → length args.now ≡ 1 }
@@ -85,8 +85,8 @@ fn is_empty_field(letter: u8, args: &[Text], text: &[u8]) -> bool
     letter == b'J' && args.len() == 1 && starts_with(text, b" \n")
 }
 
-/// The arguments that stand behind a card's letter, up to the newline. A `J` card may end with a space, behind which
-/// its second argument is empty.
+/// Reads the arguments behind a card's letter, up to the newline. Returns `None` if the bytes have another form. A `J` card may
+/// end with a space, and its second argument is then empty. `Memory` is the only error.
 pub fn arguments(alloc: Global, letter: u8, bytes: &[u8]) -> Result<Option<ArgumentList>, Memory>
     ensures some { IfOk result (λ r. IfSome r (λ a. IsTrue (are_arguments letter a.list))) }
     ensures spelled { IfOk result (λ r. IfSome r (λ a. bytes.now ≡ arguments_text a.list ++ 10 ∷ drop a.taken bytes.now)) }

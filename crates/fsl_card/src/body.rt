@@ -1,11 +1,10 @@
-//! The counted body of a `W` card.
+//! Finds the counted body of a `W` card.
 ghost use Rattle.std.specs.Prelude.{◌≡◌, ◌++◌, ◌∷◌, ◌<◌, ◌+◌, ℕ, List, Some, length, take, drop, IfSome, IfNone};
 ghost use Rattle.fsl_card.specs.Cards.{BodyFits};
 
 use fsl_text::{Text, decimal};
 
-/// How many bytes the body has that the arguments announce, where it stands at the front of the bytes with a newline
-/// behind it.
+/// Returns the number of bytes that the arguments announce, if the body is at the front of the bytes with a newline behind it.
 pub fn body_size(args: &[Text], bytes: &[u8]) -> Option<usize>
     ensures within { IfSome result (λ size. size < length bytes.now) }
     ensures announced { IfSome result (λ size. BodyFits 87 args.now (Some (take size bytes.now))) }

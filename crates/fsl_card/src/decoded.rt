@@ -1,16 +1,16 @@
-//! Escaped texts, compared by the bytes that they stand for.
+//! Compares escaped texts by the bytes that they mean.
 ghost use Rattle.std.specs.Prelude.{◌≡◌, ◌∷◌, ◌<◌, ◌≤◌, [], List, ℕ, drop, length, IfSome, IfNone};
 ghost use Rattle.fsl_order.specs.Names.{is_before};
 ghost use Rattle.fsl_text.specs.Escapes.{unescape, byte_meant};
 
-/// A byte that an escaped text stands for, and how many bytes it takes there.
+/// A byte of a decoded text, and the number of bytes that it takes in the escaped one.
 #[derive(Clone, Copy)]
 struct Decoded {
     byte: u8,
     taken: usize,
 }
 
-/// What a byte behind a backslash stands for.
+/// Returns the meaning of a byte behind a backslash.
 fn byte_meant(byte: u8) -> u8
     ensures { result ≡ byte_meant byte }
 {
@@ -26,7 +26,7 @@ fn byte_meant(byte: u8) -> u8
     }
 }
 
-/// The first byte that an escaped text stands for.
+/// Decodes the first byte of an escaped text.
 fn first_decoded(text: &[u8]) -> Option<Decoded>
     ensures some { IfSome result (λ d. unescape text.now ≡ d.byte ∷ unescape (drop d.taken text.now)) }
     ensures some_taken { IfSome result (λ d. 0 < d.taken) }
@@ -46,7 +46,7 @@ fn first_decoded(text: &[u8]) -> Option<Decoded>
     }
 }
 
-/// Whether one escaped text stands before another by the bytes that they stand for.
+/// Returns whether one escaped text comes before another by their decoded bytes.
 pub fn is_before_decoded(a: &[u8], b: &[u8]) -> bool
     ensures { result ≡ is_before (unescape a.now) (unescape b.now) }
 {

@@ -1,4 +1,4 @@
-//! The first card of some bytes.
+//! Reads the first card of some bytes.
 ghost use Rattle.std.specs.Prelude.{◌≡◌, ◌++◌, ◌∷◌, ◌<◌, ◌≤◌, ℕ, List, length, drop, IfOk, IfSome, IfNone, None};
 ghost use Rattle.fsl_card.specs.declared.types.Card.{Card as SpecCard};
 ghost use Rattle.fsl_card.specs.Cards.{IsCard, card_text};
@@ -9,14 +9,14 @@ use super::types::Card;
 use fsl_text::{Memory, Text};
 use std::alloc::Global;
 
-/// A card, and how many bytes it takes in its text.
+/// A card, and the number of bytes that it takes in its text.
 #[derive(Drop)]
 pub struct Front {
     pub card: Card,
     pub taken: usize,
 }
 
-/// The card that the bytes begin with.
+/// Reads the card that the bytes begin with. Returns `None` if they begin with no card. `Memory` is the only error.
 pub fn front_card(alloc: Global, bytes: &[u8]) -> Result<Option<Front>, Memory>
     ensures card { IfOk result (λ r. IfSome r (λ f. IsCard f.card)) }
     ensures spelled { IfOk result (λ r. IfSome r (λ f. bytes.now ≡ card_text f.card ++ drop f.taken bytes.now)) }

@@ -1,8 +1,8 @@
-//! Cards, of which structural artifacts are made.
+//! Reads and writes cards, of which structural artifacts are made.
 //!
-//! A structural text is one card after another and nothing else: a letter, its arguments, a newline, and behind a
-//! `W` card a counted body. The letters don't fall, and the last card is `Z` with the MD5 of all bytes before it.
-//! `cards` reads a text exactly where it has this form, and `finish` puts the `Z` card behind lines.
+//! A structural text is one card after another and nothing else. A card is a letter, its arguments, a newline, and behind a `W`
+//! card a counted body. The letters don't fall, and the last card is `Z` with the MD5 of all bytes before it. `cards` reads a
+//! text exactly if it has this form, and `finish` puts the `Z` card behind lines.
 #![tactic(auto)]
 
 mod arguments;

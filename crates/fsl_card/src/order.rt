@@ -1,4 +1,4 @@
-//! The order of cards.
+//! Checks the order of cards.
 ghost use Rattle.std.specs.Prelude.{◌≡◌};
 ghost use Rattle.fsl_order.specs.Names.{is_before};
 ghost use Rattle.fsl_card.specs.Cards.{first_argument, may_follow};
@@ -8,7 +8,7 @@ use super::decoded::is_before_decoded;
 use super::types::Card;
 use std::cmp::Ordering;
 
-/// The first argument of a card as it is written, or nothing.
+/// Returns the first argument of a card as it is written, or nothing.
 fn first_argument(card: &Card) -> &[u8]
     ensures { result.now ≡ first_argument card.now }
 {
@@ -18,15 +18,15 @@ fn first_argument(card: &Card) -> &[u8]
     }
 }
 
-/// Whether one text stands before another by its bytes.
+/// Returns whether one text comes before another by its bytes.
 fn is_before(a: &[u8], b: &[u8]) -> bool
     ensures { result ≡ is_before a.now b.now }
 {
     a.cmp(b) == Ordering::Less
 }
 
-/// Whether a card may follow another. Letters don't fall. `F` cards rise by the path that they stand for, `M` cards by
-/// name, `J`, `Q` and `T` cards stand in any order, and of every other letter there is one card at most.
+/// Returns whether a card may follow another. Letters don't fall. `F` cards rise by their decoded path, `M` cards by name. `J`,
+/// `Q` and `T` cards come in any order. Of every other letter there is one card at most.
 fn may_follow(before: &Card, after: &Card) -> bool
     ensures { result ≡ may_follow before.now after.now }
 {
@@ -41,7 +41,7 @@ fn may_follow(before: &Card, after: &Card) -> bool
     }
 }
 
-/// Whether a card may follow the last of some cards.
+/// Returns whether a card may follow the last of some cards.
 pub fn may_follow_all(cards: &[Card], next: &Card) -> bool
     ensures { result ≡ may_follow_all cards.now next.now }
 {

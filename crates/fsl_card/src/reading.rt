@@ -1,4 +1,4 @@
-//! A text read as cards.
+//! Reads a text as cards.
 ghost use Rattle.std.specs.Prelude.{◌≡◌, ◌∷◌, [], None, IfOk, IfSome, IfNone};
 ghost use Rattle.fsl_card.specs.Cards.{IsCards, IsReading};
 ghost use Rattle.fsl_card.specs.Parts.{AreOrdered};
@@ -10,7 +10,7 @@ use super::types::{Card, Cards};
 use fsl_text::{List, Memory, Text};
 use std::alloc::Global;
 
-/// The cards that a text is spelled of, each by itself a card that may follow the one before it.
+/// Reads the cards of a text, each by itself a card that may follow the one before it.
 fn ordered_cards(alloc: Global, text: &[u8]) -> Result<Option<List<Card>>, Memory>
     ensures { IfOk result (IsReading AreOrdered text.now) }
 {
@@ -29,7 +29,7 @@ fn ordered_cards(alloc: Global, text: &[u8]) -> Result<Option<List<Card>>, Memor
     Ok(Some(cards))
 }
 
-/// A card with one argument and no body.
+/// Makes a card with one argument and no body.
 fn card_of(alloc: Global, letter: u8, argument: &[u8]) -> Result<Card, Memory>
     ensures { IfOk result (λ card. card ≡ record { letter = letter; args = argument.now ∷ []; body = None }) }
 {
@@ -42,16 +42,16 @@ fn card_of(alloc: Global, letter: u8, argument: &[u8]) -> Result<Card, Memory>
     })
 }
 
-/// The cards of a structural text, or `None` where the text is none.
+/// Reads the cards of a structural text. Returns `None` if the text is none. `Memory` is the only error.
 ///
-/// A card is a letter from `A` to `Z`, a space and an argument for each argument, and a newline. An argument has one
-/// byte or more, none of which is 0, 9 to 13 or 32; the second and last argument of a `J` card may be empty. Behind
-/// the newline of a `W` card, whose one argument is a decimal size, stand that many bytes and a newline. Letters don't
-/// fall; `F` cards rise by the path that their first argument stands for, `M` cards by their first argument, `J`, `Q`
-/// and `T` cards stand in any order, and of every other letter there is one card at most. The last card is `Z` with
-/// the MD5 of all bytes before it, in 32 lower-case digits.
+/// A card is a letter from `A` to `Z`, a space and an argument for each argument, and a newline. An argument has one byte or
+/// more, none of which is 0, 9 to 13 or 32. The second and last argument of a `J` card may be empty. A `W` card has a decimal
+/// size as its one argument, and behind its newline come that many bytes and a newline. Letters don't fall. `F` cards rise by the
+/// path that they decode to, `M` cards by their first argument. `J`, `Q` and `T` cards come in any order. Of every other letter
+/// there is one card at most. The last card is `Z` with the MD5 of all bytes before it, in 32 lower-case digits.
 ///
-/// Most texts that are no cards are told by their last 35 bytes alone.
+/// The last 35 bytes alone show of most texts that they are no cards.
+/// FORMATS: Cards
 pub fn cards(alloc: Global, text: &[u8]) -> Result<Option<Cards>, Memory>
     ensures { IfOk result (IsReading IsCards text.now) }
 {

@@ -1,4 +1,4 @@
-//! The Z card, which seals a text by the MD5 of all bytes before it.
+//! The Z card seals a text by the MD5 of all bytes before it.
 ghost use Rattle.std.specs.Prelude.{◌≡◌, ◌↔◌, List, ℕ, length, IfSome, IfNone, IsTrue, OnOk, OnErr};
 ghost use Rattle.md5.specs.Md5.{md5};
 ghost use Rattle.hex.specs.Hex.{encode_lower};
@@ -8,7 +8,7 @@ ghost use Rattle.fsl_card.specs.Parts.{seal_line};
 use fsl_text::{Memory, Text};
 use md5::{Digest, Md5};
 
-/// How many bytes a Z card takes: its letter, a space, 32 digits and a newline.
+/// The number of bytes of a Z card: its letter, a space, 32 digits and a newline.
 const SEAL_LENGTH: usize = 35;
 
 /// The bytes before the Z card of a text, and the digits of that card.
@@ -18,7 +18,7 @@ pub struct SealedText<'a> {
     pub digits: &'a [u8],
 }
 
-/// The MD5 of some bytes, in 32 lower-case digits.
+/// Computes the MD5 of some bytes, in 32 lower-case digits.
 fn checksum(bytes: &[u8]) -> [u8; 32]
     ensures { result ≡ encode_lower (md5 bytes.now) }
 {
@@ -28,14 +28,14 @@ fn checksum(bytes: &[u8]) -> [u8; 32]
     digits
 }
 
-/// Whether digits are the MD5 of some bytes.
+/// Returns whether digits are the MD5 of some bytes.
 fn is_checksum(digits: &[u8], bytes: &[u8]) -> bool
     ensures { IsTrue result ↔ (digits.now ≡ encode_lower (md5 bytes.now)) }
 {
     checksum(bytes).as_slice() == digits
 }
 
-/// The digits of a line that is long enough for a Z card, where it has the form of one.
+/// Returns the digits of a line that is long enough for a Z card, if it has the form of one.
 fn seal_digits(line: &[u8]) -> Option<&[u8]>
     requires { length line.now ≡ 35 }
     ensures some { IfSome result (λ digits. line.now ≡ seal_line digits.now) }
@@ -48,7 +48,7 @@ fn seal_digits(line: &[u8]) -> Option<&[u8]>
     Some(&line[2..34])
 }
 
-/// The bytes before the last card of a text, where that is the Z card of their checksum.
+/// Returns the bytes before the last card of a text, if that is the Z card of their checksum.
 pub fn sealed(text: &[u8]) -> Option<SealedText<'_>>
     ensures spelled { IfSome result (λ s. text.now ≡ finished s.front.now) }
     ensures digits { IfSome result (λ s. s.digits.now ≡ encode_lower (md5 s.front.now)) }
@@ -67,8 +67,9 @@ pub fn sealed(text: &[u8]) -> Option<SealedText<'_>>
     Some(SealedText { front, digits })
 }
 
-/// Puts the Z card behind lines: the MD5 of all bytes before it, in 32 lower-case digits, and a newline. For want of
-/// memory the lines stay as they are.
+/// Adds the Z card behind lines: the MD5 of all bytes before it, in 32 lower-case digits, and a newline. If out of memory, the
+/// lines stay as they are.
+/// FORMATS: Cards
 pub fn finish(lines: &mut Text) -> Result<(), Memory>
     ensures ok { OnOk result (lines.new ≡ finished lines.old) }
     ensures err { OnErr result (lines.new ≡ lines.old) }

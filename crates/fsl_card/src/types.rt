@@ -4,7 +4,7 @@ ghost use Rattle.fsl_card.specs.Cards.{AreCards};
 use fsl_text::{List, Text};
 use std::marker::Model;
 
-/// One card. The arguments are kept as they are written, and only a `W` card has a body.
+/// A card of a structural text. The arguments are kept as they are written, and only a `W` card has a body.
 #[derive(Drop)]
 pub struct Card {
     pub letter: u8,
@@ -32,7 +32,7 @@ impl Model for Cards {
 }
 
 impl Cards {
-    /// The cards of a text. Takes no memory.
+    /// Makes the cards of a text. Takes no memory.
     pub(crate) fn from_list(items: List<Card>) -> Cards
         requires { AreCards items }
         ensures { result ≡ items }
@@ -40,14 +40,14 @@ impl Cards {
         Cards { items }
     }
 
-    /// The cards, in order.
+    /// Returns the cards, in order.
     pub fn items(&self) -> &[Card]
         ensures { result.now ≡ self.now }
     {
         self.items.items()
     }
 
-    /// The cards, in order, which are moved. Takes no memory.
+    /// Returns the cards, in order, without a copy. Takes no memory.
     pub fn into_list(self) -> List<Card>
         ensures { result ≡ self }
     {

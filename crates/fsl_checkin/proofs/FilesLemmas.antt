@@ -9,7 +9,7 @@ use Rattle.std.proofs.lemmas.List.Elements.{All-head, All-tail}
 use Rattle.fsl_order.specs.Names.{bytes_cmp}
 use Rattle.fsl_order.specs.Rows.{by_name, in_order, named}
 use Rattle.fsl_order.proofs.RowLemmas.{named-All}
-use Rattle.fsl_rows.proofs.Rising.{rising-filter}
+use Rattle.fsl_name.proofs.Rising.{rising-filter}
 use Rattle.fsl_manifest.specs.declared.Manifest.{Manifest}
 use Rattle.fsl_files.specs.declared.Fact.{Fact}
 use Rattle.fsl_files.specs.declared.FileRow.{FileRow}

@@ -1,20 +1,19 @@
 -- What is written of an item is read again, and what is read was written so.
-use Rattle.std.proofs.Common.{◌≡◌, ℕ, suc, ◌+◌, ◌-◌, ◌*◌, ◌/◌, ◌%◌, ◌^◌, ◌<◌, ◌≤◌, Bool, true, false, not, cond, List, [], ◌∷◌, ◌++◌, length, take, drop, get_or, Option, Some, None, Ok, Err, Result, refl, sym, ap, subst, ◌∙◌, append_assoc, length-append, length-take, add-one, arith}
+use Rattle.std.proofs.Common.{◌≡◌, ℕ, suc, ◌+◌, ◌^◌, ◌<◌, ◌≤◌, Bool, true, false, not, cond, List, [], ◌∷◌, ◌++◌, length, take, drop, get_or, Option, Some, None, Ok, Err, Result, refl, sym, ap, subst, ◌∙◌, append_assoc, length-append, length-take, add-one, arith}
 use Rattle.std.specs.Prelude.{◌&&◌, ◌==◌, codes, decimal, nat_lt, option_map, position, slice_index}
 use Rattle.std.specs.List.{list_all, position_or_len}
 use Rattle.std.specs.Str.{bytes_eq}
-use Rattle.std.proofs.lemmas.Fmt.{decimal_by_steps}
-use Rattle.std.proofs.lemmas.Bool.{and_from, eqb-true, false≢true}
+use Rattle.std.proofs.lemmas.Bool.{eqb-true, false≢true}
 use Rattle.std.proofs.lemmas.Bool.Decides.{nat_tests}
 use Rattle.std.proofs.lemmas.List.{take-append-drop}
-use Rattle.std.proofs.lemmas.List.Folds.{list_all-append}
-use Rattle.std.proofs.lemmas.List.Sums.{fold-append}
 use Rattle.std.proofs.lemmas.Slice.Eq.{bytes_eq-Decides}
 use Rattle.std.proofs.lemmas.List.Quantifiers.{position-Some}
 use Rattle.std.proofs.Math.Seq.{take-append_seam, drop-append-add, drop-cons, get_or-append_seam}
 use Rattle.fsl_order.proofs.Booleans.{first_holds, second_holds}
 use Rattle.fsl_text.specs.Bytes.{is_empty}
-use Rattle.fsl_text.specs.Decimals.{IsDecimal, decimal_of, decimal_value, is_decimal_digit}
+use Rattle.fsl_text.specs.Decimals.{decimal_of, is_decimal_digit}
+use Rattle.fsl_text.proofs.Bytewise.{weaker}
+use Rattle.fsl_text.proofs.DecimalTexts.{decimal_is, fits}
 use Rattle.fsl_text.specs.declared.fault.DecimalFault.{DecimalFault}
 use Rattle.fsl_text.specs.Escapes.{unescape}
 use Rattle.fsl_text.specs.Paths.{path_ok}
@@ -68,28 +67,6 @@ cut_is stop text parts h = found (position (λ b. b == stop) text) refl h
 
 -- ---- sizes
 
-digit_is : (d : ℕ) → d < 10 → is_decimal_digit (48 + d) ≡ true
-digit_is d h = grind arith
-
-one_digit : (n : ℕ) → n < 10 → IsDecimal ((48 + n) ∷ []) n
-one_digit n h = (rw (digit_is n h) refl, omega arith)
-
-filled_behind : (ds : List ℕ) (d : ℕ) → is_empty (ds ++ d ∷ []) ≡ false
-filled_behind [] d = refl
-filled_behind (x ∷ ds) d = refl
-
-more_digits : (n : ℕ) (ds : List ℕ) → 10 ≤ n → IsDecimal ds (n / 10) → IsDecimal (ds ++ ((48 + n % 10) ∷ [])) n
-more_digits n ds h k =
-    let digits = second_holds (not (is_empty ds)) _ k.0 in
-    let value : decimal_value (ds ++ ((48 + n % 10) ∷ [])) ≡ 10 * decimal_value ds + (48 + n % 10 - 48) = fold-append (λ (m : ℕ) (c : ℕ). 10 * m + (c - 48)) 0 ds ((48 + n % 10) ∷ []) in
-    (rw (filled_behind ds (48 + n % 10), list_all-append is_decimal_digit ds ((48 + n % 10) ∷ []), digits, digit_is (n % 10) (omega arith)) refl, omega (arith, value, k.1))
-
-decimal_is : (n : ℕ) → n < 2 ^ 64 → IsDecimal (decimal n) n
-decimal_is n h = decimal_by_steps (λ n ds. IsDecimal ds n) one_digit more_digits n h
-
-fits : (n : ℕ) → n < 2 ^ 64 → nat_lt n (2 ^ 64) ≡ true
-fits n h = grind (arith, h)
-
 not_true : (b : Bool) → not b ≡ true → b ≡ false
 not_true true h = absurd cc
 not_true false h = refl
@@ -137,10 +114,6 @@ perm_is text p h = by (bytes_eq text (codes "-")) (bytes_eq text (codes "x")) (b
     by false false false ea eb ec e = absurd cc
 
 -- ---- what stands before the content
-
-weaker : (p r : ℕ → Bool) → ((b : ℕ) → p b ≡ true → r b ≡ true) → (text : List ℕ) → list_all p text ≡ true → list_all r text ≡ true
-weaker p r f [] h = refl
-weaker p r f (b ∷ text) h = and_from (r b) (list_all r text) (f b (first_holds (p b) (list_all p text) h)) (weaker p r f text (second_holds (p b) (list_all p text) h))
 
 digit_apart : (b : ℕ) → is_decimal_digit b ≡ true → not (b == 10) ≡ true
 digit_apart b h = grind (arith, h)

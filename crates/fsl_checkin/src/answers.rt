@@ -1,4 +1,4 @@
-//! What is answered of a check-in, and why it can't be.
+//! Holds the answers on a check-in, and the reasons why there is none.
 ghost use Rattle.std.specs.Prelude.{◌≡◌};
 ghost use Rattle.fsl_checkin.specs.declared.answers.ExportFault.TheVariants as export_fault;
 
@@ -11,36 +11,36 @@ use fsl_text::{List, Memory};
 pub enum Export {
     /// No check-in has the name.
     NotCheckin,
-    /// This isn't held: the baseline where the files aren't defined, else the content of the first file by path whose hash
-    /// is foreign or not held.
+    /// The named artifact isn't held. It is the baseline where the files aren't defined, else the content of the first file by
+    /// path whose hash is foreign or not held.
     Incomplete { missing: Ref },
     /// The files, by rising path, with their contents.
     Tree(List<TreeItem>),
 }
 
-/// Whether the checksum of a check-in is that of its tree.
+/// The verdict on the checksum of a check-in against its tree.
 #[derive(Clone, Copy, PartialEq, Eq, Debug)]
 pub enum Verdict {
     /// No check-in has the name.
     NotCheckin,
-    /// It has no R card.
+    /// The check-in has no R card.
     NoSum,
-    /// This isn't held, as for an export.
+    /// The named artifact isn't held, as for an export.
     Incomplete { missing: Ref },
-    /// Its R card has the first of these checksums, and its tree the second.
+    /// The R card has the checksum `kept`, and the tree has the checksum `found`.
     Wrong { kept: [u8; 16], found: [u8; 16] },
-    /// They are the same.
+    /// The two checksums are the same.
     Right,
 }
 
-/// Why there is no answer. Nothing changed but the disk's count of faults.
+/// A reason why there is no answer. Nothing changed but the disk's count of faults.
 #[derive(Clone, Copy, PartialEq, Eq, Debug)]
 pub enum ExportFault {
     /// A call of the disk failed.
     Disk,
     /// The bytes that were read for the artifact of a name have another name.
     Damaged { name: Name, found: Name },
-    /// There was no memory.
+    /// Memory ran out.
     Memory,
 }
 

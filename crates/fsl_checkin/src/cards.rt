@@ -1,4 +1,4 @@
-//! The F cards of a tree.
+//! Makes the F cards of a tree.
 ghost use Rattle.std.specs.Prelude.{◌≡◌, ◌++◌, IfOk, OnOk, map};
 ghost use Rattle.fsl_checkin.specs.Checkins.{card_perm_of, file_card_of};
 

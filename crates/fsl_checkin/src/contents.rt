@@ -1,4 +1,4 @@
-//! What a repository holds of a check-in, as it is read.
+//! Reads the artifacts of a check-in that a repository holds.
 ghost use Rattle.std.specs.Prelude.{◌≡◌, ◌≢◌, ◌∷◌, [], None, IfOk, IfErr, OnOk};
 ghost use Rattle.fsl_cross.specs.Facts.{as_manifest};
 ghost use Rattle.fsl_repo.specs.Machine.{now};

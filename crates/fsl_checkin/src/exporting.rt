@@ -1,4 +1,4 @@
-//! The tree of a check-in, had back.
+//! Takes the tree of a check-in back out.
 ghost use Rattle.std.specs.Prelude.{◌≡◌, ◌∷◌, [], true, None, IfOk, IfErr, OnOk, IsTrue, is_some};
 ghost use Rattle.std.specs.List.{list_all};
 ghost use Rattle.fsl_name.specs.declared.reference.Ref.TheVariants.{Own};
@@ -137,14 +137,15 @@ fn exported<D: Disk>(alloc: Global, repo: &mut Repo<D>, name: Name) -> Result<Ex
     }
 }
 
-/// The tree of a check-in: its files by rising path, each with its content. `Incomplete` names what isn't held: the baseline
-/// where the files aren't defined, else the hash of the first file, by path, that is foreign or whose content isn't held.
-/// `NotCheckin` where no check-in has the name. Each content is read from the disk and its name is tested. Over a disk that
-/// tells its contents and meets the disk model the contents are the held ones; over every other disk they have the name and
-/// the size of these. Nothing changes but the disk's count of faults.
+/// Returns the tree of a check-in: its files by rising path, each with its content. The answer `Incomplete` names the artifact
+/// that isn't held. That is the baseline where the files aren't defined, else the hash of the first file, by path, that is
+/// foreign or whose content isn't held. The answer is `NotCheckin` where no check-in has the name. Each content is read from the
+/// disk and its name is tested. Over a disk that tells its contents and meets the disk model the contents are the held ones. Over
+/// every other disk they have the name and the size of these. Nothing changes but the disk's count of faults.
 ///
 /// Errors: `Disk` where a call of the disk failed, `Damaged` where the bytes that were read for a content that the tree asks
 /// for have another name, or `Memory`. Behind a file that isn't held no content is asked for.
+/// FORMATS: Trees
 pub fn export<D: Disk>(alloc: Global, repo: &mut Repo<D>, name: Name) -> Result<Export, ExportFault>
     ensures export { repo.old.seen.state.honest ≡ true → IfOk result (IsExport (now repo.old.seen.state).held repo.old.seen.items name) }
     ensures read { IfOk result (ExportRead repo.old.seen name) }

@@ -1,4 +1,4 @@
-//! The item at the front of a text.
+//! Reads the item at the front of a text.
 ghost use Rattle.std.specs.Prelude.{◌≡◌, IfOk, Some, None, option_map, position, ◌==◌};
 ghost use Rattle.std.specs.List.{list_all};
 ghost use Rattle.fsl_card.specs.Cards.{is_argument, is_argument_byte};

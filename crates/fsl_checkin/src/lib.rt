@@ -1,5 +1,5 @@
-//! Trees of files: a tree is read from its text and written as it, becomes a manifest, and is had back from a check-in
-//! of a repository. The checksum of a manifest's R card is that of the tree.
+//! Handles trees of files. It reads a tree from its text, writes it as one, makes a manifest of it, and takes it back out of a
+//! check-in of a repository. The checksum of a manifest's R card is that of the tree.
 #![tactic(auto)]
 
 mod answers;

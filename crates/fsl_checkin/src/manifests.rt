@@ -1,4 +1,4 @@
-//! The manifest of a tree.
+//! Writes the manifest of a tree.
 ghost use Rattle.std.specs.Prelude.{◌≡◌, ◌≢◌, ℕ, List, [], IfOk, IsTrue, map, option_to_list};
 ghost use Rattle.std.specs.List.{list_all};
 ghost use Rattle.fsl_name.specs.declared.reference.Ref.TheVariants.{Own};
@@ -58,9 +58,10 @@ fn checkin(
     })
 }
 
-/// The text of the check-in of a tree: its comment, its date, an F card for each item, its parent where there is one, the
-/// checksum of the tree in an R card, its user, and the Z card. User and comment have a byte; the paths are good and rise.
-/// `Memory` is the only error.
+/// Writes the text of the check-in of a tree. It has a comment, a date, an F card for each item, a parent where there is one, the
+/// checksum of the tree in an R card, a user, and the Z card. User and comment have at least one byte. The paths are good and
+/// rise. `Memory` is the only error.
+/// FORMATS: Trees
 pub fn manifest(
     alloc: Global,
     items: &List<TreeItem>,

@@ -1,4 +1,4 @@
-//! A tree read from its text.
+//! Reads a tree from its text.
 ghost use Rattle.std.specs.Prelude.{◌≡◌, ◌++◌, ◌∷◌, [], IfOk, IfErr};
 ghost use Rattle.fsl_order.specs.Names.{is_before};
 ghost use Rattle.fsl_checkin.specs.Reading.{IsAdded, goes_on};
@@ -39,12 +39,13 @@ fn add_front<'a>(
     Ok(Some(front.rest))
 }
 
-/// Reads a tree: items, one after another. An item is `add`, a path, a permission and a size, with one space between,
-/// and a newline; then as many bytes as the size says, and a newline. The path is written with escapes, names a file,
-/// and rises from item to item by its bytes. The permission is `-`, `x` or `l`, and the size is decimal without leading
-/// zeros. Each content is copied once.
+/// Reads a tree, which is items, one after another. An item is `add`, a path, a permission and a size, with one space between,
+/// and a newline. As many bytes as the size says follow, and a newline. The path is written with escapes, names a file, and rises
+/// from item to item by its bytes. The permission is `-`, `x` or `l`, and the size is decimal without leading zeros. Each content
+/// is copied once.
 ///
 /// Errors: `Item` with the number of the first item, counted from 1, that isn't one; or `Memory`.
+/// FORMATS: Trees
 pub fn read_tree(alloc: Global, bytes: &[u8]) -> Result<List<TreeItem>, TreeFault>
     ensures tree { IfOk result (IsTreeText bytes.now) }
     ensures fault { IfErr result (IsTreeFault bytes.now) }

@@ -1,4 +1,4 @@
-//! The checksum of a tree.
+//! Computes the checksum of a tree.
 ghost use Rattle.std.specs.Prelude.{◌≡◌, ◌++◌, ℕ, List, [], flat_map, IsTrue};
 ghost use Rattle.md5.specs.Md5.{Holds, md5};
 ghost use Rattle.fsl_order.specs.Rows.{rises};
@@ -30,7 +30,8 @@ fn take_items(hasher: &mut Md5, items: &[TreeItem])
     }
 }
 
-/// The checksum of a tree, whose paths rise. No content is copied.
+/// Returns the checksum of a tree, whose paths rise. No content is copied.
+/// FORMATS: Trees
 pub fn sum(items: &[TreeItem]) -> [u8; 16]
     requires { IsTrue (rises (paths items.now)) }
     ensures { result ≡ sum items.now }

@@ -1,4 +1,4 @@
-//! Items of trees, and why a text is no tree.
+//! Holds the items of trees, and the reasons why a text is no tree.
 ghost use Rattle.std.specs.Prelude.{◌≡◌};
 ghost use Rattle.fsl_checkin.specs.declared.types.TreeFault.TheVariants as tree_fault;
 
@@ -7,7 +7,7 @@ use fsl_text::{Memory, Text};
 /// The permission of a file in a tree. The `w` of a manifest counts as none.
 #[derive(Clone, Copy, PartialEq, Eq, Debug)]
 pub enum Perm {
-    /// `-`: none.
+    /// `-`: the file has no permission.
     Plain,
     /// `x`: the file can be run.
     Exec,
@@ -26,12 +26,12 @@ pub struct TreeItem {
     pub bytes: Text,
 }
 
-/// Why a text is no tree.
+/// A reason why a text is no tree.
 #[derive(Clone, Copy, PartialEq, Eq, Debug)]
 pub enum TreeFault {
     /// The item with this number, counted from 1, hasn't the form of an item or doesn't rise by path.
     Item { number: u64 },
-    /// There was no memory.
+    /// Memory ran out.
     Memory,
 }
 

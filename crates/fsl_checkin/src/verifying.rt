@@ -1,4 +1,4 @@
-//! The checksum of a check-in, tested against its tree.
+//! Tests the checksum of a check-in against its tree.
 ghost use Rattle.std.specs.Prelude.{◌≡◌, ◌∷◌, [], true, None, IfOk, IfErr, OnOk, IsTrue, is_some};
 ghost use Rattle.std.specs.List.{list_all};
 ghost use Rattle.fsl_files.specs.Files.{files};
@@ -174,15 +174,17 @@ fn verified<D: Disk>(alloc: Global, repo: &mut Repo<D>, name: Name) -> Result<Ve
     }
 }
 
-/// Whether the checksum of a check-in's R card is that of its tree: the MD5 over all files in the order of their names of the
-/// name, a space, the size in decimal, a newline and the content. Each content is read once, one at a time. `NotCheckin` where
-/// no check-in has the name, `NoSum` where it has no R card, and `Incomplete` names what isn't held, as an export does. Over a
-/// disk that tells its contents and meets the disk model the contents are the held ones; over every other disk they have the
-/// name and the size of these. Nothing changes but the disk's count of faults.
+/// Tests whether the checksum of a check-in's R card is that of its tree. The checksum of a tree is the MD5 over all files in the
+/// order of their names: of each the name, a space, the size in decimal, a newline and the content. Each content is read once,
+/// one at a time. The answer is `NotCheckin` where no check-in has the name, and `NoSum` where it has no R card. The answer
+/// `Incomplete` names the artifact that isn't held, as an export does. Over a disk that tells its contents and meets the disk
+/// model the contents are the held ones. Over every other disk they have the name and the size of these. Nothing changes but the
+/// disk's count of faults.
 ///
 /// Errors: `Disk` where a call of the disk failed, `Damaged` where the bytes that were read for the check-in or for a content
 /// of its tree have another name, or `Memory`. The contents of its tree are asked for only where it has an R card,
 /// and none behind a file that isn't held.
+/// FORMATS: Trees
 pub fn verify<D: Disk>(
     alloc: Global,
     repo: &mut Repo<D>,

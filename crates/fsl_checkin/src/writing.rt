@@ -1,4 +1,4 @@
-//! A tree written as its text.
+//! Writes a tree as its text.
 ghost use Rattle.std.specs.Prelude.{◌≡◌, ◌++◌, IfOk, OnOk, flat_map};
 ghost use Rattle.fsl_text.specs.Escapes.{escape};
 ghost use Rattle.fsl_checkin.specs.Trees.{item_text, perm_text, tree_text};
@@ -44,8 +44,9 @@ fn append_items(into: &mut Text, items: &[TreeItem]) -> Result<(), Memory>
     Ok(())
 }
 
-/// The text of a tree, which `read_tree` reads again where the paths are good and rise: each item as `read_tree` says, its
-/// path written with the escapes alone that it needs. `Memory` is the only error.
+/// Writes the text of a tree. `read_tree` reads it again where the paths are good and rise. Each item is as `read_tree` says, and
+/// its path has only the escapes that it needs. `Memory` is the only error.
+/// FORMATS: Trees
 pub fn tree_text(alloc: Global, items: &List<TreeItem>) -> Result<Text, Memory>
     ensures { IfOk result (λ text. text ≡ tree_text items.now) }
 {

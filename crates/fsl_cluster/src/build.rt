@@ -1,4 +1,4 @@
-//! The maps of many facts at once.
+//! Builds the maps of many facts at once.
 ghost use Rattle.std.specs.Prelude.{ℕ, List, ◌≡◌, ◌||◌, [], map, IfOk, OnOk, None, IsPermutation};
 ghost use Rattle.std.specs.List.Sorted.{IsStrictlySortedBy};
 ghost use Rattle.std.specs.Map.{keys_of};

@@ -1,4 +1,4 @@
-//! The table of unclustered and missing names.
+//! Keeps the table of unclustered and missing names.
 ghost use Rattle.std.specs.Prelude.{◌≡◌, ◌+◌, ◌*◌, ◌≤◌, ◌<◌, [], ◌∷◌, length, false, true, map, Some, OnOk, OnErr, IfOk};
 ghost use Rattle.fsl_order.specs.Names.{has};
 ghost use Rattle.fsl_order.specs.Rows.{by_name, named, AreDistinct, ListsChanged};
@@ -18,8 +18,8 @@ use std::alloc::Global;
 use std::marker::{Brand, Model};
 use std::sync::ledger::{Blank, Ledger};
 
-/// The unclustered and the missing names of held artifacts. Contracts see it as the facts by name, and the room that its maps have
-/// to spare.
+/// A table of the unclustered and the missing names of held artifacts. Contracts see it as the facts by name, and the room that
+/// its maps have to spare.
 #[derive(Drop)]
 pub struct Clusters {
     pub(crate) maps: Maps,
@@ -37,7 +37,7 @@ impl Model for Clusters {
     ghost invariant = { λ c. IsKept (tables_in c.maps) };
 }
 
-/// What takes a change back, and the names whose rows it changed. Contracts see it as both, with the table before and after.
+/// The way back from a change, and the names whose rows it changed. Contracts see it as both, with the table before and after.
 #[derive(Drop)]
 pub struct Undo {
     ways: Ways,
@@ -57,7 +57,8 @@ impl Model for Undo {
 }
 
 impl Undo {
-    /// The names whose rows the change changed, ascending. The row of a name is whether it is unclustered, and whether it is missing.
+    /// Returns the names whose rows the change changed, ascending. The row of a name says whether it is unclustered, and whether
+    /// it is missing.
     pub fn changed(&self) -> &List<Name>
         ensures { result.now ≡ self.now.changed }
     {
@@ -66,7 +67,7 @@ impl Undo {
 }
 
 impl Clusters {
-    /// The table without artifacts. Takes no memory.
+    /// Returns a table without artifacts. Takes no memory.
     pub fn new(alloc: Global) -> Clusters
         ensures { result.facts ≡ [] }
     {
@@ -75,8 +76,8 @@ impl Clusters {
         }
     }
 
-    /// The table of some facts, of which no two have one name. It is the same in whatever order they stand:
-    /// that is the law `fsl_order::by_name_in_any_order`. They are copied. `Memory` is the only error.
+    /// Makes the table of some facts. No two of them have one name. The table is the same in whatever order they come: that is
+    /// the law `fsl_order::by_name_in_any_order`. The facts are copied. `Memory` is the only error.
     pub fn build(alloc: Global, facts: &[Fact]) -> Result<Clusters, Memory>
         requires { AreDistinct (map (λ f. f.name) facts.now) }
         ensures facts { IfOk result (λ t. t.facts ≡ by_name (λ f. f.name) facts.now) }
@@ -84,7 +85,7 @@ impl Clusters {
         Clusters::from_facts(alloc, copies(alloc, facts)?)
     }
 
-    /// The table that `build` makes, of facts that are moved: none is copied. `Memory` is the only error.
+    /// Makes the table of some facts as `build` does, and moves them. None is copied. `Memory` is the only error.
     pub fn from_facts(alloc: Global, facts: List<Fact>) -> Result<Clusters, Memory>
         requires { AreDistinct (map (λ f. f.name) facts) }
         ensures facts { IfOk result (λ t. t.facts ≡ by_name (λ f. f.name) facts) }
@@ -110,8 +111,8 @@ impl Clusters {
         })
     }
 
-    /// Adds an artifact whose name isn't there. `Memory` is the only error, and the table then holds what it held. It takes at most
-    /// 6 touches, and 6 for each member and each name that is referred to.
+    /// Adds an artifact. No other one of its name is in the table. `Memory` is the only error. The table then holds the same as
+    /// before. It takes at most 6 touches, and 6 for each member and each name that is referred to.
     pub fn add<L: Ledger>(
         &mut self,
         alloc: Global,
@@ -139,8 +140,8 @@ impl Clusters {
         }
     }
 
-    /// Puts an artifact in the place of that of its name, which is there. `Memory` is the only error, and the table then holds what
-    /// it held. Where a private artifact becomes public and is else the same, it takes at most 6 touches.
+    /// Replaces the artifact of the same name. The table has one. `Memory` is the only error. The table then holds the same as
+    /// before. Where a private artifact becomes public and is else the same, it takes at most 6 touches.
     pub fn change<L: Ledger>(
         &mut self,
         alloc: Global,
@@ -168,7 +169,7 @@ impl Clusters {
         }
     }
 
-    /// Takes the last change back that wasn't taken back. It takes no memory.
+    /// Undoes the last change that wasn't undone yet. It takes no memory.
     pub fn undo(&mut self, undo: Undo)
         requires { IsAsBefore undo.after self.old }
         ensures { IsAsBefore undo.before self.new }
@@ -188,8 +189,8 @@ impl Clusters {
         self.maps.undo(ways, &mut steps);
     }
 
-    /// The names of the public artifacts that stand in no M card of a held cluster, ascending. `Memory` is the only
-    /// error.
+    /// Returns the names of the public artifacts that are in no M card of a held cluster, ascending. `Memory` is the only error.
+    /// FORMATS: Derived tables
     pub fn unclustered(&self, alloc: Global) -> Result<List<Name>, Memory>
         ensures { IfOk result (λ names. names ≡ table.unclustered self.now.facts) }
     {
@@ -210,7 +211,8 @@ impl Clusters {
         keys(alloc, self.maps.unclustered.map(), &mut steps)
     }
 
-    /// The names that a held artifact refers to and that aren't held, ascending. `Memory` is the only error.
+    /// Returns the names that a held artifact refers to and that aren't held, ascending. `Memory` is the only error.
+    /// FORMATS: Derived tables
     pub fn missing(&self, alloc: Global) -> Result<List<Name>, Memory>
         ensures { IfOk result (λ names. names ≡ table.missing self.now.facts) }
     {

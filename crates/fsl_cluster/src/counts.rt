@@ -1,4 +1,4 @@
-//! How many names the table has, and whether it has one. None of these calls takes memory.
+//! Counts the names of the table, and tells whether it has one. None of these calls takes memory.
 ghost use Rattle.std.specs.Prelude.{◌≡◌, ◌<◌, length};
 ghost use Rattle.fsl_order.specs.Names.{has};
 ghost use Rattle.fsl_cluster.specs.Clusters as table;
@@ -11,21 +11,21 @@ use std::marker::Brand;
 use std::sync::ledger::{Blank, Ledger};
 
 impl Clusters {
-    /// How many public artifacts stand in no M card of a held cluster.
+    /// Counts the public artifacts that are in no M card of a held cluster.
     pub fn unclustered_count(&self) -> u64
         ensures { result ≡ length (table.unclustered self.now.facts) }
     {
         self.maps.unclustered.map().len()
     }
 
-    /// How many names a held artifact refers to that aren't held.
+    /// Counts the names that a held artifact refers to and that aren't held.
     pub fn missing_count(&self) -> u64
         ensures { result ≡ length (table.missing self.now.facts) }
     {
         self.maps.missing.map().len()
     }
 
-    /// Whether a held artifact refers to this name, and it isn't held.
+    /// Tells whether a held artifact refers to this name, and it isn't held.
     pub fn is_missing(&self, name: Name) -> bool
         ensures { result ≡ has (table.missing self.now.facts) name }
     {

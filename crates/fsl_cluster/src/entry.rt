@@ -1,4 +1,4 @@
-//! What is kept of a held artifact beside its name.
+//! Holds the part of a held artifact that the table needs, without its name.
 ghost use Rattle.std.specs.Prelude.{◌≡◌};
 ghost use Rattle.fsl_cluster.specs.Kept.{entry_of};
 
@@ -6,7 +6,7 @@ use crate::Fact;
 use fsl_name::Name;
 use fsl_text::List;
 
-/// Whether it is private, the names in its M cards, and the names that it refers to.
+/// The privacy of an artifact, the names in its M cards, and the names that it refers to.
 #[derive(Drop)]
 pub struct Entry {
     pub private: bool,

@@ -1,4 +1,4 @@
-//! The names that facts have.
+//! Gathers names from facts.
 ghost use Rattle.std.specs.Prelude.{◌≡◌, ◌++◌, ◌&&◌, IfOk, OnOk, map, filter, not};
 ghost use Rattle.std.specs.List.{flat_map};
 ghost use Rattle.fsl_order.specs.Names.{has};
@@ -34,7 +34,7 @@ fn public_names(alloc: Global, facts: &[Fact], members: &NameSet) -> Result<Vec<
         .collect(alloc)
 }
 
-/// The public names of some facts that stand in no M card of them, ascending. `Memory` is the only error.
+/// Returns the public names of some facts that are in no M card of theirs, ascending. `Memory` is the only error.
 pub fn unclustered(alloc: Global, facts: &[Fact]) -> Result<List<Name>, Memory>
     ensures { IfOk result (λ found. found ≡ table.unclustered facts.now) }
 {
@@ -73,7 +73,7 @@ fn refs_unheld(alloc: Global, facts: &[Fact], held: &NameSet) -> Result<Vec<Name
     Ok(found)
 }
 
-/// The names that some facts refer to and that are none of theirs, ascending. `Memory` is the only error.
+/// Returns the names that some facts refer to and that are the name of none of them, ascending. `Memory` is the only error.
 pub fn missing(alloc: Global, facts: &[Fact]) -> Result<List<Name>, Memory>
     ensures { IfOk result (λ found. found ≡ table.missing facts.now) }
 {

@@ -1,7 +1,7 @@
-//! Clusters: which names of held artifacts stand in no cluster, and which names are referred to and not held.
-//! `Clusters` is the table of both, and its answers are those of the definitions over the facts that it holds. In whatever order these
-//! came it is the same: `fsl_order::by_name_in_any_order`. An artifact more, and another in the place of one, are calls of their own,
-//! which tell the names whose rows differ and can be taken back.
+//! Finds the names of held artifacts that are in no cluster, and the names that an artifact refers to and that aren't held.
+//! `Clusters` is the table of both. It answers as the definitions do over the facts that it holds. It is the same in whatever
+//! order these came: that is the law `fsl_order::by_name_in_any_order`. One call adds an artifact, and another one replaces an
+//! artifact. Each returns the names whose rows differ, and can be undone.
 #![tactic(auto)]
 
 mod build;
@@ -22,14 +22,14 @@ use fsl_text::List;
 pub use gather::{missing, unclustered};
 pub use writing::make_cluster;
 
-/// What the table sees of a held artifact.
+/// The part of a held artifact that the table needs.
 #[derive(Drop)]
 pub struct Fact {
     /// Its name.
     pub name: Name,
-    /// Whether it is private.
+    /// Says whether it is private.
     pub private: bool,
-    /// The names in its M cards where it is a cluster, else none.
+    /// The names in its M cards. There are none where it is no cluster.
     pub members: List<Name>,
     /// The names that it refers to.
     pub refs: List<Name>,

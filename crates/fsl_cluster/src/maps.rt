@@ -1,4 +1,4 @@
-//! The maps in which the facts are held, and the ways back.
+//! Keeps the facts in maps, with ways back.
 ghost use Rattle.std.specs.Prelude.{◌≡◌, ◌+◌};
 ghost use Rattle.fsl_cluster.specs.Kept.{AreAsGood, ends_of, starts_of, steps_back, tables_before, tables_in};
 
@@ -13,19 +13,19 @@ use std::sync::ledger::Ledger;
 /// The maps of a table of facts.
 #[derive(Drop)]
 pub struct Maps {
-    /// What is kept of each fact, by its name.
+    /// Maps the name of each fact to the rest of it.
     pub facts: Tracked<Name, Entry>,
-    /// A pair for each name of an M card and the cluster that has it.
+    /// Has a pair for each name of an M card and the cluster with that card.
     pub members: Tracked<Pair, ()>,
-    /// A pair for each name that is referred to and the artifact that refers to it.
+    /// Has a pair for each name that an artifact refers to, and that artifact.
     pub refs: Tracked<Pair, ()>,
-    /// The public names that stand in no M card.
+    /// Has the public names that are in no M card.
     pub unclustered: Tracked<Name, ()>,
-    /// The names that are referred to and not held.
+    /// Has the names that an artifact refers to and that aren't held.
     pub missing: Tracked<Name, ()>,
 }
 
-/// The ways back of a change.
+/// The way back from a change, for each map.
 #[derive(Drop)]
 pub struct Ways {
     pub facts: Way<Name, Entry>,
@@ -36,7 +36,7 @@ pub struct Ways {
 }
 
 impl Maps {
-    /// Maps that were filled without a way back. Takes no memory.
+    /// Makes the maps of tables that were filled without a way back. Takes no memory.
     pub fn of(alloc: Global, tables: Tables) -> Maps
         ensures { tables_in result ≡ tables }
     {
@@ -69,7 +69,7 @@ impl Maps {
         self.missing.begin();
     }
 
-    /// Goes back to where the change began. It takes no memory.
+    /// Undoes the change that was begun. It takes no memory.
     pub fn turn_back<L: Ledger>(&mut self, steps: &mut Steps<L>)
         ensures good { AreAsGood (tables_before self.old) (tables_in self.new) }
         ensures cost { steps.new ≡ steps.old + steps_back self.old }
@@ -81,7 +81,7 @@ impl Maps {
         self.missing.turn_back(steps);
     }
 
-    /// Hands the ways back out.
+    /// Returns the way back of each map. The rows stay as they are.
     pub fn ways(&mut self, alloc: Global) -> Ways
         ensures ends { ends_of result ≡ tables_in self.old }
         ensures starts { starts_of result ≡ tables_before self.old }
@@ -96,7 +96,7 @@ impl Maps {
         }
     }
 
-    /// Goes these ways back from what is as good as their ends. It takes no memory.
+    /// Undoes the change whose ways back are given. The rows must be as good as those where these ways end. It takes no memory.
     pub fn undo<L: Ledger>(&mut self, ways: Ways, steps: &mut Steps<L>)
         requires { AreAsGood (ends_of ways) (tables_in self.old) }
         ensures { AreAsGood (starts_of ways) (tables_in self.new) }

@@ -1,4 +1,4 @@
-//! Names, ascending, each once.
+//! Keeps names, ascending, each once.
 ghost use Rattle.std.specs.Prelude.{◌≡◌};
 ghost use Rattle.fsl_order.specs.Names.{has};
 ghost use Rattle.fsl_order.specs.Rows.{ascending};
@@ -7,7 +7,7 @@ use fsl_name::{Name, ordered, stands};
 use fsl_text::List;
 use std::marker::Model;
 
-/// A set of names, which contracts see as the ascending list of them.
+/// A set of names. Contracts see it as the ascending list of them.
 #[derive(Drop)]
 pub struct NameSet {
     names: Vec<Name>,
@@ -26,7 +26,7 @@ impl Model for NameSet {
 }
 
 impl NameSet {
-    /// The names of a vector. Takes no memory.
+    /// Makes the set of the names of a vector. Takes no memory.
     pub fn of(names: Vec<Name>) -> NameSet
         ensures { result ≡ ascending names.items }
     {
@@ -35,14 +35,14 @@ impl NameSet {
         }
     }
 
-    /// Whether the name is in the set.
+    /// Tells whether the name is in the set.
     pub fn contains(&self, name: &Name) -> bool
         ensures { result ≡ has self.now name.now }
     {
         stands(&self.names, name)
     }
 
-    /// The names, ascending.
+    /// Returns the names, ascending.
     pub fn into_list(self) -> List<Name>
         ensures { result ≡ self }
     {

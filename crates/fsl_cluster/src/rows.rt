@@ -1,4 +1,4 @@
-//! The rows of clusters: a fact put into the maps and taken out of them.
+//! Puts a fact into the maps, and takes it out.
 ghost use Rattle.std.specs.Prelude.{ℕ, List, ◌≡◌, ◌+◌, ◌*◌, ◌≤◌, length, OnOk, OnErr, IfOk, None, true, false, not, is_some, ◌&&◌, ◌||◌};
 ghost use Rattle.std.specs.Str.{bytes_eq};
 ghost use Rattle.std.specs.List.Sorted.{IsStrictlySortedBy};

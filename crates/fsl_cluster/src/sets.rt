@@ -1,4 +1,4 @@
-//! Sets of names as maps: names put in and taken out, with the names at which a set differs from what it was.
+//! Keeps sets of names as maps. It puts names in, takes them out, and notes the names at which a set differs from before.
 ghost use Rattle.std.specs.Prelude.{ℕ, List, ◌≡◌, ◌+◌, ◌*◌, ◌≤◌, length, OnOk, OnErr, not, is_some, ◌&&◌, ◌||◌, if◌then◌else◌};
 ghost use Rattle.std.specs.Str.{bytes_eq};
 ghost use Rattle.std.specs.List.Sorted.{IsStrictlySortedBy};

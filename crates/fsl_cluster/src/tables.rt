@@ -1,4 +1,4 @@
-//! The maps of a table as it is filled, and the names whose rows change.
+//! Holds the maps of a table as it is filled, and the names whose rows change.
 ghost use Rattle.std.specs.Prelude.{◌≡◌, []};
 
 use crate::entry::Entry;
@@ -10,20 +10,20 @@ use std::collections::BTreeSet;
 /// The maps of a table of facts as they are filled, with no way back.
 #[derive(Drop)]
 pub struct Tables {
-    /// What is kept of each fact, by its name.
+    /// Maps the name of each fact to the rest of it.
     pub facts: Table<Name, Entry>,
-    /// A pair for each name of an M card and the cluster that has it.
+    /// Has a pair for each name of an M card and the cluster with that card.
     pub members: Table<Pair, ()>,
-    /// A pair for each name that is referred to and the artifact that refers to it.
+    /// Has a pair for each name that an artifact refers to, and that artifact.
     pub refs: Table<Pair, ()>,
-    /// The public names that stand in no M card.
+    /// Has the public names that are in no M card.
     pub unclustered: Table<Name, ()>,
-    /// The names that are referred to and not held.
+    /// Has the names that an artifact refers to and that aren't held.
     pub missing: Table<Name, ()>,
 }
 
 impl Tables {
-    /// The maps without facts. Takes no memory.
+    /// Returns maps without facts. Takes no memory.
     pub fn new(alloc: Global) -> Tables
         ensures facts { result.facts.entries ≡ [] }
         ensures members { result.members.entries ≡ [] }
@@ -49,7 +49,7 @@ pub struct Flips {
 }
 
 impl Flips {
-    /// No names. Takes no memory.
+    /// Returns no names. Takes no memory.
     pub fn new(alloc: Global) -> Flips
         ensures unclustered { result.unclustered.keys ≡ [] }
         ensures missing { result.missing.keys ≡ [] }

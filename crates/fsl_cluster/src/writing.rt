@@ -40,8 +40,9 @@ fn members(alloc: Global, names: &[Name]) -> Result<Text, Memory>
     Ok(text)
 }
 
-/// The bytes of the cluster of these names, of which there are 1 to 4,096, rising: their M cards, and the Z card with
-/// the MD5 of what stands before it. `Memory` is the only error.
+/// Writes the cluster of these names. There are 1 to 4,096 of them, rising. Its bytes are their M cards, and the Z card with the
+/// MD5 of the bytes before it. `Memory` is the only error.
+/// FORMATS: Kinds
 pub fn make_cluster(alloc: Global, names: &[Name]) -> Result<Text, Memory>
     requires { AreMembers names.now }
     ensures { IfOk result (λ text. text ≡ cluster_text names.now) }

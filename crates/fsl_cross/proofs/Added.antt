@@ -10,7 +10,7 @@ use Rattle.fsl_order.specs.Rows.{by_name, named}
 use Rattle.fsl_order.proofs.RowLemmas.{is_some-named}
 use Rattle.fsl_order.proofs.NamedLemmas.{named-by_name}
 use Rattle.fsl_files.proofs.Ordered.{in_order-rises}
-use Rattle.fsl_rows.proofs.Rising.{rising-filter}
+use Rattle.fsl_name.proofs.Rising.{rising-filter}
 use Rattle.fsl_cross.specs.Mixed.{mixed}
 use Rattle.fsl_cross.proofs.Mapped.{named-given, by_name-given}
 use Rattle.fsl_cross.proofs.Sets.{rising-found, named-out, given-with, mixed-first}

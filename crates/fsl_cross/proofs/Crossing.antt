@@ -9,21 +9,13 @@ use Rattle.fsl_links.proofs.Crossing.{links_send, links_sync}
 use Rattle.fsl_ticket.proofs.Crossing.{tickets_send, tickets_sync}
 use Rattle.fsl_timeline.proofs.Crossing.{timeline_send, timeline_sync}
 use Rattle.fsl_wiki.proofs.Crossing.{pages_send, pages_sync}
-use Rattle.fsl_table.proofs.table.Table.TheSendSync as table
-use Rattle.fsl_tags.proofs.row.Row.TheLaws.TheKnot.{crosses as row_cross}
-use Rattle.fsl_tags.specs.contracts.tags.Tags as Tags
+use Rattle.fsl_tags.proofs.Crossing.{tags_send, tags_sync}
 use Rattle.fsl_cross.proofs.attached.Attached.TheSendSync as attached
 use Rattle.fsl_cross.proofs.items.Items.TheSendSync as items
 use Rattle.fsl_cross.specs.contracts.contents.Contents as Contents
 use Rattle.fsl_cross.specs.contracts.history.History as History
 use Rattle.fsl_cross.specs.contracts.derived.Derived as Derived
 use Rattle.fsl_cross.specs.contracts.tables.Tables as Tables
-
-tags_send : IsSend Tags.the_row
-tags_send = search (sendable, std_cross, table.the_send, row_cross) depth 60 fits 40000
-
-tags_sync : IsSync Tags.the_row
-tags_sync = search (sendable, std_cross, table.the_sync, row_cross) depth 60 fits 40000
 
 history_send : IsSend History.the_field.row
 history_send = search (sendable, std_cross, leaves_send, links_send, tags_send) depth 30

@@ -11,9 +11,9 @@ use Rattle.std.specs.Str.{bytes_eq}
 use Rattle.std.specs.Cmp.Lexicographic.{texts_ties, nat_list_eq_equiv, bytes_decides}
 use Rattle.fsl_order.specs.Names.{bytes_cmp}
 use Rattle.fsl_order.proofs.Orders.{bytes_cmp-IsTotalOrder}
-use Rattle.fsl_rows.specs.Kept.{IsKept}
-use Rattle.fsl_rows.proofs.Keeping.{lookup-kept, names-kept}
-use Rattle.fsl_rows.proofs.Rising.{rising-filter}
+use Rattle.fsl_name.specs.RowsKept.{IsKept}
+use Rattle.fsl_name.proofs.RowsKeeping.{lookup-kept, names-kept}
+use Rattle.fsl_name.proofs.Rising.{rising-filter}
 use Rattle.fsl_table.specs.Contents.{without_key}
 use Rattle.fsl_table.proofs.Entries.{sorted-remove_entry}
 use Rattle.fsl_table.proofs.Finding.{value-without}

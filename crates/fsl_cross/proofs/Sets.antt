@@ -14,7 +14,7 @@ use Rattle.fsl_order.proofs.Orders.{bytes_cmp-IsTotalOrder, bytes_cmp-IsAntisymm
 use Rattle.fsl_order.proofs.RowLemmas.{pairs, find-keyed, is_sorted-keyed, is_some-named}
 use Rattle.fsl_order.proofs.NamedLemmas.{named-by_name}
 use Rattle.fsl_files.proofs.Ordered.{in_order-rises}
-use Rattle.fsl_rows.proofs.Rising.{rising-filter}
+use Rattle.fsl_name.proofs.Rising.{rising-filter}
 use Rattle.fsl_cross.specs.Mixed.{mixed}
 use Rattle.fsl_cross.proofs.Mapped.{by_name-rising, rising-given, named-given, named-has}
 

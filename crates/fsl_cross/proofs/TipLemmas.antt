@@ -18,7 +18,7 @@ use Rattle.fsl_order.proofs.RowLemmas.{is_sorted-keyed, is_some-named, has-filte
 use Rattle.fsl_order.proofs.AscendingLemmas.{itself, Twins-keyed, twin_parts, has-ascending}
 use Rattle.fsl_order.proofs.GreatestLemmas.{greatest-append}
 use Rattle.fsl_order.proofs.SortedLemmas.{ascending-from, same_names}
-use Rattle.fsl_rows.proofs.Rising.{rising-filter, named-own}
+use Rattle.fsl_name.proofs.Rising.{rising-filter, named-own}
 use Rattle.fsl_manifest.specs.declared.Manifest.{Manifest}
 use Rattle.fsl_artifact.specs.declared.Artifact.TheVariants as kind
 use Rattle.fsl_tags.specs.declared.Fact as tags

@@ -7,7 +7,7 @@ use Rattle.std.specs.Str.{bytes_eq}
 use Rattle.fsl_order.specs.Names.{bytes_cmp}
 use Rattle.fsl_order.specs.Rows.{by_name, AreDistinct}
 use Rattle.fsl_order.proofs.SortedLemmas.{in_order-sorted}
-use Rattle.fsl_rows.proofs.Rising.{rising-filter}
+use Rattle.fsl_name.proofs.Rising.{rising-filter}
 use Rattle.fsl_cross.specs.declared.Item.{Item}
 use Rattle.fsl_cross.specs.Tables.{IsItem, without}
 use Rattle.fsl_cross.proofs.Mapped.{distinct-rising}

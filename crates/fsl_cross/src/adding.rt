@@ -1,4 +1,4 @@
-//! One artifact more in all tables.
+//! Takes one artifact more into all tables.
 ghost use Rattle.std.specs.Prelude.{◌≡◌, ◌≤◌, ◌+◌, true, false, All, Some, map, is_some, option_map, OnOk, IfSome, option_and_then};
 ghost use Rattle.std.specs.List.Sorted.{IsStrictlySortedBy};
 ghost use Rattle.fsl_order.specs.Names.{bytes_cmp};

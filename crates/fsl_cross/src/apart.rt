@@ -1,5 +1,5 @@
-//! Tables that are made one by one, each where it is asked for: what one report prints takes few of them. Each has the facts
-//! that it has among all tables. That of parentage is made where tags are told by it, and let go.
+//! Makes single tables, each when it is asked for, since one report reads few of them. Each has the facts that it has among all
+//! tables. The table of parentage is made for the table of tags, and let go.
 ghost use Rattle.std.specs.Prelude.{◌≡◌, ℕ, List as Texts, All, IfOk, map};
 ghost use Rattle.std.specs.List.Sorted.{IsStrictlySortedBy};
 ghost use Rattle.fsl_order.specs.Names.{bytes_cmp};
@@ -29,7 +29,7 @@ impl Items {
         let _ = self.iter();
     }
 
-    /// The table of tags. `Memory` is the only error.
+    /// Makes the table of tags. `Memory` is the only error.
     pub fn tags(&self, alloc: Global) -> Result<Tags, Memory>
         ensures own { IfOk result (λ t. t.facts ≡ tags_facts self.now) }
         ensures facts { (fields : Texts (Texts ℕ)) → IfOk result (λ t. t.facts ≡ (tables fields self.now).tags) }
@@ -39,7 +39,7 @@ impl Items {
         facts::tags::table(alloc, &links, self)
     }
 
-    /// The tables of tags and of leaves. `Memory` is the only error.
+    /// Makes the tables of tags and of leaves. `Memory` is the only error.
     pub fn tags_and_leaves(&self, alloc: Global) -> Result<(Tags, Leaves), Memory>
         ensures own { IfOk result (λ both. both.0.facts ≡ tags_facts self.now) }
         ensures facts { (fields : Texts (Texts ℕ)) → IfOk result (λ both. both.1.facts ≡ (tables fields self.now).leaves) }
@@ -50,7 +50,7 @@ impl Items {
         beside(tags, leaves)
     }
 
-    /// The table of the files of check-ins. `Memory` is the only error.
+    /// Makes the table of the files of check-ins. `Memory` is the only error.
     pub fn files(&self, alloc: Global) -> Result<Files, Memory>
         requires { All IsItem self.now }
         ensures { (fields : Texts (Texts ℕ)) → IfOk result (λ t. t.facts ≡ (tables fields self.now).files) }
@@ -59,7 +59,7 @@ impl Items {
         facts::files::table(alloc, self)
     }
 
-    /// The table of wiki pages, technotes and attachments. `Memory` is the only error.
+    /// Makes the table of wiki pages, technotes and attachments. `Memory` is the only error.
     pub fn wiki(&self, alloc: Global) -> Result<Pages, Memory>
         ensures own { IfOk result (λ t. t.facts ≡ pages_facts self.now) }
         ensures facts { (fields : Texts (Texts ℕ)) → IfOk result (λ t. t.facts ≡ (tables fields self.now).pages) }
@@ -68,7 +68,7 @@ impl Items {
         facts::pages::table(alloc, self)
     }
 
-    /// The table of tickets, with the configured fields. `Memory` is the only error.
+    /// Makes the table of tickets, with the configured fields. `Memory` is the only error.
     pub fn ticket(&self, alloc: Global, fields: &List<Text>) -> Result<Tickets, Memory>
         ensures fields { IfOk result (λ t. t.fields ≡ fields.now) }
         ensures facts { IfOk result (λ t. t.facts ≡ (tables fields.now self.now).tickets) }
@@ -77,7 +77,7 @@ impl Items {
         facts::tickets::table(alloc, fields, self)
     }
 
-    /// The table of forum posts. `Memory` is the only error.
+    /// Makes the table of forum posts. `Memory` is the only error.
     pub fn forum(&self, alloc: Global) -> Result<Threads, Memory>
         ensures own { IfOk result (λ t. t.facts ≡ forum_facts self.now) }
         ensures facts { (fields : Texts (Texts ℕ)) → IfOk result (λ t. t.facts ≡ (tables fields self.now).threads) }
@@ -86,7 +86,7 @@ impl Items {
         facts::forum::table(alloc, self)
     }
 
-    /// The table of clusters. `Memory` is the only error.
+    /// Makes the table of clusters. `Memory` is the only error.
     pub fn cluster(&self, alloc: Global) -> Result<Clusters, Memory>
         ensures own { IfOk result (λ t. t.facts ≡ cluster_facts self.now) }
         ensures facts { (fields : Texts (Texts ℕ)) → IfOk result (λ t. t.facts ≡ (tables fields self.now).clusters) }
@@ -95,7 +95,7 @@ impl Items {
         facts::clusters::table(alloc, self)
     }
 
-    /// The timeline. The tables of tags, pages and posts, of which its rows are told, are let go. `Memory` is the only error.
+    /// Makes the timeline. Its rows come from the tables of tags, pages and posts, which are let go. `Memory` is the only error.
     pub fn timeline(&self, alloc: Global) -> Result<Timeline, Memory>
         ensures { (fields : Texts (Texts ℕ)) → IfOk result (λ t. t.facts ≡ (tables fields self.now).timeline) }
     {
@@ -110,7 +110,7 @@ impl Items {
         rows
     }
 
-    /// The tip of a symbolic name: of the check-ins on which the tag of `sym-` and the name is in force, the one with the
+    /// Finds the tip of a symbolic name: of the check-ins on which the tag of `sym-` and the name is in force, the one with the
     /// greatest date and, at one date, the greatest name. None where there is none. `Memory` is the only error.
     pub fn tip(&self, alloc: Global, symbol: &[u8]) -> Result<Option<Name>, Memory>
         ensures { IfOk result (λ n. n ≡ tip self.now symbol.now) }

@@ -1,4 +1,4 @@
-//! Which attachments name an id as their target, and which ticket changes have it.
+//! Finds the attachments that name an id as their target, and the ticket changes that have it.
 ghost use Rattle.std.specs.Prelude.{◌≡◌, ◌<◌, ◌||◌, is_some, filter_map, OnOk, IfOk};
 ghost use Rattle.fsl_name.specs.Name.{name_in};
 ghost use Rattle.fsl_table.specs.Contents.{value_at};

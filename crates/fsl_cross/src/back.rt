@@ -1,4 +1,4 @@
-//! What takes a change of all tables back.
+//! Takes a change of all tables back.
 ghost use Rattle.std.specs.Prelude.{◌≡◌, ◌<◌};
 ghost use Rattle.fsl_cross.specs.Back.{CanHistoryGoBack, HistoryWentBack, CanContentsGoBack, ContentsWentBack, CanAttachedGoBack, AttachedWentBack, CanGoBackAll, AllWentBack, unmade};
 
@@ -17,7 +17,7 @@ use std::marker::{Brand, Model};
 use std::snapshot::Snapshot;
 use std::sync::ledger::{Blank, Ledger};
 
-/// What takes a change of all tables back. Contracts see it as the tables before and after.
+/// Takes a change of all tables back. Contracts see it as the tables before and after.
 #[derive(Drop)]
 pub struct Back {
     pub(crate) what: What,
@@ -39,7 +39,7 @@ impl Model for Back {
 }
 
 impl Back {
-    /// Lets go what would take the change back: the change stays.
+    /// Keeps the change for good, and lets this value go.
     pub fn settle(self) {
         drop(self);
     }
@@ -92,7 +92,7 @@ fn attached_back<L: Ledger>(attached: &mut Attached, undos: AttachedUndos, blank
     log::undo(&mut attached.changes, changes, &mut steps);
 }
 
-/// Takes changes of what attachments are found by back. Takes no memory.
+/// Takes changes of the pairs by which attachments are found back. Takes no memory.
 fn take_attached_back(attached: &mut Attached, undos: AttachedUndos)
     requires { CanAttachedGoBack undos attached.old }
     ensures { AttachedWentBack undos attached.old attached.new }

@@ -1,4 +1,4 @@
-//! A value beside one that may be wanting.
+//! Puts a value beside one that may be missing.
 ghost use Rattle.std.specs.Prelude.{◌≡◌, Ok, IfOk};
 
 use fsl_text::Memory;

@@ -1,4 +1,4 @@
-//! Changes of the tables by one artifact more, one module a table.
+//! Takes one artifact more into the tables, one module a table.
 pub(crate) mod attached;
 pub(crate) mod clusters;
 pub(crate) mod contents;

@@ -1,4 +1,4 @@
-//! The values of a check-in.
+//! Reads the values of a check-in.
 ghost use Rattle.std.specs.Prelude.{◌≡◌, IfOk, option_map};
 ghost use Rattle.std.specs.Option.{option_copied};
 ghost use Rattle.fsl_name.specs.Ref.{own_names};
@@ -58,7 +58,7 @@ pub(crate) fn text<'a>(tags: &'a Tags, name: Name, tag: &[u8], card: &'a [u8]) -
     }
 }
 
-/// The branch of a check-in, by a table of tags: the value of the tag `branch` where it is in force on the name, else `trunk`.
+/// Gives the branch of a check-in, by a table of tags: the value of the tag `branch` where it is in force on the name, else `trunk`.
 pub fn branch(tags: &Tags, name: Name) -> &[u8]
     ensures { result.now ≡ branch_over tags.now.facts name }
 {

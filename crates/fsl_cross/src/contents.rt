@@ -1,4 +1,4 @@
-//! The tables of files, pages, tickets, posts and clusters.
+//! Builds the tables of files, pages, tickets, posts and clusters.
 ghost use Rattle.std.specs.Prelude.{◌≡◌, [], All, IfOk, map};
 ghost use Rattle.std.specs.List.Sorted.{IsStrictlySortedBy};
 ghost use Rattle.fsl_order.specs.Names.{bytes_cmp};

@@ -1,4 +1,4 @@
-//! The nine tables and what attachments are found by, beside the artifacts that they are made from.
+//! Builds the nine tables, and the pairs by which attachments are found, from artifacts.
 ghost use Rattle.std.specs.Prelude.{◌≡◌, All, IfOk, map};
 ghost use Rattle.std.specs.List.Sorted.{IsStrictlySortedBy};
 ghost use Rattle.fsl_order.specs.Names.{bytes_cmp};
@@ -64,7 +64,7 @@ impl Derived {
         Derived::after(alloc, fields, items, history)
     }
 
-    /// The tables, of which those of check-ins stand. Where memory lacks these go by a call, since each way out that lets so many parts go
+    /// The tables, with those of check-ins given. Out of memory, these go by a call, since each way out that lets so many parts go
     /// by itself is dear to prove.
     fn after(
         alloc: Global,
@@ -86,7 +86,7 @@ impl Derived {
         }
     }
 
-    /// The tables, of which those of check-ins and those told from cards alone stand.
+    /// The tables, with those of check-ins and those from cards alone given.
     fn joined(
         alloc: Global,
         fields: &List<Text>,

@@ -1,4 +1,4 @@
-//! The facts that artifacts give to the tables, one module a table.
+//! Makes the facts that artifacts give to the tables, one module a table.
 ghost use Rattle.std.specs.Prelude.{◌≡◌, ◌++◌, [], OnOk, option_to_list, unwrap_or};
 
 pub(crate) mod clusters;

@@ -1,4 +1,4 @@
-//! An artifact of a set, which other sets may have too.
+//! Holds an artifact of a set, which other sets may have too.
 ghost use Rattle.std.specs.Prelude.{◌≡◌, IfOk, false};
 
 use super::Item;

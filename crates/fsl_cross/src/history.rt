@@ -1,4 +1,4 @@
-//! The tables of parentage, tags and leaves.
+//! Builds the tables of parentage, tags and leaves.
 ghost use Rattle.std.specs.Prelude.{◌≡◌, [], IfOk, map};
 ghost use Rattle.std.specs.List.Sorted.{IsStrictlySortedBy};
 ghost use Rattle.fsl_order.specs.Names.{bytes_cmp};
@@ -14,7 +14,7 @@ use fsl_tags::Tags;
 use fsl_text::Memory;
 use std::alloc::Global;
 
-/// What is told of check-ins from their parents and from tags: each table stands on the ones before it.
+/// What is told of check-ins from their parents and from tags: each table needs the ones before it.
 #[derive(Drop)]
 pub(crate) struct History {
     pub(crate) links: Links,

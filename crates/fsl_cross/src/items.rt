@@ -1,4 +1,4 @@
-//! The artifacts of a set, by name.
+//! Holds the artifacts of a set, by name.
 ghost use Rattle.std.specs.Prelude.{◌≡◌, ◌∷◌, ◌++◌, [], cond, map, OnOk, OnErr, IfOk};
 ghost use Rattle.std.specs.Option.{option_copied};
 ghost use Rattle.std.specs.Map.Iter.{ShowsInOrder, deref};
@@ -17,7 +17,7 @@ use std::collections::BTreeMap;
 use std::collections::btree_map::Values;
 use std::marker::Model;
 
-/// Artifacts by rising name, one for each name. Contracts see their list.
+/// Holds artifacts by rising name, one for each name. Contracts see their list.
 #[derive(Drop)]
 pub struct Items {
     tree: BTreeMap<Name, Held>,
@@ -26,7 +26,7 @@ pub struct Items {
 impl Model for Items {
     ghost use Rattle.std.specs.Prelude.{List};
     ghost use Rattle.std.specs.Map.{values_of};
-    ghost use Rattle.fsl_rows.specs.Kept.{IsKept};
+    ghost use Rattle.fsl_name.specs.RowsKept.{IsKept};
     ghost use Rattle.fsl_cross.specs.declared.Item.{Item};
 
     ghost Value = { List Item };
@@ -83,7 +83,7 @@ impl Items {
         Ok(())
     }
 
-    /// Some artifacts, of which no two have one name. They are moved. `Memory` is the only error.
+    /// Makes a set of some artifacts, no two of the same name. They are moved. `Memory` is the only error.
     pub fn of(alloc: Global, items: List<Item>) -> Result<Items, Memory>
         requires { AreDistinct (map (λ i. i.name) items) }
         ensures items { IfOk result (λ set. set ≡ by_name (λ i. i.name) items) }

@@ -1,5 +1,5 @@
-//! The derived tables of a set of artifacts. `Tables` builds them from the artifacts, in whatever order these come, and
-//! its answers are those of the definitions over the set.
+//! This crate derives the tables of a set of artifacts. `Tables` builds them from the artifacts, in whatever order these come,
+//! and answers as the definitions over the set say.
 #![tactic(auto)]
 
 ghost use Rattle.fsl_cross.specs.Tables.{SameInAnyOrder, AddedInAnyOrder};
@@ -35,18 +35,18 @@ use fsl_text::Text;
 pub use items::Items;
 pub use tables::Tables;
 
-/// An artifact of the set.
+/// An artifact of the set has a name and bytes that were read, and may be private.
 #[derive(Drop)]
 pub struct Item {
     /// Its name.
     pub name: Name,
     /// Whether it is private.
     pub private: bool,
-    /// What its bytes are.
+    /// Its bytes, read.
     pub artifact: Artifact,
 }
 
-/// The values of a check-in: those of its tags where these are in force, else those of its cards.
+/// A check-in takes its values from its tags where these are in force, else from its cards.
 #[derive(Drop)]
 pub struct Values {
     /// The comment.
@@ -66,7 +66,7 @@ pub fn same_in_any_order()
     by_name_in_any_order::<Item>();
 }
 
-/// Artifacts that are added one after another make the set that is built of them, in whatever order they come.
+/// Adding artifacts one after another makes the set that is built of them, in whatever order they come.
 pub fn added_in_any_order()
     ensures { AddedInAnyOrder }
 {

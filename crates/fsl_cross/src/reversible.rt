@@ -1,4 +1,4 @@
-//! Changes of one table, which are kept so that they can be taken back.
+//! Keeps the changes of one table, so that they can be taken back.
 ghost use Rattle.std.specs.Prelude.{◌≡◌, ◌++◌, ◌∷◌, [], OnOk, OnErr, MatchOption};
 ghost use Rattle.fsl_order.specs.TableState.{TableState, Change, IsAsBefore};
 ghost use Rattle.fsl_cross.specs.Trails.{LeadsBy};

@@ -1,4 +1,4 @@
-//! All tables of a set of artifacts.
+//! Holds all tables of a set of artifacts.
 ghost use Rattle.std.specs.Prelude.{◌≡◌, ◌≤◌, ◌+◌, [], true, false, All, Some, IfOk, OnOk, OnErr, map, option_map, IfSome};
 ghost use Rattle.fsl_order.specs.Rows.{AreDistinct, named};
 ghost use Rattle.fsl_cross.specs.Checkins as checkins;
@@ -31,7 +31,7 @@ use std::marker::Model;
 use std::snapshot::Snapshot;
 use std::sync::ledger::Ledger;
 
-/// The tables of a set of artifacts. Contracts see it as the configured fields of tickets and the artifacts by name.
+/// Holds the tables of a set of artifacts. Contracts see it as the configured fields of tickets and the artifacts by name.
 #[derive(Drop)]
 pub struct Tables {
     fields: List<Text>,
@@ -51,8 +51,8 @@ impl Model for Tables {
 }
 
 impl Tables {
-    /// The tables of some artifacts, of which no two have one name, and of the configured fields of tickets. They are the
-    /// same in whatever order the artifacts stand. `Memory` is the only error.
+    /// Builds the tables of some artifacts, no two of the same name, and of the configured fields of tickets. They are the same in
+    /// whatever order the artifacts come. `Memory` is the only error.
     pub fn build(alloc: Global, fields: &List<Text>, items: List<Item>) -> Result<Tables, Memory>
         requires names { AreDistinct (map (λ item. item.name) items) }
         requires kinds { All IsItem items }
@@ -64,7 +64,7 @@ impl Tables {
         Tables::of_set(alloc, fields, items)
     }
 
-    /// The tables of the set without the artifact of a name, which need not be there. They are built anew; the artifacts
+    /// Builds the tables of the set without the artifact of a name, which need not be there. They are built anew; the artifacts
     /// themselves aren't copied. `Memory` is the only error.
     pub fn without(&self, alloc: Global, name: Name) -> Result<Tables, Memory>
         ensures fields { IfOk result (λ t. t.fields ≡ self.now.fields) }
@@ -75,14 +75,14 @@ impl Tables {
         Tables::of_set(alloc, fields, items)
     }
 
-    /// The artifacts.
+    /// Gives the artifacts.
     pub fn items(&self) -> &Items
         ensures { result.now ≡ self.now.items }
     {
         &self.items
     }
 
-    /// The tables of no artifacts, and of the configured fields of tickets. `Memory` is the only error.
+    /// Builds the tables of no artifacts, and of the configured fields of tickets. `Memory` is the only error.
     pub fn new(alloc: Global, fields: &List<Text>) -> Result<Tables, Memory>
         ensures fields { IfOk result (λ t. t.fields ≡ fields.now) }
         ensures items { IfOk result (λ t. t.items ≡ []) }
@@ -186,7 +186,7 @@ impl Tables {
         }
     }
 
-    /// Takes the last change back that wasn't taken back. Takes no memory.
+    /// Takes the last change back that is still there. Takes no memory.
     pub fn undo(&mut self, back: Back)
         requires { IsAsBefore back.after self.old }
         ensures { IsAsBefore back.before self.new }
@@ -216,14 +216,14 @@ impl Tables {
         })
     }
 
-    /// The table of parentage.
+    /// Gives the table of parentage.
     pub fn links(&self) -> &Links
         ensures facts { result.now.facts ≡ (tables self.now.fields self.now.items).links }
     {
         &self.derived.history.links
     }
 
-    /// The table of tags.
+    /// Gives the table of tags.
     pub fn tags(&self) -> &Tags
         ensures own { result.now.facts ≡ checkins.tags_facts self.now.items }
         ensures facts { result.now.facts ≡ (tables self.now.fields self.now.items).tags }
@@ -231,35 +231,35 @@ impl Tables {
         &self.derived.history.tags
     }
 
-    /// The table of leaves.
+    /// Gives the table of leaves.
     pub fn leaves(&self) -> &Leaves
         ensures facts { result.now.facts ≡ (tables self.now.fields self.now.items).leaves }
     {
         &self.derived.history.leaves
     }
 
-    /// The table of the files of check-ins.
+    /// Gives the table of the files of check-ins.
     pub fn files(&self) -> &Files
         ensures facts { result.now.facts ≡ (tables self.now.fields self.now.items).files }
     {
         &self.derived.contents.files
     }
 
-    /// The timeline.
+    /// Gives the timeline.
     pub fn timeline(&self) -> &Timeline
         ensures facts { result.now.facts ≡ (tables self.now.fields self.now.items).timeline }
     {
         &self.derived.timeline
     }
 
-    /// The table of wiki pages, technotes and attachments.
+    /// Gives the table of wiki pages, technotes and attachments.
     pub fn wiki(&self) -> &Pages
         ensures facts { result.now.facts ≡ (tables self.now.fields self.now.items).pages }
     {
         &self.derived.contents.pages
     }
 
-    /// The table of tickets.
+    /// Gives the table of tickets.
     pub fn ticket(&self) -> &Tickets
         ensures fields { result.now.fields ≡ (tables self.now.fields self.now.items).fields }
         ensures facts { result.now.facts ≡ (tables self.now.fields self.now.items).tickets }
@@ -267,21 +267,21 @@ impl Tables {
         &self.derived.contents.tickets
     }
 
-    /// The table of forum posts.
+    /// Gives the table of forum posts.
     pub fn forum(&self) -> &Threads
         ensures facts { result.now.facts ≡ (tables self.now.fields self.now.items).threads }
     {
         &self.derived.contents.threads
     }
 
-    /// The table of clusters.
+    /// Gives the table of clusters.
     pub fn cluster(&self) -> &Clusters
         ensures facts { result.now.facts ≡ (tables self.now.fields self.now.items).clusters }
     {
         &self.derived.contents.clusters
     }
 
-    /// The values of a check-in: comment, user, date and branch are those of the tags of these names where these are in force
+    /// Reads the values of a check-in: comment, user, date and branch are those of the tags of these names where these are in force
     /// on it, a date only where the value is one; else those of its cards, and the branch `trunk`. None where the name is
     /// no check-in. `Memory` is the only error.
     pub fn values(&self, alloc: Global, name: Name) -> Result<Option<Values>, Memory>
@@ -296,7 +296,7 @@ impl Tables {
         Ok(Some(checkin::values(alloc, &self.derived.history.tags, name, manifest)?))
     }
 
-    /// The tip of a symbolic name: of the check-ins on which the tag of `sym-` and the name is in force, the one with the
+    /// Finds the tip of a symbolic name: of the check-ins on which the tag of `sym-` and the name is in force, the one with the
     /// greatest date and, at one date, the greatest name. None where there is none. `Memory` is the only error.
     pub fn tip(&self, alloc: Global, symbol: &[u8]) -> Result<Option<Name>, Memory>
         ensures { IfOk result (λ n. n ≡ checkins.tip self.now.items symbol.now) }
@@ -304,7 +304,7 @@ impl Tables {
         self.items.tip_by(alloc, &self.derived.history.tags, symbol)
     }
 
-    /// The branch of a check-in: the value of the tag `branch` where it is in force on the name, else `trunk`.
+    /// Gives the branch of a check-in: the value of the tag `branch` where it is in force on the name, else `trunk`.
     pub fn branch(&self, name: Name) -> &[u8]
         ensures { result.now ≡ checkins.branch self.now.items name }
     {

@@ -1,4 +1,4 @@
-//! What attachments belong to, by their targets.
+//! Finds the kind of an attachment by its target.
 ghost use Rattle.std.specs.Prelude.{◌≡◌, ◌||◌, ℕ, List, OnOk, IfOk, cond, true};
 ghost use Rattle.std.specs.BTreeMap.{is_at};
 ghost use Rattle.fsl_order.specs.Names.{bytes_cmp};

@@ -1,4 +1,4 @@
-//! The rows of the timeline that artifacts give.
+//! Makes the rows that artifacts give to the timeline.
 ghost use Rattle.std.specs.Prelude.{◌≡◌, [], IfOk, Some, map, filter_map, slice_get};
 ghost use Rattle.std.specs.Option.{option_eq, option_map_or};
 ghost use Rattle.std.specs.Str.{bytes_eq};

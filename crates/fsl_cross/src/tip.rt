@@ -1,4 +1,4 @@
-//! The latest of some check-ins.
+//! Finds the latest of some check-ins.
 ghost use Rattle.std.specs.Prelude.{◌≡◌, ◌++◌, filter_map, option_map, codes, IfOk};
 ghost use Rattle.std.specs.Ordering.{is_lt};
 ghost use Rattle.fsl_order.specs.Names.{dated_cmp};

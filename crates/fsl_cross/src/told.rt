@@ -1,4 +1,4 @@
-//! What the cards of a set's artifacts say, for reports that list what there is.
+//! Reads the cards of a set's artifacts, for reports that list what there is.
 ghost use Rattle.std.specs.Prelude.{◌≡◌, IfOk};
 ghost use Rattle.fsl_cross.specs.Tables.{pages_facts, ticket_facts, forum_facts};
 
@@ -8,7 +8,7 @@ use fsl_text::{List, Memory};
 use std::alloc::Global;
 
 impl Items {
-    /// What the pages, technotes and attachments of the set say, by their names. `Memory` is the only error.
+    /// Lists what the pages, technotes and attachments of the set say, by their names. `Memory` is the only error.
     pub fn pages(&self, alloc: Global) -> Result<List<fsl_wiki::Fact>, Memory>
         ensures { IfOk result (λ facts. facts ≡ pages_facts self.now) }
     {
@@ -16,7 +16,7 @@ impl Items {
         Ok(List::from_vec(facts))
     }
 
-    /// What the ticket changes of the set say, by their names. `Memory` is the only error.
+    /// Lists what the ticket changes of the set say, by their names. `Memory` is the only error.
     pub fn ticket_changes(&self, alloc: Global) -> Result<List<fsl_ticket::Fact>, Memory>
         ensures { IfOk result (λ facts. facts ≡ ticket_facts self.now) }
     {
@@ -24,7 +24,7 @@ impl Items {
         Ok(List::from_vec(facts))
     }
 
-    /// What the forum posts of the set say, by their names. `Memory` is the only error.
+    /// Lists what the forum posts of the set say, by their names. `Memory` is the only error.
     pub fn posts(&self, alloc: Global) -> Result<List<fsl_forum::Fact>, Memory>
         ensures { IfOk result (λ facts. facts ≡ forum_facts self.now) }
     {

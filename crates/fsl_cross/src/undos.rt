@@ -1,4 +1,4 @@
-//! What takes changes of all tables back, the changes of each table in their order.
+//! Keeps the changes of all tables, in their order for each table, so that they can be taken back.
 ghost use Rattle.fsl_cross.specs.Fresh.{AreNone};
 
 use fsl_cluster as cluster;

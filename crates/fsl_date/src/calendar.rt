@@ -1,4 +1,4 @@
-//! Days of the calendar and their numbers.
+//! Counts the days of the calendar.
 ghost use Rattle.std.specs.Prelude.{◌≡◌, ◌<◌, ◌≤◌, IsTrue, IfSome, if◌then◌else◌, Some, None};
 ghost use Rattle.fsl_date.specs.Calendar.{day_number};
 ghost use Rattle.fsl_date.specs.Moment.{has_date_shape, civil_in};
@@ -10,7 +10,7 @@ use jiff_core::civil::Date;
 /// The days from 1 January of the year 0 to 1 January 1970.
 const DAYS_BEFORE_1970: i64 = 719_528;
 
-/// The numbers of a day, which the calendar may not have.
+/// A year, a month and a day, which the calendar may not have.
 #[derive(Clone, Copy)]
 pub(crate) struct Day {
     pub year: u16,
@@ -19,7 +19,7 @@ pub(crate) struct Day {
 }
 
 impl Day {
-    /// The numbers of the day in the text of a date.
+    /// Reads the numbers of the day in the text of a date.
     pub(crate) fn read(text: &[u8]) -> Day
         requires { IsTrue (has_date_shape text.now) }
         ensures year { result.year ≡ (civil_in text.now).year }
@@ -36,7 +36,7 @@ impl Day {
         }
     }
 
-    /// The days from 1 January of the year 0 to this one, where the calendar has it.
+    /// Returns the days from 1 January of the year 0 to this one, if the calendar has it.
     pub(crate) fn number(self) -> Option<u64>
         requires year { self.year ≤ 9999 }
         requires month { self.month ≤ 99 }
@@ -48,7 +48,7 @@ impl Day {
         Some((i64::from(date.to_unix_epoch_day()) + DAYS_BEFORE_1970) as u64)
     }
 
-    /// The day that stands so many days after 1 January of the year 0.
+    /// Returns the day that comes so many days after 1 January of the year 0.
     pub(crate) fn of_number(number: u64) -> Day
         requires { number < 3_652_425 }
         ensures civil { IsTrue (is_day result.year result.month result.day) }

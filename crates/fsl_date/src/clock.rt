@@ -14,7 +14,7 @@ pub(crate) struct Time {
     pub milli: u16,
 }
 
-/// The milliseconds in the text of a date, or 0 where it has none.
+/// Reads the milliseconds in the text of a date, or 0 if it has none.
 fn milli(text: &[u8]) -> u16
     requires { IsTrue (has_date_shape text.now) }
     ensures { result ≡ (civil_in text.now).milli }
@@ -27,7 +27,7 @@ fn milli(text: &[u8]) -> u16
 }
 
 impl Time {
-    /// The numbers of the time of day in the text of a date, which may have no milliseconds.
+    /// Reads the numbers of the time of day in the text of a date, which may have no milliseconds.
     pub(crate) fn read(text: &[u8]) -> Time
         requires { IsTrue (has_date_shape text.now) }
         ensures hour { result.hour ≡ (civil_in text.now).hour }
@@ -43,7 +43,7 @@ impl Time {
         }
     }
 
-    /// The milliseconds since midnight, where the clock has this time.
+    /// Returns the milliseconds since midnight, if the clock has this time.
     pub(crate) fn ms(self) -> Option<u64>
         ensures value { result ≡ (if is_time self.hour self.minute self.second self.milli then Some (time_ms self.hour self.minute self.second self.milli) else None) }
         ensures bound { IfSome result (λ ms. ms < 86_400_000) }
@@ -56,7 +56,7 @@ impl Time {
         Some(seconds * 1000 + u64::from(self.milli))
     }
 
-    /// The time of day that stands so many milliseconds after midnight.
+    /// Returns the time of day that comes so many milliseconds after midnight.
     pub(crate) fn of_ms(ms: u64) -> Time
         requires { ms < 86_400_000 }
         ensures civil { IsTrue (is_time result.hour result.minute result.second result.milli) }

@@ -5,14 +5,14 @@ ghost use Rattle.std.specs.Cmp.Lexicographic.{pointwise};
 ghost use Rattle.fsl_text.specs.Decimals.{is_decimal_digit, decimal_value};
 ghost use Rattle.fsl_date.specs.Moment.{fits_place, has_date_shape, two_digits, three_digits, four_digits};
 
-/// Whether the text has one of the two shapes of a date.
+/// Returns whether the text has one of the two shapes of a date.
 pub(crate) fn has_date_shape(text: &[u8]) -> bool
     ensures { result ≡ has_date_shape text.now }
 {
     has_shape(text, b"9999-99-99T99:99:99") || has_shape(text, b"9999-99-99T99:99:99.999")
 }
 
-/// Whether the text has a digit wherever the shape has a `9`, and elsewhere the shape's own byte.
+/// Returns whether the text has a digit wherever the shape has a `9`, and elsewhere the shape's own byte.
 fn has_shape(text: &[u8], shape: &[u8]) -> bool
     ensures { result ≡ pointwise fits_place shape.now text.now }
 {
@@ -38,7 +38,7 @@ fn fits(place: u8, byte: u8) -> bool
     }
 }
 
-/// The number that up to four digits are.
+/// Returns the number that up to four digits make.
 pub(crate) fn number(digits: &[u8]) -> u16
     requires short { length digits.now ≤ 4 }
     requires digits { IsTrue (list_all is_decimal_digit digits.now) }

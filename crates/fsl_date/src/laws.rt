@@ -1,8 +1,8 @@
-//! What holds of all dates. These calls do nothing; a proof takes their clauses.
+//! Laws on all dates. These calls do nothing; a proof takes their clauses.
 ghost use Rattle.fsl_date.specs.Moment.{DatesReadAsWritten, IsAlwaysPrinted, IsPrintedOnce};
 
-/// The text of each moment is that of its date and time of day, and no other text is; each text of a date is read as its moment, and
-/// no other text is read.
+/// Says that each date has one text and each text one moment. A moment is printed as the text of its date and time of day, and as
+/// no other. Each text of a date is read as its moment, and no other text is read.
 pub fn dates_have_one_text()
     ensures printed { IsAlwaysPrinted }
     ensures once { IsPrintedOnce }

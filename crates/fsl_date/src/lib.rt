@@ -1,5 +1,6 @@
-//! Moments in milliseconds, and the texts of their dates. A date is written as `YYYY-MM-DDTHH:MM:SS.SSS`, in the Gregorian calendar of
-//! the years 0000 to 9999 and without a zone. It is read in this form and in the one without milliseconds, and in no other.
+//! Moments in milliseconds, and the texts of their dates. A date is written as `YYYY-MM-DDTHH:MM:SS.SSS`, in the Gregorian
+//! calendar of the years 0000 to 9999 and without a zone. It is read in this form and in the one without milliseconds, and in no
+//! other.
 #![tactic(auto)]
 
 ghost use Rattle.std.specs.Prelude.{◌≡◌, ◌++◌, ◌+ℤ◌, ◌≤ℤ◌, ◌<ℤ◌, ◌↔◌, ◌⊎◌, ℕ, pos, neg_ℤ, IsSome, IsNone, IfSome, Some, codes, length};
@@ -25,7 +26,7 @@ const LAST_MS: i64 = 253_402_300_799_999;
 /// The milliseconds of a day.
 const MS_OF_DAY: u64 = 86_400_000;
 
-/// A moment of the years 0 to 9999, seen as the milliseconds since 0000-01-01T00:00:00.000 in UTC.
+/// A moment of the years 0 to 9999. Contracts see it as the milliseconds since 0000-01-01T00:00:00.000 in UTC.
 #[derive(Clone, Copy, Debug, PartialEq, Eq, PartialOrd, Ord)]
 pub struct Moment {
     since_year_zero: u64,
@@ -46,8 +47,8 @@ impl Model for Moment {
 }
 
 impl Moment {
-    /// The moment that stands so many milliseconds after 1970-01-01T00:00:00.000, or before it where they are negative. None where
-    /// that is outside the years 0 to 9999.
+    /// Makes the moment that is `ms` milliseconds after 1970-01-01T00:00:00.000, or before it if `ms` is negative. Returns `None`
+    /// if that is outside the years 0 to 9999.
     pub fn new(ms: i64) -> Option<Moment>
         ensures some { IfSome result (λ m. (ms +ℤ pos 62_167_219_200_000) ≡ pos m) }
         ensures inside { IsSome result ↔ ((neg_ℤ (pos 62_167_219_200_000) ≤ℤ ms) × (ms ≤ℤ pos 253_402_300_799_999)) }
@@ -62,7 +63,7 @@ impl Moment {
         })
     }
 
-    /// The milliseconds since 1970-01-01T00:00:00.000.
+    /// Returns the milliseconds since 1970-01-01T00:00:00.000.
     pub fn ms(&self) -> i64
         ensures value { result +ℤ pos 62_167_219_200_000 ≡ pos self.now }
         ensures moment { IsMoment self.now }
@@ -70,8 +71,9 @@ impl Moment {
         self.since_year_zero as i64 - MS_BEFORE_1970
     }
 
-    /// Reads a date in one of its two forms, `YYYY-MM-DDTHH:MM:SS` or `YYYY-MM-DDTHH:MM:SS.SSS`. None where the text has another form, or
-    /// the calendar doesn't have the day, or the clock the time.
+    /// Reads a date in one of its two forms, `YYYY-MM-DDTHH:MM:SS` or `YYYY-MM-DDTHH:MM:SS.SSS`. Returns `None` if the text has
+    /// another form, or the calendar doesn't have the day, or the clock the time.
+    /// FORMATS: Texts
     pub fn read(text: &[u8]) -> Option<Moment>
         ensures value { result ≡ date_in text.now }
         ensures moment { IfSome result IsMoment }
@@ -90,6 +92,7 @@ impl Moment {
     }
 
     /// Prints the moment as `YYYY-MM-DDTHH:MM:SS.SSS`.
+    /// FORMATS: Texts
     pub fn text(&self) -> [u8; 23]
         ensures value { result ≡ moment_text self.now }
         ensures again { date_in result ≡ Some self.now }

@@ -1,11 +1,12 @@
 -- What is read of the front of a file that another process may write to.
 use Rattle.std.proofs.Common.{◌≡◌, ◌⊎◌, inl, inr, ℕ, ◌+◌, ◌<◌, ◌≤◌, ◌==◌, List, Option, None, Some, Result, Ok, Err, length, length-take-le, length-drop, take, drop, sym, ◌∙◌, ap, subst, refl, arith}
-use Rattle.std.specs.Prelude.{slice_index, slice_set, if◌then◌else◌, OnOk}
+use Rattle.std.specs.Prelude.{slice_index, slice_set, if◌then◌else◌, OnOk, OnErr}
+use Rattle.fsl_order.specs.Causes.{Rose}
 use Rattle.std.specs.Option.{option_map}
 use Rattle.std.proofs.lemmas.Bool.{cases_eq}
 use Rattle.std.proofs.lemmas.List.{ext_get_or, get_or-set_same, get_or-set_other, get_or-take, get_or-drop, length-set}
 use Rattle.fsl_disk.specs.Front.{put, shown, byte_at, IsAt, Stays, IsFronted, fronted, AreShown}
-use Rattle.fsl_disk.specs.Shared.{SharedState, ToldOf}
+use Rattle.fsl_disk.specs.Shared.{SharedState, ToldOf, ReadFailed}
 use Rattle.fsl_disk.specs.declared.front.Front.{Front}
 use Rattle.fsl_disk.specs.declared.front.Seen.{Seen}
 
@@ -83,3 +84,17 @@ on_same {X} {E} r s P Q same ok more = subst (λ (t : Result X E). OnOk t Q) (sy
 pub on_both : {X E : Type 0} (r : Result X E) (P Q : Type 0) → OnOk r P → OnOk r Q → OnOk r (P × Q)
 on_both (Ok x) P Q p q = (p, q)
 on_both (Err e) P Q p q = tt
+
+-- a read inside the front isn't past the end of the file
+pub never_short : (first before after : SharedState) (front : Front) (end : ℕ) → IsFronted first before front → end ≤ front.len → ReadFailed before after end → Rose before.faults after.faults
+never_short first before after front end kept inside (inl rose) = rose
+never_short first before after front end kept inside (inr short) =
+    let stays = kept.stays short.held (sym kept.same ∙ short.told) short.moment (omega (arith, kept.later, short.within.0)) in
+    absurd (omega (arith, stays.0, short.short, inside))
+
+pub on_err_same : {X E : Type 0} (r s : Result X E) (P Q : Type 0) → r ≡ s → OnErr s P → (P → Q) → OnErr r Q
+on_err_same {X} {E} r s P Q same failed more = subst (λ (t : Result X E). OnErr t Q) (sym same) (by s failed)
+  where
+    by : (t : Result X E) → OnErr t P → OnErr t Q
+    by (Ok x) p = tt
+    by (Err e) p = more p

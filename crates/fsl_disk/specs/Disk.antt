@@ -76,6 +76,14 @@ pub record Quiet (old new : DiskState) : Type 0 where
 abbrev pub Only : List ℕ → (List ℕ → Type 0) → Type 0
 Only held images = (c : List ℕ) → images c → c ≡ held
 
+-- A write of these bytes from a place on was done: a read gives them there from now on.
+abbrev pub IsWritten : ℕ → List ℕ → DiskState → DiskState → Type 0
+IsWritten at bytes old new = Told old (λ held. new.contents ≡ Some (written at bytes held))
+
+-- A sync was done: where the disk meets the disk model, a crash leaves what a read gave before it.
+abbrev pub IsMadeStable : DiskState → DiskState → Type 0
+IsMadeStable old new = IsTrue old.is_model → Told old (λ held. Only held new.images)
+
 -- The second list begins with the first.
 abbrev pub Begins : List ℕ → List ℕ → Type 0
 Begins held c = take (length held) c ≡ held

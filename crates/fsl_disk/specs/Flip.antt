@@ -14,6 +14,10 @@ pub record Flipped (D : Type 0) : Type 0 where
 abbrev pub flipped : ℕ → DiskState → DiskState
 flipped refused disk = untold (min (disk.faults + refused) (2 ^ 64 - 1))
 
+-- a flip as a clause sees any disk
+abbrev pub flip_state : {D : Type 0} → (D → DiskState) → Flipped D → DiskState
+flip_state state f = flipped f.refused (state f.disk)
+
 -- a byte with its lowest bit turned
 abbrev pub turned : ℕ → ℕ
 turned b = if b % 2 == 0 then b + 1 else b - 1

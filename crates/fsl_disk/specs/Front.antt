@@ -47,6 +47,10 @@ fronted state first front faults = record {
   faults = faults;
 }
 
+-- a disk over a front, as a clause sees any disk
+abbrev pub front_state : {F : Type 0} → (F → SharedState) → Fronted F → DiskState
+front_state state d = fronted state d.first d.front d.faults
+
 -- what is read of a file stays since it was taken over
 pub record IsFronted (first now : SharedState) (front : Front) : Type 0 where
   pub len : front.len < 2 ^ 63

@@ -1,6 +1,6 @@
 use fsl_text::Text;
 
-/// What a disk in memory keeps of a call that changed it, or that was to change it and stopped on the way.
+/// A call that changed a disk in memory, or stopped on the way.
 #[derive(Debug, Drop)]
 pub enum Change {
     /// These bytes were written from `at` on, by a call that was to write `range` bytes.

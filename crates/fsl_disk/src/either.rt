@@ -1,12 +1,12 @@
-ghost use Rattle.std.specs.Prelude.{◌≡◌, ◌+◌, ◌^◌, ◌<◌, ◌≤◌, length, take, drop, Some, IsTrue, IfOk, OnOk};
+ghost use Rattle.std.specs.Prelude.{◌≡◌, ◌+◌, ◌^◌, ◌<◌, ◌≤◌, length, take, drop, Some, IfOk, OnOk};
 ghost use Rattle.fsl_order.specs.Causes.{HasCause};
-ghost use Rattle.fsl_disk.specs.Disk.{Told, Calls, Same, Torn, CutShort, Only, written};
+ghost use Rattle.fsl_disk.specs.Disk.{Told, Calls, Same, Torn, CutShort, IsWritten, IsMadeStable};
 ghost use Rattle.fsl_disk.specs.Either.{either_state, either_reads, either_counts, either_only};
 
 use crate::Disk;
 use fsl_outside::Failed;
 
-/// One of two disks, whose contents, answers and images come through unchanged.
+/// One of two disks. Its contents, answers and images come through unchanged.
 #[derive(Drop)]
 pub enum EitherDisk<A: Disk, B: Disk> {
     One(A),
@@ -61,7 +61,7 @@ impl<A: Disk, B: Disk> Disk for EitherDisk<A, B> {
     fn write_at(&mut self, at: u64, bytes: &[u8]) -> Result<(), Failed>
         requires { Told (either_state A.state B.state self.old) (λ held. at ≤ length held) }
         ensures fits { OnOk result (at + length bytes.now < 2 ^ 63) }
-        ensures written { OnOk result (Told (either_state A.state B.state self.old) (λ held. (either_state A.state B.state self.new).contents ≡ Some (written at bytes.now held))) }
+        ensures written { OnOk result (IsWritten at bytes.now (either_state A.state B.state self.old) (either_state A.state B.state self.new)) }
         ensures call { Calls (Torn at (length bytes.now)) (either_state A.state B.state self.old) (either_state A.state B.state self.new) }
         ensures cause { HasCause (either_state A.state B.state self.old).faults (either_state A.state B.state self.new).faults result }
     {
@@ -86,7 +86,7 @@ impl<A: Disk, B: Disk> Disk for EitherDisk<A, B> {
 
     #[tactic(auto, unfolding(crate::specs::Either::either_state))]
     fn sync(&mut self) -> Result<(), Failed>
-        ensures durable { OnOk result (IsTrue (either_state A.state B.state self.old).is_model → Told (either_state A.state B.state self.old) (λ held. Only held (either_state A.state B.state self.new).images)) }
+        ensures durable { OnOk result (IsMadeStable (either_state A.state B.state self.old) (either_state A.state B.state self.new)) }
         ensures contents { (either_state A.state B.state self.new).contents ≡ (either_state A.state B.state self.old).contents }
         ensures call { Calls Same (either_state A.state B.state self.old) (either_state A.state B.state self.new) }
         ensures cause { HasCause (either_state A.state B.state self.old).faults (either_state A.state B.state self.new).faults result }

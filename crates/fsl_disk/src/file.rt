@@ -30,7 +30,7 @@ impl Model for FileDisk {
 }
 
 impl FileDisk {
-    /// A disk over a file that was opened for reading and writing.
+    /// Makes a disk over a file that was opened for reading and writing.
     pub fn over(file: File) -> FileDisk
         ensures { result ≡ record { is_open = true; faults = 0 } }
     {
@@ -40,7 +40,7 @@ impl FileDisk {
         }
     }
 
-    /// A disk whose every call fails, as for a file that couldn't be opened.
+    /// Makes a disk whose every call fails, as for a file that couldn't be opened.
     pub fn none() -> FileDisk
         ensures { result ≡ record { is_open = false; faults = 0 } }
     {
@@ -52,7 +52,7 @@ impl FileDisk {
 }
 
 // Counts a fault where there is one.
-fn settle<T>(faults: &mut u64, answer: Result<T, Failed>) -> Result<T, Failed>
+pub(crate) fn settle<T>(faults: &mut u64, answer: Result<T, Failed>) -> Result<T, Failed>
     ensures same { result ≡ answer }
     ensures cause { HasCause faults.old faults.new result }
 {
@@ -62,7 +62,7 @@ fn settle<T>(faults: &mut u64, answer: Result<T, Failed>) -> Result<T, Failed>
     answer
 }
 
-fn length_of(file: &File) -> Result<u64, Failed>
+pub(crate) fn length_of(file: &File) -> Result<u64, Failed>
     ensures { IfOk result (λ len. len < 2 ^ 63) }
 {
     match file.metadata() {

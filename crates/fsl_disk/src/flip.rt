@@ -1,14 +1,14 @@
-ghost use Rattle.std.specs.Prelude.{◌≡◌, ◌+◌, ◌-◌, ◌==◌, ◌^◌, ◌≤◌, ◌<◌, length, take, drop, min, Some, IsErr, OnErr, OnOk, IfOk, IsTrue};
+ghost use Rattle.std.specs.Prelude.{◌≡◌, ◌+◌, ◌-◌, ◌==◌, ◌^◌, ◌≤◌, ◌<◌, length, take, drop, Some, IsErr, OnErr, OnOk, IfOk, IsTrue};
 ghost use Rattle.fsl_order.specs.Causes.{Rose, HasCause};
-ghost use Rattle.fsl_disk.specs.Disk.{DiskState, Told, Calls, Same, Torn, CutShort, Only, written};
-ghost use Rattle.fsl_disk.specs.Flip.{flipped, turned, covers, given, reads_after};
+ghost use Rattle.fsl_disk.specs.Disk.{Told, Calls, Same, Torn, CutShort, IsWritten, IsMadeStable};
+ghost use Rattle.fsl_disk.specs.Flip.{flip_state, turned, covers, given, reads_after};
 
 use crate::Disk;
 use fsl_outside::Failed;
 use std::marker::Model;
 
-/// A disk that passes its calls on to another one, and gives one byte of it wrong: from the read after the first `reads`
-/// reads that cover the byte at a place, this byte has its lowest bit turned. It tells nothing of its contents, and a
+/// A flip passes its calls on to another disk, and gives one byte of it wrong. The first `reads` reads that cover the byte
+/// at `at` give it right, and each later one gives it with its lowest bit turned. It tells nothing of its contents, and a
 /// read, write or cut that isn't within the contents is a fault.
 #[derive(Drop)]
 pub struct FlipDisk<D: Disk> {
@@ -27,7 +27,7 @@ impl<D: Disk> Model for FlipDisk<D> {
 }
 
 impl<D: Disk> FlipDisk<D> {
-    /// A disk before `disk` whose byte at `at` is given right in the first `reads` reads that cover it, and wrong after.
+    /// Makes a flip before `disk`, whose first `reads` reads of the byte at `at` give it right, and the later ones wrong.
     pub fn new(disk: D, at: u64, reads: u64) -> FlipDisk<D>
         ensures { result ≡ record { disk = disk; at = at; reads = reads; refused = 0 } }
     {
@@ -39,7 +39,7 @@ impl<D: Disk> FlipDisk<D> {
         }
     }
 
-    /// The disk behind it.
+    /// Returns the disk behind the flip.
     pub fn inner(self) -> D
         ensures { result ≡ self.disk }
     {
@@ -91,7 +91,7 @@ fn flip(at: u64, reads: &mut u64, from: u64, bytes: &mut [u8])
 }
 
 impl<D: Disk> Disk for FlipDisk<D> {
-    ghost state = { λ f. flipped f.refused (D.state f.disk) };
+    ghost state = { flip_state D.state };
 
     ghost reads_as_image = { λ f held model told. tt };
 
@@ -104,10 +104,10 @@ impl<D: Disk> Disk for FlipDisk<D> {
     }
 
     fn len(&mut self) -> Result<u64, Failed>
-        ensures answer { IfOk result (λ len. (len < 2 ^ 63) × Told (flipped self.old.refused (D.state self.old.disk)) (λ held. len ≡ length held)) }
-        ensures contents { (flipped self.new.refused (D.state self.new.disk)).contents ≡ (flipped self.old.refused (D.state self.old.disk)).contents }
-        ensures call { Calls Same (flipped self.old.refused (D.state self.old.disk)) (flipped self.new.refused (D.state self.new.disk)) }
-        ensures cause { HasCause (flipped self.old.refused (D.state self.old.disk)).faults (flipped self.new.refused (D.state self.new.disk)).faults result }
+        ensures answer { IfOk result (λ len. (len < 2 ^ 63) × Told (flip_state D.state self.old) (λ held. len ≡ length held)) }
+        ensures contents { (flip_state D.state self.new).contents ≡ (flip_state D.state self.old).contents }
+        ensures call { Calls Same (flip_state D.state self.old) (flip_state D.state self.new) }
+        ensures cause { HasCause (flip_state D.state self.old).faults (flip_state D.state self.new).faults result }
         ensures passes { IfOk result (λ len. Told (D.state self.old.disk) (λ held. len ≡ length held)) }
         ensures kept { (self.new.at ≡ self.old.at) × (self.new.reads ≡ self.old.reads) }
         ensures behind { (D.state self.new.disk).contents ≡ (D.state self.old.disk).contents }
@@ -117,10 +117,10 @@ impl<D: Disk> Disk for FlipDisk<D> {
     }
 
     fn read_at(&mut self, at: u64, into: &mut [u8]) -> Result<(), Failed>
-        ensures answer { OnOk result (Told (flipped self.old.refused (D.state self.old.disk)) (λ held. into.new ≡ take (length into.old) (drop at held))) }
-        ensures contents { (flipped self.new.refused (D.state self.new.disk)).contents ≡ (flipped self.old.refused (D.state self.old.disk)).contents }
-        ensures call { Calls Same (flipped self.old.refused (D.state self.old.disk)) (flipped self.new.refused (D.state self.new.disk)) }
-        ensures cause { HasCause (flipped self.old.refused (D.state self.old.disk)).faults (flipped self.new.refused (D.state self.new.disk)).faults result }
+        ensures answer { OnOk result (Told (flip_state D.state self.old) (λ held. into.new ≡ take (length into.old) (drop at held))) }
+        ensures contents { (flip_state D.state self.new).contents ≡ (flip_state D.state self.old).contents }
+        ensures call { Calls Same (flip_state D.state self.old) (flip_state D.state self.new) }
+        ensures cause { HasCause (flip_state D.state self.old).faults (flip_state D.state self.new).faults result }
         ensures gives { OnOk result (Told (D.state self.old.disk) (λ held. into.new ≡ given self.old.at self.old.reads at (take (length into.old) (drop at held)))) }
         ensures counts { OnOk result (self.new.reads ≡ reads_after self.old.at self.old.reads at (length into.old)) }
         ensures kept { (self.new.at ≡ self.old.at) × (OnErr result (self.new.reads ≡ self.old.reads)) }
@@ -136,10 +136,10 @@ impl<D: Disk> Disk for FlipDisk<D> {
 
     fn write_at(&mut self, at: u64, bytes: &[u8]) -> Result<(), Failed>
         ensures fits { OnOk result (at + length bytes.now < 2 ^ 63) }
-        ensures written { OnOk result (Told (flipped self.old.refused (D.state self.old.disk)) (λ held. (flipped self.new.refused (D.state self.new.disk)).contents ≡ Some (written at bytes.now held))) }
-        ensures call { Calls (Torn at (length bytes.now)) (flipped self.old.refused (D.state self.old.disk)) (flipped self.new.refused (D.state self.new.disk)) }
-        ensures cause { HasCause (flipped self.old.refused (D.state self.old.disk)).faults (flipped self.new.refused (D.state self.new.disk)).faults result }
-        ensures passes { OnOk result (Told (D.state self.old.disk) (λ held. (D.state self.new.disk).contents ≡ Some (written at bytes.now held))) }
+        ensures written { OnOk result (IsWritten at bytes.now (flip_state D.state self.old) (flip_state D.state self.new)) }
+        ensures call { Calls (Torn at (length bytes.now)) (flip_state D.state self.old) (flip_state D.state self.new) }
+        ensures cause { HasCause (flip_state D.state self.old).faults (flip_state D.state self.new).faults result }
+        ensures passes { OnOk result (IsWritten at bytes.now (D.state self.old.disk) (D.state self.new.disk)) }
         ensures kept { (self.new.at ≡ self.old.at) × (self.new.reads ≡ self.old.reads) }
     {
         if !lies_within(&mut self.disk, at, 0)? {
@@ -149,9 +149,9 @@ impl<D: Disk> Disk for FlipDisk<D> {
     }
 
     fn cut(&mut self, len: u64) -> Result<(), Failed>
-        ensures cut { OnOk result (Told (flipped self.old.refused (D.state self.old.disk)) (λ held. (flipped self.new.refused (D.state self.new.disk)).contents ≡ Some (take len held))) }
-        ensures call { Calls (CutShort len) (flipped self.old.refused (D.state self.old.disk)) (flipped self.new.refused (D.state self.new.disk)) }
-        ensures cause { HasCause (flipped self.old.refused (D.state self.old.disk)).faults (flipped self.new.refused (D.state self.new.disk)).faults result }
+        ensures cut { OnOk result (Told (flip_state D.state self.old) (λ held. (flip_state D.state self.new).contents ≡ Some (take len held))) }
+        ensures call { Calls (CutShort len) (flip_state D.state self.old) (flip_state D.state self.new) }
+        ensures cause { HasCause (flip_state D.state self.old).faults (flip_state D.state self.new).faults result }
         ensures passes { OnOk result (Told (D.state self.old.disk) (λ held. (D.state self.new.disk).contents ≡ Some (take len held))) }
         ensures kept { (self.new.at ≡ self.old.at) × (self.new.reads ≡ self.old.reads) }
     {
@@ -162,14 +162,14 @@ impl<D: Disk> Disk for FlipDisk<D> {
     }
 
     fn sync(&mut self) -> Result<(), Failed>
-        ensures durable { OnOk result (IsTrue (flipped self.old.refused (D.state self.old.disk)).is_model → Told (flipped self.old.refused (D.state self.old.disk)) (λ held. Only held (flipped self.new.refused (D.state self.new.disk)).images)) }
-        ensures contents { (flipped self.new.refused (D.state self.new.disk)).contents ≡ (flipped self.old.refused (D.state self.old.disk)).contents }
-        ensures call { Calls Same (flipped self.old.refused (D.state self.old.disk)) (flipped self.new.refused (D.state self.new.disk)) }
-        ensures cause { HasCause (flipped self.old.refused (D.state self.old.disk)).faults (flipped self.new.refused (D.state self.new.disk)).faults result }
+        ensures durable { OnOk result (IsMadeStable (flip_state D.state self.old) (flip_state D.state self.new)) }
+        ensures contents { (flip_state D.state self.new).contents ≡ (flip_state D.state self.old).contents }
+        ensures call { Calls Same (flip_state D.state self.old) (flip_state D.state self.new) }
+        ensures cause { HasCause (flip_state D.state self.old).faults (flip_state D.state self.new).faults result }
         ensures kept { (self.new.at ≡ self.old.at) × (self.new.reads ≡ self.old.reads) }
         ensures behind { (D.state self.new.disk).contents ≡ (D.state self.old.disk).contents }
         ensures inner { Calls Same (D.state self.old.disk) (D.state self.new.disk) }
-        ensures made_stable { OnOk result (IsTrue (D.state self.old.disk).is_model → Told (D.state self.old.disk) (λ held. Only held (D.state self.new.disk).images)) }
+        ensures made_stable { OnOk result (IsMadeStable (D.state self.old.disk) (D.state self.new.disk)) }
     {
         self.disk.sync()
     }

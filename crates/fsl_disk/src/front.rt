@@ -1,23 +1,24 @@
-ghost use Rattle.std.specs.Prelude.{◌≡◌, ◌+◌, ◌^◌, ◌<◌, ◌≤◌, ℕ, length, take, drop, slice_index, Some, IsTrue, IfOk, OnOk};
-ghost use Rattle.fsl_order.specs.Causes.{HasCause};
-ghost use Rattle.fsl_disk.specs.Disk.{Told, Calls, Same, Torn, CutShort, Only, written};
-ghost use Rattle.fsl_disk.specs.Front.{Stays, AreShown, fronted, byte_at};
-ghost use Rattle.fsl_disk.specs.Shared.{ToldOf, Sees};
+ghost use Rattle.std.specs.Prelude.{◌≡◌, ◌+◌, ◌^◌, ◌<◌, ◌≤◌, ℕ, length, take, drop, slice_index, Some, IfOk, OnOk, OnErr};
+ghost use Rattle.fsl_order.specs.Causes.{HasCause, Rose};
+ghost use Rattle.fsl_disk.specs.Disk.{Told, Calls, Same, Torn, CutShort, IsWritten, IsMadeStable};
+ghost use Rattle.fsl_disk.specs.Front.{Stays, AreShown, front_state, byte_at};
+ghost use Rattle.fsl_disk.specs.Shared.{ToldOf, Sees, ReadFailed};
 
 use crate::Disk;
+use crate::file::settle;
 use crate::shared::Shared;
 use fsl_outside::Failed;
 use std::marker::Model;
 use std::snapshot::Snapshot;
 
-/// A byte that was read once, and its place: what is given of it from then on.
+/// A byte that was read once, and its place. A reader is given this byte there from then on.
 #[derive(Clone, Copy)]
 pub struct Seen {
     pub at: u64,
     pub byte: u8,
 }
 
-/// What is read of a file: so many bytes, and two of them as they were seen.
+/// The front of a file: so many bytes of it, and two of them as they were seen.
 #[derive(Clone, Copy)]
 pub struct Front {
     pub len: u64,
@@ -25,8 +26,8 @@ pub struct Front {
     pub gate: Option<Seen>,
 }
 
-/// A disk over the front of a file that another process may write to behind it. It has no way to write to the file: a sync
-/// does nothing, a cut shortens what it reads of it, and a write fails.
+/// A disk over the front of a file, to which another process may write behind it. It has no way to write to the file. A
+/// sync does nothing, a cut shortens what it reads of the file, and a write fails.
 #[derive(Drop)]
 pub struct FrontDisk<F: Shared> {
     file: F,
@@ -47,7 +48,7 @@ impl<F: Shared> Model for FrontDisk<F> {
 }
 
 impl<F: Shared> FrontDisk<F> {
-    /// A disk over this front of a file, whose bytes stay from now on but for those that were seen.
+    /// Makes a disk over this front of a file. From now on the bytes of the front stay, but for those that were seen.
     pub fn over(file: F, front: Front) -> FrontDisk<F>
         requires len { front.len < 2 ^ 63 }
         requires stays { ToldOf (F.state file) (λ held. Stays front held (F.state file).moment) }
@@ -75,23 +76,13 @@ fn put_seen(seen: Option<Seen>, at: u64, into: &mut [u8])
     }
 }
 
-// Counts a fault where there is one.
-fn settle<T>(faults: &mut u64, answer: Result<T, Failed>) -> Result<T, Failed>
-    ensures same { result ≡ answer }
-    ensures cause { HasCause faults.old faults.new result }
-{
-    if answer.is_err() {
-        *faults = faults.saturating_add(1);
-    }
-    answer
-}
-
 // Bytes of a front, where they lie in it.
 fn read_front<F: Shared>(file: &mut F, front: Front, at: u64, into: &mut [u8]) -> Result<(), Failed>
     ensures sees { Sees (F.state file.old) (F.state file.new) }
     ensures length { length into.new ≡ length into.old }
     ensures inside { OnOk result (at + length into.new ≤ front.len) }
     ensures answer { OnOk result (ToldOf (F.state file.old) (λ held. AreShown front held (F.state file.old).moment at into.new)) }
+    ensures cause { OnErr result (at + length into.old ≤ front.len → ReadFailed (F.state file.old) (F.state file.new) (at + length into.old)) }
 {
     if at > front.len || into.len() as u64 > front.len - at {
         return Err(Failed);
@@ -103,7 +94,7 @@ fn read_front<F: Shared>(file: &mut F, front: Front, at: u64, into: &mut [u8]) -
 }
 
 impl<F: Shared> Disk for FrontDisk<F> {
-    ghost state = { λ d. fronted F.state d.first d.front d.faults };
+    ghost state = { front_state F.state };
 
     ghost reads_as_image = { λ d held model told. tt };
 
@@ -116,19 +107,21 @@ impl<F: Shared> Disk for FrontDisk<F> {
     }
 
     fn len(&mut self) -> Result<u64, Failed>
-        ensures answer { IfOk result (λ len. (len < 2 ^ 63) × Told (fronted F.state self.old.first self.old.front self.old.faults) (λ held. len ≡ length held)) }
-        ensures contents { (fronted F.state self.new.first self.new.front self.new.faults).contents ≡ (fronted F.state self.old.first self.old.front self.old.faults).contents }
-        ensures call { Calls Same (fronted F.state self.old.first self.old.front self.old.faults) (fronted F.state self.new.first self.new.front self.new.faults) }
+        ensures answer { IfOk result (λ len. (len < 2 ^ 63) × Told (front_state F.state self.old) (λ held. len ≡ length held)) }
+        ensures contents { (front_state F.state self.new).contents ≡ (front_state F.state self.old).contents }
+        ensures call { Calls Same (front_state F.state self.old) (front_state F.state self.new) }
         ensures cause { HasCause self.old.faults self.new.faults result }
     {
         Ok(self.front.len)
     }
 
     fn read_at(&mut self, at: u64, into: &mut [u8]) -> Result<(), Failed>
-        ensures answer { OnOk result (Told (fronted F.state self.old.first self.old.front self.old.faults) (λ held. into.new ≡ take (length into.old) (drop at held))) }
-        ensures contents { (fronted F.state self.new.first self.new.front self.new.faults).contents ≡ (fronted F.state self.old.first self.old.front self.old.faults).contents }
-        ensures call { Calls Same (fronted F.state self.old.first self.old.front self.old.faults) (fronted F.state self.new.first self.new.front self.new.faults) }
+        ensures answer { OnOk result (Told (front_state F.state self.old) (λ held. into.new ≡ take (length into.old) (drop at held))) }
+        ensures contents { (front_state F.state self.new).contents ≡ (front_state F.state self.old).contents }
+        ensures call { Calls Same (front_state F.state self.old) (front_state F.state self.new) }
         ensures cause { HasCause self.old.faults self.new.faults result }
+        // Inside the front a read fails only where a call of the file failed, and never because of a writer.
+        ensures served { OnErr result (at + length into.old ≤ self.old.front.len → Rose (F.state self.old.file).faults (F.state self.new.file).faults) }
     {
         let answer = read_front(&mut self.file, self.front, at, into);
         settle(&mut self.faults, answer)
@@ -136,8 +129,8 @@ impl<F: Shared> Disk for FrontDisk<F> {
 
     fn write_at(&mut self, at: u64, bytes: &[u8]) -> Result<(), Failed>
         ensures fits { OnOk result (at + length bytes.now < 2 ^ 63) }
-        ensures written { OnOk result (Told (fronted F.state self.old.first self.old.front self.old.faults) (λ held. (fronted F.state self.new.first self.new.front self.new.faults).contents ≡ Some (written at bytes.now held))) }
-        ensures call { Calls (Torn at (length bytes.now)) (fronted F.state self.old.first self.old.front self.old.faults) (fronted F.state self.new.first self.new.front self.new.faults) }
+        ensures written { OnOk result (IsWritten at bytes.now (front_state F.state self.old) (front_state F.state self.new)) }
+        ensures call { Calls (Torn at (length bytes.now)) (front_state F.state self.old) (front_state F.state self.new) }
         ensures cause { HasCause self.old.faults self.new.faults result }
     {
         let _at = at;
@@ -146,8 +139,8 @@ impl<F: Shared> Disk for FrontDisk<F> {
     }
 
     fn cut(&mut self, len: u64) -> Result<(), Failed>
-        ensures cut { OnOk result (Told (fronted F.state self.old.first self.old.front self.old.faults) (λ held. (fronted F.state self.new.first self.new.front self.new.faults).contents ≡ Some (take len held))) }
-        ensures call { Calls (CutShort len) (fronted F.state self.old.first self.old.front self.old.faults) (fronted F.state self.new.first self.new.front self.new.faults) }
+        ensures cut { OnOk result (Told (front_state F.state self.old) (λ held. (front_state F.state self.new).contents ≡ Some (take len held))) }
+        ensures call { Calls (CutShort len) (front_state F.state self.old) (front_state F.state self.new) }
         ensures cause { HasCause self.old.faults self.new.faults result }
     {
         self.front.len = self.front.len.min(len);
@@ -155,9 +148,9 @@ impl<F: Shared> Disk for FrontDisk<F> {
     }
 
     fn sync(&mut self) -> Result<(), Failed>
-        ensures durable { OnOk result (IsTrue (fronted F.state self.old.first self.old.front self.old.faults).is_model → Told (fronted F.state self.old.first self.old.front self.old.faults) (λ held. Only held (fronted F.state self.new.first self.new.front self.new.faults).images)) }
-        ensures contents { (fronted F.state self.new.first self.new.front self.new.faults).contents ≡ (fronted F.state self.old.first self.old.front self.old.faults).contents }
-        ensures call { Calls Same (fronted F.state self.old.first self.old.front self.old.faults) (fronted F.state self.new.first self.new.front self.new.faults) }
+        ensures durable { OnOk result (IsMadeStable (front_state F.state self.old) (front_state F.state self.new)) }
+        ensures contents { (front_state F.state self.new).contents ≡ (front_state F.state self.old).contents }
+        ensures call { Calls Same (front_state F.state self.old) (front_state F.state self.new) }
         ensures cause { HasCause self.old.faults self.new.faults result }
     {
         Ok(())

@@ -7,7 +7,7 @@ use crate::Disk;
 use fsl_outside::Failed;
 use std::marker::Model;
 
-/// A disk that passes so many calls on to another one, and then fails each call. It tells what that disk tells.
+/// A fuse passes so many calls on to another disk, and then fails each call. It tells what that disk tells.
 #[derive(Drop)]
 pub struct FuseDisk<D: Disk> {
     disk: D,
@@ -24,7 +24,7 @@ impl<D: Disk> Model for FuseDisk<D> {
 }
 
 impl<D: Disk> FuseDisk<D> {
-    /// A fuse before `disk`, which passes `calls` calls.
+    /// Makes a fuse before `disk`, which passes `calls` calls.
     pub fn new(disk: D, calls: u64) -> FuseDisk<D>
         ensures { result ≡ record { disk = disk; calls = calls; blown = 0 } }
     {
@@ -35,7 +35,7 @@ impl<D: Disk> FuseDisk<D> {
         }
     }
 
-    /// The disk behind the fuse.
+    /// Returns the disk behind the fuse.
     pub fn inner(self) -> D
         ensures { result ≡ self.disk }
     {

@@ -34,7 +34,7 @@ impl Model for History {
 }
 
 impl History {
-    /// The history of a file that has these bytes and no change yet. Takes no memory.
+    /// Makes the history of a file that has these bytes and no change yet. Takes no memory.
     pub fn new(alloc: Global, bytes: Vec<u8>) -> History
         ensures { result ≡ record { first = bytes.items; changes = [] } }
     {
@@ -47,14 +47,16 @@ impl History {
         }
     }
 
-    /// What a read gives.
+    /// Returns what a read gives.
     pub fn bytes(&self) -> &[u8]
         ensures { result.now ≡ reads self.now.first self.now.changes }
     {
         &self.bytes
     }
 
-    /// Writes these bytes, by a call that was to write `range` bytes.
+    /// Writes these bytes from `at` on, by a call that was to write `range` bytes.
+    ///
+    /// Errors: `Memory`, after which nothing has changed.
     pub fn write(&mut self, at: u64, bytes: &[u8], range: u64) -> Result<(), Memory>
         requires inside { at ≤ length (reads self.old.first self.old.changes) }
         requires part { length bytes.now ≤ range }
@@ -75,6 +77,8 @@ impl History {
     }
 
     /// Cuts to the length `left`, by a call that was to cut to `len`.
+    ///
+    /// Errors: `Memory`, after which nothing has changed.
     pub fn cut(&mut self, len: u64, left: u64) -> Result<(), Memory>
         requires part { len ≤ left }
         ensures ok { OnOk result (self.new ≡ record self.old { changes = Cut len left ∷ self.old.changes }) }
@@ -87,6 +91,8 @@ impl History {
     }
 
     /// Makes all stable.
+    ///
+    /// Errors: `Memory`, after which nothing has changed.
     pub fn sync(&mut self) -> Result<(), Memory>
         ensures ok { OnOk result (self.new ≡ record self.old { changes = Sync ∷ self.old.changes }) }
         ensures err { OnErr result (self.new ≡ self.old) }
@@ -96,7 +102,9 @@ impl History {
         Ok(())
     }
 
-    /// What a read gave at the last sync, or at the beginning.
+    /// Returns what a read gave at the last sync, or at the beginning.
+    ///
+    /// Errors: `Memory` where there was none for these bytes.
     pub fn stable(&self, alloc: Global) -> Result<Vec<u8>, Memory>
         ensures { IfOk result (λ bytes. bytes.items ≡ stable self.now.first self.now.changes) }
     {
@@ -109,14 +117,16 @@ impl History {
         Ok(bytes)
     }
 
-    /// A law, with no code: each change was one that a disk takes.
+    /// Says that each change was one that a disk takes. It has no code.
     pub fn are_inside(&self)
         ensures { AreInside self.now.first self.now.changes }
     {
         let _ = &self.bytes;
     }
 
-    /// What a crash leaves: for 0 the stable bytes, for 1 what a read gives, else what stopped changes leave.
+    /// Returns what a crash leaves. For 0 these are the stable bytes, for 1 what a read gives, else what stopped changes leave.
+    ///
+    /// Errors: `Memory` where there was none for these bytes.
     pub fn crashed(&self, alloc: Global, pick: u64) -> Result<Vec<u8>, Memory>
         ensures image { IfOk result (λ bytes. Leaves self.now.first self.now.changes bytes.items) }
         ensures stable { pick ≡ 0 → IfOk result (λ bytes. bytes.items ≡ stable self.now.first self.now.changes) }
@@ -163,7 +173,9 @@ fn replay(bytes: &mut Vec<u8>, changes: &[Change]) -> Result<(), Memory>
     Ok(())
 }
 
-/// Writes over what stands from `at` on, and past the end; from the end on, where that comes earlier.
+/// Writes a piece over the bytes from `at` on, and past the end. It begins at the end where that comes earlier.
+///
+/// Errors: `Memory`, after which nothing has changed.
 pub fn put(bytes: &mut Vec<u8>, at: usize, piece: &[u8]) -> Result<(), Memory>
     ensures ok { OnOk result (bytes.new.items ≡ written at piece.now bytes.old.items) }
     ensures err { OnErr result (bytes.new.items ≡ bytes.old.items) }

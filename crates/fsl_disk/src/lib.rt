@@ -1,6 +1,7 @@
-//! Disks: what their calls do to the contents, and what a crash at any moment may leave of them. A disk in memory tells
-//! both, and can be crashed; a fuse fails every call after so many; a flip gives one byte wrong; a disk over a real file
-//! promises nothing of contents.
+//! Disks, by which all else reads and writes files. Their contracts say what each call does to the contents, and what a
+//! crash at any moment may leave of them. A disk in memory tells both, and can be crashed. A fuse fails every call after so
+//! many, and a flip gives one byte wrong. A disk over a real file promises nothing of contents. A shared file is read while
+//! another process writes to it, and a front is a disk over the part of it that stays.
 #![tactic(auto)]
 
 mod change;

@@ -36,7 +36,7 @@ impl Model for MemoryDisk {
 }
 
 impl MemoryDisk {
-    /// A disk with these bytes, all of them stable. Its calls of these numbers fail.
+    /// Makes a disk with these bytes, all of them stable. Its calls of these numbers fail.
     pub fn new(alloc: Global, bytes: Vec<u8>, fails: Vec<u64>) -> MemoryDisk
         ensures { result ≡ record { first = bytes.items; past = []; fails = fails.items; made = 0; faults = 0 } }
     {
@@ -48,23 +48,25 @@ impl MemoryDisk {
         }
     }
 
-    /// What a read gives.
+    /// Returns what a read gives.
     pub fn bytes(&self) -> &[u8]
         ensures { result.now ≡ held self.now }
     {
         self.history.bytes()
     }
 
-    /// A law, with no code: what a crash now may leave, place by place.
+    /// Says place by place what a crash may leave now. It has no code.
     pub fn images_are_by_place(&self)
         ensures { (c : List ℕ) → (memory_state self.now).images c ↔ IsImage self.now.first self.now.past c }
     {
         self.history.are_inside();
     }
 
-    /// A disk with what a crash now may leave, all of it stable, of which no call is to fail. For 0 these are the bytes of
-    /// the last sync, or of the beginning; for 1 what a read gives; each other `pick` takes some of the changes since,
+    /// Makes a disk with what a crash may leave now, all of it stable. None of its calls is to fail. For 0 it has the bytes
+    /// of the last sync, or of the beginning, and for 1 what a read gives. Each other `pick` takes some of the changes since,
     /// leaves some out, and does some in part, with other bytes in the places behind.
+    ///
+    /// Errors: `Memory` where there was none for these bytes.
     pub fn crash(&self, alloc: Global, pick: u64) -> Result<MemoryDisk, Memory>
         ensures fresh { IfOk result (λ disk. disk ≡ record { first = held disk; past = []; fails = []; made = 0; faults = 0 }) }
         ensures image { IfOk result (λ disk. (memory_state self.now).images (held disk)) }

@@ -1,4 +1,4 @@
-//! What a crash leaves of changes that weren't made stable.
+//! Makes what a crash may leave of changes that weren't made stable.
 ghost use Rattle.std.specs.Prelude.{◌≡◌, ◌≤◌, reverse, All, OnOk};
 ghost use Rattle.fsl_disk.specs.Disk.{Torn, CutShort};
 ghost use Rattle.fsl_disk.specs.History.{IsPart, Wears};
@@ -9,6 +9,8 @@ use fsl_text::Memory;
 use std::alloc::Global;
 
 /// Does some of these changes, some not, and some in part, as `pick` says.
+///
+/// Errors: `Memory`, after which some of them may be done.
 pub fn tear(alloc: Global, image: &mut Vec<u8>, changes: &[Change], pick: u64) -> Result<(), Memory>
     requires { All IsPart changes.now }
     ensures { OnOk result (Wears (reverse changes.now) image.old.items image.new.items) }

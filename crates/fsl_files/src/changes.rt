@@ -1,4 +1,4 @@
-//! How the files of a check-in differ from those of its primary parent.
+//! Finds how the files of a check-in differ from those of its primary parent.
 ghost use Rattle.std.specs.Prelude.{◌≡◌, ◌+◌, ◌<◌, ◌++◌, ◌∷◌, [], true, false, map, drop, length, slice_get, IfOk, OnOk};
 ghost use Rattle.std.specs.Option.{option_copied};
 ghost use Rattle.std.specs.List.Sorted.{IsStrictlySortedBy};
@@ -149,7 +149,8 @@ fn note_first(
     }
 }
 
-/// The paths at which two lists of files differ, ascending, each with how. It takes time by the length of both.
+/// Returns the paths at which two lists of files differ, ascending, each with its kind of change. It takes time by the length of
+/// both. `Memory` is the only error.
 pub fn differences(alloc: Global, old: Overlay, new: Overlay) -> Result<List<Change>, Memory>
     requires old_rises { IsStrictlySortedBy bytes_cmp (map (λ r. r.path) old) }
     requires new_rises { IsStrictlySortedBy bytes_cmp (map (λ r. r.path) new) }

@@ -1,4 +1,4 @@
-//! What is kept of a check-in beside its name.
+//! Holds the files of a check-in, and the names of its baseline and parent.
 ghost use Rattle.std.specs.Prelude.{◌≡◌};
 ghost use Rattle.fsl_files.specs.Kept.{entry_of};
 
@@ -6,7 +6,7 @@ use crate::{Fact, FileRow};
 use fsl_name::Name;
 use fsl_text::List;
 
-/// The names of its B card and of its primary parent, and its F cards.
+/// The names of the B card and of the primary parent of a check-in, and its F cards.
 #[derive(Drop)]
 pub struct Entry {
     pub baseline: Option<Name>,

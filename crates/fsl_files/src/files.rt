@@ -1,4 +1,4 @@
-//! The table of files.
+//! Keeps the table of files.
 ghost use Rattle.std.specs.Prelude.{◌≡◌, ◌+◌, ◌≤◌, ◌<◌, ◌∷◌, [], false, true, IfOk, OnOk, OnErr, All, map};
 ghost use Rattle.fsl_order.specs.TableState.{IsAsBefore};
 ghost use Rattle.fsl_order.specs.Names.{has};
@@ -15,14 +15,13 @@ use super::lookup::Lookup;
 use super::maps::{Maps, Ways};
 use super::put::{put_either, put_new};
 use super::{Change, Fact, Listing, changes, rows};
-use fsl_name::Name;
-use fsl_rows::Named;
+use fsl_name::{Name, Named};
 use fsl_text::{List, Memory, Steps};
 use std::alloc::Global;
 use std::marker::{Brand, Model};
 use std::sync::ledger::{Blank, Ledger};
 
-/// The files of check-ins. Contracts see it as the facts by name, and the room that its maps have to spare.
+/// A table of the files of check-ins. Contracts see it as the facts by name, and the room that its maps have to spare.
 #[derive(Drop)]
 pub struct Files {
     maps: Maps,
@@ -40,7 +39,7 @@ impl Model for Files {
     ghost invariant = { λ t. IsKept (rows_of t.maps) };
 }
 
-/// What takes a change back, and the names whose rows it changed. Contracts see it as both, with the table before and after.
+/// The way back from a change, and the names whose rows it changed. Contracts see it as both, with the table before and after.
 #[derive(Drop)]
 pub struct Undo {
     ways: Ways,
@@ -60,7 +59,8 @@ impl Model for Undo {
 }
 
 impl Undo {
-    /// The names whose rows the change changed, ascending. The row of a name is its files, and its changes against its primary parent.
+    /// Returns the names whose rows the change changed, ascending. The row of a name has its files, and its changes against its
+    /// primary parent.
     pub fn changed(&self) -> &List<Name>
         ensures { result.now ≡ self.now.changed }
     {
@@ -94,7 +94,7 @@ fn fill<L: Ledger>(
 }
 
 impl Files {
-    /// The table without check-ins. Takes no memory.
+    /// Returns a table without check-ins. Takes no memory.
     pub fn new(alloc: Global) -> Files
         ensures { result.facts ≡ [] }
     {
@@ -103,9 +103,10 @@ impl Files {
         }
     }
 
-    /// The table of some facts, of which no two have one name. In each the files rise by path, and where it has no baseline each
-    /// has a hash. The table is the same in whatever order the facts stand: that is the law `fsl_order::by_name_in_any_order`. It takes
-    /// time by n log n of the facts, and copies each once. `Memory` is the only error.
+    /// Makes the table of some facts. No two of them have one name. In each the files rise by path, and where it has no baseline
+    /// each has a hash. The table is the same in whatever order the facts come: that is the law
+    /// `fsl_order::by_name_in_any_order`. It takes time by n log n of the facts, and copies each once. `Memory` is the only
+    /// error.
     pub fn build(alloc: Global, facts: &[Fact]) -> Result<Files, Memory>
         requires names { AreDistinct (map (λ f. f.name) facts.now) }
         requires fit { All IsFilesFact facts.now }
@@ -137,9 +138,10 @@ impl Files {
         }
     }
 
-    /// Adds a check-in whose name isn't there, which is moved. Its files rise by path, and where it has no baseline each has a hash.
-    /// `Memory` is the only error, and the table then holds what it held. Where no check-in names it as its baseline or primary
-    /// parent, it takes at most 10 touches, and 10 for each of its F cards and each file of its primary parent and of its baseline.
+    /// Adds a check-in, which is moved. No other one of its name is in the table. Its files rise by path, and where it has no
+    /// baseline each has a hash. `Memory` is the only error. The table then holds the same as before. Where no check-in names it
+    /// as its baseline or primary parent, it takes at most 10 touches, and 10 for each of its F cards and each file of its
+    /// primary parent and of its baseline.
     pub fn add<L: Ledger>(
         &mut self,
         alloc: Global,
@@ -158,8 +160,8 @@ impl Files {
         self.put(alloc, fact, steps)
     }
 
-    /// Puts a check-in in the place of that of its name, which is there. It is moved. Its files rise by path, and where it has no
-    /// baseline each has a hash. `Memory` is the only error, and the table then holds what it held.
+    /// Replaces the check-in of the same name. The table has one. The new check-in is moved. Its files rise by path, and where it
+    /// has no baseline each has a hash. `Memory` is the only error. The table then holds the same as before.
     pub fn change<L: Ledger>(
         &mut self,
         alloc: Global,
@@ -205,7 +207,7 @@ impl Files {
         }
     }
 
-    /// Takes the last change back that wasn't taken back. It takes no memory.
+    /// Undoes the last change that wasn't undone yet. It takes no memory.
     pub fn undo(&mut self, undo: Undo)
         requires { IsAsBefore undo.after self.old }
         ensures { IsAsBefore undo.before self.new }
@@ -225,10 +227,11 @@ impl Files {
         self.maps.undo(ways, &mut steps);
     }
 
-    /// The files of a check-in, by rising path. Without a baseline they are its own. With one they are those of the baseline, each
-    /// file of the check-in in place of that of its path, and a file without a hash takes its path out. `NotCheckin` where no
-    /// check-in has the name, `NoBaseline` where the baseline isn't there or has a baseline itself. It takes time by the length of
-    /// both lists. `Memory` is the only error.
+    /// Returns the files of a check-in, by rising path. Without a baseline they are its own. With one they are those of the
+    /// baseline, where each file of the check-in replaces that of its path, and a file without a hash takes its path out. The
+    /// answer is `NotCheckin` where no check-in has the name. It is `NoBaseline` where the baseline isn't there or has a baseline
+    /// itself. It takes time by the length of both lists. `Memory` is the only error.
+    /// FORMATS: Derived tables
     pub fn files(&self, alloc: Global, name: Name) -> Result<Listing, Memory>
         ensures { IfOk result (λ l. l ≡ table.files self.now.facts name) }
     {
@@ -254,9 +257,11 @@ impl Files {
         }
     }
 
-    /// How the files of a check-in differ from those of its primary parent, by rising path: added, deleted, or edited where hash
-    /// or permission differ; the permission `w` counts as none. None where the files of one of the two aren't defined, and where
-    /// there is no primary parent. It takes time by the length of all lists that the two are made of. `Memory` is the only error.
+    /// Compares the files of a check-in with those of its primary parent, and returns the changes by rising path. A file is
+    /// added, deleted, or edited where hash or permission differ. The permission `w` counts as none. The answer is `None` where
+    /// the files of one of the two aren't defined, and where there is no primary parent. It takes time by the length of all lists
+    /// that the two are made of. `Memory` is the only error.
+    /// FORMATS: Derived tables
     pub fn changes(&self, alloc: Global, name: Name) -> Result<Option<List<Change>>, Memory>
         ensures { IfOk result (λ c. c ≡ table.changes self.now.facts name) }
     {

@@ -1,4 +1,4 @@
-//! Where the files of a name stand.
+//! Finds the files of a name without a copy.
 ghost use Rattle.std.specs.Prelude.{◌≡◌, IfSome, map};
 ghost use Rattle.std.specs.Option.{option_copied};
 ghost use Rattle.std.specs.List.Sorted.{IsStrictlySortedBy};
@@ -16,7 +16,7 @@ use fsl_name::Name;
 use fsl_text::Steps;
 use std::sync::ledger::Ledger;
 
-/// The files of a name, not yet copied.
+/// The files of a name, before they are copied.
 #[derive(Drop)]
 pub enum Found<'a> {
     /// No check-in has the name.

@@ -1,7 +1,7 @@
-//! The files of check-ins, and what changed against the primary parent. `Files` is the table of them, and its answers are those of
-//! the definitions over the facts that it holds. In whatever order these came it is the same: `fsl_order::by_name_in_any_order`. A
-//! check-in more, and another in the place of one, are calls of their own, which tell the names whose rows differ and can be taken
-//! back.
+//! Lists the files of check-ins, and their changes against the primary parent. `Files` is the table of them. It answers as the
+//! definitions do over the facts that it holds. It is the same in whatever order these came: that is the law
+//! `fsl_order::by_name_in_any_order`. One call adds a check-in, and another one replaces a check-in. Each returns the names whose
+//! rows differ, and can be undone.
 #![tactic(auto)]
 
 ghost use Rattle.std.specs.Prelude.{◌≡◌, IfOk};
@@ -22,12 +22,12 @@ pub use files::{Files, Undo};
 use fsl_name::{Name, Ref};
 use fsl_text::{List, Text};
 
-/// A file's permission.
+/// The permission of a file.
 #[derive(Clone, Copy, PartialEq, Eq, Debug)]
 pub enum Perm {
-    /// None is given.
+    /// The file has no permission.
     Plain,
-    /// `w`, which counts as none where files are compared.
+    /// `w`. It counts as none where files are compared.
     Writable,
     /// `x`: the file can be run.
     Exec,
@@ -40,7 +40,7 @@ pub enum Perm {
 pub struct FileRow {
     /// Its path.
     pub path: Text,
-    /// What its content is named. None where a check-in takes the path out of its baseline's files.
+    /// The name of its content. It is `None` where a check-in takes the path out of its baseline's files.
     pub hash: Option<Ref>,
     /// Its permission.
     pub perm: Perm,
@@ -51,7 +51,7 @@ pub struct FileRow {
 pub struct Fact {
     /// Its name.
     pub name: Name,
-    /// The name of its B card, whose files it takes over where that is there and has no B card itself.
+    /// The name of its B card. It takes over the files of that check-in, where this is there and has no B card itself.
     pub baseline: Option<Name>,
     /// The first name of its P card, which is never foreign.
     pub parent: Option<Name>,
@@ -70,7 +70,7 @@ pub enum Listing {
     Known(List<FileRow>),
 }
 
-/// How a file differs from the parent's.
+/// The kinds of change against the parent.
 #[derive(Clone, Copy, PartialEq, Eq, Debug)]
 pub enum How {
     /// The parent has no file of the path.
@@ -81,11 +81,11 @@ pub enum How {
     Deleted,
 }
 
-/// A file that differs from the parent's.
+/// A change of one file against the parent.
 #[derive(Drop)]
 pub struct Change {
     /// Its path.
     pub path: Text,
-    /// How it differs.
+    /// The kind of the change.
     pub how: How,
 }

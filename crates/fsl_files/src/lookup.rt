@@ -1,4 +1,4 @@
-//! Check-ins as they are looked up: those of a table, and one in the place of that of its name.
+//! Looks check-ins up in a table, or in one with another check-in in place of that of its name.
 ghost use Rattle.std.specs.Prelude.{◌≡◌};
 ghost use Rattle.std.specs.Option.{option_copied};
 ghost use Rattle.fsl_order.specs.Names.{bytes_cmp};

@@ -1,4 +1,4 @@
-//! The files of a check-in over those of its baseline, read where they stand.
+//! Reads the files of a check-in over those of its baseline, without a copy.
 ghost use Rattle.std.specs.Prelude.{◌≡◌, map, IsTrue};
 ghost use Rattle.std.specs.List.Sorted.{IsStrictlySortedBy};
 ghost use Rattle.std.specs.Map.Iter.{TakesFirst, deref};
@@ -64,8 +64,8 @@ impl<'a> Merged<'a> {
     }
 }
 
-/// The files of a check-in over those of its baseline, which come as they are asked for, by rising path. Contracts see the list of
-/// those that are left.
+/// The files of a check-in over those of its baseline. They come one by one, by rising path. Contracts see the list of those that
+/// are left.
 #[derive(Drop)]
 pub struct Overlay<'a> {
     rows: Merged<'a>,
@@ -81,7 +81,7 @@ impl<'a> Model for Overlay<'a> {
 }
 
 impl<'a> Overlay<'a> {
-    /// The files of a check-in with its rows over the files of its baseline. A row without a hash takes its path out.
+    /// Lays the rows of a check-in over the files of its baseline. A row without a hash takes its path out.
     pub fn new(base: &'a [FileRow], rows: &'a [FileRow]) -> Overlay<'a>
         requires base { IsTrue (rises (map (λ r. r.path) base.now)) }
         requires rows { IsTrue (rises (map (λ r. r.path) rows.now)) }

@@ -1,16 +1,15 @@
-//! How facts and their files are copied and compared.
+//! Copies and compares facts and their files.
 ghost use Rattle.std.specs.Prelude.{◌≡◌, ◌==◌, IfOk};
 ghost use Rattle.fsl_files.specs.Files.{perm_rank, same_file};
 
 use super::overlay::Overlay;
 use super::{Fact, FileRow, Perm};
-use fsl_name::Name;
-use fsl_rows::Named;
+use fsl_name::{Name, Named};
 use fsl_text::{List, Memory, Text};
 use std::alloc::Global;
 
 impl FileRow {
-    /// A file with the same content. `Memory` is the only error.
+    /// Returns a file with the same content. `Memory` is the only error.
     pub fn copied(&self, alloc: Global) -> Result<FileRow, Memory>
         ensures { IfOk result (λ row. row ≡ self.now) }
     {
@@ -52,7 +51,7 @@ fn copies(alloc: Global, rows: &[FileRow]) -> Result<List<FileRow>, Memory>
     Ok(list)
 }
 
-/// Copies of files that come one after the other.
+/// Copies files that come one after the other. `Memory` is the only error.
 pub fn collected(alloc: Global, files: Overlay) -> Result<List<FileRow>, Memory>
     ensures { IfOk result (λ list. list ≡ files.entry) }
 {
@@ -76,7 +75,7 @@ fn same_perm(one: Perm, other: Perm) -> bool
     }
 }
 
-/// Whether hash and permission of two files are the same.
+/// Tells whether two files have the same hash and permission.
 pub fn same_file(one: &FileRow, other: &FileRow) -> bool
     ensures { result ≡ same_file one.now other.now }
 {

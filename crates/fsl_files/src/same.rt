@@ -1,4 +1,4 @@
-//! Whether the row of a name is the same with some check-ins as with others.
+//! Tells whether the row of a name is the same with some check-ins as with others.
 ghost use Rattle.std.specs.Prelude.{ℕ, List, ◌≡◌, ◌&&◌, ◌||◌, ◌==◌, not, false, true, length, IfOk, OnOk, Some, is_some};
 ghost use Rattle.std.specs.Cmp.Lexicographic.{pointwise};
 ghost use Rattle.std.specs.Str.{bytes_eq};
@@ -130,7 +130,7 @@ fn is_same_against<L: Ledger>(
     }
 }
 
-/// Whether the row of a name is the same with some check-ins as with others.
+/// Tells whether the row of a name is the same with some check-ins as with others.
 fn is_same<L: Ledger>(
     alloc: Global,
     old: &Lookup,

@@ -1,4 +1,4 @@
-//! The names whose rows a check-in may change, and those whose rows it changes.
+//! Finds the names whose rows a check-in may change, and those whose rows it changes.
 ghost use Rattle.std.specs.Prelude.{ℕ, List, ◌≡◌, ◌+◌, ◌≤◌, ◌||◌, length, false, is_some, IfOk, OnOk};
 ghost use Rattle.std.specs.List.{list_any};
 ghost use Rattle.std.specs.List.Sorted.{IsStrictlySortedBy};

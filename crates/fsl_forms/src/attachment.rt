@@ -31,7 +31,7 @@ pub struct Attachment {
     pub user: Option<Text>,
 }
 
-/// What an A card says: the file, what it is attached to, and its content.
+/// An A card: the file, its target, and its content.
 #[derive(Drop)]
 struct Attached {
     file: Text,
@@ -40,8 +40,9 @@ struct Attached {
 }
 
 impl Attachment {
-    /// The attachment that cards are, or None where they are none: where their letters aren't those of one, or an argument hasn't its
-    /// form. `Memory` is the only error.
+    /// Reads an attachment from its cards. Returns `None` if their letters aren't those of one, or an argument hasn't its form.
+    /// `Memory` is the only error.
+    /// FORMATS: Kinds
     pub fn read(alloc: Global, cards: &Cards) -> Result<Option<Attachment>, Memory>
         ensures { IfOk result (IsReading IsAttachment cards.now) }
     {
@@ -52,8 +53,8 @@ impl Attachment {
         }
     }
 
-    /// Whether the attachment can be written: the file, the target, and the comment, the type and the user where they are there have a
-    /// byte. It takes no memory.
+    /// Returns whether the attachment can be written. The file, the target, and the comment, the type and the user if they are
+    /// there have a byte. It takes no memory.
     pub fn well_formed(&self) -> bool
         ensures { result ≡ is_attachment_well_formed self.now }
     {
@@ -64,7 +65,8 @@ impl Attachment {
             && is_filled(&self.user)
     }
 
-    /// The text of the attachment, its Z card included, which reads back as the value. `Memory` is the only error.
+    /// Writes the text of the attachment, its Z card included. It reads back as the value. `Memory` is the only error.
+    /// FORMATS: Kinds
     pub fn write(&self, alloc: Global) -> Result<Text, Memory>
         requires { IsTrue (is_attachment_well_formed self.now) }
         ensures written { IfOk result (λ text. IsAttachmentText text self.now) }
@@ -77,7 +79,7 @@ impl Attachment {
         Ok(lines)
     }
 
-    /// Puts all cards but the Z card at the end of a text.
+    /// Writes all cards but the Z card at the end of a text.
     fn write_cards(&self, into: &mut Text) -> Result<(), Memory>
         ensures { OnOk result (IsMoment self.now.date × (into.new ≡ into.old ++ text_of (attachment_cards self.now))) }
     {
@@ -88,7 +90,7 @@ impl Attachment {
         write_optional_text_card(into, b'U', &self.user)
     }
 
-    /// The A card.
+    /// Writes the A card.
     fn write_attached(&self, into: &mut Text) -> Result<(), Memory>
         ensures { OnOk result (into.new ≡ into.old ++ card_text (attached_card self.now)) }
     {
@@ -142,7 +144,7 @@ impl Form for AttachedForm {
     }
 }
 
-/// What the arguments of an A card say, the last of which was read already, where it is there.
+/// Reads an A card whose last argument, if it is there, was read already.
 fn read_attached(
     alloc: Global,
     file: &[u8],

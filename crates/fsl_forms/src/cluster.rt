@@ -1,4 +1,4 @@
-//! Clusters, which list artifacts that are known.
+//! Clusters list known artifacts.
 ghost use Rattle.std.specs.Prelude.{◌≡◌, ◌++◌, IfOk, IsTrue, OnOk};
 ghost use Rattle.fsl_card.specs.Cards.{IsReading, IsTextOf, text_of};
 ghost use Rattle.fsl_forms.specs.Kinds.{IsCluster};
@@ -13,15 +13,16 @@ use fsl_name::Ref;
 use fsl_text::{List, Memory, Text};
 use std::alloc::Global;
 
-/// A list of artifacts that are known: the references of its M cards.
+/// A list of known artifacts: the references of its M cards.
 #[derive(Drop)]
 pub struct Cluster {
     pub members: List<Ref>,
 }
 
 impl Cluster {
-    /// The cluster that cards are, or None where they are none: where their letters aren't those of a cluster, one M card or more and
-    /// the Z card, or an M card has another argument than one reference. `Memory` is the only error.
+    /// Reads a cluster from its cards. Returns `None` if their letters aren't those of a cluster, one M card or more and the Z
+    /// card, or an M card has another argument than one reference. `Memory` is the only error.
+    /// FORMATS: Kinds
     pub fn read(alloc: Global, cards: &Cards) -> Result<Option<Cluster>, Memory>
         ensures { IfOk result (IsReading IsCluster cards.now) }
     {
@@ -32,7 +33,7 @@ impl Cluster {
         }
     }
 
-    /// Whether the cluster can be written: there are members, and they rise as they are written. It takes no memory.
+    /// Returns whether the cluster can be written: there are members, and they rise as they are written. It takes no memory.
     pub fn well_formed(&self) -> bool
         ensures { result ≡ is_cluster_well_formed self.now }
     {
@@ -40,7 +41,8 @@ impl Cluster {
         !members.is_empty() && rise(members)
     }
 
-    /// The text of the cluster, its Z card included, which reads back as the cluster. `Memory` is the only error.
+    /// Writes the text of the cluster, its Z card included. It reads back as the cluster. `Memory` is the only error.
+    /// FORMATS: Kinds
     pub fn write(&self, alloc: Global) -> Result<Text, Memory>
         requires { IsTrue (is_cluster_well_formed self.now) }
         ensures written { IfOk result (λ text. IsClusterText text self.now) }
@@ -53,7 +55,7 @@ impl Cluster {
         Ok(lines)
     }
 
-    /// Puts all cards but the Z card at the end of a text.
+    /// Writes all cards but the Z card at the end of a text.
     fn write_cards(&self, into: &mut Text) -> Result<(), Memory>
         ensures { OnOk result (into.new ≡ into.old ++ text_of (cluster_cards self.now)) }
     {
@@ -74,7 +76,7 @@ fn read_cards(alloc: Global, cards: &[Card]) -> Result<Cluster, Unread>
     Ok(Cluster { members })
 }
 
-/// Whether members rise as they are written.
+/// Returns whether members rise as they are written.
 fn rise(members: &[Ref]) -> bool
     ensures { result ≡ rise_as_written members.now }
 {
@@ -88,7 +90,7 @@ fn rise(members: &[Ref]) -> bool
     true
 }
 
-/// Whether a member is written before the first of others, if there is one.
+/// Returns whether a member is written before the first of others, if there is one.
 fn is_before_first(member: &Ref, others: &[Ref]) -> bool
     ensures { result ≡ is_before_first member.now others.now }
 {

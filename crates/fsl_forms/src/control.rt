@@ -1,4 +1,4 @@
-//! Control artifacts, which assert tags of other artifacts.
+//! Control artifacts assert tags of other artifacts.
 ghost use Rattle.std.specs.Prelude.{◌≡◌, ◌++◌, IfOk, IsTrue, OnOk};
 ghost use Rattle.std.specs.List.{list_all};
 ghost use Rattle.fsl_card.specs.Cards.{IsReading, IsTextOf, text_of};
@@ -19,7 +19,7 @@ use fsl_grammar::{
 use fsl_text::{List, Memory, Text};
 use std::alloc::Global;
 
-/// Tags on other artifacts, each of which names its target.
+/// Tags on other artifacts. Each tag names its target.
 #[derive(Drop)]
 pub struct Control {
     pub date: Moment,
@@ -28,8 +28,9 @@ pub struct Control {
 }
 
 impl Control {
-    /// The control artifact that cards are, or None where they are none: where their letters aren't those of one, an argument hasn't its
-    /// form, or the target of a tag is `*`. `Memory` is the only error.
+    /// Reads a control artifact from its cards. Returns `None` if their letters aren't those of one, an argument hasn't its form,
+    /// or the target of a tag is `*`. `Memory` is the only error.
+    /// FORMATS: Kinds
     pub fn read(alloc: Global, cards: &Cards) -> Result<Option<Control>, Memory>
         ensures { IfOk result (IsReading IsControl cards.now) }
     {
@@ -40,8 +41,8 @@ impl Control {
         }
     }
 
-    /// Whether the control artifact can be written: there are tags, each with a name and a target, and where it has a value with a byte in
-    /// it, and the user has a byte. It takes no memory.
+    /// Returns whether the control artifact can be written. There are tags, and each has a name and a target. A value that is
+    /// there has a byte, and so has the user. It takes no memory.
     pub fn well_formed(&self) -> bool
         ensures { result ≡ is_control_well_formed self.now }
     {
@@ -52,7 +53,8 @@ impl Control {
             && !self.user.bytes().is_empty()
     }
 
-    /// The text of the control artifact, its Z card included, which reads back as the value. `Memory` is the only error.
+    /// Writes the text of the control artifact, its Z card included. It reads back as the value. `Memory` is the only error.
+    /// FORMATS: Kinds
     pub fn write(&self, alloc: Global) -> Result<Text, Memory>
         requires { IsTrue (is_control_well_formed self.now) }
         ensures written { IfOk result (λ text. IsControlText text self.now) }
@@ -65,7 +67,7 @@ impl Control {
         Ok(lines)
     }
 
-    /// Puts all cards but the Z card at the end of a text.
+    /// Writes all cards but the Z card at the end of a text.
     fn write_cards(&self, into: &mut Text) -> Result<(), Memory>
         ensures { OnOk result (IsMoment self.now.date × (into.new ≡ into.old ++ text_of (control_cards self.now))) }
     {
@@ -87,7 +89,7 @@ fn read_cards(alloc: Global, cards: &[Card]) -> Result<Control, Unread>
     Ok(Control { date, tags, user })
 }
 
-/// The tags of the T cards. `Form` where one hasn't its form or doesn't name its target.
+/// Reads the tags of the T cards. Fails with `Form` if one hasn't its form or doesn't name its target.
 fn read_tags(alloc: Global, cards: &[Card]) -> Result<List<TagCard>, Unread>
     ensures { IsRead HasTargetedTags cards.now result }
 {
@@ -105,7 +107,7 @@ fn all_targeted(tags: &[TagCard]) -> bool
     tags.iter().all(|tag| tag.target.is_some())
 }
 
-/// Whether each tag can be written.
+/// Returns whether each tag can be written.
 pub(crate) fn all_tags_written(tags: &[TagCard]) -> bool
     ensures { result ≡ list_all is_tag_written tags.now }
 {

@@ -33,7 +33,7 @@ pub struct Forum {
     pub text: Text,
 }
 
-/// Where a post stands: the root of its thread, its title, and the post that it answers.
+/// The place of a post: the root of its thread, its title, and the post that it answers.
 #[derive(Drop)]
 struct Place {
     root: Option<Name>,
@@ -42,8 +42,10 @@ struct Place {
 }
 
 impl Forum {
-    /// The forum post that cards are, or None where they are none: where their letters aren't those of one, an argument hasn't its form,
-    /// or it has neither a title without a post that it answers, nor a root with one and without a title. `Memory` is the only error.
+    /// Reads a forum post from its cards. Returns `None` if their letters aren't those of one, or an argument hasn't its form. A
+    /// post either has a title and answers no post, or has a root, answers a post and has no title, and in any other case `None`
+    /// comes as well. `Memory` is the only error.
+    /// FORMATS: Kinds
     pub fn read(alloc: Global, cards: &Cards) -> Result<Option<Forum>, Memory>
         ensures { IfOk result (IsReading IsForum cards.now) }
     {
@@ -54,8 +56,8 @@ impl Forum {
         }
     }
 
-    /// Whether the post can be written: the user, and the title and the type where they are there have a byte, and it has a title and
-    /// answers nothing, or it has a root, answers a post and has no title. It takes no memory.
+    /// Returns whether the post can be written. The user, and the title and the type if they are there have a byte. The post
+    /// either has a title and answers nothing, or has a root, answers a post and has no title. It takes no memory.
     pub fn well_formed(&self) -> bool
         ensures { result ≡ is_forum_well_formed self.now }
     {
@@ -69,7 +71,8 @@ impl Forum {
             )
     }
 
-    /// The text of the post, its Z card included, which reads back as the value. `Memory` is the only error.
+    /// Writes the text of the post, its Z card included. It reads back as the value. `Memory` is the only error.
+    /// FORMATS: Kinds
     pub fn write(&self, alloc: Global) -> Result<Text, Memory>
         requires { IsTrue (is_forum_well_formed self.now) }
         ensures written { IfOk result (λ text. IsForumText text self.now) }
@@ -85,7 +88,7 @@ impl Forum {
         Ok(lines)
     }
 
-    /// Puts all cards but the Z card at the end of a text.
+    /// Writes all cards but the Z card at the end of a text.
     fn write_cards(&self, alloc: Global, into: &mut Text) -> Result<(), Memory>
         ensures { OnOk result (IsMoment self.now.date × (into.new ≡ into.old ++ text_of (forum_cards self.now))) }
     {
@@ -124,7 +127,8 @@ fn read_cards(alloc: Global, cards: &[Card]) -> Result<Forum, Unread>
     })
 }
 
-/// Where the G, H and I cards put a post. `Form` where one of them hasn't its form, or they don't stand together.
+/// Reads the place of a post from its G, H and I cards. Fails with `Form` if one of them hasn't its form, or they don't go
+/// together.
 fn read_place(alloc: Global, cards: &[Card]) -> Result<Place, Unread>
     ensures { IsRead HasPlace cards.now result }
 {
@@ -138,7 +142,7 @@ fn read_place(alloc: Global, cards: &[Card]) -> Result<Place, Unread>
     }
 }
 
-/// Whether a post has a title and answers nothing, or has a root and answers a post, and no title.
+/// Returns whether a post has a title and answers nothing, or has a root and answers a post, and no title.
 fn is_place(has_root: bool, has_title: bool, has_reply: bool) -> bool
     ensures { result ≡ is_place has_root has_title has_reply }
 {

@@ -1,9 +1,9 @@
-//! What the type of a text keeps, for proofs alone.
+//! Facts on texts, for proofs alone.
 ghost use Rattle.std.specs.Prelude.{◌<◌, ◌^◌, length};
 
 use fsl_text::Text;
 
-/// A text has fewer than 2^64 bytes. It changes nothing and gives nothing.
+/// Says that a text has fewer than 2^64 bytes. It changes nothing and gives nothing.
 pub(crate) fn know_length(text: &Text)
     ensures { length text.now < 2 ^ 64 }
 {

@@ -1,12 +1,12 @@
-//! Laws of the seven kinds, of which each function's contract is one. These functions have no code.
+//! Laws of the seven kinds. These functions have no code.
 ghost use Rattle.fsl_forms.specs.Writing.{AreReadBack, AreWrittenExactly};
 
-/// What a value that can be written is written as reads back as the value.
+/// Says that a written value reads back as itself.
 pub fn written_texts_read_back()
     ensures { AreReadBack }
 {}
 
-/// A value is well formed exactly where some text is it.
+/// Says that a value is well formed exactly if it has a text.
 pub fn well_formed_have_a_text()
     ensures { AreWrittenExactly }
 {}

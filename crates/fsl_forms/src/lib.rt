@@ -1,5 +1,5 @@
-//! The seven kinds of structural artifacts beside manifests: clusters, control artifacts, wiki pages, ticket changes, attachments, technotes
-//! and forum posts. Each is read from the cards that are one, and from no others, and is written as one text.
+//! The seven kinds of structural artifacts beside manifests: clusters, control artifacts, wiki pages, ticket changes,
+//! attachments, technotes and forum posts. Each is read from the cards of one, and from no others, and is written as one text.
 #![tactic(auto)]
 
 mod attachment;

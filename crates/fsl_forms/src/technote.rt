@@ -23,7 +23,7 @@ use fsl_name::{Name, Ref};
 use fsl_text::{List, Memory, Text};
 use std::alloc::Global;
 
-/// A note at a moment, which is its `time`; the date is that of the artifact. Only its text may be empty.
+/// A note at a moment, its `time`. The date is that of the artifact. Only its text may be empty.
 #[derive(Drop)]
 pub struct Technote {
     pub comment: Option<Text>,
@@ -37,7 +37,7 @@ pub struct Technote {
     pub text: Text,
 }
 
-/// What an E card says: the time of a technote, and its id.
+/// An E card: the time of a technote, and its id.
 #[derive(Drop)]
 struct Event {
     time: Moment,
@@ -45,8 +45,9 @@ struct Event {
 }
 
 impl Technote {
-    /// The technote that cards are, or None where they are none: where their letters aren't those of one, an argument hasn't its form,
-    /// two parents are the same, or a tag has another prefix than `+` or another target than `*`. `Memory` is the only error.
+    /// Reads a technote from its cards. Returns `None` if their letters aren't those of one, an argument hasn't its form, two
+    /// parents are the same, or a tag has another prefix than `+` or another target than `*`. `Memory` is the only error.
+    /// FORMATS: Kinds
     pub fn read(alloc: Global, cards: &Cards) -> Result<Option<Technote>, Memory>
         ensures { IfOk result (IsReading IsTechnote cards.now) }
     {
@@ -57,9 +58,9 @@ impl Technote {
         }
     }
 
-    /// Whether the technote can be written: the comment, the type and the user where they are there have a byte, the parents differ, and
-    /// each tag is `+` on the note itself, has a name, and where it has a value with a byte in it. It takes no memory, and compares each
-    /// parent with each one behind it.
+    /// Returns whether the technote can be written. The comment, the type and the user have a byte if they are there. The parents
+    /// differ. Each tag is `+` on the note itself and has a name, and a value that is there has a byte. It takes no memory, and
+    /// compares each parent with each one behind it.
     pub fn well_formed(&self) -> bool
         ensures { result ≡ is_technote_well_formed self.now }
     {
@@ -71,7 +72,8 @@ impl Technote {
             && is_filled(&self.user)
     }
 
-    /// The text of the technote, its Z card included, which reads back as the value. `Memory` is the only error.
+    /// Writes the text of the technote, its Z card included. It reads back as the value. `Memory` is the only error.
+    /// FORMATS: Kinds
     pub fn write(&self, alloc: Global) -> Result<Text, Memory>
         requires { IsTrue (is_technote_well_formed self.now) }
         ensures written { IfOk result (λ text. IsTechnoteText text self.now) }
@@ -87,7 +89,7 @@ impl Technote {
         Ok(lines)
     }
 
-    /// Puts all cards but the Z card at the end of a text.
+    /// Writes all cards but the Z card at the end of a text.
     fn write_cards(&self, alloc: Global, into: &mut Text) -> Result<(), Memory>
         ensures { OnOk result (IsMoment self.now.date × IsMoment self.now.time × (into.new ≡ into.old ++ text_of (technote_cards self.now))) }
     {
@@ -129,7 +131,7 @@ fn read_cards(alloc: Global, cards: &[Card]) -> Result<Technote, Unread>
     })
 }
 
-/// The tags of the T cards. `Form` where one hasn't its form or isn't `+` on the note itself.
+/// Reads the tags of the T cards. Fails with `Form` if one hasn't its form or isn't `+` on the note itself.
 fn read_tags(alloc: Global, cards: &[Card]) -> Result<List<TagCard>, Unread>
     ensures { IsRead HasOwnTags cards.now result }
 {
@@ -147,7 +149,7 @@ fn all_own(tags: &[TagCard]) -> bool
     tags.iter().all(|tag| is_own_tag(tag))
 }
 
-/// Whether a tag is `+` on the artifact itself.
+/// Returns whether a tag is `+` on the artifact itself.
 fn is_own_tag(tag: &TagCard) -> bool
     ensures { result ≡ is_own_tag tag.now }
 {
@@ -178,7 +180,7 @@ fn read_event(date: &[u8], hash: &[u8]) -> Option<Event>
     Some(Event { time, id })
 }
 
-/// The E card.
+/// Writes the E card.
 fn write_event(into: &mut Text, time: &[u8], id: &Name) -> Result<(), Memory>
     ensures { OnOk result (into.new ≡ into.old ++ card_text (event_card time.now id.now)) }
 {

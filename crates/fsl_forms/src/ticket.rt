@@ -21,8 +21,8 @@ use fsl_name::Name;
 use fsl_text::{List, Memory, Text, unescape};
 use std::alloc::Global;
 
-/// A field of a ticket that is replaced, or appended to. A field that is replaced doesn't begin with `+`; a value that is there may be
-/// empty.
+/// A field of a ticket that is replaced, or appended to. A field that is replaced doesn't begin with `+`. A value that is there
+/// may be empty.
 #[derive(Drop)]
 pub struct TicketChange {
     pub append: bool,
@@ -40,8 +40,9 @@ pub struct Ticket {
 }
 
 impl Ticket {
-    /// The ticket change that cards are, or None where they are none: where their letters aren't those of one, or an argument hasn't its
-    /// form. `Memory` is the only error.
+    /// Reads a ticket change from its cards. Returns `None` if their letters aren't those of one, or an argument hasn't its form.
+    /// `Memory` is the only error.
+    /// FORMATS: Kinds
     pub fn read(alloc: Global, cards: &Cards) -> Result<Option<Ticket>, Memory>
         ensures { IfOk result (IsReading IsTicket cards.now) }
     {
@@ -52,8 +53,8 @@ impl Ticket {
         }
     }
 
-    /// Whether the ticket change can be written: there are changes, each of a field with a byte, which doesn't begin with `+` where it is
-    /// replaced, and the user has a byte. It takes no memory.
+    /// Returns whether the ticket change can be written. There are changes, and each names a field with a byte. A field that is
+    /// replaced doesn't begin with `+`. The user has a byte. It takes no memory.
     pub fn well_formed(&self) -> bool
         ensures { result ≡ is_ticket_well_formed self.now }
     {
@@ -62,7 +63,8 @@ impl Ticket {
             && !self.user.bytes().is_empty()
     }
 
-    /// The text of the ticket change, its Z card included, which reads back as the value. `Memory` is the only error.
+    /// Writes the text of the ticket change, its Z card included. It reads back as the value. `Memory` is the only error.
+    /// FORMATS: Kinds
     pub fn write(&self, alloc: Global) -> Result<Text, Memory>
         requires { IsTrue (is_ticket_well_formed self.now) }
         ensures written { IfOk result (λ text. IsTicketText text self.now) }
@@ -75,7 +77,7 @@ impl Ticket {
         Ok(lines)
     }
 
-    /// Puts all cards but the Z card at the end of a text.
+    /// Writes all cards but the Z card at the end of a text.
     fn write_cards(&self, into: &mut Text) -> Result<(), Memory>
         ensures { OnOk result (IsMoment self.now.date × (into.new ≡ into.old ++ text_of (ticket_cards self.now))) }
     {
@@ -104,7 +106,7 @@ fn read_cards(alloc: Global, cards: &[Card]) -> Result<Ticket, Unread>
     })
 }
 
-/// A field, with `+` before it where it is appended to, and behind it the value, which may be missing.
+/// A field, with `+` before it if the change appends, and behind it the value, which may be missing.
 struct ChangeForm;
 
 impl Form for ChangeForm {
@@ -140,7 +142,7 @@ fn read_change(alloc: Global, name: &[u8], value: Option<Text>) -> Result<Ticket
     }
 }
 
-/// A field, and whether a `+` before it appends. `Form` where no byte stands behind the `+`, or none at all.
+/// Reads a field, and whether a `+` before it appends. Fails with `Form` if no byte comes behind the `+`, or none at all.
 fn read_field(alloc: Global, name: &[u8]) -> Result<(bool, Text), Unread>
     ensures { IsGiven (field_in (unescape name.now)) result }
 {

@@ -32,8 +32,9 @@ pub struct Wiki {
 }
 
 impl Wiki {
-    /// The wiki page that cards are, or None where they are none: where their letters aren't those of a page, an argument hasn't its
-    /// form, or two parents are the same. `Memory` is the only error.
+    /// Reads a wiki page from its cards. Returns `None` if their letters aren't those of a page, an argument hasn't its form, or
+    /// two parents are the same. `Memory` is the only error.
+    /// FORMATS: Kinds
     pub fn read(alloc: Global, cards: &Cards) -> Result<Option<Wiki>, Memory>
         ensures { IfOk result (IsReading IsWiki cards.now) }
     {
@@ -44,8 +45,8 @@ impl Wiki {
         }
     }
 
-    /// Whether the page can be written: the title, the user, and the comment and the type where they are there have a byte, and the
-    /// parents differ. It takes no memory, and compares each parent with each one behind it.
+    /// Returns whether the page can be written. The title, the user, and the comment and the type if they are there have a byte.
+    /// The parents differ. It takes no memory, and compares each parent with each one behind it.
     pub fn well_formed(&self) -> bool
         ensures { result ≡ is_wiki_well_formed self.now }
     {
@@ -56,7 +57,8 @@ impl Wiki {
             && !self.user.bytes().is_empty()
     }
 
-    /// The text of the page, its Z card included, which reads back as the page. `Memory` is the only error.
+    /// Writes the text of the page, its Z card included. It reads back as the page. `Memory` is the only error.
+    /// FORMATS: Kinds
     pub fn write(&self, alloc: Global) -> Result<Text, Memory>
         requires { IsTrue (is_wiki_well_formed self.now) }
         ensures written { IfOk result (λ text. IsWikiText text self.now) }
@@ -70,7 +72,7 @@ impl Wiki {
         Ok(lines)
     }
 
-    /// Puts all cards but the Z card at the end of a text.
+    /// Writes all cards but the Z card at the end of a text.
     fn write_cards(&self, alloc: Global, into: &mut Text) -> Result<(), Memory>
         ensures { OnOk result (IsMoment self.now.date × (into.new ≡ into.old ++ text_of (wiki_cards self.now))) }
     {

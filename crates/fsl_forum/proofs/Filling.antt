@@ -12,7 +12,7 @@ use Rattle.fsl_order.specs.Rows.{by_name, AreDistinct}
 use Rattle.fsl_order.proofs.NamedLemmas.{named-by_name}
 use Rattle.fsl_order.proofs.RowLemmas.{is_some-named}
 use Rattle.fsl_order.proofs.Orders.{bytes_cmp-IsTotalOrder}
-use Rattle.fsl_rows.proofs.Built.{by_name-again}
+use Rattle.fsl_name.proofs.RowsBuilt.{by_name-again}
 use Rattle.fsl_table.specs.Contents.{value_at, with_entry}
 use Rattle.fsl_table.proofs.Entries.{sorted-insert_entry}
 use Rattle.fsl_table.proofs.Facts.{facts_with, absent_before}

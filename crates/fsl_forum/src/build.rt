@@ -1,4 +1,4 @@
-//! All maps from posts at once: first the ends of all chains, then each post, once.
+//! Builds all maps from posts at once: first the ends of all chains, then each post, once.
 ghost use Rattle.std.specs.Prelude.{◌≡◌, [], OnOk, IfOk, IfSome, None, map};
 ghost use Rattle.std.specs.List.Sorted.{IsStrictlySortedBy};
 ghost use Rattle.std.specs.Map.{keys_of};

@@ -1,4 +1,4 @@
-//! The end of each post's chain of next posts.
+//! Finds the end of each post's chain of next posts.
 ghost use Rattle.std.specs.Prelude.{◌≡◌, ◌+◌, ◌||◌, ℕ, List, Some, None, true, is_some, cond, length, if◌then◌else◌, IfOk, OnOk, option_and_then};
 ghost use Rattle.std.specs.Str.{bytes_eq};
 ghost use Rattle.std.specs.Map.{keys_of};
@@ -16,7 +16,7 @@ use std::collections::BTreeMap;
 /// By the name of each post its next post.
 type Nexts = BTreeMap<Name, Option<Name>>;
 
-/// By the name of a post the end of its chain, none where the chain is broken.
+/// A map from the name of a post to the end of its chain. The end is `None` where the chain is broken.
 pub type Ends = BTreeMap<Name, Option<Name>>;
 
 /// The posts that a climb passed, and what it came to.
@@ -121,7 +121,8 @@ fn settle(alloc: Global, nexts: &Nexts, ends: &mut Ends, name: Name) -> Result<(
     put(ends, name, climb.end)
 }
 
-/// The end of the chain of each post. Every post is passed once, so it takes time by n log n of the posts.
+/// Finds the end of the chain of each post. It passes every post once, so it takes time by n log n of the posts. `Memory` is the
+/// only error.
 pub fn ends_of(alloc: Global, facts: &[Fact]) -> Result<Ends, Memory>
     ensures { IfOk result (λ ends. AreEnds facts.now ends.entries) }
 {

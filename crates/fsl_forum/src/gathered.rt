@@ -1,4 +1,4 @@
-//! The posts of a thread.
+//! Gathers the posts of a thread.
 ghost use Rattle.std.specs.Prelude.{◌≡◌, ◌∷◌, [], IfOk, OnOk, MatchOption, map};
 ghost use Rattle.std.specs.Map.{values_of};
 ghost use Rattle.fsl_forum.specs.Held.{facts_of};

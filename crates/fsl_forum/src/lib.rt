@@ -1,10 +1,10 @@
-//! Forum posts and their threads. `Threads` is the table of them, and its answers are those of the definitions over the facts that it
-//! holds. In whatever order these came it is the same: `fsl_order::by_name_in_any_order`. A post more, or one in the place of
-//! another, is a call of its own, which tells the names whose rows differ and can be taken back.
+//! Finds the threads of forum posts. `Threads` is the table of them. It answers as the definitions do over the facts that it
+//! holds. It is the same in whatever order these came: that is the law `fsl_order::by_name_in_any_order`. One call adds a post,
+//! and another one replaces a post. Each returns the names whose rows differ, and can be undone.
 //!
-//! The table keeps the posts by name, the pairs of a next post and one that has it, the end of each whole chain, and the pairs of a
-//! thread and a valid post in it. Where a post comes or changes, all whose chains lead to it have one end before and one after; only
-//! where it has or gets an end are they visited, along the pairs.
+//! The table keeps the posts by name, the pairs of a next post and one that has it, the end of each whole chain, and the pairs of
+//! a thread and a valid post in it. When a post comes or changes, all posts whose chains lead to it share one end before, and one
+//! after. They are visited, along the pairs, only where the post has or gets an end.
 #![tactic(auto)]
 
 ghost use Rattle.std.specs.Prelude.{◌≡◌};
@@ -30,20 +30,20 @@ pub use threads::{Threads, Undo};
 pub struct Fact {
     /// The name of its artifact.
     pub name: Name,
-    /// When it was made.
+    /// The date of its artifact.
     pub date: Moment,
-    /// Who made it.
+    /// The user of its artifact.
     pub user: Text,
-    /// The root that it names in its G card.
+    /// The root in its G card.
     pub root: Option<Name>,
-    /// The post that it replies to, of its I card. It need not be there.
+    /// The post that it replies to, from its I card. That post need not be there.
     pub reply: Option<Name>,
-    /// The post that it edits, of its P card. It need not be there.
+    /// The post that it edits, from its P card. That post need not be there.
     pub prior: Option<Name>,
 }
 
 impl Fact {
-    /// The next post of its chain: the one it replies to, else the one it edits. None where it has neither.
+    /// Returns the next post of its chain: the one it replies to, else the one it edits. It is `None` where it has neither.
     pub fn next(&self) -> Option<Name>
         ensures { result ≡ next self.now }
     {
@@ -53,7 +53,7 @@ impl Fact {
         }
     }
 
-    /// What it is: an edit where it edits a post, else a reply where it replies to one, else a start.
+    /// Returns its kind. It is an edit where it edits a post, else a reply where it replies to one, else a start.
     pub fn kind(&self) -> PostKind
         ensures { result ≡ kind self.now }
     {
@@ -65,14 +65,14 @@ impl Fact {
     }
 }
 
-/// What a post is.
+/// The kind of a post.
 #[derive(Clone, Copy, PartialEq, Eq, Debug)]
 pub enum PostKind {
-    /// It starts a thread.
+    /// The post starts a thread.
     Start,
-    /// It edits another post.
+    /// The post edits another post.
     Edit,
-    /// It replies to another post.
+    /// The post replies to another post.
     Reply,
 }
 
@@ -81,22 +81,22 @@ pub enum PostKind {
 pub struct Post {
     /// The name of its artifact.
     pub name: Name,
-    /// When it was made.
+    /// The date of its artifact.
     pub date: Moment,
-    /// Who made it.
+    /// The user of its artifact.
     pub user: Text,
-    /// What it is.
+    /// The kind of the post.
     pub how: PostKind,
 }
 
-/// A law and no code: a post without a next post is the end of its own chain, and every other post's chain has the end of its next
-/// post's. A chain that is whole stays as it is when a post comes.
+/// A post without a next post ends its own chain, and every other post's chain has the end of its next post's. A whole chain
+/// stays as it is when a post comes. This is a law and no code.
 pub fn end_by_next()
     ensures by_next { EndByNext }
     ensures stays { WholeStays }
 {}
 
-/// A law and no code: a post that isn't valid stays so when another comes.
+/// A post that isn't valid stays so when another comes. This is a law and no code.
 pub fn invalid_stays()
     ensures { InvalidStays }
 {}

@@ -1,4 +1,4 @@
-//! The maps in which the facts are held.
+//! Keeps the facts in maps.
 ghost use Rattle.std.specs.Prelude.{◌≡◌, []};
 ghost use Rattle.fsl_forum.specs.Held.{AreAsGood, ends_of, rows_before, rows_of, starts_of};
 
@@ -13,15 +13,15 @@ use std::sync::ledger::Ledger;
 #[derive(Drop)]
 pub struct Maps {
     pub posts: Tracked<Name, Node>,
-    /// A pair for each next post and the post that has it; the next post need not be there.
+    /// Has a pair for each next post and the post that leads to it. The next post need not be there.
     pub followers: Tracked<Pair, ()>,
-    /// By the name of each post whose chain is whole the end of it.
+    /// Maps the name of each post with a whole chain to the end of that chain.
     pub ends: Tracked<Name, Name>,
-    /// A pair for each thread and each valid post in it.
+    /// Has a pair for each thread and each valid post in it.
     pub placed: Tracked<Pair, ()>,
 }
 
-/// The ways back of a change.
+/// The way back from a change, for each map.
 #[derive(Drop)]
 pub struct Ways {
     pub posts: Way<Name, Node>,
@@ -31,7 +31,7 @@ pub struct Ways {
 }
 
 impl Maps {
-    /// The maps without posts. Takes no memory.
+    /// Returns maps without posts. Takes no memory.
     pub fn new(alloc: Global) -> Maps
         ensures posts { result.posts.held.entries ≡ [] }
         ensures followers { result.followers.held.entries ≡ [] }
@@ -57,7 +57,7 @@ impl Maps {
         self.placed.begin();
     }
 
-    /// Goes back to where the change began. It takes no memory.
+    /// Undoes the change that was begun. It takes no memory.
     pub fn turn_back<L: Ledger>(&mut self, steps: &mut Steps<L>)
         ensures { AreAsGood (rows_before self.old) (rows_of self.new) }
     {
@@ -67,7 +67,7 @@ impl Maps {
         self.placed.turn_back(steps);
     }
 
-    /// Hands the ways back out.
+    /// Returns the way back of each map. The rows stay as they are.
     pub fn ways(&mut self, alloc: Global) -> Ways
         ensures ends { ends_of result ≡ rows_of self.old }
         ensures starts { starts_of result ≡ rows_before self.old }
@@ -81,7 +81,7 @@ impl Maps {
         }
     }
 
-    /// Goes these ways back from what is as good as their ends. It takes no memory.
+    /// Undoes the change whose ways back are given. The rows must be as good as those where these ways end. It takes no memory.
     pub fn undo<L: Ledger>(&mut self, ways: Ways, steps: &mut Steps<L>)
         requires { AreAsGood (ends_of ways) (rows_of self.old) }
         ensures { AreAsGood (starts_of ways) (rows_of self.new) }

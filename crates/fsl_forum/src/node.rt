@@ -1,4 +1,4 @@
-//! A post beside its name.
+//! Holds a post without its name.
 ghost use Rattle.std.specs.Prelude.{◌≡◌, IfOk};
 ghost use Rattle.std.specs.Option.{option_or};
 ghost use Rattle.fsl_forum.specs.Held.{fact_of};
@@ -26,7 +26,7 @@ pub(crate) struct Node {
 pub(crate) type Row = (Name, PostKind);
 
 impl Node {
-    /// The next post: the one it replies to, else the one it edits.
+    /// Returns the next post: the one it replies to, else the one it edits.
     pub fn next(&self) -> Option<Name>
         ensures { result ≡ option_or self.now.reply self.now.prior }
     {
@@ -47,9 +47,9 @@ impl Node {
         }
     }
 
-    /// The thread of the post of this name by the end of its chain, which is none where the chain is broken. A post isn't valid where
-    /// the chain has an end and the post names another root; else the thread is the end, or for a broken chain the root that the
-    /// post names, or itself.
+    /// Returns the thread of the post of this name by the end of its chain. That end is `None` where the chain is broken. A post
+    /// isn't valid, and the answer is `None`, where the chain has an end and the post names another root. Else the thread is the
+    /// end, or for a broken chain the root that the post names, or itself.
     pub fn place(&self, name: Name, end: Option<Name>) -> Option<Name>
         ensures { result ≡ place_by end (fact_of (name, self.now)) }
     {
@@ -62,7 +62,7 @@ impl Node {
         }
     }
 
-    /// The row of the post of this name by the end of its chain.
+    /// Returns the row of the post of this name by the end of its chain.
     pub fn row(&self, name: Name, end: Option<Name>) -> Option<Row>
         ensures { result ≡ row_by end (fact_of (name, self.now)) }
     {
@@ -72,7 +72,7 @@ impl Node {
         }
     }
 
-    /// The post of this name as its thread shows it. `Memory` is the only error.
+    /// Returns the post of this name as its thread shows it. `Memory` is the only error.
     pub fn post(&self, alloc: Global, name: Name) -> Result<Post, Memory>
         ensures { IfOk result (λ post. post ≡ shown (fact_of (name, self.now))) }
     {

@@ -1,4 +1,4 @@
-//! A post put in, or in the place of another.
+//! Puts a new post in, or replaces one.
 ghost use Rattle.std.specs.Prelude.{◌≡◌, OnOk, IfOk, map};
 ghost use Rattle.std.specs.List.Sorted.{IsStrictlySortedBy};
 ghost use Rattle.std.specs.Map.{keys_of};

@@ -1,4 +1,4 @@
-//! The rows of names: how one is read and noted, and the threads of posts by rows that differ.
+//! Reads and notes the rows of names, and changes the threads of posts by rows that differ.
 ghost use Rattle.std.specs.Prelude.{◌≡◌, ◌++◌, OnOk, IfOk, map};
 ghost use Rattle.std.specs.List.Sorted.{IsStrictlySortedBy};
 ghost use Rattle.std.specs.Map.{keys_of};

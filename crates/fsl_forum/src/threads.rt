@@ -1,4 +1,4 @@
-//! The table of posts.
+//! Keeps the table of posts.
 ghost use Rattle.std.specs.Prelude.{◌≡◌, ◌<◌, [], ◌∷◌, false, true, IfOk, OnOk, OnErr, map};
 ghost use Rattle.fsl_order.specs.TableState.{IsAsBefore};
 ghost use Rattle.fsl_order.specs.Names.{has};
@@ -18,7 +18,8 @@ use std::alloc::Global;
 use std::marker::{Brand, Model};
 use std::sync::ledger::{Blank, Ledger};
 
-/// The posts of a forum in their threads. Contracts see it as the facts by name, and the room that its maps have to spare.
+/// A table of the posts of a forum in their threads. Contracts see it as the facts by name, and the room that its maps have to
+/// spare.
 #[derive(Drop)]
 pub struct Threads {
     maps: Maps,
@@ -36,7 +37,7 @@ impl Model for Threads {
     ghost invariant = { λ t. IsKept (rows_of t.maps) };
 }
 
-/// What takes a change back, and the names whose rows it changed. Contracts see it as both, with the table before and after.
+/// The way back from a change, and the names whose rows it changed. Contracts see it as both, with the table before and after.
 #[derive(Drop)]
 pub struct Undo {
     ways: Ways,
@@ -56,7 +57,8 @@ impl Model for Undo {
 }
 
 impl Undo {
-    /// The names whose rows the change changed, ascending. The row of a name is the thread of its valid post, and what that is.
+    /// Returns the names whose rows the change changed, ascending. The row of a name has the thread of its valid post, and the
+    /// kind of that post.
     pub fn changed(&self) -> &List<Name>
         ensures { result.now ≡ self.now.changed }
     {
@@ -65,7 +67,7 @@ impl Undo {
 }
 
 impl Threads {
-    /// The table without posts. Takes no memory.
+    /// Returns a table without posts. Takes no memory.
     pub fn new(alloc: Global) -> Threads
         ensures { result.facts ≡ [] }
     {
@@ -74,8 +76,8 @@ impl Threads {
         }
     }
 
-    /// The table of some posts, of which no two have one name. It is the same in whatever order they stand: that is the law
-    /// `fsl_order::by_name_in_any_order`. It takes time by n log n of the posts. `Memory` is the only error.
+    /// Makes the table of some posts. No two of them have one name. The table is the same in whatever order they come: that is
+    /// the law `fsl_order::by_name_in_any_order`. It takes time by n log n of the posts. `Memory` is the only error.
     pub fn build(alloc: Global, facts: &[Fact]) -> Result<Threads, Memory>
         requires { AreDistinct (map (λ f. f.name) facts.now) }
         ensures facts { IfOk result (λ t. t.facts ≡ by_name (λ f. f.name) facts.now) }
@@ -105,7 +107,8 @@ impl Threads {
         }
     }
 
-    /// Adds a post whose name isn't there. `Memory` is the only error, and the table then holds what it held.
+    /// Adds a post. No other one of its name is in the table. `Memory` is the only error. The table then holds the same as
+    /// before.
     pub fn add<L: Ledger>(
         &mut self,
         alloc: Global,
@@ -122,8 +125,8 @@ impl Threads {
         self.put(alloc, fact, steps)
     }
 
-    /// Puts a post in the place of that of its name, which is there. `Memory` is the only error, and the table then holds what it
-    /// held.
+    /// Replaces the post of the same name. The table has one. `Memory` is the only error. The table then holds the same as
+    /// before.
     pub fn change<L: Ledger>(
         &mut self,
         alloc: Global,
@@ -166,7 +169,7 @@ impl Threads {
         }
     }
 
-    /// Takes the last change back that wasn't taken back. It takes no memory.
+    /// Undoes the last change that wasn't undone yet. It takes no memory.
     pub fn undo(&mut self, undo: Undo)
         requires { IsAsBefore undo.after self.old }
         ensures { IsAsBefore undo.before self.new }
@@ -186,9 +189,10 @@ impl Threads {
         self.maps.undo(ways, &mut steps);
     }
 
-    /// The thread of a valid post: the end of its chain of next posts; where a step of the chain leads to no post, or the chain goes in
-    /// a circle, the root that the post names, and its own name where it names none. None where there is no such post, or it isn't
-    /// valid: its chain has an end, and the post names another root.
+    /// Returns the thread of a valid post, which is the end of its chain of next posts. Where a step of the chain leads to no
+    /// post, or the chain goes in a circle, the thread is the root that the post names, or its own name where it names none. The
+    /// answer is `None` where there is no such post, or it isn't valid: its chain has an end, and the post names another root.
+    /// FORMATS: Derived tables
     pub fn place(&self, name: Name) -> Option<Name>
         ensures { result ≡ table.place self.now.facts name }
     {
@@ -208,7 +212,9 @@ impl Threads {
         }
     }
 
-    /// The valid posts of a thread by date, and at one date by name; none where no valid post stands in it. `Memory` is the only error.
+    /// Returns the valid posts of a thread by date, and at one date by name. The list is empty where no valid post is in it.
+    /// `Memory` is the only error.
+    /// FORMATS: Derived tables
     pub fn thread(&self, alloc: Global, root: Name) -> Result<List<Post>, Memory>
         ensures { IfOk result (λ posts. posts ≡ table.thread self.now.facts root) }
     {

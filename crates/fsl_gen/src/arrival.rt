@@ -1,4 +1,4 @@
-//! All artifacts in their order.
+//! Makes all artifacts in their order.
 ghost use Rattle.std.specs.Prelude.{◌≡◌, ◌≤◌, IfOk};
 ghost use Rattle.fsl_gen.specs.Arrival.{generated};
 
@@ -7,9 +7,10 @@ use fsl_name::Name;
 use fsl_text::{List, Memory, Text};
 use std::alloc::Global;
 
-/// The texts of the artifacts with the numbers below a count, which is 1 to 100,000: first those with an odd number, from the greatest
-/// to the least, and then those with an even one, from the least to the greatest. Where they are asked for reversed, this list from
-/// its end. In time and memory linear in the count. `Memory` is the only error.
+/// Makes the texts of the artifacts with the numbers below `count`, which is 1 to 100,000. Those with an odd number come first,
+/// from the greatest to the least, and then those with an even one, from the least to the greatest. With `reversed` the list runs
+/// from its end. Takes time and memory linear in the count. `Memory` is the only error.
+/// FORMATS: Generated artifacts
 pub fn artifacts(alloc: Global, count: u64, reversed: bool) -> Result<List<Text>, Memory>
     requires some { 1 ≤ count }
     requires few { count ≤ 100_000 }

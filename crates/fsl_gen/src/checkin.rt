@@ -1,4 +1,4 @@
-//! Check-ins: one line of them, of which each ten in a row are a branch.
+//! Makes check-ins: one line of them, in which each ten in a row are a branch.
 ghost use Rattle.std.specs.Prelude.{◌≡◌, ◌++◌, ◌≤◌, ◌<◌, IfOk, IsTrue, OnOk, length};
 ghost use Rattle.fsl_manifest.specs.Manifests.{is_well_formed};
 ghost use Rattle.fsl_gen.specs.Table.{begins_branch, checkin_at, name_among, own_tag, parents_at, tags_at};
@@ -10,7 +10,7 @@ use fsl_name::{Name, Ref};
 use fsl_text::{List, Memory, Text};
 use std::alloc::Global;
 
-/// The check-in of a number, where the names of all artifacts before it are given.
+/// Makes the check-in of a number from the names of all artifacts before it. `Memory` is the only error.
 pub fn checkin(alloc: Global, number: u64, names: &[Name]) -> Result<Manifest, Memory>
     requires few { number < 100_000 }
     requires before { number ≤ length names.now }
@@ -31,7 +31,7 @@ pub fn checkin(alloc: Global, number: u64, names: &[Name]) -> Result<Manifest, M
     })
 }
 
-/// The check-in before it, where there is one.
+/// Returns the check-in before it, if there is one.
 fn parents(alloc: Global, number: u64, names: &[Name]) -> Result<List<Ref>, Memory>
     requires { number ≤ length names.now }
     ensures { IfOk result (λ parents. parents ≡ parents_at (name_among names.now) number) }
@@ -43,7 +43,7 @@ fn parents(alloc: Global, number: u64, names: &[Name]) -> Result<List<Ref>, Memo
     Ok(parents)
 }
 
-/// The tags of a check-in: the first of a branch has some.
+/// Returns the tags of a check-in: the first of a branch has some.
 fn tags(alloc: Global, number: u64) -> Result<List<TagCard>, Memory>
     ensures { IfOk result (λ tags. tags ≡ tags_at number) }
 {
@@ -54,7 +54,7 @@ fn tags(alloc: Global, number: u64) -> Result<List<TagCard>, Memory>
     Ok(tags)
 }
 
-/// Puts the tags that begin a branch at the end: its name, its symbolic name, and the end of the symbolic name of the one before.
+/// Adds the tags that begin a branch: its name, its symbolic name, and the end of the symbolic name of the one before.
 fn begin_branch(alloc: Global, tags: &mut List<TagCard>, branch: u64) -> Result<(), Memory>
     ensures { OnOk result (tags.new ≡ tags.old ++ begins_branch branch) }
 {
@@ -70,7 +70,7 @@ fn begin_branch(alloc: Global, tags: &mut List<TagCard>, branch: u64) -> Result<
     Ok(())
 }
 
-/// A tag on the artifact itself.
+/// Makes a tag on the artifact itself.
 fn own_tag(prefix: Prefix, tag: Text, value: Option<Text>) -> TagCard
     ensures { result ≡ own_tag prefix tag value }
 {

@@ -1,4 +1,4 @@
-//! Control artifacts, each of which marks the check-in before it.
+//! Makes control artifacts, each of which marks the check-in before it.
 ghost use Rattle.std.specs.Prelude.{◌≡◌, ◌%◌, ◌≤◌, ◌<◌, IfOk, IsTrue, length};
 ghost use Rattle.fsl_forms.specs.WellFormed.{is_control_well_formed};
 ghost use Rattle.fsl_gen.specs.Table.{control_at, mark, name_among};
@@ -10,7 +10,7 @@ use fsl_name::{Name, Ref};
 use fsl_text::{List, Memory, Text};
 use std::alloc::Global;
 
-/// The control artifact of a number, where the names of all artifacts before it are given.
+/// Makes the control artifact of a number from the names of all artifacts before it. `Memory` is the only error.
 pub fn control(alloc: Global, number: u64, names: &[Name]) -> Result<Control, Memory>
     requires few { number < 100_000 }
     requires some { 1 ≤ number }
@@ -27,7 +27,7 @@ pub fn control(alloc: Global, number: u64, names: &[Name]) -> Result<Control, Me
     })
 }
 
-/// The tag that marks an artifact.
+/// Makes the tag that marks an artifact.
 fn mark(alloc: Global, target: Name) -> Result<TagCard, Memory>
     ensures { IfOk result (λ tag. tag ≡ mark target) }
 {

@@ -1,9 +1,9 @@
-//! A generator of artifacts, as many as are asked for, for trials of everything above: check-ins in branches, tags on them, changes of
-//! tickets and threads of a forum. Nothing in them is random, so their texts and names are the same wherever they are made.
+//! Generates any number of artifacts, for trials of everything above: check-ins in branches, tags on them, changes of tickets and
+//! threads of a forum. Nothing in them is random, so their texts and names are the same wherever they are made.
 //!
-//! Each artifact has a number from 0 on, and is what a table says of its number: its kind goes by the remainder by 4, and each 40 have a
-//! branch, a ticket and a thread of their own. An artifact names those with smaller numbers alone.
-//! They are given in an order in which marks and posts come before what they name, or in the same order from its end.
+//! Each artifact has a number from 0 on, and a table fixes it by its number. Its kind goes by the remainder by 4, and each 40
+//! have a branch, a ticket and a thread of their own. An artifact names only those with smaller numbers. They are given in an
+//! order in which marks and posts come before the artifacts that they name, or in the same order from its end.
 #![tactic(auto)]
 
 mod arrival;

@@ -1,4 +1,4 @@
-//! Posts of a forum: each ten in a row are a thread, in which each answers the one before.
+//! Makes posts of a forum. Each ten in a row are a thread, in which each answers the one before.
 ghost use Rattle.std.specs.Prelude.{◌≡◌, ◌%◌, ◌≤◌, ◌<◌, IfOk, IsTrue, length};
 ghost use Rattle.fsl_forms.specs.WellFormed.{is_forum_well_formed};
 ghost use Rattle.fsl_gen.specs.Table.{name_among, placed_at, post_at};
@@ -9,7 +9,7 @@ use fsl_name::Name;
 use fsl_text::{Memory, Text};
 use std::alloc::Global;
 
-/// The post of a number, where the names of all artifacts before it are given.
+/// Makes the post of a number from the names of all artifacts before it. `Memory` is the only error.
 pub fn post(alloc: Global, number: u64, names: &[Name]) -> Result<Forum, Memory>
     requires few { number < 100_000 }
     requires fourth { number % 4 ≡ 3 }
@@ -26,7 +26,7 @@ pub fn post(alloc: Global, number: u64, names: &[Name]) -> Result<Forum, Memory>
     placed(alloc, number, Some(root), None, Some(reply))
 }
 
-/// The post of a number at a place: the root of its thread, its title, and the post that it answers.
+/// Makes the post of a number at a place: the root of its thread, its title, and the post that it answers.
 fn placed(
     alloc: Global,
     number: u64,

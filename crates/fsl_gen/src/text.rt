@@ -1,4 +1,4 @@
-//! The text of one artifact.
+//! Makes the text of one artifact.
 ghost use Rattle.std.specs.Prelude.{◌≡◌, ◌<◌, IfOk};
 ghost use Rattle.fsl_gen.specs.Artifacts.{artifact_text, names_before};
 
@@ -10,7 +10,9 @@ use fsl_name::Name;
 use fsl_text::{Memory, Text};
 use std::alloc::Global;
 
-/// The text of the artifact of a number, where the names of those before it are given in the order of their numbers.
+/// Makes the text of the artifact of a number from the names of those before it, in the order of their numbers. `Memory` is the
+/// only error.
+/// FORMATS: Generated artifacts
 pub fn artifact(alloc: Global, number: u64, names: &[Name]) -> Result<Text, Memory>
     requires few { number < 100_000 }
     requires before { names.now ≡ names_before number }

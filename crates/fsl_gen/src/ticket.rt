@@ -1,4 +1,4 @@
-//! Changes of tickets: each ten in a row are those of one.
+//! Makes changes of tickets. Each ten in a row are those of one ticket.
 ghost use Rattle.std.specs.Prelude.{◌≡◌, ◌<◌, ◌∷◌, ◌/◌, [], codes, IfOk, IsTrue};
 ghost use Rattle.fsl_forms.specs.WellFormed.{is_ticket_well_formed};
 ghost use Rattle.fsl_gen.specs.Table.{appended, numbered, replaced, ticket_at, ticket_id};
@@ -9,7 +9,8 @@ use fsl_name::Name;
 use fsl_text::{List, Memory, Text};
 use std::alloc::Global;
 
-/// The ticket change of a number. The id of its ticket is the name of the ticket's number, written in decimal.
+/// Makes the ticket change of a number. The id of its ticket is the name of the ticket's number, written in decimal. `Memory` is
+/// the only error.
 pub fn ticket(alloc: Global, number: u64) -> Result<Ticket, Memory>
     requires few { number < 100_000 }
     ensures value { IfOk result (λ ticket. ticket ≡ ticket_at number) }
@@ -25,7 +26,7 @@ pub fn ticket(alloc: Global, number: u64) -> Result<Ticket, Memory>
     })
 }
 
-/// The id of the ticket that a change belongs to.
+/// Computes the id of the ticket that a change belongs to.
 fn id_of(alloc: Global, number: u64) -> Result<Name, Memory>
     ensures { IfOk result (λ id. id ≡ ticket_id (number / 40)) }
 {
@@ -33,7 +34,7 @@ fn id_of(alloc: Global, number: u64) -> Result<Name, Memory>
     Ok(Name::of(ticket.bytes()))
 }
 
-/// What a change does: it appends to the comment, and sets the status.
+/// Returns the changes of one artifact: it appends to the comment, and sets the status.
 fn changes(alloc: Global, number: u64) -> Result<List<TicketChange>, Memory>
     ensures { IfOk result (λ changes. changes ≡ appended (numbered (codes "x") number) ∷ replaced ∷ []) }
 {
@@ -44,7 +45,7 @@ fn changes(alloc: Global, number: u64) -> Result<List<TicketChange>, Memory>
     Ok(changes)
 }
 
-/// What is appended to the comment.
+/// Makes the change that appends to the comment.
 fn appended(alloc: Global, value: Text) -> Result<TicketChange, Memory>
     ensures { IfOk result (λ change. change ≡ appended value) }
 {
@@ -55,7 +56,7 @@ fn appended(alloc: Global, value: Text) -> Result<TicketChange, Memory>
     })
 }
 
-/// The status, which is open.
+/// Makes the change that opens the status.
 fn replaced(alloc: Global) -> Result<TicketChange, Memory>
     ensures { IfOk result (λ change. change ≡ replaced) }
 {

@@ -13,12 +13,13 @@ use Rattle.fsl_grammar.specs.Letters.{Letters, has_letters}
 use Rattle.fsl_grammar.specs.Forms.{HasBody, arguments, hash_form, is_filled, text_form, user_form}
 use Rattle.fsl_grammar.specs.Writing.{body_card, card_if, parents_card}
 use Rattle.fsl_text.specs.Escapes.{escape}
+use Rattle.fsl_text.proofs.DecimalTexts.{decimal_is}
 use Rattle.fsl_name.specs.Name.{IsName, name_text}
 use Rattle.fsl_name.specs.declared.reference.Ref.{Ref}
 use Rattle.fsl_grammar.proofs.WrittenArguments.{is_argument-escape, is_argument-name}
 use Rattle.fsl_grammar.proofs.FormsAgain.{hash_again, read_if, text_again, user_again}
 use Rattle.fsl_grammar.proofs.Blocks.{AreBlocks, HaveLetters, IsBlock, arguments-joined, block_if, blocks_rise, given, has_letters-joined, is_plain_letter, joined, joined-push, seal_block, sealed_blocks}
-use Rattle.fsl_grammar.proofs.DecimalLemmas.{decimal_is, is_argument-decimal}
+use Rattle.fsl_grammar.proofs.DecimalLemmas.{is_argument-decimal}
 
 -- ---- the Z card behind blocks
 

@@ -1,44 +1,19 @@
 -- A size as it is written.
-use Rattle.std.proofs.Common.{◌≡◌, ℕ, ◌+◌, ◌*◌, ◌-◌, ◌/◌, ◌%◌, ◌^◌, ◌<◌, ◌≤◌, true, false, not, List, [], ◌∷◌, ◌++◌, refl, arith}
+use Rattle.std.proofs.Common.{◌≡◌, ℕ, ◌^◌, ◌<◌, true, not, arith}
 use Rattle.std.specs.Prelude.{decimal}
 use Rattle.std.specs.List.{list_all}
-use Rattle.std.proofs.lemmas.Fmt.{decimal_by_steps}
-use Rattle.std.proofs.lemmas.List.Folds.{list_all-append}
-use Rattle.std.proofs.lemmas.List.Sums.{fold-append}
 use Rattle.std.proofs.lemmas.Bool.{and_from}
 use Rattle.fsl_order.proofs.Booleans.{first_holds, second_holds}
 use Rattle.fsl_text.specs.Bytes.{is_empty}
-use Rattle.fsl_text.specs.Decimals.{IsDecimal, decimal_value, is_decimal_digit}
+use Rattle.fsl_text.specs.Decimals.{is_decimal_digit}
+use Rattle.fsl_text.proofs.Bytewise.{weaker}
+use Rattle.fsl_text.proofs.DecimalTexts.{decimal_is}
 use Rattle.fsl_card.specs.Cards.{is_argument, is_argument_byte}
-
-digit_is : (d : ℕ) → d < 10 → is_decimal_digit (48 + d) ≡ true
-digit_is d h = grind arith
-
-one_digit : (n : ℕ) → n < 10 → IsDecimal ((48 + n) ∷ []) n
-one_digit n h = (rw (digit_is n h) refl, omega arith)
-
-filled_behind : (ds : List ℕ) (d : ℕ) → is_empty (ds ++ d ∷ []) ≡ false
-filled_behind [] d = refl
-filled_behind (x ∷ ds) d = refl
-
-more_digits : (n : ℕ) (ds : List ℕ) → 10 ≤ n → IsDecimal ds (n / 10) → IsDecimal (ds ++ ((48 + n % 10) ∷ [])) n
-more_digits n ds h k =
-    let digits = second_holds (not (is_empty ds)) _ k.0 in
-    let value : decimal_value (ds ++ ((48 + n % 10) ∷ [])) ≡ 10 * decimal_value ds + (48 + n % 10 - 48) = fold-append (λ (m : ℕ) (c : ℕ). 10 * m + (c - 48)) 0 ds ((48 + n % 10) ∷ []) in
-    (rw (filled_behind ds (48 + n % 10), list_all-append is_decimal_digit ds ((48 + n % 10) ∷ []), digits, digit_is (n % 10) (omega arith)) refl, omega (arith, value, k.1))
-
--- a number of 64 bits is written as a decimal of itself
-pub decimal_is : (n : ℕ) → n < 2 ^ 64 → IsDecimal (decimal n) n
-decimal_is n h = decimal_by_steps (λ n ds. IsDecimal ds n) one_digit more_digits n h
 
 digit_byte : (b : ℕ) → is_decimal_digit b ≡ true → is_argument_byte b ≡ true
 digit_byte b h = grind arith
 
-digits_fit : (text : List ℕ) → list_all is_decimal_digit text ≡ true → list_all is_argument_byte text ≡ true
-digits_fit [] h = refl
-digits_fit (b ∷ text) h = and_from _ _ (digit_byte b (first_holds _ (list_all is_decimal_digit text) h)) (digits_fit text (second_holds (is_decimal_digit b) _ h))
-
 pub is_argument-decimal : (n : ℕ) → n < 2 ^ 64 → is_argument (decimal n) ≡ true
 is_argument-decimal n h =
     let text = (decimal_is n h).0 in
-    and_from _ _ (first_holds _ (list_all is_decimal_digit (decimal n)) text) (digits_fit (decimal n) (second_holds (not (is_empty (decimal n))) _ text))
+    and_from _ _ (first_holds _ (list_all is_decimal_digit (decimal n)) text) (weaker is_decimal_digit is_argument_byte digit_byte (decimal n) (second_holds (not (is_empty (decimal n))) _ text))

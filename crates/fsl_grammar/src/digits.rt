@@ -1,10 +1,10 @@
-//! Checksums in hexadecimal digits.
+//! Reads checksums in hexadecimal digits.
 ghost use Rattle.std.specs.Prelude.{◌≡◌, IsTrue};
 ghost use Rattle.std.specs.List.{list_all};
 ghost use Rattle.fsl_grammar.specs.Forms.{checksum_in};
 ghost use Rattle.fsl_name.specs.Name.{are_digits, bytes_of_digits, is_name_digit};
 
-/// The 16 bytes that 32 lower-case digits are.
+/// Reads 16 bytes from 32 lower-case digits.
 pub fn read_checksum(arg: &[u8]) -> Option<[u8; 16]>
     ensures { result ≡ checksum_in arg.now }
 {
@@ -15,7 +15,7 @@ pub fn read_checksum(arg: &[u8]) -> Option<[u8; 16]>
     }
 }
 
-/// Whether the text is 32 lower-case digits.
+/// Returns whether the text is 32 lower-case digits.
 fn are_digits(text: &[u8]) -> bool
     ensures { result ≡ are_digits 32 text.now }
 {
@@ -34,7 +34,7 @@ fn is_digit(byte: u8) -> bool
     matches!(byte, b'0'..=b'9' | b'a'..=b'f')
 }
 
-/// The bytes that 32 digits spell.
+/// Returns the bytes that 32 digits spell.
 fn spelled(text: &[u8]) -> [u8; 16]
     requires { IsTrue (are_digits 32 text.now) }
     ensures { result ≡ bytes_of_digits text.now }

@@ -1,4 +1,4 @@
-//! The forms of arguments that several kinds share.
+//! Reads the forms of arguments that several kinds share.
 ghost use Rattle.std.specs.Prelude.{◌≡◌, option_map};
 ghost use Rattle.fsl_grammar.specs.Forms.{checksum_form, date_form, hash_form, optional, prefix_in, ref_form, tag_form, tag_in, target_in, text_form, user_form};
 ghost use Rattle.fsl_grammar.specs.Reading.{IsGiven};
@@ -15,14 +15,14 @@ use std::alloc::Global;
 
 /// A form of the arguments of one card.
 pub trait Form {
-    /// What arguments of this form stand for.
+    /// The value that arguments of this form have.
     type Value: Drop;
 
     ghost use Rattle.std.specs.Prelude.{List, ℕ, Option};
 
     ghost form: { List (List ℕ) → Option Self.Value };
 
-    /// What the arguments stand for. `Form` where they haven't the form.
+    /// Reads the value of the arguments. Fails with `Form` if they haven't the form, or with `Memory`.
     fn read(alloc: Global, args: &[Text]) -> Result<Self::Value, Unread>
         ensures { IsGiven (form args.now) result };
 }
@@ -107,7 +107,7 @@ impl Form for ChecksumForm {
     }
 }
 
-/// The user, who is `anonymous` where the card has no argument.
+/// The user. Without an argument it is `anonymous`.
 pub struct UserForm;
 
 impl Form for UserForm {
@@ -124,7 +124,7 @@ impl Form for UserForm {
     }
 }
 
-/// A tag with its prefix, its target and, where there is one, its value.
+/// A tag with its prefix, its target and its value, if it has one.
 pub struct TagForm;
 
 impl Form for TagForm {
@@ -144,7 +144,7 @@ impl Form for TagForm {
     }
 }
 
-/// The name that 40 lower-case digits are.
+/// Reads a name from 40 lower-case digits.
 pub fn read_hash(arg: &[u8]) -> Option<Name>
     ensures { result ≡ name_in arg.now }
 {
@@ -154,7 +154,7 @@ pub fn read_hash(arg: &[u8]) -> Option<Name>
     }
 }
 
-/// The reference that 40 or 64 lower-case digits are.
+/// Reads a reference from 40 or 64 lower-case digits.
 pub fn read_ref(arg: &[u8]) -> Option<Ref>
     ensures { result ≡ ref_in arg.now }
 {
@@ -164,7 +164,7 @@ pub fn read_ref(arg: &[u8]) -> Option<Ref>
     }
 }
 
-/// The reference of an argument that may be missing, or None where it is there and no reference.
+/// Reads the reference of an argument that may be missing. Returns `None` if it is there and no reference.
 pub fn read_optional_ref(arg: Option<&Text>) -> Option<Option<Ref>>
     ensures { result ≡ optional ref_in (option_map (λ text. text.now) arg.entry) }
 {
@@ -188,7 +188,7 @@ fn read_prefix(byte: u8) -> Option<Prefix>
     }
 }
 
-/// The target of a tag: `*` stands for the artifact itself.
+/// Reads the target of a tag: `*` means the artifact itself.
 fn read_target(arg: &[u8]) -> Option<Option<Ref>>
     ensures { result ≡ target_in arg.now }
 {
@@ -201,7 +201,7 @@ fn read_target(arg: &[u8]) -> Option<Option<Ref>>
     }
 }
 
-/// A tag of a prefix and a name of one byte or more.
+/// Reads a tag of a prefix and a name of one byte or more.
 fn read_tag(
     alloc: Global,
     tag: &[u8],

@@ -1,5 +1,5 @@
-//! What the types of values keep, for proofs alone: by these calls a caller learns that the names in a value have 20 bytes, and foreign
-//! names 32, as it does by `Name::bytes` and `Ref::bytes`. They change nothing and give nothing.
+//! Facts on values, for proofs alone. These calls prove to their caller that the names in a value have 20 bytes, and foreign
+//! names 32, as `Name::bytes` and `Ref::bytes` do. They change nothing and return nothing.
 ghost use Rattle.std.specs.Prelude.{option_to_list};
 ghost use Rattle.std.specs.List.{AllByRecursion};
 ghost use Rattle.fsl_name.specs.Name.{IsName};
@@ -8,7 +8,7 @@ ghost use Rattle.fsl_name.specs.Ref.{IsRef};
 use crate::TagCard;
 use fsl_name::{Name, Ref};
 
-/// A name that may be missing is a name where it is there.
+/// Says that an optional name is a name if it is there.
 pub fn know_name(name: &Option<Name>)
     ensures { AllByRecursion IsName (option_to_list name.now) }
 {
@@ -17,7 +17,7 @@ pub fn know_name(name: &Option<Name>)
     }
 }
 
-/// A reference that may be missing is one where it is there.
+/// Says that an optional reference is a reference if it is there.
 pub fn know_ref(reference: &Option<Ref>)
     ensures { AllByRecursion IsRef (option_to_list reference.now) }
 {
@@ -26,7 +26,7 @@ pub fn know_ref(reference: &Option<Ref>)
     }
 }
 
-/// References are references.
+/// Says that references are references.
 pub fn know_refs(refs: &[Ref])
     ensures { AllByRecursion IsRef refs.now }
 {
@@ -35,7 +35,7 @@ pub fn know_refs(refs: &[Ref])
     }
 }
 
-/// The targets of tags are references.
+/// Says that the targets of tags are references.
 pub fn know_tags(tags: &[TagCard])
     ensures { AllByRecursion (λ t. AllByRecursion IsRef (option_to_list t.target)) tags.now }
 {

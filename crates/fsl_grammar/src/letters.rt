@@ -1,18 +1,19 @@
-//! Which letters the cards of each kind have.
+//! Checks the letters of the cards of each kind.
 ghost use Rattle.std.specs.Prelude.{◌≡◌, ◌==◌, ◌++◌, nat_le};
 ghost use Rattle.std.specs.List.{list_all, list_any};
 ghost use Rattle.fsl_grammar.specs.Letters.{attachment_letters, cluster_letters, control_letters, forum_letters, has_letters, letter_count, manifest_letters, technote_letters, ticket_letters, wiki_letters};
 
 use fsl_card::Card;
 
-/// How many cards have a letter.
+/// Counts the cards with a letter.
 fn letter_count(cards: &[Card], letter: u8) -> usize
     ensures { result ≡ letter_count cards.now letter }
 {
     cards.iter().filter(|card| card.letter == letter).count()
 }
 
-/// Whether the cards have the letters of a kind: some once, some at most once, some any number of times, some one time or more, and no others.
+/// Returns whether the cards have the letters of a kind: some once, some at most once, some any number of times, some one time or
+/// more, and no others.
 fn has_letters(cards: &[Card], once: &[u8], optional: &[u8], repeated: &[u8], some: &[u8]) -> bool
     ensures { result ≡ has_letters (record { once = once.now; optional = optional.now; repeated = repeated.now; some = some.now }) cards.now }
 {
@@ -22,7 +23,7 @@ fn has_letters(cards: &[Card], once: &[u8], optional: &[u8], repeated: &[u8], so
         && have_letters(cards, once, optional, repeated, some)
 }
 
-/// Whether there is one card of each letter.
+/// Returns whether there is one card of each letter.
 fn each_once(cards: &[Card], letters: &[u8]) -> bool
     ensures { result ≡ list_all (λ letter. letter_count cards.now letter == 1) letters.now }
 {
@@ -31,7 +32,7 @@ fn each_once(cards: &[Card], letters: &[u8]) -> bool
         .all(|letter| letter_count(cards, *letter) == 1)
 }
 
-/// Whether there is at most one card of each letter.
+/// Returns whether there is at most one card of each letter.
 fn each_at_most_once(cards: &[Card], letters: &[u8]) -> bool
     ensures { result ≡ list_all (λ letter. nat_le (letter_count cards.now letter) 1) letters.now }
 {
@@ -40,7 +41,7 @@ fn each_at_most_once(cards: &[Card], letters: &[u8]) -> bool
         .all(|letter| letter_count(cards, *letter) <= 1)
 }
 
-/// Whether there is a card of each letter.
+/// Returns whether there is a card of each letter.
 fn each_there(cards: &[Card], letters: &[u8]) -> bool
     ensures { result ≡ list_all (λ letter. nat_le 1 (letter_count cards.now letter)) letters.now }
 {
@@ -49,14 +50,14 @@ fn each_there(cards: &[Card], letters: &[u8]) -> bool
         .all(|letter| 1 <= letter_count(cards, *letter))
 }
 
-/// Whether each card has one of the letters.
+/// Returns whether each card has one of the letters.
 fn have_letters(cards: &[Card], once: &[u8], optional: &[u8], repeated: &[u8], some: &[u8]) -> bool
     ensures { result ≡ list_all (λ card. list_any (λ letter. card.letter == letter) (once.now ++ optional.now ++ repeated.now ++ some.now)) cards.now }
 {
     cards.iter().all(|card| is_one_of(card.letter, once, optional, repeated, some))
 }
 
-/// Whether the letter is one of the others.
+/// Returns whether the letter is one of the others.
 fn is_one_of(letter: u8, once: &[u8], optional: &[u8], repeated: &[u8], some: &[u8]) -> bool
     ensures { result ≡ list_any (λ other. letter == other) (once.now ++ optional.now ++ repeated.now ++ some.now) }
 {
@@ -72,56 +73,56 @@ fn stands_in(letters: &[u8], letter: u8) -> bool
     letters.contains(&letter)
 }
 
-/// Whether the cards have the letters of a manifest.
+/// Returns whether the cards have the letters of a manifest.
 pub fn has_manifest_letters(cards: &[Card]) -> bool
     ensures { result ≡ has_letters manifest_letters cards.now }
 {
     has_letters(cards, b"CDUZ", b"BNPR", b"FQT", b"")
 }
 
-/// Whether the cards have the letters of a cluster.
+/// Returns whether the cards have the letters of a cluster.
 pub fn has_cluster_letters(cards: &[Card]) -> bool
     ensures { result ≡ has_letters cluster_letters cards.now }
 {
     has_letters(cards, b"Z", b"", b"", b"M")
 }
 
-/// Whether the cards have the letters of a control artifact.
+/// Returns whether the cards have the letters of a control artifact.
 pub fn has_control_letters(cards: &[Card]) -> bool
     ensures { result ≡ has_letters control_letters cards.now }
 {
     has_letters(cards, b"DUZ", b"", b"", b"T")
 }
 
-/// Whether the cards have the letters of a wiki page.
+/// Returns whether the cards have the letters of a wiki page.
 pub fn has_wiki_letters(cards: &[Card]) -> bool
     ensures { result ≡ has_letters wiki_letters cards.now }
 {
     has_letters(cards, b"DLUWZ", b"CNP", b"", b"")
 }
 
-/// Whether the cards have the letters of a ticket change.
+/// Returns whether the cards have the letters of a ticket change.
 pub fn has_ticket_letters(cards: &[Card]) -> bool
     ensures { result ≡ has_letters ticket_letters cards.now }
 {
     has_letters(cards, b"DKUZ", b"", b"", b"J")
 }
 
-/// Whether the cards have the letters of an attachment.
+/// Returns whether the cards have the letters of an attachment.
 pub fn has_attachment_letters(cards: &[Card]) -> bool
     ensures { result ≡ has_letters attachment_letters cards.now }
 {
     has_letters(cards, b"ADZ", b"CNU", b"", b"")
 }
 
-/// Whether the cards have the letters of a technote.
+/// Returns whether the cards have the letters of a technote.
 pub fn has_technote_letters(cards: &[Card]) -> bool
     ensures { result ≡ has_letters technote_letters cards.now }
 {
     has_letters(cards, b"DEWZ", b"CNPU", b"T", b"")
 }
 
-/// Whether the cards have the letters of a forum post.
+/// Returns whether the cards have the letters of a forum post.
 pub fn has_forum_letters(cards: &[Card]) -> bool
     ensures { result ≡ has_letters forum_letters cards.now }
 {

@@ -1,4 +1,5 @@
-//! What the kinds of structural artifacts share: which letters their cards have, the forms of the arguments, tags, and how values become cards.
+//! The grammar that the kinds of structural artifacts share. It has the letters of their cards, the forms of the arguments, and
+//! tags, and it writes values as cards.
 #![tactic(auto)]
 
 ghost use Rattle.std.specs.Prelude.{◌≡◌};
@@ -32,7 +33,7 @@ pub use writing::{
 };
 pub use written::{is_filled, is_tag_written, refs_differ};
 
-/// How an assertion of a tag acts.
+/// Says how an assertion of a tag acts.
 #[derive(Clone, Copy, Debug, PartialEq, Eq)]
 pub enum Prefix {
     /// `+`
@@ -43,7 +44,7 @@ pub enum Prefix {
     Propagate,
 }
 
-/// A T card. No target stands for the artifact itself.
+/// A T card. Without a target it tags the artifact itself.
 #[derive(Drop)]
 pub struct TagCard {
     pub prefix: Prefix,
@@ -52,12 +53,12 @@ pub struct TagCard {
     pub value: Option<Text>,
 }
 
-/// Why cards, or the arguments of one, give no value.
+/// Says why cards, or the arguments of one, give no value.
 #[derive(Clone, Copy, Debug, PartialEq, Eq)]
 pub enum Unread {
-    /// They haven't the form.
+    /// The form is another one.
     Form,
-    /// There was no memory.
+    /// The program is out of memory.
     Memory,
 }
 

@@ -1,4 +1,4 @@
-//! The values that the cards of one letter give.
+//! Reads the values of the cards of one letter.
 ghost use Rattle.std.specs.Prelude.{◌≡◌, ◌++◌, IfOk, IsTrue, flat_map, is_some, map};
 ghost use Rattle.std.specs.List.{list_all};
 ghost use Rattle.fsl_grammar.specs.Forms.{HasOne, HasAtMostOne, HasEach, HasParents, HasBody, arguments, refs_differ};
@@ -12,7 +12,7 @@ use fsl_name::Ref;
 use fsl_text::{List, Memory, Text};
 use std::alloc::Global;
 
-/// The values of all cards of a letter, in order. `Form` where one of them hasn't the form.
+/// Reads the values of all cards of a letter, in order. Fails with `Form` if one of them hasn't the form, or with `Memory`.
 pub fn each<F: Form>(alloc: Global, cards: &[Card], letter: u8) -> Result<List<F::Value>, Unread>
     ensures { IsRead (λ cards xs. HasEach cards letter F.form xs) cards.now result }
 {
@@ -28,7 +28,8 @@ pub fn each<F: Form>(alloc: Global, cards: &[Card], letter: u8) -> Result<List<F
     Ok(values)
 }
 
-/// The value of the card of a letter, where there is one. `Form` where there are several, or it hasn't the form.
+/// Reads the value of the card of a letter, if there is one. Fails with `Form` if there are several or it hasn't the form, or
+/// with `Memory`.
 pub fn at_most_one<F: Form>(
     alloc: Global,
     cards: &[Card],
@@ -48,15 +49,16 @@ pub fn at_most_one<F: Form>(
     Ok(found)
 }
 
-/// The value of the one card of a letter. `Form` where there isn't one, or it hasn't the form.
+/// Reads the value of the one card of a letter. Fails with `Form` if there isn't exactly one or it hasn't the form, or with
+/// `Memory`.
 pub fn one<F: Form>(alloc: Global, cards: &[Card], letter: u8) -> Result<F::Value, Unread>
     ensures { IsRead (λ cards x. HasOne cards letter F.form x) cards.now result }
 {
     at_most_one::<F>(alloc, cards, letter)?.ok_or(Unread::Form)
 }
 
-/// The references of the P card, or none where there is no such card. `Form` where one of the arguments is none, or two of them are the
-/// same.
+/// Reads the references of the P card, or none if there is no such card. Fails with `Form` if one of the arguments is no
+/// reference or two of them are the same, or with `Memory`.
 pub fn parents(alloc: Global, cards: &[Card]) -> Result<List<Ref>, Unread>
     ensures { IsRead HasParents cards.now result }
 {
@@ -68,7 +70,7 @@ pub fn parents(alloc: Global, cards: &[Card]) -> Result<List<Ref>, Unread>
     }
 }
 
-/// The references of the P cards. `Form` where one of the arguments is none.
+/// Reads the references of the P cards. Fails with `Form` if one of the arguments is none.
 fn parent_refs(alloc: Global, cards: &[Card]) -> Result<List<Ref>, Unread>
     ensures { IsRead (λ cards refs. map ref_in (flat_map (λ args. args) (arguments cards 80)) ≡ map Some refs) cards.now result }
 {
@@ -81,7 +83,7 @@ fn parent_refs(alloc: Global, cards: &[Card]) -> Result<List<Ref>, Unread>
     Ok(refs)
 }
 
-/// Puts the references that arguments are at the end of others, and says whether all of them are references.
+/// Reads arguments as references behind others, and returns whether all of them are references.
 fn push_refs(refs: &mut List<Ref>, args: &[Text]) -> Result<bool, Memory>
     ensures all { IfOk result (λ all. all ≡ list_all (λ arg. is_some (ref_in arg)) args.now) }
     ensures refs { IfOk result (λ all. IsTrue all → map Some refs.old ++ map ref_in args.now ≡ map Some refs.new) }
@@ -99,7 +101,7 @@ fn push_refs(refs: &mut List<Ref>, args: &[Text]) -> Result<bool, Memory>
     Ok(true)
 }
 
-/// Whether all references differ.
+/// Returns whether all references differ.
 fn all_differ(alloc: Global, refs: &[Ref]) -> Result<bool, Memory>
     ensures { IfOk result (λ differ. differ ≡ refs_differ refs.now) }
 {
@@ -109,7 +111,7 @@ fn all_differ(alloc: Global, refs: &[Ref]) -> Result<bool, Memory>
     Ok(sorted.len() == refs.len())
 }
 
-/// The bytes of references, in their order.
+/// Returns the bytes of references, in their order.
 fn bytes_of(alloc: Global, refs: &[Ref]) -> Result<Vec<&[u8]>, Memory>
     ensures { IfOk result (λ all. map (λ bytes. bytes.now) all.items ≡ map ref_bytes refs.now) }
 {
@@ -120,7 +122,7 @@ fn bytes_of(alloc: Global, refs: &[Ref]) -> Result<Vec<&[u8]>, Memory>
     Ok(all)
 }
 
-/// The body of the one card that has one. `Form` where there isn't one.
+/// Reads the body of the one card that has one. Fails with `Form` if there isn't exactly one, or with `Memory`.
 pub fn body(alloc: Global, cards: &[Card]) -> Result<Text, Unread>
     ensures { IsRead HasBody cards.now result }
 {

@@ -1,5 +1,5 @@
-//! How values become cards, at the end of a text. For want of memory the text stays as it was: what is written in several steps is cut
-//! back to where it began.
+//! Writes values as cards, at the end of a text. If out of memory, the text stays as it was: a value that is written in several
+//! steps is cut back to its beginning.
 ghost use Rattle.std.specs.Prelude.{◌≡◌, ◌++◌, ◌∷◌, [], OnErr, OnOk, decimal, flat_map, length, map, take};
 ghost use Rattle.fsl_card.specs.Cards.{card_text, text_of};
 ghost use Rattle.fsl_grammar.specs.Writing.{body_card, card, card_if, parents_card, sign_of, tag_card, target_text, written_if};
@@ -12,7 +12,7 @@ use fsl_name::{Name, Ref};
 use fsl_text::{Memory, Text, escape_into};
 use std::alloc::Global;
 
-/// Cuts a text back to a length where something was written in part alone.
+/// Cuts a text back to a length if a value was written only in part.
 fn whole(into: &mut Text, length: usize, written: Result<(), Memory>) -> Result<(), Memory>
     ensures same { result ≡ written }
     ensures ok { OnOk written (into.new ≡ into.old) }
@@ -24,7 +24,7 @@ fn whole(into: &mut Text, length: usize, written: Result<(), Memory>) -> Result<
     written
 }
 
-/// Begins a card with its letter.
+/// Begins a card with its letter. `Memory` is the only error.
 pub fn begin_card(into: &mut Text, letter: u8) -> Result<(), Memory>
     ensures ok { OnOk result (into.new ≡ into.old ++ letter ∷ []) }
     ensures err { OnErr result (into.new ≡ into.old) }
@@ -32,7 +32,7 @@ pub fn begin_card(into: &mut Text, letter: u8) -> Result<(), Memory>
     into.append(&[letter])
 }
 
-/// Ends the line of a card.
+/// Ends the line of a card. `Memory` is the only error.
 pub fn end_card(into: &mut Text) -> Result<(), Memory>
     ensures ok { OnOk result (into.new ≡ into.old ++ 10 ∷ []) }
     ensures err { OnErr result (into.new ≡ into.old) }
@@ -40,7 +40,7 @@ pub fn end_card(into: &mut Text) -> Result<(), Memory>
     into.append(b"\n")
 }
 
-/// An argument, as it is.
+/// Writes an argument as it is. `Memory` is the only error.
 pub fn write_argument(into: &mut Text, argument: &[u8]) -> Result<(), Memory>
     ensures ok { OnOk result (into.new ≡ into.old ++ 32 ∷ argument.now) }
     ensures err { OnErr result (into.new ≡ into.old) }
@@ -58,7 +58,7 @@ fn add_argument(into: &mut Text, argument: &[u8]) -> Result<(), Memory>
     into.append(argument)
 }
 
-/// A text as an argument, escaped.
+/// Writes a text as an argument, escaped. `Memory` is the only error.
 pub fn write_text(into: &mut Text, text: &[u8]) -> Result<(), Memory>
     ensures ok { OnOk result (into.new ≡ into.old ++ 32 ∷ escape text.now) }
     ensures err { OnErr result (into.new ≡ into.old) }
@@ -76,7 +76,7 @@ fn add_text(into: &mut Text, text: &[u8]) -> Result<(), Memory>
     escape_into(into, text)
 }
 
-/// A name as an argument, in its 40 digits.
+/// Writes a name as an argument, in its 40 digits. `Memory` is the only error.
 pub fn write_name(into: &mut Text, name: &Name) -> Result<(), Memory>
     ensures ok { OnOk result (into.new ≡ into.old ++ 32 ∷ name_text name.now) }
     ensures err { OnErr result (into.new ≡ into.old) }
@@ -84,7 +84,7 @@ pub fn write_name(into: &mut Text, name: &Name) -> Result<(), Memory>
     write_argument(into, &name.text())
 }
 
-/// A reference as an argument, in its 40 or 64 digits.
+/// Writes a reference as an argument, in its 40 or 64 digits. `Memory` is the only error.
 pub fn write_ref(into: &mut Text, reference: &Ref) -> Result<(), Memory>
     ensures ok { OnOk result (into.new ≡ into.old ++ 32 ∷ ref_text reference.now) }
     ensures err { OnErr result (into.new ≡ into.old) }
@@ -94,7 +94,7 @@ pub fn write_ref(into: &mut Text, reference: &Ref) -> Result<(), Memory>
     write_argument(into, &digits[..count])
 }
 
-/// A sign and a text behind it as one argument.
+/// Writes a sign and a text behind it as one argument. `Memory` is the only error.
 pub fn write_signed_text(into: &mut Text, sign: u8, text: &[u8]) -> Result<(), Memory>
     ensures ok { OnOk result (into.new ≡ into.old ++ 32 ∷ sign ∷ escape text.now) }
     ensures err { OnErr result (into.new ≡ into.old) }
@@ -112,7 +112,7 @@ fn add_signed_text(into: &mut Text, sign: u8, text: &[u8]) -> Result<(), Memory>
     escape_into(into, text)
 }
 
-/// A text as an argument, where there is one.
+/// Writes a text as an argument, if there is one. `Memory` is the only error.
 pub fn write_optional_text(into: &mut Text, text: &Option<Text>) -> Result<(), Memory>
     ensures ok { OnOk result (into.new ≡ into.old ++ flat_map (λ arg. 32 ∷ arg) (written_if escape text.now)) }
     ensures err { OnErr result (into.new ≡ into.old) }
@@ -123,7 +123,7 @@ pub fn write_optional_text(into: &mut Text, text: &Option<Text>) -> Result<(), M
     }
 }
 
-/// A reference as an argument, where there is one.
+/// Writes a reference as an argument, if there is one. `Memory` is the only error.
 pub fn write_optional_ref(into: &mut Text, reference: &Option<Ref>) -> Result<(), Memory>
     ensures ok { OnOk result (into.new ≡ into.old ++ flat_map (λ arg. 32 ∷ arg) (written_if ref_text reference.now)) }
     ensures err { OnErr result (into.new ≡ into.old) }
@@ -134,7 +134,7 @@ pub fn write_optional_ref(into: &mut Text, reference: &Option<Ref>) -> Result<()
     }
 }
 
-/// A card with one argument, as it is.
+/// Writes a card with one argument as it is. `Memory` is the only error.
 pub fn write_card(into: &mut Text, letter: u8, argument: &[u8]) -> Result<(), Memory>
     ensures ok { OnOk result (into.new ≡ into.old ++ card_text (card letter (argument.now ∷ []))) }
     ensures err { OnErr result (into.new ≡ into.old) }
@@ -153,7 +153,7 @@ fn add_card(into: &mut Text, letter: u8, argument: &[u8]) -> Result<(), Memory>
     end_card(into)
 }
 
-/// A card with a text, escaped.
+/// Writes a card with a text, escaped. `Memory` is the only error.
 pub fn write_text_card(into: &mut Text, letter: u8, text: &[u8]) -> Result<(), Memory>
     ensures ok { OnOk result (into.new ≡ into.old ++ card_text (card letter (escape text.now ∷ []))) }
     ensures err { OnErr result (into.new ≡ into.old) }
@@ -172,7 +172,7 @@ fn add_text_card(into: &mut Text, letter: u8, text: &[u8]) -> Result<(), Memory>
     end_card(into)
 }
 
-/// A card with a name.
+/// Writes a card with a name. `Memory` is the only error.
 pub fn write_name_card(into: &mut Text, letter: u8, name: &Name) -> Result<(), Memory>
     ensures ok { OnOk result (into.new ≡ into.old ++ card_text (card letter (name_text name.now ∷ []))) }
     ensures err { OnErr result (into.new ≡ into.old) }
@@ -180,7 +180,7 @@ pub fn write_name_card(into: &mut Text, letter: u8, name: &Name) -> Result<(), M
     write_card(into, letter, &name.text())
 }
 
-/// A card with a reference.
+/// Writes a card with a reference. `Memory` is the only error.
 pub fn write_ref_card(into: &mut Text, letter: u8, reference: &Ref) -> Result<(), Memory>
     ensures ok { OnOk result (into.new ≡ into.old ++ card_text (card letter (ref_text reference.now ∷ []))) }
     ensures err { OnErr result (into.new ≡ into.old) }
@@ -190,7 +190,7 @@ pub fn write_ref_card(into: &mut Text, letter: u8, reference: &Ref) -> Result<()
     write_card(into, letter, &digits[..count])
 }
 
-/// A card with a text, where there is one.
+/// Writes a card with a text, if there is one. `Memory` is the only error.
 pub fn write_optional_text_card(
     into: &mut Text,
     letter: u8,
@@ -205,7 +205,7 @@ pub fn write_optional_text_card(
     }
 }
 
-/// A card with a name, where there is one.
+/// Writes a card with a name, if there is one. `Memory` is the only error.
 pub fn write_optional_name_card(
     into: &mut Text,
     letter: u8,
@@ -220,7 +220,7 @@ pub fn write_optional_name_card(
     }
 }
 
-/// The P card of some parents. Without parents there is none.
+/// Writes the P card of some parents. Without parents it writes nothing. `Memory` is the only error.
 pub fn write_parents(into: &mut Text, parents: &[Ref]) -> Result<(), Memory>
     ensures ok { OnOk result (into.new ≡ into.old ++ text_of (parents_card parents.now)) }
     ensures err { OnErr result (into.new ≡ into.old) }
@@ -252,7 +252,7 @@ fn add_refs(into: &mut Text, refs: &[Ref]) -> Result<(), Memory>
     Ok(())
 }
 
-/// The T cards of some tags, in their order.
+/// Writes the T cards of some tags, in their order. `Memory` is the only error.
 pub fn write_tags(into: &mut Text, tags: &[TagCard]) -> Result<(), Memory>
     ensures ok { OnOk result (into.new ≡ into.old ++ text_of (map tag_card tags.now)) }
     ensures err { OnErr result (into.new ≡ into.old) }
@@ -272,7 +272,7 @@ fn add_tags(into: &mut Text, tags: &[TagCard]) -> Result<(), Memory>
     Ok(())
 }
 
-/// The T card of a tag.
+/// Writes the T card of a tag. `Memory` is the only error.
 pub fn write_tag(into: &mut Text, tag: &TagCard) -> Result<(), Memory>
     ensures ok { OnOk result (into.new ≡ into.old ++ card_text (tag_card tag.now)) }
     ensures err { OnErr result (into.new ≡ into.old) }
@@ -313,7 +313,7 @@ fn write_target(into: &mut Text, target: &Option<Ref>) -> Result<(), Memory>
     }
 }
 
-/// The W card of a text: the text stands behind its size in bytes.
+/// Writes the W card of a text, with its size in bytes before it. `Memory` is the only error.
 pub fn write_body(alloc: Global, into: &mut Text, text: &[u8]) -> Result<(), Memory>
     ensures ok { OnOk result (into.new ≡ into.old ++ card_text (body_card text.now)) }
     ensures err { OnErr result (into.new ≡ into.old) }

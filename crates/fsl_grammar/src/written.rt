@@ -1,4 +1,4 @@
-//! Which values have a text.
+//! Says which values have a text.
 ghost use Rattle.std.specs.Prelude.{◌≡◌, not};
 ghost use Rattle.std.specs.List.{list_all};
 ghost use Rattle.std.specs.Str.{bytes_eq};
@@ -9,7 +9,7 @@ use crate::TagCard;
 use fsl_name::Ref;
 use fsl_text::Text;
 
-/// Whether a text that may be missing has a byte where it is there.
+/// Returns whether an optional text has a byte if it is there.
 pub fn is_filled(text: &Option<Text>) -> bool
     ensures { result ≡ is_filled text.now }
 {
@@ -19,14 +19,14 @@ pub fn is_filled(text: &Option<Text>) -> bool
     }
 }
 
-/// Whether a tag can be written: its name has a byte, and so has its value where it is there.
+/// Returns whether a tag can be written: its name has a byte, and so has its value if it is there.
 pub fn is_tag_written(tag: &TagCard) -> bool
     ensures { result ≡ is_tag_written tag.now }
 {
     !tag.tag.bytes().is_empty() && is_filled(&tag.value)
 }
 
-/// Whether all references differ. It takes no memory, and compares each one with each one behind it.
+/// Returns whether all references differ. It takes no memory, and compares each one with each one behind it.
 pub fn refs_differ(refs: &[Ref]) -> bool
     ensures { result ≡ refs_differ refs.now }
 {

@@ -1,4 +1,4 @@
-//! Which history it is.
+//! Names a history.
 use std::marker::Brand;
 
 /// Names one history: the table that keeps it, the state that it begins with, and how many passes it has.

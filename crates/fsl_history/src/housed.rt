@@ -14,7 +14,7 @@ use std::alloc::Global;
 /// The table of a machine.
 pub(crate) type Desk<M, E, A> = Table<Option<M>, View<M, E, A>, Log<M, u64>, Law<M>, Global>;
 
-/// A machine in its slot, with no pass yet. Its table has a name, which its passes will have too.
+/// A machine in its slot, with no pass yet. Its table has a name, and its passes will have the same.
 pub struct Housed<M: Machine> {
     pub(crate) table: Desk<M, M::Event, M::Answer>,
     pub(crate) seat: Chair<M, M::Event, M::Answer>,
@@ -27,7 +27,7 @@ pub struct Housed<M: Machine> {
 }
 
 impl<M: Machine> Housed<M> {
-    /// Puts the machine in the slot of a new table. For want of memory, which is the only error, it comes back as it was.
+    /// Puts the machine in the slot of a new table. Fails only if out of memory, and then gives the machine back as it was.
     pub fn new(alloc: Global, machine: M) -> Result<Housed<M>, M>
         ensures born { IfOk result (λ h. map (λ b. b.0) h.table.shared.key.items ≡ machine ∷ []) }
         ensures refused { IfErr result (λ m. m ≡ machine) }

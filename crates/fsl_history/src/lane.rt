@@ -1,15 +1,17 @@
-//! The lock behind which tickets are drawn, and who waits for it.
+//! The lock behind which tickets are drawn, and the passes that wait for it.
 use std::sync::atomic::{AtomicU64, Ordering};
 use std::sync::{Mutex, MutexGuard, Wait};
 use std::thread::yield_now;
 
-/// How often a pass that stands back looks whether others wait.
+/// A pass that stands back looks so often whether others wait.
 const LOOKS: u64 = 400;
 
-/// How many turns for each that waits it lets go first: no fewer than a session makes that brings one artifact and announces none.
+/// The number of turns that it lets go first for each pass that waits. A session that brings one artifact and announces none
+/// makes no more.
 const TURNS_OF_EACH: u64 = 4;
 
-/// The lock, how many wait for it, and how often it was taken. No clause speaks of the two numbers: they tell when to stand back alone.
+/// The lock, the number of passes that wait for it, and the number of times that it was taken. No clause speaks of the two
+/// numbers: they only decide when to stand back.
 #[derive(Drop)]
 pub(crate) struct Lane {
     lock: Mutex<()>,
@@ -18,7 +20,7 @@ pub(crate) struct Lane {
 }
 
 impl Lane {
-    /// A lock that nobody has.
+    /// Returns a lock that nobody has.
     pub(crate) fn new() -> Lane {
         Lane {
             lock: Mutex::new(()),
@@ -36,8 +38,8 @@ impl Lane {
         guard
     }
 
-    /// Lets those who wait take the lock first: until none waits, or it was taken as often as they have turns to begin, but for 400
-    /// looks at most. Between two looks other threads run.
+    /// Lets others that wait take the lock first. It does so until none waits, or the lock was taken as often as they have turns
+    /// to begin, but for 400 looks at most. Between two looks other threads run.
     pub(crate) fn stand_back(&self) {
         let before = self.taken.load(Ordering::Relaxed);
         let due = self

@@ -1,8 +1,8 @@
-//! Turns on one machine, with the history that they make.
+//! Makes turns on one machine, and their history.
 //!
-//! [`Ticketed`] keeps a machine in a slot behind two words: the number of turns made, and the number of tickets drawn. A pass draws a
-//! ticket, waits until that many turns were made, and makes the next, on the machine in its slot. It draws behind a lock, and sleeps
-//! there alone. All turns are entries of one history: contracts speak of it, and no value of it is made.
+//! [`Ticketed`] keeps a machine in a slot behind two words: the number of turns made, and the number of tickets drawn. A pass
+//! draws a ticket, waits until that many turns were made, and makes the next, on the machine in its slot. It draws behind a lock,
+//! and sleeps there alone. All turns are entries of one history. Contracts speak of it, and no value of it is made.
 #![tactic(auto)]
 
 mod chronicle;

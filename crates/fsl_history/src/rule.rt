@@ -1,4 +1,4 @@
-//! The rule of the table, and what each step tells. These types are for the proofs alone.
+//! The rule of the table, and the view of each step. These types are for the proofs alone.
 ghost use Rattle.std.specs.Prelude.{[]};
 
 use crate::chronicle::Chronicle;
@@ -16,7 +16,7 @@ pub struct Law<M> {
 /// The table as threads see it.
 pub(crate) type Words<M, E, A> = Shared<Option<M>, View<M, E, A>, Log<M, u64>, Law<M>>;
 
-/// What one user knows of it.
+/// The view of one user.
 pub(crate) type Chair<M, E, A> = Seat<Option<M>, View<M, E, A>>;
 
 impl<M: Machine> TableRule<Option<M>, View<M, M::Event, M::Answer>, Log<M, u64>> for Law<M> {
@@ -28,7 +28,7 @@ impl<M: Machine> TableRule<Option<M>, View<M, M::Event, M::Answer>, Log<M, u64>>
     ghost first = { λ _. keeper 0 [] };
 }
 
-/// A ticket is drawn.
+/// A pass draws a ticket.
 pub(crate) struct Draws;
 
 impl<M, E, A> Play<Option<M>, View<M, E, A>> for Draws {
@@ -37,7 +37,7 @@ impl<M, E, A> Play<Option<M>, View<M, E, A>> for Draws {
     ghost then = { drawn };
 }
 
-/// The number of turns is read by who waits for one.
+/// A pass that waits for a turn reads the number of turns.
 pub(crate) struct Awaits;
 
 impl<M, E, A> Play<Option<M>, View<M, E, A>> for Awaits {
@@ -46,7 +46,7 @@ impl<M, E, A> Play<Option<M>, View<M, E, A>> for Awaits {
     ghost then = { awaited };
 }
 
-/// The machine is taken out of its slot.
+/// A pass takes the machine out of its slot.
 pub(crate) struct Takes;
 
 impl<M, E, A> Play<Option<M>, View<M, E, A>> for Takes {
@@ -55,7 +55,7 @@ impl<M, E, A> Play<Option<M>, View<M, E, A>> for Takes {
     ghost then = { taken };
 }
 
-/// The call that a turn makes, as the code that makes the turn names it: a step at a word carries numbers alone.
+/// The call of a turn, by the name that its code gives it. A step at a word carries only numbers.
 pub(crate) trait Call<E, A> {
     ghost use Rattle.std.specs.Prelude.{Option};
 
@@ -68,7 +68,7 @@ impl<E, A> Call<E, A> for Brand {
     ghost call = { None };
 }
 
-/// The machine is given back to its slot, after the step of this call.
+/// A pass gives the machine back to its slot, after the step of this call.
 pub(crate) struct Gives<N> {
     of: PhantomData<N>,
 }
@@ -79,7 +79,7 @@ impl<M, E, A, N: Call<E, A>> Play<Option<M>, View<M, E, A>> for Gives<N> {
     ghost then = { given N.call };
 }
 
-/// The turn is over, and has its entry.
+/// A pass ends the turn, which has its entry now.
 pub(crate) struct Releases<M, B> {
     of: PhantomData<(M, B)>,
 }
@@ -90,7 +90,7 @@ impl<M: Machine, B: Chronicle<M>> Play<Option<M>, View<M, M::Event, M::Answer>> 
     ghost then = { released M.may_step M.stored_count B.first };
 }
 
-/// The number of turns is read by who has no ticket.
+/// A pass without a ticket reads the number of turns.
 pub(crate) struct Looks<M, B> {
     of: PhantomData<(M, B)>,
 }

@@ -1,4 +1,4 @@
-//! The steps of a turn.
+//! Makes the steps of a turn.
 ghost use Rattle.std.specs.Prelude.{◌≡◌, ℕ, ◌-◌, ◌<◌, Some};
 ghost use Rattle.fsl_history.specs.declared.view.Stage.TheVariants as at;
 ghost use Rattle.fsl_history.specs.Plays.{sat, HasOut, HasStepped, GoesAhead, EndsTurn, MakesTurn, HasLooked};
@@ -28,8 +28,8 @@ impl<M: Machine, B: Chronicle<M>> Ticketed<M, B> {
         self.table.shared.fetch_add::<Draws>(chair, TICKET, 1)
     }
 
-    /// Waits until as many turns were made as the ticket says. They were when it was drawn, since no other pass had a ticket then; no
-    /// clause says so, and so it looks.
+    /// Waits until as many turns were made as the ticket says. They were when it was drawn, since no other pass had a ticket
+    /// then. No clause says so, and so it looks.
     fn wait<R: Wait>(&self, rt: &R, chair: &mut Chair<M, M::Event, M::Answer>, ticket: u64)
         requires table { chair.old.table_id ≡ self.now.table.shared.table_id }
         requires waits { (t : _) × (left : ℕ) × (chair.old.me ≡ sat t left (at.Waits ticket)) }
@@ -100,7 +100,7 @@ impl<M: Machine, B: Chronicle<M>> Ticketed<M, B> {
             .fetch_add::<Releases<M, B>>(chair, TURN, 1);
     }
 
-    /// The whole turn.
+    /// Makes the whole turn.
     pub(crate) fn step<R: Wait>(
         &self,
         rt: &R,
@@ -139,7 +139,7 @@ impl<M: Machine, B: Chronicle<M>> Ticketed<M, B> {
         self.give_as::<Brand>(chair, ticket, event, answer);
     }
 
-    /// The same, where the call has a name.
+    /// Gives the machine back after the step of a call with a name.
     fn give_as<N: Call<M::Event, M::Answer>>(
         &self,
         chair: &mut Chair<M, M::Event, M::Answer>,

@@ -1,4 +1,4 @@
-//! Turns by ticket.
+//! Makes turns by ticket.
 ghost use Rattle.std.specs.Prelude.{◌≡◌, ℕ, ◌<◌, ◌≤◌, ◌+◌, List, [], ◌∷◌, ◌++◌, map, length, vec_len, Some, IfOk, IfErr, IfSome};
 ghost use Rattle.std.specs.Option.{ForSome};
 ghost use Rattle.fsl_turn.specs.Told.{Tells};
@@ -20,7 +20,8 @@ use std::sync::{Mutex, Wait};
 /// The most turns of one pass.
 const MOST_TURNS: u64 = 1 << 58;
 
-/// The seat that takes the passes back. It lies under a lock that nobody takes while turns are made, since a seat can't be shared.
+/// Keeps the seat that takes the passes back. It is under a lock that nobody takes while turns are made, since a seat can't be
+/// shared.
 #[derive(Drop)]
 struct Keeper<M: Machine, B: Chronicle<M>> {
     seat: Chair<M, M::Event, M::Answer>,
@@ -33,7 +34,8 @@ struct Keeper<M: Machine, B: Chronicle<M>> {
 pub struct Ticketed<M: Machine, B: Chronicle<M>> {
     pub(crate) table: Desk<M, M::Event, M::Answer>,
     keeper: Mutex<Keeper<M, B>>,
-    /// Who has this lock may draw a ticket. So no pass sleeps with a ticket, which would hold up all that drew theirs behind it.
+    /// The lock whose holder may draw a ticket. So no pass sleeps with a ticket, which would hold up all that drew theirs behind
+    /// it.
     pub(crate) lane: Lane,
     /// The machine's count when the table was made.
     began: u64,
@@ -44,10 +46,10 @@ pub struct Ticketed<M: Machine, B: Chronicle<M>> {
     ghost counted: { map (λ b. b.1) table.shared.key.items ≡ began ∷ [] },
 }
 
-/// One user's part of the turns. Contracts see it as what it has seen and its calls.
+/// One user's part of the turns. Contracts see the history that it has seen, and its calls.
 #[derive(Drop)]
 pub struct TicketPass<M: Machine, B: Chronicle<M>> {
-    /// The turns that are left to it.
+    /// The turns that this pass may still make.
     left: u64,
     chair: Chair<M, M::Event, M::Answer>,
     of: PhantomData<(M, B)>,
@@ -67,7 +69,7 @@ impl<M: Machine, B: Chronicle<M>> Model for TicketPass<M, B> {
     ghost invariant = { λ p. (p.chair.table_id ≡ B.table) × (p.chair.me ≡ sat (tale_in p.chair.me.0) p.left at.Idle) };
 }
 
-/// One more pass.
+/// Makes one more pass.
 fn issue<M: Machine, B: Chronicle<M>>(
     table: &Desk<M, M::Event, M::Answer>,
     seat: &mut Chair<M, M::Event, M::Answer>,
@@ -113,8 +115,8 @@ fn wait_for_ever<R: Wait>(rt: &R)
 }
 
 impl<M: Machine, B: Chronicle<M>> Ticketed<M, B> {
-    /// Makes passes for this many users, 1 to 16, on a machine that lies in its slot. For want of memory, which is the only error,
-    /// the machine comes back as it was.
+    /// Makes passes for this many users, 1 to 16, on a machine in its slot. Fails only if out of memory, and then gives the
+    /// machine back as it was.
     pub fn make(
         alloc: Global,
         housed: Housed<M>,
@@ -152,15 +154,15 @@ impl<M: Machine, B: Chronicle<M>> Ticketed<M, B> {
         Ok((ticketed, out))
     }
 
-    /// How many turns were made. The pass has then seen them all.
+    /// Returns how many turns were made. The pass has then seen them all.
     pub fn look(&self, pass: &mut TicketPass<M, B>) -> u64
         ensures { IsShown M.may_step B.first pass.old pass.new result }
     {
         self.count(&mut pass.chair)
     }
 
-    /// Takes the machine out, once all its passes came back, and answers the sum of their shares. It is as the history of all turns
-    /// left it, which the calls of the passes make up.
+    /// Takes the machine out, once all its passes came back, and returns the sum of their shares. It is as the history of all
+    /// turns left it. The calls of the passes make up that history.
     pub fn finish(self, passes: Vec<TicketPass<M, B>>) -> (M, u64)
         requires { vec_len passes ≡ B.passes }
         ensures history { IfSome B.first (λ f. IsFinished M.may_step M.stored_count f passes.items result.0) }

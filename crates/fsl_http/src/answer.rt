@@ -9,7 +9,7 @@ use fsl_outside::{Failed, Link};
 use http::StatusCode;
 use itoa::Buffer;
 
-// The status as a type of its own.
+// Makes the status as a type of its own.
 fn code_of(status: u16) -> StatusCode
     requires { IsStatus status }
     ensures { result ≡ status }
@@ -20,7 +20,7 @@ fn code_of(status: u16) -> StatusCode
     }
 }
 
-// The digits of a status.
+// Returns the digits of a status.
 fn digits_of(code: StatusCode) -> &'static [u8]
     ensures { result.now ≡ code_digits code }
 {
@@ -28,7 +28,7 @@ fn digits_of(code: StatusCode) -> &'static [u8]
 }
 
 #[tactic(auto, unfolding(crate::specs::Replies::phrase))]
-// The phrase that stands behind a status.
+// Returns the phrase behind a status.
 fn phrase_of(code: StatusCode) -> &'static [u8]
     ensures { result.now ≡ phrase code }
 {
@@ -39,7 +39,7 @@ fn phrase_of(code: StatusCode) -> &'static [u8]
 }
 
 #[tactic(auto, unfolding(crate::specs::Replies::field_text))]
-// The field that stands before the length.
+// Returns the field before the length.
 fn field_of(status: u16) -> &'static [u8]
     ensures { result.now ≡ field_text status }
 {
@@ -51,7 +51,7 @@ fn field_of(status: u16) -> &'static [u8]
 }
 
 #[tactic(auto, unfolding(crate::specs::Replies::body_text))]
-// What a reply sends of the body that it was handed.
+// Returns the part of the body that a reply sends.
 fn body_of(status: u16, body: &[u8]) -> &[u8]
     ensures { result.now ≡ body_text status body.now }
 {
@@ -87,8 +87,9 @@ fn send_pieces<'a, L: Link>(
     send_all(link, &pieces)
 }
 
-/// Writes the reply: its status, one of 200, 400, 404, 405, 411, 413, 415, 500 and 503, and with 200 the body. Takes no
-/// memory. After a failed write the connection took a front of it.
+/// Writes the reply: its status, one of 200, 400, 404, 405, 411, 413, 415, 500 and 503, and with 200 the body. Takes no memory.
+/// Fails only if a write failed, and then the connection took a front of the reply.
+/// FORMATS: HTTP
 pub fn reply<L: Link>(link: &mut L, status: u16, body: &[u8]) -> Result<(), Failed>
     requires { IsStatus status }
     ensures sent { OnOk result (Sends (L.state link.old).present (L.state link.new).present (reply_text status body.now)) }

@@ -8,7 +8,8 @@ use fsl_outside::Link;
 use fsl_text::Text;
 use std::alloc::Global;
 
-/// The body of that size, which begins with what was read behind the head. It has fewer bytes where they end early.
+/// Reads a body of this size, which begins with the bytes that were read behind the head. It has fewer bytes if the connection
+/// ends early. Fails with `Link` if a read failed, or with `Memory`.
 pub fn read_body<L: Link>(
     alloc: Global,
     link: &mut L,

@@ -16,20 +16,20 @@ use fsl_text::Text;
 use itoa::Buffer;
 use std::alloc::Global;
 
-/// Why an exchange gave no body, in the order of the tests.
+/// Says why an exchange gave no body, in the order of the tests.
 #[derive(Clone, Copy, Debug, PartialEq, Eq)]
 pub enum ExchangeFault {
     /// A call of the dial failed.
     Link,
-    /// No head of a reply came, or one without exactly one Content-Length that is a decimal number of 64 bits.
+    /// No head of a reply came, or its fields haven't exactly one Content-Length that is a decimal number of 64 bits.
     Head,
     /// The status isn't 200.
     Status { found: u16 },
     /// The length is above 2^27 bytes.
     Long { found: u64 },
-    /// So many bytes of the body came, fewer than said.
+    /// The body ended after so many bytes, fewer than its length.
     Short { found: u64 },
-    /// There was no memory for what was read.
+    /// The program is out of memory.
     Memory,
 }
 
@@ -46,9 +46,10 @@ impl From<HttpFault> for ExchangeFault {
     }
 }
 
-/// Begins a connection, sends a request with this body, and reads the reply. No more is read than that needs, but for what
-/// one read brings. Errors: `Link` where a call of the dial failed, `Head`, `Status`, `Long` and `Short` by the bytes that
-/// were read, in this order, and `Memory`.
+/// Begins a connection, sends a request with this body, and reads the reply. No more is read than that needs, but for the rest of
+/// one read. Errors: `Link` if a call of the dial failed, `Head`, `Status`, `Long` and `Short` by the bytes that were read, in
+/// this order, and `Memory`.
+/// FORMATS: HTTP
 pub fn exchange<N: Dial>(alloc: Global, dial: &mut N, body: &[u8]) -> Result<Text, ExchangeFault>
     ensures exchanges { IfSome (exchanged result) (IsExchangeOf (N.state dial.old) (N.state dial.new) body.now) }
     ensures cut { IfErr result (CutsOff (N.state dial.old) (N.state dial.new) body.now) }
@@ -113,7 +114,7 @@ fn read_reply<L: Link>(alloc: Global, link: &mut L) -> Result<Text, ExchangeFaul
     }
 }
 
-// A body, where all bytes of that size came.
+// Returns a body, if all bytes of that size came.
 fn whole_body(text: Text, size: u64) -> Result<Text, ExchangeFault>
     ensures { result ≡ body_result text size }
 {
@@ -124,7 +125,7 @@ fn whole_body(text: Text, size: u64) -> Result<Text, ExchangeFault>
     Ok(text)
 }
 
-/// A law and no code: bytes are one reply at most.
+/// Says that bytes are one reply at most. This is a law and runs no code.
 pub fn one_reply()
     ensures { HasOneReply }
 {}

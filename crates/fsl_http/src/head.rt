@@ -8,35 +8,36 @@ use super::pieces::read_piece;
 use super::request::HttpFault;
 use fsl_outside::Link;
 
-/// What stands at the front of some bytes.
+/// The head at the front of some bytes.
 #[derive(Clone, Copy)]
 pub enum Front<H> {
-    /// A whole head of that many bytes, and what it says.
+    /// A whole head of that many bytes, and its meaning.
     Whole { len: usize, head: H },
-    /// No head, whatever bytes follow.
+    /// The bytes begin no head, whatever follows.
     Never,
-    /// No head so far.
+    /// The bytes are no head so far.
     Open,
 }
 
-/// What a head says that stands at the front of some bytes.
+/// The meaning of a head at the front of some bytes.
 pub trait Head: Copy {
-    /// A head of that many bytes stands at the front and says this.
+    /// Says that a head of that many bytes is at the front and has this meaning.
     ghost begins: { List ℕ → ℕ → Self → Type 0 };
 
-    /// No head stands at the front.
+    /// Says that no head is at the front.
     ghost lacks: { List ℕ → Type 0 };
 
-    /// No head stands at the front so far, and one may where more bytes follow.
+    /// Says that no head is at the front so far, and that one may be if more bytes follow.
     ghost opens: { List ℕ → Type 0 };
 
-    /// What stands at the front of the bytes.
+    /// Reads the head at the front of the bytes.
     fn front_of(bytes: &[u8]) -> Front<Self>
         requires { length bytes.now ≤ most_head }
         ensures { IsFront begins lacks opens bytes.now result };
 }
 
-/// Reads until a head stands in the bytes, or can't. `Open` means that they end before.
+/// Reads until the bytes begin with a head, or can't. `Open` means that they end before. Fails with `Link` if a read failed, or
+/// with `Memory`.
 pub fn read_head<L: Link, H: Head>(link: &mut L, bytes: &mut Vec<u8>) -> Result<Front<H>, HttpFault>
     requires { bytes.old.items ≡ [] }
     ensures ok { IfOk result (ReadsHead H.begins H.lacks H.opens (L.state link.old).present (L.state link.new).present bytes.new.items) }

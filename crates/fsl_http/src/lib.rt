@@ -1,6 +1,6 @@
-//! One request in and one reply out, on each side of a connection. What a head is, is the grammar of `httparse`; the bytes
-//! of a connection have one answer at most, and one meaning as a reply at most. Heads and bodies have limits, and no more
-//! is read of a connection than its answer needs, but for what one read brings.
+//! Reads one request and writes one reply, on each side of a connection. The grammar of `httparse` defines a head. The bytes of a
+//! connection have one answer at most, and one meaning as a reply at most. Heads and bodies have limits. No more is read of a
+//! connection than its answer needs, but for the rest of one read.
 #![tactic(auto)]
 
 mod answer;

@@ -1,4 +1,4 @@
-//! How long heads and bodies may be, and how much is read at a time.
+//! Limits of heads and bodies, and of one read.
 use fsl_text::MOST_OF_MESSAGE;
 
 /// The most bytes of a head.

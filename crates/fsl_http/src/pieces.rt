@@ -5,7 +5,8 @@ use super::limits::PIECE;
 use super::request::HttpFault;
 use fsl_outside::Link;
 
-/// One read of at most that many bytes, which join the text. 0 is the end.
+/// Reads at most that many bytes in one read, and adds them to the text. Returns their number; 0 is the end. Fails with `Link` if
+/// the read failed, or with `Memory`.
 pub fn read_piece<L: Link>(
     link: &mut L,
     text: &mut Vec<u8>,

@@ -1,4 +1,4 @@
-//! What the head of a reply says.
+//! Reads the head of a reply.
 ghost use Rattle.std.specs.Prelude.{ℕ, length, map, All, IfSome, IfNone};
 ghost use Rattle.httparse.specs.Spans.{header_bytes, IsHeaderWithin};
 ghost use Rattle.fsl_http.specs.Responses.{SaysLength};
@@ -52,7 +52,7 @@ impl Head for ReplyHead {
     }
 }
 
-// The one length that the fields have.
+// Finds the one length that the fields have.
 fn length_of(buf: &[u8], headers: &[HeaderSpan]) -> Option<u64>
     requires { All (IsHeaderWithin (length buf.now)) headers.now }
     ensures found { IfSome result (SaysLength (map (header_bytes buf.now) headers.now)) }

@@ -10,27 +10,27 @@ use fsl_outside::Link;
 use fsl_text::Text;
 use std::alloc::Global;
 
-/// What a connection asks.
+/// The answer that a connection asks for.
 #[derive(Drop)]
 pub enum Asked {
-    /// Nothing: it ended before its first byte.
+    /// The connection ended before its first byte.
     Closed,
-    /// What isn't granted, and the status that says why.
+    /// The request isn't granted, and this status says why.
     Refused { status: u16 },
-    /// An answer to this message.
+    /// The request asks for an answer to this message.
     Body(Text),
 }
 
-/// Why nothing is known of a request.
+/// Says why a request is unknown.
 #[derive(Clone, Copy, Debug, PartialEq, Eq)]
 pub enum HttpFault {
     /// A read failed.
     Link,
-    /// There was no memory for what was read.
+    /// The program is out of memory.
     Memory,
 }
 
-/// Reads one request. What it asks is told by the first of these tests that holds:
+/// Reads one request. The first of these tests that holds decides the answer:
 ///
 /// no byte came: `Closed`; no head of HTTP/1.0 or 1.1 within 16,384 bytes and 64 fields: 400; a method that isn't POST:
 /// 405; a target that is neither `/` nor `/xfer`: 404; the first Content-Type, up to a `;`, without blanks around it and
@@ -38,8 +38,8 @@ pub enum HttpFault {
 /// Transfer-Encoding: 411; Transfer-Encoding, two Content-Length fields, or one that isn't a decimal number of 64 bits:
 /// 400; a length above 2^27 bytes: 413; fewer bytes than the length: 400; else the body.
 ///
-/// No more is read than that needs, but for what one read brings. Errors: `Link` where a read failed, and `Memory`.
-/// Nothing is sent.
+/// No more is read than that needs, but for the rest of one read. Errors: `Link` if a read failed, and `Memory`. Nothing is sent.
+/// FORMATS: HTTP
 pub fn ask<L: Link>(alloc: Global, link: &mut L) -> Result<Asked, HttpFault>
     ensures ok { IfOk result (IsAsked (L.state link.old).present (L.state link.new).present) }
     ensures listed { IfOk result IsListedAnswer }
@@ -64,7 +64,7 @@ pub fn ask<L: Link>(alloc: Global, link: &mut L) -> Result<Asked, HttpFault>
     }
 }
 
-// The answer where the bytes end before a whole head.
+// Returns the answer if the bytes end before a whole head.
 fn ended(bytes: &[u8]) -> Asked
     ensures { result ≡ ended_answer bytes.now }
 {
@@ -75,7 +75,7 @@ fn ended(bytes: &[u8]) -> Asked
     }
 }
 
-// The answer to what was read of a body of that size.
+// Returns the answer to the bytes of a body of that size.
 fn whole_or_short(text: Text, size: u64) -> Asked
     ensures { result ≡ body_answer text size }
 {
@@ -86,7 +86,7 @@ fn whole_or_short(text: Text, size: u64) -> Asked
     }
 }
 
-/// A law and no code: the bytes of a connection have one answer at most.
+/// Says that the bytes of a connection have one answer at most. This is a law and runs no code.
 pub fn one_answer()
     ensures { HasOneAnswer }
 {}

@@ -1,4 +1,4 @@
-//! What the head of a request asks for.
+//! Reads the head of a request.
 ghost use Rattle.std.specs.Prelude.{◌≡◌, length, map, All, bytes_eq, codes};
 ghost use Rattle.httparse.specs.Spans.{header_bytes, IsHeaderWithin};
 ghost use Rattle.fsl_http.specs.Fields.{values_of};
@@ -12,7 +12,7 @@ use fsl_text::decimal;
 use httparse::Status;
 use httparse::spans::{EMPTY_HEADER_SPAN, HeaderSpan, parse_request};
 
-/// What a head asks: a status that refuses it, or a body of that many bytes.
+/// The answer to a head: a status that refuses it, or a body of that many bytes.
 #[derive(Clone, Copy)]
 pub enum Verdict {
     Refuse(u16),
@@ -52,7 +52,7 @@ impl Head for Verdict {
     }
 }
 
-// The first test that the head fails, or the length of its body.
+// Finds the first test that the head fails, or the length of its body.
 fn judge(buf: &[u8], method: &[u8], target: &[u8], headers: &[HeaderSpan]) -> Verdict
     requires { All (IsHeaderWithin (length buf.now)) headers.now }
     ensures listed { IsListed result }

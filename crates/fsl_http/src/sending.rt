@@ -4,7 +4,7 @@ ghost use Rattle.fsl_http.specs.Sending.{Sends, SendsFront, joined};
 
 use fsl_outside::{Failed, Link};
 
-/// Writes all of the pieces, one after another. After a failed write the connection took a front of them.
+/// Writes all of the pieces, one after another. Fails only if a write failed, and then the connection took a front of them.
 pub fn send_all<L: Link>(link: &mut L, pieces: &[&[u8]]) -> Result<(), Failed>
     ensures ok { OnOk result (Sends (L.state link.old).present (L.state link.new).present (joined pieces.now)) }
     ensures err { OnErr result (SendsFront (L.state link.old).present (L.state link.new).present (joined pieces.now)) }

@@ -2,7 +2,7 @@ ghost use Rattle.std.specs.Prelude.{◌≡◌, reverse};
 ghost use Rattle.httparse.specs.Grammar.{skip_ows, trim_ows, is_ows};
 ghost use Rattle.fsl_http.specs.Fields.{before_semicolon};
 
-/// The bytes before the first semicolon.
+/// Returns the bytes before the first semicolon.
 pub fn first_part(value: &[u8]) -> &[u8]
     ensures { result.now ≡ before_semicolon value.now }
 {
@@ -20,7 +20,7 @@ fn is_blank(byte: u8) -> bool
     byte == b' ' || byte == b'\t'
 }
 
-/// The bytes without the blanks at both ends.
+/// Returns the bytes without the blanks at both ends.
 #[tactic(auto, unfolding(httparse::specs::Grammar::trim_ows))]
 pub fn trim(value: &[u8]) -> &[u8]
     ensures { result.now ≡ trim_ows value.now }

@@ -1,12 +1,12 @@
 -- What one sees of a file who reads it while another process writes to it.
-use Rattle.std.proofs.Common.{◌≡◌, ◌⊎◌, inl, inr, ℕ, ◌+◌, ◌<◌, ◌≤◌, List, ◌∷◌, ◌++◌, take, drop, length, sym, ◌∙◌, ap, subst, refl, arith, length-append, length-take-le, length-drop}
+use Rattle.std.proofs.Common.{◌≡◌, ◌⊎◌, inl, inr, ℕ, ◌+◌, ◌≤◌, List, ◌∷◌, take, drop, length, sym, ◌∙◌, ap, subst, refl, arith, length-append, length-take-le, length-drop}
 use Rattle.std.specs.Prelude.{slice_index}
 use Rattle.std.proofs.lemmas.Bool.{cases_eq}
 use Rattle.std.proofs.lemmas.List.{take_at, take-take}
 use Rattle.fsl_disk.specs.Disk.{Begins}
 use Rattle.fsl_disk.proofs.Pieces.{cut_whole}
 use Rattle.fsl_record.specs.declared.Record.{Record}
-use Rattle.fsl_journal.specs.Beside.{IsSeen, IsSeenRight, IsFrontWhole, IsBehindNothing, KeepsFront, CommitKeeps}
+use Rattle.fsl_journal.specs.Beside.{IsSeenRight, IsFrontWhole, IsBehindNothing, KeepsFront, CommitKeeps}
 use Rattle.fsl_journal.specs.Commit.{marked, carried}
 use Rattle.fsl_journal.specs.File.{header, IsFileOf, mark_1, mark_2}
 use Rattle.fsl_journal.specs.Log.{IsLog}

@@ -11,6 +11,7 @@ mod Ends
 pub mod Failing
 mod Files
 mod Gate
+mod Gates
 mod Groups
 mod Grouping
 mod Making
@@ -20,3 +21,8 @@ mod Walking
 mod Records
 pub mod SomeFile
 pub mod Unique
+mod Living
+mod Shown
+mod Still
+mod Turning
+mod Walked

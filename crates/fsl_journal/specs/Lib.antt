@@ -2,9 +2,12 @@ pub mod Beside
 pub mod Commit
 pub mod Create
 pub mod File
+pub mod Gates
+pub mod Lives
 pub mod Inside
 pub mod Journal
 pub mod Laws
 pub mod Log
 pub mod Places
 pub mod Reading
+pub mod Still

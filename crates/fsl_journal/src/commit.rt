@@ -1,4 +1,4 @@
-//! The write of one group behind the closed gate at the end of a file, and then of that gate.
+//! Writes one group behind the closed gate at the end of a file, and then opens that gate.
 ghost use Rattle.std.specs.Prelude.{◌≡◌, ◌==◌, if◌then◌else◌, ◌+◌, ◌^◌, ◌<◌, ◌++◌, ℕ, List, length, IsTrue, Some, OnOk};
 ghost use Rattle.fsl_order.specs.Causes.{HasCause};
 ghost use Rattle.fsl_disk.specs.Disk.{DiskState, Told, Keeps, Only, LeavesOnly, Begins};

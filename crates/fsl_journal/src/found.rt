@@ -1,4 +1,4 @@
-//! What was found in a file so far.
+//! Keeps what a load has found in a file so far.
 ghost use Rattle.std.specs.Prelude.{◌≡◌, ◌++◌, [], ◌+◌, ◌<◌, ◌^◌, length, map, IfOk, OnOk};
 ghost use Rattle.std.specs.List.{AllByRecursion};
 ghost use Rattle.fsl_record.specs.Records.{records_bytes, IsFit};

@@ -1,4 +1,4 @@
-//! A journal: the records of a repository, and how many of them are committed.
+//! A journal counts the records of a repository, and says how many of them are committed.
 ghost use Rattle.std.specs.Prelude.{◌≡◌, ◌⊎◌, IsSome, ◌++◌, ◌∷◌, [], ◌<◌, ◌≤◌, ◌+◌, ◌-◌, ◌^◌, List, ℕ, None, Some, Ok, length, take, IfOk, IfErr, OnOk, OnErr, false};
 ghost use Rattle.fsl_disk.specs.Disk.{IsModelled, Keeps, LeavesOnly, Quiet};
 ghost use Rattle.fsl_record.specs.Records.{AreRecords, IsWritable, is_config};
@@ -55,21 +55,21 @@ impl Model for Journal {
 }
 
 impl Journal {
-    /// How many records there are: loaded, committed and appended.
+    /// Returns how many records there are: loaded, committed and appended.
     pub fn count(&self) -> u64
         ensures { result ≡ length self.now.records }
     {
         self.records.len() as u64
     }
 
-    /// How many of them are committed.
+    /// Returns how many of them are committed.
     pub fn stable(&self) -> u64
         ensures { result ≡ self.now.stable }
     {
         self.stable
     }
 
-    /// The disk's count of faults when a commit failed, or nothing.
+    /// Returns the disk's count of faults when a commit failed, or nothing.
     pub fn stopped(&self) -> Option<u64>
         ensures { result ≡ self.now.stopped }
     {
@@ -107,6 +107,8 @@ impl Journal {
 
     /// Adds a record, in memory alone, and makes all the room that `commit` needs. Answers the place in the file where the
     /// content of a Blob will begin, and 0 for another record. It is not for a stopped journal, nor for a Config.
+    ///
+    /// Errors: `Memory`, after which the journal has the records that it had.
     pub fn append(&mut self, entry: &Record) -> Result<u64, Memory>
         requires runs { self.old.stopped ≡ None }
         requires place { is_config entry.now ≡ false }
@@ -148,6 +150,8 @@ impl Journal {
     ///
     /// Errors: `Stopped` with the disk's count of faults when an earlier commit failed; `Disk` where a call of the disk
     /// failed, after which the journal is stopped.
+    ///
+    /// FORMATS: The repository file
     pub fn commit<D: Disk>(&mut self, disk: &mut D) -> Result<u64, CommitFault>
         requires { Belongs self.old (D.state disk.old) }
 
@@ -193,7 +197,7 @@ impl Journal {
         }
     }
 
-    /// The content of this size that begins at this place, as `append` or `load` answered it. One that isn't committed
+    /// Reads the content of this size that begins at this place, as `append` or `load` answered it. One that isn't committed
     /// comes from memory, also after a commit that failed. The disk is the one that this journal was loaded from, as this
     /// journal left it.
     ///

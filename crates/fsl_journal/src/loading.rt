@@ -1,4 +1,4 @@
-//! Opens a journal: reads the file, and cuts what stands behind its closed gate.
+//! Opens a journal: reads the file, and cuts the bytes behind its closed gate.
 ghost use Rattle.std.specs.Prelude.{◌≡◌, [], ◌+◌, ◌<◌, ◌≤◌, ◌^◌, ℕ, List, length, take, None, Some, IsTrue, IfOk, OnOk, IfErr};
 ghost use Rattle.fsl_order.specs.Causes.{HasCause};
 ghost use Rattle.fsl_disk.specs.Disk.{DiskState, IsModelled, Told, Keeps, Calls, CutShort, Quiet, Only, LeavesOnly};
@@ -33,13 +33,15 @@ fn cut_behind<D: Disk>(disk: &mut D, place: u64, len: u64) -> Result<(), Failed>
 }
 
 impl Journal {
-    /// Opens the journal of a disk, and hands its records on, group after group, with the places of their contents: the
-    /// taker has none before. It makes what the disk holds stable, reads the file, of either version, and cuts what stands
+    /// Opens the journal of a disk, and hands its records on, group after group, with the places of their contents. The
+    /// taker has none before. It makes stable what the disk holds, reads the file, of either version, and cuts the bytes
     /// behind the closed gate. It reads a part at a time, with no more than one group, and tests each content once. It may
     /// be stopped at any moment.
     ///
-    /// Errors: `Disk` where a call of the disk failed; `NotRepository` with the place at which the file fails to stand
-    /// for records; `Memory`, also where the taker answers that.
+    /// Errors: `Disk` where a call of the disk failed; `NotRepository` with the place at which the file fails to be a
+    /// repository's; `Memory`, also where the taker answers that.
+    ///
+    /// FORMATS: The repository file
     pub fn load_into<D: Disk, T: Taker>(
         alloc: Global,
         disk: &mut D,
@@ -83,12 +85,14 @@ impl Journal {
         }
     }
 
-    /// Opens the journal of a disk, and answers the places of its records' contents, with 0 for a record that is no Blob,
-    /// and its records. It makes what the disk holds stable, reads the file, of either version, and cuts what stands
-    /// behind the closed gate. It may be stopped at any moment.
+    /// Opens the journal of a disk, and answers its records and the places of their contents, with 0 for a record that is
+    /// no Blob. It makes stable what the disk holds, reads the file, of either version, and cuts the bytes behind the closed
+    /// gate. It may be stopped at any moment.
     ///
-    /// Errors: `Disk` where a call of the disk failed; `NotRepository` with the place at which the file fails to stand
-    /// for records; `Memory`.
+    /// Errors: `Disk` where a call of the disk failed; `NotRepository` with the place at which the file fails to be a
+    /// repository's; `Memory`.
+    ///
+    /// FORMATS: The repository file
     pub fn load<D: Disk>(
         alloc: Global,
         disk: &mut D,

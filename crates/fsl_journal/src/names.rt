@@ -1,4 +1,4 @@
-//! The names of a record.
+//! Tells proofs how long the names of a record are.
 ghost use Rattle.fsl_record.specs.Receipts.{IsReceiptOr};
 ghost use Rattle.fsl_record.specs.Records.{HasNames, HasReceipt};
 ghost use Rattle.fsl_record.specs.declared.Record.TheVariants.{Config as ConfigRecord};

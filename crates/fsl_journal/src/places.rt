@@ -1,4 +1,4 @@
-//! Where the contents of records begin.
+//! Computes where the contents of records begin in a file.
 ghost use Rattle.std.specs.Prelude.{◌≡◌, ◌+◌, ◌-◌, ◌++◌, ◌<◌, ◌≤◌, ◌^◌, length, flat_map, IfOk, OnOk, OnErr};
 ghost use Rattle.std.specs.List.{AllByRecursion};
 ghost use Rattle.fsl_record.specs.Records.{record_bytes, records_bytes, field_bytes, AreFields, IsWritable, IsFit};

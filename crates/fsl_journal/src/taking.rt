@@ -1,4 +1,4 @@
-//! Who takes the records of a file while it is read.
+//! A taker gets the records of a file while it is read.
 ghost use Rattle.std.specs.Prelude.{◌≡◌, ◌++◌, [], ℕ, List as Items, length, OnOk, ⊤};
 ghost use Rattle.fsl_record.specs.declared.Record.{Record as RecordSeen};
 ghost use Rattle.fsl_record.specs.Records.{AreRecords};
@@ -10,17 +10,18 @@ use std::alloc::Global;
 /// Takes the records of a file while it is read, group after group, in the order of the file. So no more of the file is in
 /// memory at a time than one group, and what the taker keeps of those before it.
 pub trait Taker {
-    /// The records that it took.
+    /// Clauses see the records that it took.
     ghost taken: { Self → Items RecordSeen };
 
-    /// Where their contents begin in the file, with 0 for a record that is no Blob.
+    /// Clauses see where their contents begin in the file, with 0 for a record that is no Blob.
     ghost starts: { Self → Items ℕ };
 
-    /// What it keeps from one group to the next.
+    /// The taker keeps this from one group to the next.
     ghost is_sound: { Self → Type 0 };
 
-    /// Takes the next group, whose contents begin at these places. `Memory` is the only error, after which it is asked for
-    /// nothing more.
+    /// Takes the next group, whose contents begin at these places.
+    ///
+    /// Errors: `Memory` alone, after which a load asks it for nothing more.
     fn take(&mut self, places: List<u64>, group: List<Record>) -> Result<(), Memory>
         requires sound { is_sound self.old }
         requires records { AreRecords (taken self.old ++ group) }

@@ -1,4 +1,4 @@
-//! A part of a file that is read at once, so that small groups take few reads.
+//! Reads a part of a file at once, so that small groups take few reads.
 ghost use Rattle.std.specs.Prelude.{◌≡◌, ◌+◌, ◌-◌, ◌≤◌, ◌^◌, ◌<◌, length, take, drop, min, true, IfOk, IfErr, OnOk};
 ghost use Rattle.fsl_disk.specs.Disk.{DiskState, Told, Quiet};
 ghost use Rattle.fsl_journal.specs.Reading.{Holds, Covers, ReadFailed};

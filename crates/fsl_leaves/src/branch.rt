@@ -27,7 +27,7 @@ impl Model for Branch {
 }
 
 impl Branch {
-    /// A name, which is moved. `Memory` is the only error.
+    /// Makes the name of a branch of a text, which is moved. `Memory` is the only error.
     pub fn new(alloc: Global, text: Text) -> Result<Branch, Memory>
         ensures { IfOk result (λ branch. branch ≡ text) }
     {
@@ -37,7 +37,7 @@ impl Branch {
         }
     }
 
-    /// The same name once more. `Memory` is the only error.
+    /// Returns a second value of the name of a branch. `Memory` is the only error.
     pub fn again(&self) -> Result<Branch, Memory>
         ensures { IfOk result (λ branch. branch ≡ self.now) }
     {
@@ -47,7 +47,7 @@ impl Branch {
         }
     }
 
-    /// The name.
+    /// Returns the name.
     pub fn text(&self) -> &Text
         ensures { result.now ≡ self.now }
     {

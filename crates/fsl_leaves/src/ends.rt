@@ -1,4 +1,4 @@
-//! Where lines of check-ins in one branch end, and the set of those ends.
+//! Finds where lines of check-ins in one branch end, and keeps the set of those ends.
 ghost use Rattle.std.specs.Prelude.{ℕ, List, Bool, ◌≡◌, ◌+◌, ◌*◌, ◌≤◌, length, OnOk, IfOk, not, is_some, ◌&&◌, if◌then◌else◌};
 ghost use Rattle.std.specs.Str.{bytes_eq};
 ghost use Rattle.std.specs.List.Sorted.{IsStrictlySortedBy};

@@ -1,4 +1,4 @@
-//! The children of a check-in in a branch: a key for each, put, taken out, and looked for.
+//! Keeps a key for each child of a check-in in a branch: puts it, takes it out, and looks for it.
 ghost use Rattle.std.specs.Prelude.{◌≡◌, ◌+◌, ◌≤◌, ◌&&◌, ◌||◌, ◌∷◌, [], not, is_some, length, None, OnOk, IfOk};
 ghost use Rattle.std.specs.List.Sorted.{IsStrictlySortedBy};
 ghost use Rattle.std.specs.Map.{keys_of};
@@ -68,7 +68,7 @@ pub(crate) fn is_continued<L: Ledger>(
     Ok(any_within(children, &key, steps))
 }
 
-/// Puts the key of a child of a name, in a branch. For want of memory all stays.
+/// Puts the key of a child of a name, in a branch. All stays as it was where memory runs out.
 fn link<L: Ledger>(
     children: &mut Tracked<Within<Twig, Name>, ()>,
     child: Name,
@@ -88,7 +88,7 @@ fn link<L: Ledger>(
     children.put(key, again, (), steps)
 }
 
-/// Takes the key of a child of a name, in a branch, out. For want of memory all stays.
+/// Takes the key of a child of a name, in a branch, out. All stays as it was where memory runs out.
 fn unlink<L: Ledger>(
     children: &mut Tracked<Within<Twig, Name>, ()>,
     child: Name,

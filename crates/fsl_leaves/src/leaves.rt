@@ -1,4 +1,4 @@
-//! The table of leaves.
+//! Keeps the table of leaves.
 ghost use Rattle.std.specs.Prelude.{◌≡◌, ◌+◌, ◌*◌, ◌≤◌, ◌<◌, [], ◌∷◌, length, false, true, map, OnOk, OnErr, IfOk};
 ghost use Rattle.std.specs.List.{list_any};
 ghost use Rattle.fsl_order.specs.Names.{has};
@@ -10,15 +10,14 @@ ghost use Rattle.fsl_leaves.specs.Leaves as table;
 use super::Fact;
 use super::maps::{Maps, Ways};
 use super::rows::{put_all, put_listed};
-use fsl_name::Name;
-use fsl_rows::Named;
+use fsl_name::{Name, Named};
 use fsl_table::keys::keys;
 use fsl_text::{List, Memory, Steps};
 use std::alloc::Global;
 use std::marker::{Brand, Model};
 use std::sync::ledger::{Blank, Ledger};
 
-/// The leaves among check-ins. Contracts see it as the facts by name, and the room that its maps have to spare.
+/// A table of the leaves among check-ins. Contracts see it as the facts by name, and the room that its maps have to spare.
 #[derive(Drop)]
 pub struct Leaves {
     maps: Maps,
@@ -36,7 +35,7 @@ impl Model for Leaves {
     ghost invariant = { λ l. IsKept (rows_of l.maps) };
 }
 
-/// What takes a change back, and the names whose rows it changed. Contracts see it as both, with the table before and after.
+/// The way back from a change, and the names whose rows it changed. Contracts see it as both, with the table before and after.
 #[derive(Drop)]
 pub struct Undo {
     ways: Ways,
@@ -56,7 +55,7 @@ impl Model for Undo {
 }
 
 impl Undo {
-    /// The names whose rows the change changed, ascending. The row of a name is whether it is a leaf.
+    /// Returns the names whose rows the change changed, ascending. The row of a name says whether it is a leaf.
     pub fn changed(&self) -> &List<Name>
         ensures { result.now ≡ self.now.changed }
     {
@@ -76,7 +75,7 @@ fn copies(alloc: Global, facts: &[Fact]) -> Result<List<Fact>, Memory>
 }
 
 impl Leaves {
-    /// The table without check-ins. Takes no memory.
+    /// Returns a table without check-ins. Takes no memory.
     pub fn new(alloc: Global) -> Leaves
         ensures { result.facts ≡ [] }
     {
@@ -85,8 +84,8 @@ impl Leaves {
         }
     }
 
-    /// The table of some facts, of which no two have one name. It is the same in whatever order they stand: that is the law
-    /// `fsl_order::by_name_in_any_order`. They are copied. `Memory` is the only error.
+    /// Makes the table of some facts. No two of them have one name. The table is the same in whatever order they come: that is
+    /// the law `fsl_order::by_name_in_any_order`. The facts are copied. `Memory` is the only error.
     pub fn build(alloc: Global, facts: &[Fact]) -> Result<Leaves, Memory>
         requires { AreDistinct (map (λ f. f.name) facts.now) }
         ensures facts { IfOk result (λ t. t.facts ≡ by_name (λ f. f.name) facts.now) }
@@ -94,7 +93,7 @@ impl Leaves {
         Leaves::from_facts(alloc, copies(alloc, facts)?)
     }
 
-    /// The table that `build` makes, of facts that are moved: none is copied. `Memory` is the only error.
+    /// Makes the table of some facts as `build` does, and moves them. None is copied. `Memory` is the only error.
     pub fn from_facts(alloc: Global, facts: List<Fact>) -> Result<Leaves, Memory>
         requires { AreDistinct (map (λ f. f.name) facts) }
         ensures facts { IfOk result (λ t. t.facts ≡ by_name (λ f. f.name) facts) }
@@ -133,8 +132,8 @@ impl Leaves {
         }
     }
 
-    /// Adds a check-in whose name isn't there. `Memory` is the only error, and the table then holds what it held.
-    /// Where no check-in names it as a parent, it takes at most 6 touches, and 6 for each parent.
+    /// Adds a check-in. No other one of its name is in the table. `Memory` is the only error. The table then holds the same as
+    /// before. Where no check-in names it as a parent, it takes at most 6 touches, and 6 for each parent.
     pub fn add<L: Ledger>(
         &mut self,
         alloc: Global,
@@ -152,8 +151,8 @@ impl Leaves {
         self.put(alloc, fact, true, steps)
     }
 
-    /// Puts a check-in in the place of that of its name, which is there. `Memory` is the only error, and the table then holds
-    /// what it held.
+    /// Replaces the check-in of the same name. The table has one. `Memory` is the only error. The table then holds the same as
+    /// before.
     pub fn change<L: Ledger>(
         &mut self,
         alloc: Global,
@@ -199,7 +198,7 @@ impl Leaves {
         }
     }
 
-    /// Takes the last change back that wasn't taken back. It takes no memory.
+    /// Undoes the last change that wasn't undone yet. It takes no memory.
     pub fn undo(&mut self, undo: Undo)
         requires { IsAsBefore undo.after self.old }
         ensures { IsAsBefore undo.before self.new }
@@ -219,7 +218,8 @@ impl Leaves {
         self.maps.undo(ways, &mut steps);
     }
 
-    /// The check-ins without a child in their own branch, ascending. `Memory` is the only error.
+    /// Returns the check-ins without a child in their own branch, ascending. `Memory` is the only error.
+    /// FORMATS: Derived tables
     pub fn leaves(&self, alloc: Global) -> Result<List<Name>, Memory>
         ensures { IfOk result (λ names. names ≡ table.leaves self.now.facts) }
     {

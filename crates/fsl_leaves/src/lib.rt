@@ -1,7 +1,7 @@
-//! Leaves: check-ins without a child in their own branch. `Leaves` is the table of them, and its answer is that of the
-//! definition over the facts that it holds. In whatever order these came it is the same: `fsl_order::by_name_in_any_order`. A
-//! check-in more, or one with other parents or in another branch, is a call of its own, which tells the names whose rows differ
-//! and can be taken back.
+//! Finds the leaves: check-ins without a child in their own branch. `Leaves` is the table of them. It answers as the definition
+//! does over the facts that it holds. It is the same in whatever order these came: that is the law
+//! `fsl_order::by_name_in_any_order`. One call adds a check-in, and another one replaces a check-in. Each returns the names whose
+//! rows differ, and can be undone.
 #![tactic(auto)]
 
 ghost use Rattle.std.specs.Prelude.{◌≡◌, IfOk};
@@ -14,8 +14,7 @@ mod line;
 mod maps;
 mod rows;
 
-use fsl_name::Name;
-use fsl_rows::Named;
+use fsl_name::{Name, Named};
 use fsl_text::{List, Memory, Text};
 pub use leaves::{Leaves, Undo};
 use std::alloc::Global;
@@ -25,7 +24,7 @@ use std::alloc::Global;
 pub struct Fact {
     /// Its name.
     pub name: Name,
-    /// The names of its P card. They need not be there.
+    /// The names of its P card. No check-in need have them.
     pub parents: List<Name>,
     /// The name of its branch.
     pub branch: Text,

@@ -1,4 +1,4 @@
-//! The rows of leaves: a check-in put in and taken out of the three maps.
+//! Puts a check-in into the three maps, and takes it out.
 ghost use Rattle.std.specs.Prelude.{ℕ, List, Bool, ◌≡◌, ◌+◌, ◌*◌, ◌≤◌, length, OnOk, IfOk, None, true, false, map, not, is_some, ◌&&◌, ◌||◌, [], if◌then◌else◌};
 ghost use Rattle.std.specs.Str.{bytes_eq};
 ghost use Rattle.std.specs.List.Sorted.{IsStrictlySortedBy};

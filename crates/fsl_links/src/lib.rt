@@ -1,7 +1,6 @@
-//! Parentage of check-ins: the primary parent and the children of each. `Links` is the table of both, and its answers are
-//! those of the definitions over the facts that it holds. In whatever order these came it is the same:
-//! `fsl_order::by_name_in_any_order`. A check-in more, or one with other parents, is a call of its own, which tells the names
-//! whose rows differ and can be taken back.
+//! Finds the primary parent and the children of each check-in. `Links` is the table of both. It answers as the definitions do
+//! over the facts that it holds. It is the same in whatever order these came: that is the law `fsl_order::by_name_in_any_order`.
+//! One call adds a check-in, and another one replaces a check-in. Each returns the names whose rows differ, and can be undone.
 #![tactic(auto)]
 
 ghost use Rattle.std.specs.Prelude.{◌≡◌, IfOk};
@@ -10,8 +9,7 @@ mod links;
 mod maps;
 mod rows;
 
-use fsl_name::Name;
-use fsl_rows::Named;
+use fsl_name::{Name, Named};
 use fsl_text::{List, Memory};
 pub use links::{Links, Undo};
 use std::alloc::Global;
@@ -21,7 +19,7 @@ use std::alloc::Global;
 pub struct Fact {
     /// Its name.
     pub name: Name,
-    /// The names of its P card in their order, the primary one first. They need not be there.
+    /// The names of its P card in their order, the primary one first. No check-in need have them.
     pub parents: List<Name>,
 }
 

@@ -1,4 +1,4 @@
-//! The table of parentage.
+//! Keeps the table of parents and children.
 ghost use Rattle.std.specs.Prelude.{◌≡◌, ◌+◌, ◌*◌, ◌≤◌, [], ◌∷◌, ◌<◌, length, false, true, map, OnOk, OnErr, IfOk};
 ghost use Rattle.fsl_order.specs.Names.{has};
 ghost use Rattle.fsl_order.specs.Rows.{by_name, AreDistinct, ListsChanged};
@@ -8,14 +8,14 @@ ghost use Rattle.fsl_links.specs.Links.{links_row, children as children_of, prim
 use super::Fact;
 use super::maps::{Maps, Ways};
 use super::rows::{first_parent, is_there, put_either, put_fact};
-use fsl_name::Name;
-use fsl_rows::Named;
+use fsl_name::{Name, Named};
 use fsl_text::{List, Memory, Steps};
 use std::alloc::Global;
 use std::marker::{Brand, Model};
 use std::sync::ledger::{Blank, Ledger};
 
-/// The parents and the children of check-ins. Contracts see it as the facts by name, and the room that its maps have to spare.
+/// A table of the parents and the children of check-ins. Contracts see it as the facts by name, and the room that its maps have
+/// to spare.
 #[derive(Drop)]
 pub struct Links {
     maps: Maps,
@@ -33,7 +33,7 @@ impl Model for Links {
     ghost invariant = { λ l. IsKept (rows_of l.maps) };
 }
 
-/// What takes a change back, and the names whose rows it changed. Contracts see it as both, with the table before and after.
+/// The way back from a change, and the names whose rows it changed. Contracts see it as both, with the table before and after.
 #[derive(Drop)]
 pub struct Undo {
     ways: Ways,
@@ -53,7 +53,7 @@ impl Model for Undo {
 }
 
 impl Undo {
-    /// The names whose rows the change changed, ascending. A row is the primary parent and the children of a name.
+    /// Returns the names whose rows the change changed, ascending. A row is the primary parent and the children of a name.
     pub fn changed(&self) -> &List<Name>
         ensures { result.now ≡ self.now.changed }
     {
@@ -62,7 +62,7 @@ impl Undo {
 }
 
 impl Links {
-    /// The table without check-ins. Takes no memory.
+    /// Returns a table without check-ins. Takes no memory.
     pub fn new(alloc: Global) -> Links
         ensures { result.facts ≡ [] }
     {
@@ -71,8 +71,8 @@ impl Links {
         }
     }
 
-    /// The table of some facts, of which no two have one name. It is the same in whatever order they stand:
-    /// that is the law `fsl_order::by_name_in_any_order`. `Memory` is the only error.
+    /// Makes the table of some facts. No two of them have one name. The table is the same in whatever order they come: that is
+    /// the law `fsl_order::by_name_in_any_order`. `Memory` is the only error.
     pub fn build(alloc: Global, facts: &[Fact]) -> Result<Links, Memory>
         requires { AreDistinct (map (λ f. f.name) facts.now) }
         ensures facts { IfOk result (λ t. t.facts ≡ by_name (λ f. f.name) facts.now) }
@@ -103,8 +103,8 @@ impl Links {
         Ok(Links { maps })
     }
 
-    /// Adds a check-in whose name isn't there. `Memory` is the only error, and the table then holds what it held.
-    /// Where no check-in names it as a parent, it takes at most 6 touches, and 6 for each parent.
+    /// Adds a check-in. No other one of its name is in the table. `Memory` is the only error. The table then holds the same as
+    /// before. Where no check-in names it as a parent, it takes at most 6 touches, and 6 for each parent.
     pub fn add<L: Ledger>(
         &mut self,
         alloc: Global,
@@ -122,8 +122,8 @@ impl Links {
         self.put(alloc, fact, steps)
     }
 
-    /// Puts a check-in in the place of that of its name, which is there. `Memory` is the only error, and the table then holds
-    /// what it held.
+    /// Replaces the check-in of the same name. The table has one. `Memory` is the only error. The table then holds the same as
+    /// before.
     pub fn change<L: Ledger>(
         &mut self,
         alloc: Global,
@@ -167,7 +167,7 @@ impl Links {
         }
     }
 
-    /// Takes the last change back that wasn't taken back. It takes no memory.
+    /// Undoes the last change that wasn't undone yet. It takes no memory.
     pub fn undo(&mut self, undo: Undo)
         requires { IsAsBefore undo.after self.old }
         ensures { IsAsBefore undo.before self.new }
@@ -187,8 +187,9 @@ impl Links {
         self.maps.undo(ways, &mut steps);
     }
 
-    /// The primary parent of a check-in: the first name of its P card. None where there is no check-in of the given name, it
-    /// has no P card, or no check-in has that first name.
+    /// Returns the primary parent of a check-in, which is the first name of its P card. It is `None` where there is no check-in
+    /// of the given name, it has no P card, or no check-in has that first name.
+    /// FORMATS: Derived tables
     pub fn primary(&self, name: Name) -> Option<Name>
         ensures { result ≡ primary_of self.now.facts name }
     {
@@ -214,7 +215,9 @@ impl Links {
         }
     }
 
-    /// The check-ins whose P card has the name, ascending, whether or not it is itself a check-in. `Memory` is the only error.
+    /// Returns the check-ins with the name in their P card, ascending. The name itself need not be a check-in. `Memory` is the
+    /// only error.
+    /// FORMATS: Derived tables
     pub fn children(&self, alloc: Global, name: Name) -> Result<List<Name>, Memory>
         ensures { IfOk result (λ names. names ≡ children_of self.now.facts name) }
     {

@@ -1,4 +1,4 @@
-//! The rows of parentage: the parents of each check-in, and a pair for each parent and child.
+//! Keeps the rows of parentage: the parents of each check-in, and a pair for each parent and child.
 ghost use Rattle.std.specs.Prelude.{ℕ, List, ◌≡◌, ◌+◌, ◌*◌, ◌≤◌, length, OnOk, IfOk, None, Some, true, not, is_some, ◌||◌, ◌&&◌, option_and_then, slice_get};
 ghost use Rattle.std.specs.List.Sorted.{IsStrictlySortedBy};
 ghost use Rattle.std.specs.Map.{keys_of};

@@ -1,7 +1,7 @@
-//! Users of a repository, and what their logins allow.
+//! Reads the users of a repository, and checks their logins.
 //!
-//! A users file has a line for each user. `Users::read` reads it, and `granted` says what the logins of a message allow
-//! together, or which of them isn't accepted and why. `granted_by` says the same of a message whose logins wait for their
+//! A users file has a line for each user. `Users::read` reads it. `granted` gives the rights that the logins of a message have
+//! together, or the first login that isn't accepted, and why. `granted_by` does so for a message whose logins wait for their
 //! tails, and makes none behind the first login that isn't accepted.
 #![tactic(auto)]
 
@@ -19,7 +19,7 @@ pub use laws::{fronts_tell, users_read_one_way};
 pub use logins::{granted, granted_by};
 use std::marker::Model;
 
-/// A user: a name, what the user may do, and the secret that signs logins.
+/// A user: a name, the rights of the user, and the secret that signs logins.
 #[derive(Drop)]
 pub struct User {
     pub name: Text,
@@ -47,7 +47,7 @@ impl Model for Users {
 }
 
 impl Users {
-    /// The users, in order.
+    /// Returns the users, in order.
     pub fn items(&self) -> &[User]
         ensures value { result.now ≡ self.now }
         ensures users { AreUsers self.now }
@@ -56,16 +56,16 @@ impl Users {
     }
 }
 
-/// Why a users file doesn't read.
+/// Says why a users file doesn't read.
 #[derive(Clone, Copy, Debug, PartialEq, Eq)]
 pub enum UsersFault {
     /// The first line, counted from 1, that is out of form, names a user a second time, or reaches past 2^20 bytes.
     Line { line: u64 },
-    /// There was no memory for the users.
+    /// The users don't fit in memory.
     Memory,
 }
 
-/// Why a login isn't accepted, with the line of its message.
+/// Says why a login isn't accepted, with the line of its message.
 #[derive(Clone, Copy, Debug, PartialEq, Eq)]
 pub enum LoginFault {
     /// The nonce isn't that of the message.

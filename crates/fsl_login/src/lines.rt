@@ -1,4 +1,4 @@
-//! The lines of a users file.
+//! Reads the lines of a users file.
 ghost use Rattle.std.specs.Prelude.{◌≡◌, ◌==◌, ◌≤◌, ◌^◌, length, ◌++◌, ◌∷◌, [], IfOk, OnOk, IsTrue, option_to_list, position, slice_index};
 ghost use Rattle.std.specs.List.{list_any};
 ghost use Rattle.fsl_text.specs.Bytes.{is_newline};
@@ -11,18 +11,18 @@ use fsl_wire::{Arguments, Caps, arguments_of, first_token};
 use std::alloc::Global;
 use std::collections::BTreeSet;
 
-/// What a line of a users file is.
+/// The meaning of a line of a users file.
 #[derive(Clone, Copy)]
 enum UserLine<'a> {
-    /// It has no meaning: it has no token, or begins with `#`.
+    /// The line has no meaning: it has no token, or begins with `#`.
     Blank,
-    /// A user: three tokens.
+    /// The line is a user: three tokens.
     User {
         name: &'a [u8],
         letters: &'a [u8],
         secret: &'a [u8],
     },
-    /// Another number of tokens.
+    /// The line has another number of tokens.
     Bad,
 }
 
@@ -32,7 +32,7 @@ fn is_comment(token: &[u8]) -> bool
     token.first() == Some(&b'#')
 }
 
-/// What a line is.
+/// Reads a line.
 fn user_line(line: &[u8]) -> UserLine<'_>
     ensures { IsUserLine result line.now }
 {
@@ -52,14 +52,14 @@ fn user_line(line: &[u8]) -> UserLine<'_>
     }
 }
 
-/// Whether a letter stands among letters.
+/// Returns whether a letter is among letters.
 fn has_letter(letters: &[u8], letter: u8) -> bool
     ensures { result ≡ list_any (λ b. b == letter) letters.now }
 {
     letters.iter().any(|found| *found == letter)
 }
 
-/// What letters grant: `o` pull, `i` push, `g` clone and `x` private. Others are ignored.
+/// Returns the rights of letters: `o` pull, `i` push, `g` clone and `x` private. Others are ignored.
 fn caps_of(letters: &[u8]) -> Caps
     ensures { result ≡ caps_of letters.now }
 {
@@ -71,7 +71,7 @@ fn caps_of(letters: &[u8]) -> Caps
     }
 }
 
-/// The user of a line.
+/// Makes the user of a line.
 fn user_of(alloc: Global, name: &[u8], letters: &[u8], secret: &[u8]) -> Result<User, Memory>
     ensures { IfOk result (λ user. user ≡ record { name = name.now; caps = caps_of letters.now; secret = secret.now }) }
 {
@@ -82,7 +82,7 @@ fn user_of(alloc: Global, name: &[u8], letters: &[u8], secret: &[u8]) -> Result<
     })
 }
 
-/// Puts a user at the end.
+/// Adds a user at the end.
 fn push_user(users: &mut List<User>, user: User) -> Result<(), Memory>
     ensures { OnOk result (users.new ≡ users.old ++ user ∷ []) }
 {
@@ -92,8 +92,8 @@ fn push_user(users: &mut List<User>, user: User) -> Result<(), Memory>
     }
 }
 
-/// Puts the user of a line at the end, unless its name is among those that were seen: then it answers false. Nothing is
-/// said of the users and the names after it.
+/// Adds the user of a line at the end, unless its name was seen before: then it returns false. In that case no clause covers the
+/// users and the names after it.
 fn add_user<'a>(
     alloc: Global,
     users: &mut List<User>,
@@ -114,8 +114,8 @@ fn add_user<'a>(
     Ok(true)
 }
 
-/// Puts the user of a line at the end, if it has one, and answers whether the line is good: without meaning, or a user
-/// whose name isn't among those that were seen.
+/// Adds the user of a line at the end, if it has one. Returns whether the line is good: without meaning, or a user whose name
+/// wasn't seen before. `Memory` is the only error.
 pub fn add_line<'a>(
     alloc: Global,
     users: &mut List<User>,
@@ -145,16 +145,16 @@ fn newline(bytes: &[u8]) -> Option<usize>
     bytes.iter().position(|byte| *byte == b'\n')
 }
 
-/// A line of a file without its newline, with the place where it ends, its newline included.
+/// A line of a file without its newline, and the place of its end, its newline included.
 #[derive(Clone, Copy)]
 pub struct Cut<'a> {
     pub line: &'a [u8],
     pub end: usize,
-    /// Whether it is the last line, which has no newline.
+    /// Says whether this is the last line, which has no newline.
     pub last: bool,
 }
 
-/// The line of a file that begins at a place.
+/// Returns the line of a file that begins at a place.
 pub fn line_at(bytes: &[u8], at: usize) -> Cut<'_>
     requires { at ≤ length bytes.now }
     ensures { IsCut bytes.now at result.line.now result.end result.last }

@@ -1,4 +1,4 @@
-//! What the logins of a message allow.
+//! Checks the logins of a message.
 ghost use Rattle.std.specs.Prelude.{◌≡◌, ◌++◌, None, Some, length, IfOk, IfErr, option_copied};
 ghost use Rattle.std.specs.Str.{bytes_eq};
 ghost use Rattle.fsl_name.specs.Name.{name_of, name_text};
@@ -11,7 +11,7 @@ use fsl_name::Name;
 use fsl_wire::{Caps, Draft, Message, WireCard};
 use sha1::Sha1;
 
-/// The user whose line every message has.
+/// The user whose rights every message has.
 const NOBODY: &[u8] = b"nobody";
 
 fn no_caps() -> Caps
@@ -25,14 +25,14 @@ fn no_caps() -> Caps
     }
 }
 
-/// The user of a name.
+/// Finds the user of a name.
 fn user_named<'a>(users: &'a [User], name: &[u8]) -> Option<&'a User>
     ensures { option_copied result ≡ user_named users.now name.now }
 {
     users.iter().find(|user| user.name.bytes() == name)
 }
 
-/// What the user of a name may do; nothing, where there is none.
+/// Returns the rights of the user with a name, or none if there is no such user.
 fn caps_named(users: &[User], name: &[u8]) -> Caps
     ensures { result ≡ caps_or_none (user_named users.now name.now) }
 {
@@ -48,14 +48,14 @@ fn is_nobody(name: &[u8]) -> bool
     name == NOBODY
 }
 
-/// Whether a text is the 40 digits of a name.
+/// Returns whether a text is the 40 digits of a name.
 fn is_name_text(text: &[u8], name: Name) -> bool
     ensures { result ≡ bytes_eq text.now (name_text name) }
 {
     text == name.text().as_slice()
 }
 
-/// Whether a signature is the digits of the SHA-1 of a nonce followed by a secret.
+/// Returns whether a signature is the digits of the SHA-1 of a nonce followed by a secret.
 fn is_signed(nonce: &[u8], secret: &[u8], signature: &[u8]) -> bool
     ensures { result ≡ bytes_eq signature.now (name_text (name_of (nonce.now ++ secret.now))) }
 {
@@ -65,7 +65,7 @@ fn is_signed(nonce: &[u8], secret: &[u8], signature: &[u8]) -> bool
     is_name_text(signature, Name::from_bytes(hasher.finalize()))
 }
 
-/// What a login allows, or why it isn't accepted: its nonce is tested first, then its user, then its signature.
+/// Returns the rights of a login, or why it isn't accepted. It tests the nonce first, then the user, then the signature.
 fn login_caps(
     users: &[User],
     user: &[u8],
@@ -92,7 +92,7 @@ fn login_caps(
     }
 }
 
-/// What a card adds to what is allowed: nothing, where it is no login.
+/// Returns the rights that a card adds: none, if it is no login.
 fn card_caps(users: &[User], card: &WireCard) -> Result<Caps, LoginFault>
     ensures { IsJudged users.now card.now result }
 {
@@ -115,7 +115,7 @@ fn card_caps(users: &[User], card: &WireCard) -> Result<Caps, LoginFault>
     }
 }
 
-/// What either of two allows.
+/// Returns the rights of either of two.
 fn both(a: Caps, b: Caps) -> Caps
     ensures { result ≡ both a b }
 {
@@ -127,13 +127,14 @@ fn both(a: Caps, b: Caps) -> Caps
     }
 }
 
-/// What a message allows: what `nobody` has, and what its logins add.
+/// Returns the rights of a message: those of `nobody`, and those that its logins add.
 ///
 /// The nonce of a login is the 40 digits of its tail, and its signature those of the SHA-1 of the nonce followed by the
 /// user's secret. Takes no memory. Each login costs a look over all users and one hash.
 ///
-/// Errors: At the first login that isn't accepted, with its line: `Nonce` where the nonce is another one, else `NoUser` for
-/// `nobody` and for a name without a line, else `Signature`.
+/// Errors: the first login that isn't accepted, with its line. The fault is `Nonce` if the nonce is another one, else `NoUser`
+/// for `nobody` and for a name without a line, else `Signature`.
+/// FORMATS: Users, logins and replies
 pub fn granted(users: &Users, message: &Message) -> Result<Caps, LoginFault>
     ensures { result ≡ granted users.now message.now }
 {
@@ -145,11 +146,11 @@ pub fn granted(users: &Users, message: &Message) -> Result<Caps, LoginFault>
     Ok(caps)
 }
 
-/// What the message of a draft allows, as [`granted`], with its logins settled one after another: none is settled behind the first
-/// that isn't accepted. To settle one makes its tail, a hash of all bytes behind its line, and the secret of an accepted one costs
-/// another, of a few bytes. Where all are accepted, all cards are settled.
+/// Returns the rights of a draft's message, as [`granted`], and settles its logins one after another. No login is settled behind
+/// the first that isn't accepted. To settle one makes its tail, a hash of all bytes behind its line, and the secret of an
+/// accepted one costs another, of a few bytes. If all are accepted, all cards are settled.
 ///
-/// Errors: As those of [`granted`].
+/// Errors: those of [`granted`].
 pub fn granted_by(users: &Users, draft: &mut Draft<'_>) -> Result<Caps, LoginFault>
     ensures granted { result ≡ granted users.now draft.old.message }
     ensures message { draft.new.message ≡ draft.old.message }

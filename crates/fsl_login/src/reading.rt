@@ -1,4 +1,4 @@
-//! Users files.
+//! Reads users files.
 ghost use Rattle.std.specs.Prelude.{◌≡◌, [], IfOk, IfErr, OnOk};
 ghost use Rattle.fsl_login.specs.declared.UsersFault.TheVariants as users_fault;
 ghost use Rattle.fsl_login.specs.UserFiles.{AreUsers, IsUsersFile, IsUsersFault};
@@ -44,12 +44,13 @@ fn read_users(alloc: Global, bytes: &[u8], users: &mut List<User>) -> Result<(),
 }
 
 impl Users {
-    /// Reads the users of a file: lines `USER CAPS SECRET` of three tokens. Lines without a token and lines that begin with
-    /// `#` have no meaning. The letters `o`, `i`, `g` and `x` in CAPS grant pull, push, clone and private, and others are
-    /// ignored. The work is that of a sort of the names.
+    /// Reads the users of a file: lines `USER CAPS SECRET` of three tokens. Lines without a token and lines that begin with `#`
+    /// have no meaning. The letters `o`, `i`, `g` and `x` in CAPS grant pull, push, clone and private, and others are ignored.
+    /// The work is that of a sort of the names.
     ///
     /// Errors: `Line` with the first line that has another number of tokens, names a user a second time, or reaches past 2^20
     /// bytes with its newline; or `Memory`.
+    /// FORMATS: Users, logins and replies
     pub fn read(alloc: Global, bytes: &[u8]) -> Result<Users, UsersFault>
         ensures users { IfOk result (IsUsersFile bytes.now) }
         ensures fault { IfErr result (IsUsersFault bytes.now) }

@@ -1,4 +1,4 @@
-//! The forms of F and Q cards.
+//! Reads F and Q cards.
 ghost use Rattle.std.specs.Prelude.{◌≡◌, option_map};
 ghost use Rattle.fsl_grammar.specs.Forms.{optional};
 ghost use Rattle.fsl_grammar.specs.Reading.{IsGiven};
@@ -68,7 +68,7 @@ fn read_file(
     })
 }
 
-/// The path that an argument stands for.
+/// Decodes the path of an argument.
 fn read_path(alloc: Global, arg: &[u8]) -> Result<Text, Unread>
     ensures { IsGiven (path_in arg.now) result }
 {
@@ -103,7 +103,7 @@ fn read_perm(arg: &[u8]) -> Option<Perm>
     }
 }
 
-/// The permission of an argument that may be missing, and then is plain; None where it is there and no permission.
+/// Reads the permission of an argument that may be missing, and then is plain. Returns `None` if it is there and no permission.
 fn read_optional_perm(arg: Option<&Text>) -> Option<Perm>
     ensures { result ≡ option_map perm_or_plain (optional perm_in (option_map (λ text. text.now) arg.entry)) }
 {

@@ -1,4 +1,4 @@
-//! What the type of a manifest keeps, for proofs alone: its own names have 20 bytes each, foreign ones 32, and its checksum has 16.
+//! Facts on manifests, for proofs alone: its own names have 20 bytes each, foreign ones 32, and its checksum has 16.
 ghost use Rattle.std.specs.Prelude.{◌∷◌, option_to_list};
 ghost use Rattle.std.specs.List.{AllByRecursion};
 ghost use Rattle.fsl_name.specs.Ref.{IsRef};

@@ -1,4 +1,5 @@
-//! Manifests, which describe check-ins: read from the cards that are one, and from no others, and written as the one text that reads back as the value.
+//! Manifests describe check-ins. They are read from the cards of one, and from no others, and each is written as the one text
+//! that reads back as it.
 #![tactic(auto)]
 
 mod forms;
@@ -43,7 +44,8 @@ pub struct Pick {
     pub other: Option<Ref>,
 }
 
-/// A check-in. Its fields are its B, C, D, F, N, P, Q, R, T and U cards. Its first parent, where there is one, is no foreign name.
+/// A check-in. Its fields are its B, C, D, F, N, P, Q, R, T and U cards. Its first parent, if there is one, is no foreign name.
+/// FORMATS: Kinds
 #[derive(Drop)]
 pub struct Manifest {
     pub baseline: Option<Name>,

@@ -1,4 +1,4 @@
-//! The manifest that cards are.
+//! Reads a manifest from cards.
 ghost use Rattle.std.specs.Prelude.{IfOk};
 ghost use Rattle.fsl_card.specs.Cards.{IsReading};
 ghost use Rattle.fsl_grammar.specs.Reading.{IsRead};
@@ -16,9 +16,10 @@ use fsl_text::Memory;
 use std::alloc::Global;
 
 impl Manifest {
-    /// The manifest that cards are, or None where they are none: where their letters aren't those of a manifest, an argument hasn't
-    /// its form, two parents are the same or the first is foreign, or a file has no hash and there is no baseline. `Memory` is the only
+    /// Reads a manifest from its cards. Returns `None` if their letters aren't those of a manifest, an argument hasn't its form,
+    /// two parents are the same or the first is foreign, or a file has no hash and there is no baseline. `Memory` is the only
     /// error.
+    /// FORMATS: Kinds
     pub fn read(alloc: Global, cards: &Cards) -> Result<Option<Manifest>, Memory>
         ensures { IfOk result (IsReading IsManifest cards.now) }
     {
@@ -44,7 +45,7 @@ fn read_cards(alloc: Global, cards: &[Card]) -> Result<Manifest, Unread>
     }
 }
 
-/// The manifest whose fields cards give.
+/// Reads the fields of a manifest from its cards.
 fn read_fields(alloc: Global, cards: &[Card]) -> Result<Manifest, Unread>
     ensures { IsRead HasFields cards.now result }
 {

@@ -1,4 +1,4 @@
-//! The text of a manifest.
+//! Writes the text of a manifest.
 ghost use Rattle.std.specs.Prelude.{◌≡◌, ◌++◌, ◌∷◌, IfOk, IsTrue, OnOk, flat_map, map};
 ghost use Rattle.fsl_card.specs.Cards.{IsTextOf, card_text, text_of};
 ghost use Rattle.fsl_date.specs.Moment.{IsMoment};
@@ -20,7 +20,8 @@ use fsl_text::{Memory, Text};
 use std::alloc::Global;
 
 impl Manifest {
-    /// The text of the manifest, its Z card included, which reads back as the manifest. `Memory` is the only error.
+    /// Writes the text of the manifest, its Z card included. It reads back as the manifest. `Memory` is the only error.
+    /// FORMATS: Kinds
     pub fn write(&self, alloc: Global) -> Result<Text, Memory>
         requires { IsTrue (is_well_formed self.now) }
         ensures written { IfOk result (λ text. IsManifestText text self.now) }
@@ -33,7 +34,7 @@ impl Manifest {
         Ok(lines)
     }
 
-    /// Puts all cards but the Z card at the end of a text.
+    /// Writes all cards but the Z card at the end of a text.
     fn write_cards(&self, into: &mut Text) -> Result<(), Memory>
         ensures { OnOk result (IsMoment self.now.date × (into.new ≡ into.old ++ text_of (manifest_cards self.now))) }
     {
@@ -69,7 +70,7 @@ fn write_file(into: &mut Text, file: &FileCard) -> Result<(), Memory>
     end_card(into)
 }
 
-/// A permission that isn't plain, and behind it the former path, where there is one.
+/// Writes a permission that isn't plain, and the former path behind it, if there is one.
 fn write_perm(into: &mut Text, perm: Perm, former: &Option<Text>) -> Result<(), Memory>
     ensures { OnOk result (into.new ≡ into.old ++ flat_map (λ arg. 32 ∷ arg) (perm_arguments perm former.now)) }
 {
@@ -100,7 +101,7 @@ fn write_pick(into: &mut Text, pick: &Pick) -> Result<(), Memory>
     end_card(into)
 }
 
-/// A sign and a reference behind it as one argument.
+/// Writes a sign and a reference behind it as one argument.
 fn write_signed_ref(into: &mut Text, sign: u8, target: &Ref) -> Result<(), Memory>
     ensures { OnOk result (into.new ≡ into.old ++ 32 ∷ sign ∷ ref_text target.now) }
 {
@@ -119,7 +120,7 @@ fn write_checksum(into: &mut Text, checksum: &Option<[u8; 16]>) -> Result<(), Me
     }
 }
 
-/// The 32 digits of 16 bytes, in lower case.
+/// Returns the 32 digits of 16 bytes, in lower case.
 fn digits_of(bytes: &[u8; 16]) -> [u8; 32]
     ensures { result ≡ encode_lower bytes.now }
 {

@@ -1,4 +1,4 @@
-//! Which manifests have a text.
+//! Says which manifests have a text.
 ghost use Rattle.std.specs.Prelude.{◌≡◌, ◌&&◌, is_some, option_to_list};
 ghost use Rattle.std.specs.List.{list_all};
 ghost use Rattle.fsl_grammar.specs.Forms.{is_tag_written};
@@ -11,9 +11,10 @@ use fsl_name::Ref;
 use fsl_text::{Text, path_ok};
 
 impl Manifest {
-    /// Whether the manifest can be written: the comment, the user and each text that is there have a byte; paths are good and rise;
-    /// a permission has a hash before it and a former path a permission; each file has a hash unless there is a baseline; the
-    /// parents differ, and the first isn't foreign. It takes no memory, and compares each parent with each one behind it.
+    /// Returns whether the manifest can be written. The comment, the user and each text that is there have a byte. Paths are good
+    /// and rise. A permission has a hash before it, and a former path a permission. Each file has a hash, unless there is a
+    /// baseline. The parents differ, and the first isn't foreign. It takes no memory, and compares each parent with each one
+    /// behind it.
     pub fn well_formed(&self) -> bool
         ensures { result ≡ is_well_formed self.now }
     {
@@ -28,14 +29,14 @@ impl Manifest {
             && all_tags_written(self.tags.items())
     }
 
-    /// Whether each file has a hash or there is a baseline, and the first parent isn't foreign.
+    /// Returns whether each file has a hash or there is a baseline, and the first parent isn't foreign.
     pub(crate) fn is_whole(&self) -> bool
         ensures { result ≡ (has_hashes self.now && begins_own self.now.parents) }
     {
         self.has_hashes() && begins_own(self.parents.items())
     }
 
-    /// Whether each file has a hash, or there is a baseline.
+    /// Returns whether each file has a hash, or there is a baseline.
     fn has_hashes(&self) -> bool
         ensures { result ≡ has_hashes self.now }
     {
@@ -43,7 +44,7 @@ impl Manifest {
     }
 }
 
-/// Whether the first parent, where there is one, isn't foreign.
+/// Returns whether the first parent, if there is one, isn't foreign.
 fn begins_own(parents: &[Ref]) -> bool
     ensures { result ≡ begins_own parents.now }
 {
@@ -97,7 +98,7 @@ fn is_perm_placed(perm: Perm, has_hash: bool, has_former: bool) -> bool
     }
 }
 
-/// Whether the files rise by path.
+/// Returns whether the files rise by path.
 fn files_rise(files: &[FileCard]) -> bool
     ensures { result ≡ files_rise files.now }
 {
@@ -111,7 +112,7 @@ fn files_rise(files: &[FileCard]) -> bool
     true
 }
 
-/// Whether a file stands before the first of others by path, if there is one.
+/// Returns whether a file comes before the first of others by path, if there is one.
 fn is_before_first(file: &FileCard, others: &[FileCard]) -> bool
     ensures { result ≡ is_before_first file.now others.now }
 {

@@ -6,3 +6,7 @@ pub mod OrderedNames
 pub mod NameTexts
 pub mod WrittenOrder
 pub mod RefTexts
+pub mod RowsKeeping
+pub mod RowsBuilt
+pub mod Rising
+pub mod Fronts

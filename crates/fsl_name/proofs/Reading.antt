@@ -9,6 +9,7 @@ use Rattle.std.proofs.lemmas.Bool.{not-false, not-true}
 use Rattle.hex.specs.Hex.{decode_sized}
 use Rattle.hex.specs.declared.error.FromHexError.{FromHexError}
 use Rattle.hex.proofs.HexLemmas.{decode_sized-encode_lower}
+use Rattle.fsl_text.proofs.Bytewise.{none_past}
 use Rattle.fsl_name.specs.declared.NameFault.TheVariants.{Length, Digit}
 use Rattle.fsl_name.specs.Name.{is_name_digit, bytes_of_digits, name_read, IsNameText}
 use Rattle.fsl_name.proofs.ByteLists.{IsBytes-from_list}
@@ -33,9 +34,6 @@ decoded text out r long digits h =
     (rw e at h).1
 
 -- ---- the first other byte
-
-none_past : (i n : ℕ) → cond (nat_lt i n) (Some i) None ≡ None → n ≤ i
-none_past i n h = grind (arith)
 
 some_at : (i n k : ℕ) → cond (nat_lt i n) (Some i) None ≡ Some k → i ≡ k
 some_at i n k h = grind (arith)

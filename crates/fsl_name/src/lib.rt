@@ -1,5 +1,9 @@
-//! Names of artifacts. A name is the SHA-1 of an artifact's bytes, and is written as its 40 digits in lower case. It is read from these
-//! and from nothing else, and names are ordered by their bytes. A reference is such a name, or a foreign one of 64 digits.
+//! Names of artifacts. A name is the SHA-1 of an artifact's bytes. It is written as 40 digits in lower case, and is read from
+//! these and from nothing else. Names are ordered by their bytes. A reference is such a name, or a foreign one of 64 digits.
+//!
+//! `Named` is a row that has a name; all tables share it. `Rows` is a list of such rows. The rows are sorted by their names and found
+//! by them. It is the list that the definition `by_name` makes of the rows that were put in. Their order doesn't change it, which is the
+//! law `fsl_order::by_name_in_any_order`. Tests alone use `Rows`.
 #![tactic(auto)]
 
 ghost use Rattle.std.specs.Prelude.{◌≡◌, ℕ, length, List, not, position, IsTrue, IfOk, IfErr};
@@ -20,16 +24,21 @@ ghost use Rattle.fsl_name.specs.Name.{
   IsNameFault,
 };
 
+mod named;
 mod reference;
+mod rows;
 mod sorting;
 
+pub use named::Named;
 pub use reference::Ref;
+pub use rows::Rows;
 use sha1::Sha1;
 pub use sorting::{ordered, stands};
 use std::cmp::Ordering;
 use std::marker::Model;
 
 /// The name of an artifact: 20 bytes, ordered by them.
+/// FORMATS: Names
 #[derive(Clone, Copy, Debug, PartialEq, Eq, Hash)]
 pub struct Name {
     bytes: [u8; 20],
@@ -68,7 +77,8 @@ impl Ord for Name {
 
     ghost matches_eq = { Prim.search (comparing, rules) };
 
-    /// The bytes of a name are as random as a hash, so two names that differ mostly do so in one of their first bytes.
+    /// Compares two names by their bytes. The bytes of a name are as random as a hash, so two names that differ mostly do so in
+    /// one of their first bytes.
     fn cmp(&self, other: &Name) -> Ordering {
         let (these, those) = (&self.bytes, &other.bytes);
         if these[0] != those[0] {
@@ -84,17 +94,18 @@ impl Ord for Name {
     }
 }
 
-/// Why a text is no name, or no reference.
+/// Says why a text is no name, or no reference.
 #[derive(Clone, Copy, Debug, PartialEq, Eq)]
 pub enum NameFault {
-    /// It has so many bytes, and not 40, nor, for a reference, 64.
+    /// The text has this many bytes, and not 40, nor, for a reference, 64.
     Length { found: u64 },
-    /// It has as many bytes as it may, and the one at this place, counted from 0, is the first that is no digit of `0` to `9` and `a` to `f`.
+    /// The text has a right length, and the byte at this place, counted from 0, is the first that is no digit of `0` to `9` and
+    /// `a` to `f`.
     Digit { at: u64 },
 }
 
 impl Name {
-    /// The name of some bytes, which is their SHA-1.
+    /// Computes the name of some bytes, which is their SHA-1.
     pub fn of(bytes: &[u8]) -> Name
         ensures value { result ≡ name_of bytes.now }
         ensures named { IsName result }
@@ -104,7 +115,7 @@ impl Name {
         }
     }
 
-    /// The name that has these bytes.
+    /// Makes the name with these bytes.
     pub fn from_bytes(bytes: [u8; 20]) -> Name
         ensures value { result ≡ bytes }
         ensures named { IsName result }
@@ -112,7 +123,7 @@ impl Name {
         Name { bytes }
     }
 
-    /// Its bytes. By this call a caller learns that it has 20.
+    /// Returns the bytes of the name. This call proves to its caller that there are 20.
     pub fn bytes(&self) -> [u8; 20]
         ensures value { result ≡ self.now }
         ensures named { IsName self.now }
@@ -120,9 +131,9 @@ impl Name {
         self.bytes
     }
 
-    /// Reads the name that a text is: 40 digits of `0` to `9` and `a` to `f`, two for each byte, the higher half of a byte first.
+    /// Reads a text as a name: 40 digits of `0` to `9` and `a` to `f`, two for each byte, the higher half of a byte first.
     ///
-    /// Errors: `Length` where the text doesn't have 40 bytes, or else `Digit` at its first byte that is no such digit.
+    /// Errors: `Length` if the text doesn't have 40 bytes, or else `Digit` at its first byte that is no such digit.
     pub fn read(text: &[u8]) -> Result<Name, NameFault>
         ensures value { result ≡ name_read text.now }
         ensures named { IfOk result IsName }
@@ -143,7 +154,7 @@ impl Name {
         }
     }
 
-    /// Its 40 digits, in lower case.
+    /// Returns the 40 digits of the name, in lower case.
     pub fn text(&self) -> [u8; 40]
         ensures { result ≡ name_text self.now }
     {
@@ -159,14 +170,14 @@ fn is_digit(byte: u8) -> bool
     matches!(byte, b'0'..=b'9' | b'a'..=b'f')
 }
 
-/// The place of the first byte that is no digit.
+/// Finds the place of the first byte that is no digit.
 fn first_other(text: &[u8]) -> Option<usize>
     ensures { result ≡ position (λ b. not (is_name_digit b)) text.now }
 {
     text.iter().position(|byte| !is_digit(*byte))
 }
 
-/// The bytes that 40 digits spell.
+/// Returns the bytes that 40 digits spell.
 fn spelled(text: &[u8]) -> [u8; 20]
     requires length { length text.now ≡ 40 }
     requires digits { IsTrue (list_all is_name_digit text.now) }

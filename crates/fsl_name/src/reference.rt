@@ -1,4 +1,4 @@
-//! References, by which cards name artifacts.
+//! Reads and writes references, by which cards name artifacts.
 ghost use Rattle.std.specs.Prelude.{◌≡◌, ◌≤◌, IfErr, IfOk, IsTrue, MatchResult, None, Ok, Some, drop, length, take};
 ghost use Rattle.fsl_text.specs.Bytes.{AreBytes};
 ghost use Rattle.std.specs.List.{list_all};
@@ -8,7 +8,8 @@ ghost use Rattle.fsl_name.specs.declared.reference.Ref.{Ref as SpecRef};
 
 use super::{Name, NameFault, first_other};
 
-/// What a card names: an artifact, or something outside. Nothing is held, wanted or announced under a foreign name.
+/// A reference of a card, to an artifact or to something outside. Nothing is held, wanted or announced under a foreign name.
+/// FORMATS: Names
 #[derive(Clone, Copy, Debug, PartialEq, Eq)]
 pub enum Ref {
     /// A name of 40 digits.
@@ -18,10 +19,10 @@ pub enum Ref {
 }
 
 impl Ref {
-    /// Reads the reference that a text is: 40 or 64 digits of `0` to `9` and `a` to `f`, two for each byte, the higher half of a byte
+    /// Reads a text as a reference: 40 or 64 digits of `0` to `9` and `a` to `f`, two for each byte, the higher half of a byte
     /// first.
     ///
-    /// Errors: `Length` where the text has neither 40 nor 64 bytes, or else `Digit` at its first byte that is no such digit.
+    /// Errors: `Length` if the text has neither 40 nor 64 bytes, or else `Digit` at its first byte that is no such digit.
     pub fn read(text: &[u8]) -> Result<Ref, NameFault>
         ensures value { MatchResult result (λ r. ref_in text.now ≡ Some r) (λ _. ref_in text.now ≡ None) }
         ensures spelled { IfOk result (λ r. IsRef r × (text.now ≡ ref_text r)) }
@@ -43,7 +44,7 @@ impl Ref {
         }
     }
 
-    /// Writes its digits, in lower case, to the front of some room, and says how many they are: 40 or 64. What stands behind them stays.
+    /// Writes the digits in lower case to the front of `into`, and returns their number: 40 or 64. The bytes behind them stay.
     pub fn write(&self, into: &mut [u8; 64]) -> u64
         ensures count { result ≡ length (ref_text self.now) }
         ensures within { result ≤ 64 }
@@ -57,7 +58,7 @@ impl Ref {
         count as u64
     }
 
-    /// Its bytes, 20 of an own name and 32 of a foreign one. By this call a caller learns how many they are.
+    /// Returns the bytes, 20 of an own name and 32 of a foreign one. This call proves to its caller how many there are.
     pub fn bytes(&self) -> &[u8]
         ensures value { result.now ≡ ref_bytes self.now }
         ensures kept { IsRef self.now }
@@ -71,7 +72,7 @@ impl Ref {
         }
     }
 
-    /// The name of the artifact that it names, where it isn't foreign.
+    /// Returns the name of the artifact, unless it is foreign.
     pub fn own(&self) -> Option<Name>
         ensures { result ≡ own_name self.now }
     {
@@ -81,7 +82,8 @@ impl Ref {
         }
     }
 
-    /// Whether its digits stand before those of another by their bytes. Where one text begins the other, the shorter one stands first.
+    /// Returns whether its digits come before those of another in the order of bytes. If one text begins the other, the shorter
+    /// one comes first.
     pub fn is_written_before(&self, other: &Ref) -> bool
         ensures { result ≡ is_written_before self.now other.now }
     {
@@ -89,14 +91,14 @@ impl Ref {
     }
 }
 
-/// For proofs alone: a foreign name has 32 bytes.
+/// Says that a foreign name has 32 bytes, for proofs alone.
 fn know_foreign(bytes: [u8; 32])
     ensures { (length bytes ≡ 32) × AreBytes bytes }
 {
     let _ = bytes;
 }
 
-/// The bytes that 64 digits spell.
+/// Returns the bytes that 64 digits spell.
 fn spelled(text: &[u8]) -> [u8; 32]
     requires length { length text.now ≡ 64 }
     requires digits { IsTrue (list_all is_name_digit text.now) }

@@ -1,4 +1,4 @@
-//! Clocks, which answer moments: one that is set, and the system's.
+//! Clocks give moments: one is set, and one is the system's.
 ghost use Rattle.std.specs.Prelude.{◌≡◌, ◌∷◌, [], None};
 ghost use Rattle.std.specs.Duration.{as_nanos};
 ghost use Rattle.fsl_date.specs.Moment.{IsMoment};
@@ -13,21 +13,21 @@ use std::time::Duration;
 /// The last millisecond of the year 9999, from 1970.
 const LAST_MS: u128 = 253_402_300_799_999;
 
-/// What answers the moment that it is.
+/// Gives the present moment.
 pub trait Clock {
     ghost use Rattle.std.specs.Prelude.{ℕ, List, Option};
 
-    /// The moments that were answered, in their order, where the clock tells them.
+    /// The moments that the clock gave, in their order, as long as it records them.
     ghost told: { Self → Option (List ℕ) };
 
-    /// The moment that it is. Where the moments are still told, this one is now the last of them.
+    /// Returns the present moment. As long as moments are recorded, this one becomes the last of them.
     fn now(&mut self) -> Moment
         ensures tells { Asks (told self.old) (told self.new) (result ∷ []) }
         ensures moment { IsMoment result };
 }
 
-/// A clock that answers the moment that it was set to. It counts its calls up to the last value of `u64`, and tells its
-/// moments until the count stands there.
+/// A clock that gives the moment that it was set to. It counts its calls up to the last value of `u64`, and records its moments
+/// until the count reaches that value.
 #[derive(Debug, Drop)]
 pub struct SetClock {
     moment: Moment,
@@ -46,7 +46,7 @@ impl Model for SetClock {
 }
 
 impl SetClock {
-    /// A clock that answers this moment at each call, and was never asked.
+    /// Returns a clock that gives this moment at each call, and was never asked.
     pub fn new(moment: Moment) -> SetClock
         ensures { result ≡ record { moment = moment; calls = 0 } }
     {
@@ -70,14 +70,14 @@ impl Clock for SetClock {
     }
 }
 
-/// The clock of the system, which tells no moments. It answers the nearest moment of the years 0 to 9999.
+/// The clock of the system. It records no moments. It gives the nearest moment of the years 0 to 9999.
 #[derive(Drop)]
 pub struct StdClock<R: time::Clock> {
     rt: R,
 }
 
 impl<R: time::Clock> StdClock<R> {
-    /// The clock of a runtime.
+    /// Returns the clock of a runtime.
     pub fn new(rt: R) -> StdClock<R> {
         StdClock { rt }
     }
@@ -88,13 +88,14 @@ impl<R: time::Clock> Clock for StdClock<R> {
 
     ghost told = { λ _. None };
 
-    /// Std doesn't tell how long before 1970 a clock stands. Such a clock, and one that can't be read, stands at 1970.
+    /// Reads the system's clock. Std doesn't tell how long before 1970 a clock is. Such a clock counts as 1970, and so does one
+    /// that can't be read.
     fn now(&mut self) -> Moment {
         moment_after(self.rt.since_1970().unwrap_or(Duration::ZERO))
     }
 }
 
-/// The moment nearest to so long after 1970.
+/// Returns the moment nearest to so long after 1970.
 fn moment_after(time: Duration) -> Moment
     ensures near { result ≡ nearest (as_nanos time) }
     ensures moment { IsMoment result }

@@ -1,4 +1,4 @@
-//! A dial over memory, which fails at the calls that a list names.
+//! A dial over memory, which fails at listed calls.
 ghost use Rattle.std.specs.Prelude.{◌≡◌, ◌<◌, length, min, map, Contains, IsErr, IsNone, IsSome, IfSome, IfOk, OnOk, OnErr};
 ghost use Rattle.std.specs.Io.{ReadsAtMost, WritesAtMost};
 ghost use Rattle.fsl_order.specs.Causes.{HasCause};
@@ -14,9 +14,9 @@ use super::outside::Failed;
 use std::alloc::Global;
 use std::marker::Model;
 
-/// A dial over memory. Each connection gives the next reply, and behind the last one that one again; where there is no
-/// reply it gives no byte. `fails` has the numbers of the calls that fail, counted from 1. A growth that finds no memory,
-/// and a read or a write without a connection, are failed calls, too.
+/// A dial over memory. Each connection gives the next reply, and the last one again once all are given. Without any reply it
+/// gives no byte. `fails` lists the numbers of the calls that fail, counted from 1. A call that is out of memory fails, too, and
+/// so does a read or a write without a connection.
 #[derive(Drop)]
 pub struct MemoryDial {
     lines: Connections,
@@ -34,7 +34,7 @@ impl Model for MemoryDial {
 }
 
 impl MemoryDial {
-    /// A dial that has begun no connection. Its calls of these numbers fail.
+    /// Returns a dial that has begun no connection. Its calls of these numbers fail.
     pub fn new(alloc: Global, replies: Vec<Vec<u8>>, fails: Vec<u64>) -> MemoryDial
         ensures { result ≡ record { lines = none_yet fails.items; replies = map (λ v. v.items) replies.items } }
     {
@@ -45,14 +45,14 @@ impl MemoryDial {
         }
     }
 
-    /// The bytes that a connection took, counted from 0, or `None` where it wasn't begun.
+    /// Returns the bytes that a connection took, or `None` if it wasn't begun. Connections are counted from 0.
     pub fn sent(&self, connection: u64) -> Option<&[u8]>
         ensures { SentBy self.now.lines connection result }
     {
         self.lines.sent(connection)
     }
 
-    // The bytes of the next connection.
+    // Returns the bytes of the next connection.
     fn next_reply(&self) -> Result<Vec<u8>, Failed>
         ensures { IfOk result (λ bytes. bytes.items ≡ reply_at self.now.replies (line_count self.now.lines)) }
     {

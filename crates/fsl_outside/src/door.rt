@@ -1,4 +1,4 @@
-//! A door over memory, which fails at the calls that lists name.
+//! A door over memory, which fails at listed calls.
 ghost use Rattle.std.specs.Prelude.{◌≡◌, ◌<◌, ◌≤◌, length, min, map, Contains, IsErr, IsNone, IsSome, IfSome, IfOk, OnErr};
 ghost use Rattle.std.specs.Io.{ReadsAtMost, WritesAtMost};
 ghost use Rattle.fsl_order.specs.Causes.{HasCause};
@@ -15,9 +15,9 @@ use super::outside::Failed;
 use std::alloc::Global;
 use std::marker::Model;
 
-/// A door over memory, which is closed behind the last of its connections. `fails` has the numbers of the reads and
-/// writes that fail, `accept_fails` those of the accepts, both counted from 1. A growth that finds no memory, and a read
-/// or a write without a connection, are failed calls, too.
+/// A door over memory. It is closed behind the last of its connections. `fails` lists the numbers of the reads and writes that
+/// fail, and `accept_fails` those of the accepts, both counted from 1. A call that is out of memory fails, too, and so does a
+/// read or a write without a connection.
 #[derive(Drop)]
 pub struct MemoryDoor {
     lines: Connections,
@@ -46,7 +46,7 @@ impl Model for MemoryDoor {
 }
 
 impl MemoryDoor {
-    /// A door that has accepted no connection. Its reads and writes, and its accepts, of these numbers fail.
+    /// Returns a door that has accepted no connection. Its reads and writes, and its accepts, of these numbers fail.
     pub fn new(
         alloc: Global,
         connections: Vec<Vec<u8>>,
@@ -73,14 +73,14 @@ impl MemoryDoor {
         }
     }
 
-    /// The bytes that a connection took, counted from 0, or `None` where it wasn't accepted.
+    /// Returns the bytes that a connection took, or `None` if it wasn't accepted. Connections are counted from 0.
     pub fn sent(&self, connection: u64) -> Option<&[u8]>
         ensures { SentBy self.now.lines connection result }
     {
         self.lines.sent(connection)
     }
 
-    // Takes the next connection, where there is one more.
+    // Takes the next connection, if there is one more.
     fn take_next(&mut self) -> Result<Accepted, Failed>
         ensures only { self.new ≡ record self.old { lines = self.new.lines } }
         ensures gives { IfOk result (DoorGives self.old self.new.lines) }
@@ -160,7 +160,7 @@ impl Door for MemoryDoor {
         ensures fails { self.new.accept_fails ≡ self.old.accept_fails }
         ensures connections { self.new.connections ≡ self.old.connections }
         ensures told { Contains self.old.accept_fails (next self.old.accepts) → IsErr result }
-        // Behind the last connection it fails only where it is to, and else is closed.
+        // Behind the last connection it fails only if its number is listed, and else is closed.
         ensures shut { IsErr result → length self.old.connections ≤ line_count self.old.lines → Contains self.old.accept_fails (next self.old.accepts) }
     {
         self.accepts = self.accepts.saturating_add(1);
@@ -181,7 +181,7 @@ impl Door for MemoryDoor {
         }
     }
 
-    /// Leaves all as it is: nobody waits at the other side.
+    /// Leaves everything as it is: nobody waits at the other side.
     fn leave(&mut self)
         ensures same { self.new ≡ self.old }
     {}

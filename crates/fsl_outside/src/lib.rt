@@ -1,6 +1,6 @@
-//! Bytes that come in and bytes that go out, connections with both, and clocks. Each call of a source, a sink or a link answers
-//! `Failed` only where its count of faults rose, and a call that answers otherwise leaves the count. What an object holds
-//! is told by the forms over memory, and by the adapters as far as std's reader or writer tells it.
+//! Bytes that come in and bytes that go out, connections with both, and clocks. A call of a source, a sink or a link answers
+//! `Failed` only if its count of faults rose, and any other answer leaves the count. The forms over memory record what they hold.
+//! The adapters record it as far as std's reader or writer tells it.
 #![tactic(auto)]
 
 mod clock;

@@ -31,7 +31,7 @@ impl Model for Line {
 }
 
 impl Line {
-    /// A connection that gives these bytes.
+    /// Returns a connection that gives these bytes.
     pub(crate) fn new(alloc: Global, bytes: Vec<u8>) -> Line
         ensures { result ≡ fresh bytes.items }
     {
@@ -43,7 +43,7 @@ impl Line {
         }
     }
 
-    /// Moves bytes to the front of `into`, as many as there is room for.
+    /// Moves bytes to the front of `into`, as many as fit.
     pub(crate) fn read(&mut self, into: &mut [u8]) -> usize
         ensures bound { result ≤ length into.new }
         ensures moved { IsRead self.old self.new (take result into.new) }
@@ -57,7 +57,7 @@ impl Line {
         count
     }
 
-    /// Takes all of the piece, or nothing for want of memory.
+    /// Takes all of the piece, or nothing if out of memory.
     pub(crate) fn write(&mut self, piece: &[u8]) -> Result<(), Failed>
         ensures ok { OnOk result (self.new ≡ sent_on self.old piece.now) }
         ensures err { OnErr result (self.new ≡ self.old) }
@@ -78,14 +78,14 @@ impl Line {
         Failed
     }
 
-    /// The bytes that it took.
+    /// Returns the bytes that it took.
     pub(crate) fn sent(&self) -> &[u8]
         ensures { result.now ≡ self.now.taken }
     {
         self.sent.as_slice()
     }
 
-    /// How many calls on it failed.
+    /// Returns how many calls on it failed.
     pub(crate) fn failed(&self) -> u64
         ensures { result ≡ self.now.failed }
     {
@@ -93,7 +93,7 @@ impl Line {
     }
 }
 
-/// The connections so far, of which the last is the present one, and their calls, of which those of these numbers fail.
+/// The connections so far, and their calls. The last connection is the present one. The calls with these numbers fail.
 #[derive(Drop)]
 pub(crate) struct Connections {
     earlier: Vec<Line>,
@@ -112,7 +112,7 @@ impl Model for Connections {
 }
 
 impl Connections {
-    /// None yet.
+    /// Returns no connections.
     pub(crate) fn new(alloc: Global, fails: Vec<u64>) -> Connections
         ensures { result ≡ none_yet fails.items }
     {
@@ -125,14 +125,14 @@ impl Connections {
         }
     }
 
-    /// How many calls failed.
+    /// Returns how many calls failed.
     pub(crate) fn faults(&self) -> u64
         ensures { result ≡ self.now.faults }
     {
         self.faults
     }
 
-    /// Counts one more call, which fails where its number is listed.
+    /// Counts one more call, which fails if its number is listed.
     pub(crate) fn call(&mut self) -> Result<(), Failed>
         ensures calls { self.new ≡ called self.old }
         ensures told { IsErr result ↔ Contains self.old.fails (next self.old.calls) }
@@ -144,7 +144,7 @@ impl Connections {
         Ok(())
     }
 
-    /// Counts a call that failed, and that was on no connection.
+    /// Counts a failed call that was on no connection.
     pub(crate) fn refuse(&mut self) -> Failed
         ensures counted { self.new ≡ record self.old { faults = next self.old.faults } }
         ensures later { self.old.faults ≤ self.new.faults }
@@ -154,7 +154,7 @@ impl Connections {
         Failed
     }
 
-    // Counts a call that failed on the present connection, where there is one.
+    // Counts a call that failed on the present connection, if there is one.
     fn fail(&mut self) -> Failed
         ensures counted { LinesFail self.old self.new }
         ensures later { self.old.faults ≤ self.new.faults }
@@ -167,7 +167,7 @@ impl Connections {
         }
     }
 
-    /// A read from the present connection. One without a connection fails.
+    /// Reads from the present connection. Fails without one.
     pub(crate) fn read(&mut self, into: &mut [u8]) -> Result<usize, Failed>
         ensures bound { ReadsAtMost result into.new }
         ensures moves { LinkReads self.old.present self.new.present result into.new }
@@ -189,7 +189,7 @@ impl Connections {
         }
     }
 
-    /// A write to the present connection. One without a connection fails, and so does one whose growth finds no memory.
+    /// Writes to the present connection. Fails without one, or if out of memory.
     pub(crate) fn write(&mut self, piece: &[u8]) -> Result<usize, Failed>
         ensures bound { WritesAtMost result piece.now }
         ensures some { IfOk result (λ n. 0 < length piece.now → 0 < n) }
@@ -212,8 +212,7 @@ impl Connections {
         }
     }
 
-    /// Begins a connection that gives these bytes, which is the present one then. It takes memory for the list of those
-    /// before it.
+    /// Begins a connection that gives these bytes, and makes it the present one. It takes memory for the list of those before it.
     pub(crate) fn begin(&mut self, alloc: Global, bytes: Vec<u8>) -> Result<(), Failed>
         ensures ok { OnOk result (self.new ≡ begin self.old bytes.items) }
         ensures err { OnErr result (self.new ≡ self.old) }
@@ -237,7 +236,7 @@ impl Connections {
         }
     }
 
-    /// How many there are.
+    /// Returns how many connections there are.
     pub(crate) fn count(&self) -> usize
         ensures { result ≡ line_count self.now }
     {
@@ -247,7 +246,7 @@ impl Connections {
         }
     }
 
-    /// The bytes that a connection took, counted from 0, or `None` where there is none.
+    /// Returns the bytes that a connection took, or `None` if there is none. Connections are counted from 0.
     pub(crate) fn sent(&self, connection: u64) -> Option<&[u8]>
         ensures some { IfSome result (λ s. connection < line_count self.now) }
         ensures taken { IfSome result (λ s. s.now ≡ (get_or (all_of self.now.earlier self.now.present) connection none_here).taken) }
@@ -267,7 +266,7 @@ impl Connections {
     }
 }
 
-// A read from a connection, where there is one.
+// Reads from a connection, if there is one.
 fn read_on(present: &mut Option<Line>, into: &mut [u8]) -> Option<usize>
     ensures bound { IfSome result (λ n. n ≤ length into.new) }
     ensures moves { LinesRead present.old present.new result into.new }
@@ -279,7 +278,7 @@ fn read_on(present: &mut Option<Line>, into: &mut [u8]) -> Option<usize>
     }
 }
 
-// A write to a connection, where there is one.
+// Writes to a connection, if there is one.
 fn write_on(present: &mut Option<Line>, piece: &[u8]) -> Option<Result<(), Failed>>
     ensures { LinesWrite present.old present.new result piece.now }
 {

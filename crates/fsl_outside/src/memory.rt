@@ -1,4 +1,4 @@
-//! Objects over memory, which fail at the calls that a list names.
+//! Objects over memory, which fail at listed calls.
 ghost use Rattle.std.specs.Prelude.{◌≡◌, ◌↔◌, ◌<◌, ◌≤◌, min, length, IsErr, IfOk, OnErr, Some, [], Contains};
 ghost use Rattle.std.specs.Io.{ReadsAtMost, WritesAtMost};
 ghost use Rattle.std.specs.Io.KnownBytes.{ReadConsumes, WriteAppends};
@@ -9,7 +9,7 @@ use super::outside::{Failed, Sink, Source};
 use std::alloc::Global;
 use std::marker::Model;
 
-/// A source over bytes. `fails` has the numbers of the calls that fail, counted from 1.
+/// A source over bytes. `fails` lists the numbers of the calls that fail, counted from 1.
 #[derive(Drop)]
 pub struct MemorySource {
     bytes: Vec<u8>,
@@ -31,7 +31,7 @@ impl Model for MemorySource {
 }
 
 impl MemorySource {
-    /// A source that gives these bytes. Its calls of these numbers fail.
+    /// Returns a source that gives these bytes. Its calls of these numbers fail.
     pub fn new(bytes: Vec<u8>, fails: Vec<u64>) -> MemorySource
         ensures { result ≡ record { left = bytes.items; fails = fails.items; calls = 0; faults = 0 } }
     {
@@ -74,8 +74,8 @@ impl Source for MemorySource {
     }
 }
 
-/// A sink that keeps what it takes. `fails` has the numbers of the calls that fail, counted from 1. A growth that finds
-/// no memory is a failed call, too.
+/// A sink that keeps what it takes. `fails` lists the numbers of the calls that fail, counted from 1. A call that is out of
+/// memory fails, too.
 #[derive(Drop)]
 pub struct MemorySink {
     bytes: Vec<u8>,
@@ -93,7 +93,7 @@ impl Model for MemorySink {
 }
 
 impl MemorySink {
-    /// A sink that has taken nothing. Its calls of these numbers fail.
+    /// Returns a sink that has taken nothing. Its calls of these numbers fail.
     pub fn new(alloc: Global, fails: Vec<u64>) -> MemorySink
         ensures { result ≡ record { taken = []; fails = fails.items; calls = 0; faults = 0 } }
     {
@@ -105,7 +105,7 @@ impl MemorySink {
         }
     }
 
-    /// The bytes that it took.
+    /// Returns the bytes that it took.
     pub fn taken(&self) -> &[u8]
         ensures { result.now ≡ self.now.taken }
     {

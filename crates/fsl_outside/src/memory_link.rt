@@ -1,4 +1,4 @@
-//! A link over memory, which fails at the calls that a list names.
+//! A link over memory, which fails at listed calls.
 ghost use Rattle.std.specs.Prelude.{◌≡◌, ◌↔◌, ◌<◌, length, min, IsErr, IfOk, Some, Contains};
 ghost use Rattle.std.specs.Io.{ReadsAtMost, WritesAtMost};
 ghost use Rattle.fsl_order.specs.Causes.{HasCause};
@@ -12,8 +12,7 @@ use super::outside::Failed;
 use std::alloc::Global;
 use std::marker::Model;
 
-/// A link over bytes. `fails` has the numbers of the calls that fail, counted from 1. A growth that finds no memory is a
-/// failed call, too.
+/// A link over bytes. `fails` lists the numbers of the calls that fail, counted from 1. A call that is out of memory fails, too.
 #[derive(Drop)]
 pub struct MemoryLink {
     line: Line,
@@ -30,7 +29,7 @@ impl Model for MemoryLink {
 }
 
 impl MemoryLink {
-    /// A link whose connection gives these bytes. Its calls of these numbers fail.
+    /// Returns a link whose connection gives these bytes. Its calls of these numbers fail.
     pub fn new(alloc: Global, bytes: Vec<u8>, fails: Vec<u64>) -> MemoryLink
         ensures { result ≡ record { line = fresh bytes.items; fails = fails.items; calls = 0 } }
     {
@@ -41,7 +40,7 @@ impl MemoryLink {
         }
     }
 
-    /// The bytes that it took.
+    /// Returns the bytes that it took.
     pub fn sent(&self) -> &[u8]
         ensures { result.now ≡ self.now.line.taken }
     {

@@ -10,15 +10,15 @@ pub struct Failed;
 
 /// Bytes that come in.
 pub trait Source {
-    /// What reads will give, and the faults.
+    /// The bytes that reads will give, and the faults.
     ghost state: { Self → SourceState };
 
-    /// How many calls failed, up to the last value of `u64`. It never falls.
+    /// Returns how many calls failed, up to the last value of `u64`. It never falls.
     fn faults(&self) -> u64
         ensures { result ≡ (state self.now).faults };
 
-    /// Moves bytes from what is left to the front of `into`, and answers how many. Where `into` isn't empty, 0 means
-    /// the end. A call that failed moves nothing.
+    /// Moves bytes to the front of `into`, and returns how many. If `into` isn't empty, 0 means the end. A call that failed moves
+    /// nothing.
     fn read(&mut self, into: &mut [u8]) -> Result<usize, Failed>
         ensures bound { ReadsAtMost result into.new }
         ensures bytes { ReadConsumes (state self.old).left (state self.new).left result into.new }
@@ -27,15 +27,15 @@ pub trait Source {
 
 /// Bytes that go out.
 pub trait Sink {
-    /// What was taken, and the faults.
+    /// The bytes that were taken, and the faults.
     ghost state: { Self → SinkState };
 
-    /// How many calls failed, up to the last value of `u64`. It never falls.
+    /// Returns how many calls failed, up to the last value of `u64`. It never falls.
     fn faults(&self) -> u64
         ensures { result ≡ (state self.now).faults };
 
-    /// Takes bytes from the front of the piece, and answers how many: at least one where the piece isn't empty. A call
-    /// that failed takes nothing.
+    /// Takes bytes from the front of the piece, and returns how many: at least one if the piece isn't empty. A call that failed
+    /// takes nothing.
     fn write(&mut self, piece: &[u8]) -> Result<usize, Failed>
         ensures bound { WritesAtMost result piece.now }
         ensures some { IfOk result (λ n. 0 < length piece.now → 0 < n) }

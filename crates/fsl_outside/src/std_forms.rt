@@ -1,4 +1,4 @@
-//! The adapters over std's readers and writers.
+//! Adapters over std's readers and writers.
 ghost use Rattle.std.specs.Prelude.{◌≡◌, ◌<◌, None, Some, length, IfOk, option_and_then};
 ghost use Rattle.std.specs.Io.{ReadsAtMost, WritesAtMost};
 ghost use Rattle.std.specs.Io.KnownBytes.{ReadConsumes, WriteAppends};
@@ -10,7 +10,7 @@ use std::io;
 use std::io::{ErrorKind, Read, Write};
 use std::marker::Model;
 
-/// A source over a reader of std, or one whose every call fails.
+/// A source over a reader of std, or a source whose every call fails.
 #[derive(Drop)]
 pub struct StdSource<R: Read> {
     inner: Option<R>,
@@ -26,7 +26,7 @@ impl<R: Read> Model for StdSource<R> {
 }
 
 impl<R: Read> StdSource<R> {
-    /// A source that reads from `inner`.
+    /// Returns a source that reads from `inner`.
     pub fn new(inner: R) -> StdSource<R>
         ensures { result ≡ record { inner = Some inner; faults = 0 } }
     {
@@ -36,7 +36,7 @@ impl<R: Read> StdSource<R> {
         }
     }
 
-    /// A source whose every call fails, as for a file that couldn't be opened.
+    /// Returns a source whose every call fails, as for a file that couldn't be opened.
     pub fn none() -> StdSource<R>
         ensures { result ≡ record { inner = None; faults = 0 } }
     {
@@ -89,8 +89,7 @@ fn read_on<R: Read>(inner: &mut R, into: &mut [u8]) -> io::Result<usize>
     Err(io::Error::from(ErrorKind::Interrupted))
 }
 
-/// A sink over a writer of std, or one whose every call fails. A write that takes no byte of a piece with bytes has
-/// failed.
+/// A sink over a writer of std, or a sink whose every call fails. A write that takes no byte of a piece with bytes has failed.
 #[derive(Drop)]
 pub struct StdSink<W: Write> {
     inner: Option<W>,
@@ -106,7 +105,7 @@ impl<W: Write> Model for StdSink<W> {
 }
 
 impl<W: Write> StdSink<W> {
-    /// A sink that writes to `inner`, which is to keep nothing back.
+    /// Returns a sink that writes to `inner`. `inner` has to pass everything on at once.
     pub fn new(inner: W) -> StdSink<W>
         ensures { result ≡ record { inner = Some inner; faults = 0 } }
     {
@@ -116,7 +115,7 @@ impl<W: Write> StdSink<W> {
         }
     }
 
-    /// A sink whose every call fails.
+    /// Returns a sink whose every call fails.
     pub fn none() -> StdSink<W>
         ensures { result ≡ record { inner = None; faults = 0 } }
     {

@@ -14,10 +14,10 @@ use std::marker::Model;
 use std::net::{Net, SocketAddr, TcpStream, ToSocketAddrs};
 use std::time::{Clock, Duration};
 
-/// A dial over sockets to one address, or one whose every call fails. What comes and goes is untold. Each address of the host is
-/// tried for 60 seconds; how long its name is looked up is the system's. From the first write on a connection has 60 seconds, and
-/// one second more for each megabyte (2^20 bytes) that moved since, as it has before that write; a read or a write beyond that is
-/// a failed call, as is one that waits so long.
+/// A dial over sockets to one address, or a dial whose every call fails. It records no bytes. Each address of the host is tried
+/// for 60 seconds. The system decides how long it looks up the name. A connection has 60 seconds before its first write and 60
+/// seconds from there on. In each part it has one second more for each megabyte (2^20 bytes) that moved. A read or a write beyond
+/// that is a failed call, as is one that waits so long.
 #[derive(Drop)]
 pub struct TcpDial<R: Net + Clock> {
     peer: Option<Peer<R>>,
@@ -25,7 +25,7 @@ pub struct TcpDial<R: Net + Clock> {
     faults: u64,
 }
 
-/// Where connections go.
+/// The place that connections go to.
 #[derive(Drop)]
 struct Peer<R: Net + Clock> {
     rt: R,
@@ -33,7 +33,7 @@ struct Peer<R: Net + Clock> {
 }
 
 impl<R: Net + Clock> Peer<R> {
-    /// A new connection to the first of the addresses that takes one.
+    /// Makes a new connection to the first of the addresses that takes one.
     fn connect(&self) -> io::Result<Timed<R::Stream>> {
         let mut last = io::Error::from(ErrorKind::NotFound);
         for address in self.address.as_str().to_socket_addrs(&self.rt)? {
@@ -45,7 +45,7 @@ impl<R: Net + Clock> Peer<R> {
         Err(last)
     }
 
-    /// A new connection to one address.
+    /// Makes a new connection to one address.
     fn connect_to(&self, address: SocketAddr) -> io::Result<Timed<R::Stream>> {
         let stream = TcpStream::connect_timeout(
             &self.rt,
@@ -66,7 +66,7 @@ impl<R: Net + Clock> Model for TcpDial<R> {
 }
 
 impl<R: Net + Clock> TcpDial<R> {
-    /// A dial to this address, a host and a port with `:` between them, which has begun no connection.
+    /// Returns a dial that has begun no connection. The address is a host and a port with `:` between them.
     pub fn new(rt: R, address: String) -> TcpDial<R>
         ensures { result ≡ record { serves = true; present = false; faults = 0 } }
     {
@@ -77,7 +77,7 @@ impl<R: Net + Clock> TcpDial<R> {
         }
     }
 
-    /// A dial whose every call fails, for a command that dials nobody.
+    /// Returns a dial whose every call fails, for a command that dials nobody.
     pub fn none() -> TcpDial<R>
         ensures { result ≡ record { serves = false; present = false; faults = 0 } }
     {
@@ -97,7 +97,7 @@ impl<R: Net + Clock> TcpDial<R> {
         Failed
     }
 
-    /// A new connection, or `None` where none could be made.
+    /// Makes a new connection, or returns `None` if it can't.
     fn next(&self) -> Option<Timed<R::Stream>>
         ensures { self.now.serves ≡ false → result ≡ None }
     {
@@ -150,7 +150,7 @@ impl<R: Net + Clock> Link for TcpDial<R> {
 }
 
 impl<R: Net + Clock> Dial for TcpDial<R> {
-    /// Lets the connection go that was there, and begins a new one.
+    /// Drops the present connection, and begins a new one.
     fn connect(&mut self) -> Result<(), Failed>
         ensures none { NeverDials self.old self.new result }
         ensures there { OnOk result (self.new.present ≡ true) }

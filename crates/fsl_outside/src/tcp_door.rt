@@ -17,9 +17,9 @@ use std::net::{Net, OpenListener};
 use std::sync::Arc;
 use std::time::Clock;
 
-/// A door over a listening socket, which it may share with others, or one whose every call fails. What comes and goes is untold.
-/// A connection has 60 seconds before its first write and 60 seconds from there on, and of each part one second more for each
-/// megabyte (2^20 bytes) that moved in it; a read or a write beyond that is a failed call, as is one that waits so long.
+/// A door over a listening socket, which it may share with others, or a door whose every call fails. It records no bytes. A
+/// connection has 60 seconds before its first write and 60 seconds from there on. In each part it has one second more for each
+/// megabyte (2^20 bytes) that moved. A read or a write beyond that is a failed call, as is one that waits so long.
 #[derive(Drop)]
 pub struct TcpDoor<R: Net + Clock> {
     entrance: Option<Entrance<R>>,
@@ -28,7 +28,7 @@ pub struct TcpDoor<R: Net + Clock> {
     accept_faults: u64,
 }
 
-/// Where connections come in.
+/// The place at which connections come in.
 #[derive(Drop)]
 struct Entrance<R: Net + Clock> {
     rt: R,
@@ -36,8 +36,8 @@ struct Entrance<R: Net + Clock> {
 }
 
 impl<R: Net + Clock> Entrance<R> {
-    /// The next connection, or `None` where the socket gives no more. One that broke off before it was taken is passed over,
-    /// and so is one that can't be timed: a peer isn't to end what serves the others. Between two of them it waits, and a fault
+    /// Takes the next connection, or returns `None` if the socket gives no more. It skips a connection that broke off before it
+    /// was taken, or that can't be timed: a peer must not end the service for others. Between two of them it waits, and a fault
     /// that stays ends it.
     fn next(&self) -> Option<Timed<R::Stream>> {
         for _ in 0..PASSED_OVER {
@@ -58,7 +58,7 @@ impl<R: Net + Clock> Entrance<R> {
     }
 }
 
-/// How many connections one `accept` passes over before it fails.
+/// The most connections that one `accept` passes over before it fails.
 const PASSED_OVER: u32 = 1 << 20;
 
 /// Protocol errors of the system's `accept` that have no kind of their own, by Linux's numbers.
@@ -72,8 +72,8 @@ const NOT_SUPPORTED: i32 = 95;
 
 const HOST_DOWN: i32 = 112;
 
-/// Whether a fault of the system's `accept` belongs to the connection that would have come: Linux hands on what the network
-/// reported of it. All others are faults of the listening socket.
+/// Returns whether a fault of the system's `accept` belongs to the connection that would have come. Linux passes on the network's
+/// report of it. All others are faults of the listening socket.
 fn is_of_connection(fault: &io::Error) -> bool {
     match fault.kind() {
         ErrorKind::Interrupted
@@ -86,7 +86,7 @@ fn is_of_connection(fault: &io::Error) -> bool {
     }
 }
 
-/// Whether it is one of the protocol errors above.
+/// Returns whether the fault is one of the protocol errors above.
 fn has_protocol_number(fault: &io::Error) -> bool {
     match fault.raw_os_error() {
         Some(code) => {
@@ -110,7 +110,7 @@ impl<R: Net + Clock> Model for TcpDoor<R> {
 }
 
 impl<R: Net + Clock> TcpDoor<R> {
-    /// A door that takes the connections of this socket, and has taken none.
+    /// Returns a door that takes the connections of this socket, and has taken none.
     pub fn over(rt: R, listener: Arc<R::Listener, Global>) -> TcpDoor<R>
         ensures { result ≡ record { serves = true; present = false; faults = 0; accept_faults = 0 } }
     {
@@ -122,7 +122,7 @@ impl<R: Net + Clock> TcpDoor<R> {
         }
     }
 
-    /// A door whose every call fails, as for an address at which nothing can listen.
+    /// Returns a door whose every call fails, as for an address at which nothing can listen.
     pub fn none() -> TcpDoor<R>
         ensures { result ≡ record { serves = false; present = false; faults = 0; accept_faults = 0 } }
     {
@@ -143,7 +143,7 @@ impl<R: Net + Clock> TcpDoor<R> {
         Failed
     }
 
-    /// The next connection, or `None` where none could be taken.
+    /// Takes the next connection, or returns `None` if none could be taken.
     fn next(&self) -> Option<Timed<R::Stream>>
         ensures { self.now.serves ≡ false → result ≡ None }
     {
@@ -204,7 +204,7 @@ impl<R: Net + Clock> Door for TcpDoor<R> {
         0
     }
 
-    /// Lets the connection go that was there, so that its peer waits for nothing more, and then waits for the next one.
+    /// Drops the present connection, so that its peer waits for nothing more, and then waits for the next one.
     fn accept(&mut self) -> Result<Accepted, Failed>
         ensures lists { IfOk result (AcceptLists (door_state self.old) (door_state self.new)) }
         ensures counts { AcceptCounts result (door_state self.old).standing (door_state self.new).standing }
@@ -224,7 +224,7 @@ impl<R: Net + Clock> Door for TcpDoor<R> {
         Err(Failed)
     }
 
-    /// Lets the present connection go: its peer sees the end. Where there is none, nothing happens.
+    /// Drops the present connection, so that its peer sees the end. Without one, nothing happens.
     fn leave(&mut self)
         ensures same { door_state self.new ≡ door_state self.old }
         ensures gone { self.new ≡ record self.old { present = false } }

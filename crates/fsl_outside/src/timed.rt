@@ -13,7 +13,7 @@ pub(crate) const GRACE_SECONDS: u64 = 60;
 /// For each so many bytes that moved in that time, in either direction, a connection has a second more: a megabyte.
 pub(crate) const BYTES_A_SECOND: u64 = 1 << 20;
 
-/// A connection over a socket with a time to be done by, so that neither a silent peer nor one that drips can hold it up for ever.
+/// A connection over a socket with a deadline. So neither a silent peer nor one that drips can hold it up for ever.
 #[derive(Drop)]
 pub(crate) struct Timed<S> {
     stream: S,
@@ -23,7 +23,7 @@ pub(crate) struct Timed<S> {
 }
 
 impl<S: Read + Write + OpenStream + Drop> Timed<S> {
-    /// A connection whose time begins now. It waits for no further bytes before it sends some.
+    /// Returns a connection whose time begins now. It waits for no further bytes before it sends some.
     pub(crate) fn begin<C: Clock>(clock: &C, stream: S) -> io::Result<Timed<S>> {
         let begun = Instant::now(clock)?;
         stream.set_nodelay(true)?;
@@ -35,7 +35,7 @@ impl<S: Read + Write + OpenStream + Drop> Timed<S> {
         })
     }
 
-    /// At the first write the time begins anew: what was done between the last read and it isn't the peer's to answer for.
+    /// Begins the time anew at the first write. The peer doesn't answer for the time between the last read and that write.
     fn begin_writing<C: Clock>(&mut self, clock: &C) -> io::Result<()> {
         if !self.has_written {
             self.begun = Instant::now(clock)?;
@@ -45,7 +45,7 @@ impl<S: Read + Write + OpenStream + Drop> Timed<S> {
         Ok(())
     }
 
-    /// The time that is left, or `TimedOut` where none is.
+    /// Returns the time that is left, or `TimedOut` if none is.
     fn left<C: Clock>(&self, clock: &C) -> io::Result<Duration> {
         let all = Duration::from_secs(GRACE_SECONDS + self.moved / BYTES_A_SECOND);
         match all.checked_sub(self.begun.elapsed(clock)?) {
@@ -54,7 +54,7 @@ impl<S: Read + Write + OpenStream + Drop> Timed<S> {
         }
     }
 
-    /// Notes that so many bytes moved.
+    /// Counts bytes that moved.
     fn note(&mut self, count: usize) {
         self.moved = self.moved.saturating_add(count as u64);
     }

@@ -1,4 +1,4 @@
-//! All of a source, and all of a text into a sink.
+//! Reads a source to its end, and writes a whole text into a sink.
 ghost use Rattle.std.specs.Prelude.{◌≡◌, ◌<◌, ◌≤◌, length, IfOk, IfSome, IfNone, OnOk, OnErr, IfErr};
 ghost use Rattle.std.specs.Io.KnownBytes.{Appends, Consumes, IsAtEnd};
 ghost use Rattle.fsl_order.specs.Causes.{HasCause};
@@ -8,20 +8,20 @@ use super::outside::{Failed, Sink, Source};
 use fsl_text::Text;
 use std::alloc::Global;
 
-// How many bytes are asked for at a time.
+// The number of bytes that one read asks for.
 const PIECE: usize = 65536;
 
-/// Why a source wasn't read to its end.
+/// Says why a source wasn't read to its end.
 #[derive(Clone, Copy, Debug, PartialEq, Eq)]
 pub enum ReadFault {
     /// A read failed.
     Failed,
-    /// There was no memory for what was read.
+    /// The bytes didn't fit in memory.
     Memory,
 }
 
-/// Reads to the end, and gives all bytes; or `None` where they are more than `limit`, of which more than `limit` were
-/// then read. After a fault, what was read is lost.
+/// Reads to the end, and returns all bytes, or `None` if there are more than `limit`. In that case it has read more than `limit`.
+/// After a fault, the bytes that were read are lost.
 pub fn read_whole<S: Source>(
     alloc: Global,
     source: &mut S,

@@ -1,4 +1,4 @@
-//! One request and its reply.
+//! Sends one request and reads its reply.
 ghost use Rattle.std.specs.Prelude.{◌≤◌, IfOk, IfErr};
 ghost use Rattle.fsl_pull.specs.Asking.{IsAsked, IsUnasked, IsAskCounted};
 
@@ -14,7 +14,7 @@ use std::alloc::Global;
 pub(crate) enum Unasked {
     /// A call of the dial failed.
     Link,
-    /// There was no memory for the reply.
+    /// Memory for the reply ran out.
     Memory,
 }
 

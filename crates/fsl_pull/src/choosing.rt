@@ -1,4 +1,4 @@
-//! Which files a push sends.
+//! Chooses the files that a push sends.
 ghost use Rattle.std.specs.Prelude.{◌≡◌, ◌++◌, true, false, not, length, map, filter, filter_map, IfOk};
 ghost use Rattle.fsl_order.specs.Rows.{ascending};
 ghost use Rattle.fsl_answer.specs.Contents.{each_once};

@@ -1,4 +1,4 @@
-//! A clone.
+//! Clones a repository.
 ghost use Rattle.std.specs.Prelude.{◌≡◌, ◌≤◌, ◌↔◌, ◌∷◌, ◌⊎◌, [], ℕ, List, length, None, Some, Ok, Err, option_map, IsTrue, IfOk, IfErr};
 ghost use Rattle.fsl_disk.specs.Disk.{IsModelled, Keeps, LeavesOnly, Quiet, Told};
 ghost use Rattle.fsl_record.specs.Records.{AreFields};
@@ -440,11 +440,11 @@ fn clone_onto<D: Disk, N: Dial>(
     }
 }
 
-/// Clones the repository at the other end of the dial onto an empty disk, which comes back. The first reply begins the
-/// repository, with the project code of its first push card and the server code and fields that are given; the fields are
-/// in their form. Each round asks for the files from a place on, at first 1, and then from the number that the reply
-/// says. The files of a reply arrive as public, and one commit follows. It is at its end with the first reply that says 0.
-/// `stored` counts the artifacts stored.
+/// Clones the repository at the other end of the dial onto an empty disk, and returns that disk. The first reply begins the
+/// repository, with the project code of its first push card and the server code and fields that are given. The fields are in
+/// their form. Each round asks for the files from a place on, at first 1, and then from the number that the reply says. The files
+/// of a reply arrive as public, and one commit follows. The clone is at its end with the first reply that says 0. `stored` counts
+/// the artifacts stored.
 ///
 /// Errors: `NotEmpty` with the disk's length where it isn't 0, before any round, or, where another program wrote it
 /// meanwhile, behind the first; `Link` where a call of the dial failed,
@@ -453,6 +453,7 @@ fn clone_onto<D: Disk, N: Dial>(
 /// behind all cards where there is no number; `Rounds` after 100,000 rounds; `NotRepository` where the file that was made
 /// reads back as another, which never comes over a disk that tells its contents; `Memory`. The rounds that were committed
 /// stay.
+/// FORMATS: Users, logins and replies
 pub fn clone_from<D: Disk, N: Dial>(
     alloc: Global,
     disk: D,

@@ -1,4 +1,4 @@
-//! The commit of a round.
+//! Commits a round.
 ghost use Rattle.std.specs.Prelude.{◌≡◌, ◌≤◌, None};
 ghost use Rattle.fsl_disk.specs.Disk.{Keeps};
 ghost use Rattle.fsl_pull.specs.Steps.{IsCommitted};

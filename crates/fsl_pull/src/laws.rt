@@ -1,63 +1,63 @@
-//! Laws of syncs.
+//! States laws on syncs.
 ghost use Rattle.fsl_pull.specs.Laws.{SyncsHaveOneEnd, SyncsHaveSomeEnd, LocalPullsEnd, PullsEndWell, PullsMissWhatIsKept, SyncsMoveOn, LocalPullsLeaveAll, ClonesHoldTheFiles, ClonesCountNoFaults, SyncsCommit, SyncsCommitAll};
 
-/// A law and no code: of replies that begin alike one sync needs no more than another, and has the same end.
+/// Two syncs whose replies begin alike need the same number of them, and have the same end. This is a law and no code.
 pub fn syncs_have_one_end()
     ensures { SyncsHaveOneEnd }
 {}
 
-/// A law and no code: of as many replies as a sync may have, some first ones are a whole sync.
+/// Of as many replies as a sync may have, some first ones are a whole sync. This is a law and no code.
 pub fn syncs_have_some_end()
     ensures { SyncsHaveSomeEnd }
 {}
 
-/// A law and no code: a pull from another repository always has its end.
+/// A pull from another repository always has its end. This is a law and no code.
 pub fn local_pulls_end()
     ensures { LocalPullsEnd }
 {}
 
-/// A law and no code: a pull that ended well leaves each name that its last reply announced held or shunned, and each
-/// other name that is next was asked for and not sent.
+/// A pull that ended well leaves each name that its last reply announced held or shunned. Each other name that is next was asked
+/// for and not sent. This is a law and no code.
 pub fn pulls_end_well()
     ensures { PullsEndWell }
 {}
 
-/// A law and no code: the name that a pull misses was asked for in its last round, and was announced and not sent.
+/// The name that a pull misses was asked for in its last round, and was announced and not sent. This is a law and no code.
 pub fn pulls_miss_what_is_kept()
     ensures { PullsMissWhatIsKept }
 {}
 
-/// A law and no code: a round of a pull that isn't the last stored or published an artifact, or the next one asks for a new
-/// name; of two rounds of a push that follow each other, neither of them the last, one sent a new file; and each round of a
-/// clone asks from a greater place than the one before it.
+/// A round of a pull that isn't the last stored or published an artifact, or the next one asks for a new name. Of two rounds of a
+/// push that follow each other, neither of them the last, one sent a new file. Each round of a clone asks from a greater place
+/// than the one before it. This is a law and no code.
 pub fn syncs_move_on()
     ensures { SyncsMoveOn }
 {}
 
-/// A law and no code: a pull from another repository that ended well leaves each of its public names that stand in no
-/// cluster held or shunned, and each of its public artifacts to which an artifact held here refers.
+/// A pull from another repository that ended well leaves each of its public names that are in no cluster held or shunned, and
+/// each of its public artifacts to which an artifact held here refers. This is a law and no code.
 pub fn local_pulls_leave_all()
     ensures { LocalPullsLeaveAll }
 {}
 
-/// A law and no code: a clone that ended well holds the files that came and no others, the first of each name, as public,
-/// under the Config of the first reply's project code.
+/// A clone that ended well holds the files that came and no others, the first of each name, as public, under the Config of the
+/// first reply's project code. This is a law and no code.
 pub fn clones_hold_the_files()
     ensures { ClonesHoldTheFiles }
 {}
 
-/// A law and no code: a clone comes to the same whatever the disk's count of faults is.
+/// A clone comes to the same with every count of faults of the disk. This is a law and no code.
 pub fn clones_count_no_faults()
     ensures { ClonesCountNoFaults }
 {}
 
-/// A law and no code: the committed records behind a sync are those before it followed by the records of its commits; those
-/// behind a clone are the records of its commits.
+/// The committed records behind a sync are those before it followed by the records of its commits. Those behind a clone are the
+/// records of its commits. This is a law and no code.
 pub fn syncs_commit()
     ensures { SyncsCommit }
 {}
 
-/// A law and no code: behind a sync that ended well all records are committed.
+/// Behind a sync that ended well all records are committed. This is a law and no code.
 pub fn syncs_commit_all()
     ensures { SyncsCommitAll }
 {}

@@ -1,5 +1,5 @@
-//! The client of a sync. A sync is a list of rounds: a request goes out, a reply comes in, its files arrive in the
-//! repository, and one commit follows. [`pull`] asks for names until no file comes and none is new. [`push`] announces names
+//! Runs the client of a sync. A sync is a list of rounds. In a round a request goes out, a reply comes in, its files arrive in
+//! the repository, and one commit follows. [`pull`] asks for names until no file comes and none is new. [`push`] announces names
 //! and sends the files that are asked for. [`clone_from`] makes a repository, and asks from place to place.
 //!
 //! Each round over a network has a connection of its own. The contract of a call says which rounds the connections of its
@@ -33,57 +33,58 @@ pub use local::pull_local;
 pub use pulling::pull;
 pub use pushing::push;
 
-/// Who asks.
+/// The user who asks, and the secret of that user.
 #[derive(Drop)]
 pub struct Login {
     pub user: Text,
     pub secret: Text,
 }
 
-/// What a sync came to: how many rounds it had, and how many artifacts were stored, or sent by a push.
+/// The outcome of a sync: the number of its rounds, and of the artifacts that were stored, or sent by a push.
 #[derive(Clone, Copy, Debug, PartialEq, Eq)]
 pub struct Pulled {
     pub rounds: u64,
     pub stored: u64,
 }
 
-/// What is wrong with a reply.
+/// A fault of a reply.
 #[derive(Debug, Drop)]
 pub enum PeerFault {
-    /// No head of a reply.
+    /// The reply has no head.
     Head,
-    /// A status other than 200.
+    /// The reply has a status other than 200.
     Http { found: u16 },
-    /// A length above 2^27.
+    /// The reply has a length above 2^27.
     Long { found: u64 },
-    /// So many bytes of the body, fewer than said.
+    /// The body has this many bytes, fewer than its head says.
     Short { found: u64 },
-    /// A line that doesn't read, or a private card.
+    /// A line doesn't read, or is a private card.
     Line { line: u64 },
-    /// The text of an error card.
+    /// The reply has an error card with this text.
     Error { text: Text },
-    /// A file whose bytes have another name.
+    /// The bytes of a file have another name.
     WrongName { name: Name, found: Name },
-    /// No push card with two codes.
+    /// The reply has no push card with two codes.
     NoPush,
-    /// No card that says where a clone goes on.
+    /// The reply has no card that says where a clone goes on.
     NoSequence,
-    /// A clone that doesn't go on.
+    /// The number of the reply takes a clone no further.
     Sequence { found: u64 },
-    /// A file that was sent is asked for again.
+    /// The reply asks again for a file that was sent.
     Again { name: Name },
 }
 
-/// Why a sync ended.
+/// A reason why a sync failed.
 #[derive(Debug, Drop)]
 pub enum PullFault {
-    /// The disk of a clone holds so many bytes.
+    /// The disk of a clone isn't empty. It holds this many bytes.
     NotEmpty { len: u64 },
-    /// The file that a clone made reads back so.
+    /// The file that a clone made doesn't read back as that repository. The field has the place of the fault. It is 0 where the
+    /// file reads as another repository.
     NotRepository { at: u64 },
     /// The other repository has this project code.
     Project { found: Name },
-    /// A commit has failed, with the disk's count of faults at this.
+    /// A commit has failed. The field has the disk's count of faults at that time.
     Stopped { faults: u64 },
     /// A call of the dial failed.
     Link,
@@ -93,14 +94,14 @@ pub enum PullFault {
     Damaged { name: Name, found: Name },
     /// A reply is wrong.
     Peer(PeerFault),
-    /// A file that came has so many bytes, more than 16,777,216.
+    /// A file that came has this many bytes, more than 16,777,216.
     TooLarge { name: Name, size: u64 },
-    /// With a file that came a limit of the repository would be passed.
+    /// A limit of the repository would be passed with a file that came.
     Full { name: Name },
-    /// A name that the peer announced was asked for, and the peer sends no file of it.
+    /// The peer announced a name, was asked for it, and sends no file of it.
     Missing { name: Name },
-    /// After 100,000 rounds the sync wasn't at its end.
+    /// The sync wasn't at its end after 100,000 rounds.
     Rounds,
-    /// There was no memory.
+    /// Memory ran out.
     Memory,
 }

@@ -1,4 +1,4 @@
-//! A pull from another repository.
+//! Pulls from another repository.
 ghost use Rattle.std.specs.Prelude.{◌≡◌, ◌≤◌, false, None, IsSome, OnOk, IfOk, IfErr};
 ghost use Rattle.std.specs.List.Sorted.{IsStrictlySortedBy};
 ghost use Rattle.std.specs.Str.{bytes_eq};
@@ -137,17 +137,18 @@ fn other_project<D: Disk, P: Disk>(repo: &Repo<D>, peer: &Repo<P>) -> Option<Nam
     }
 }
 
-/// Pulls from another repository of the same project, which is only read. The first round asks for the wanted names, and
-/// each later one for the wanted names and the public names of the peer that stand in no cluster, without those that are
-/// held or shunned. The peer gives each asked artifact that it holds as public, as it is read from its disk: over one that
-/// tells its contents and meets the disk model the held bytes, over every other disk bytes of the same name and size. It
-/// arrives as public, and one commit follows. It is at its end with the first round in which no artifact was stored or published and after which each name
-/// that is next was asked for in it.
+/// Pulls from another repository of the same project. It only reads that one. The first round asks for the wanted names, and each
+/// later one for the wanted names and the public names of the peer that are in no cluster, without those that are held or
+/// shunned. The peer gives each asked artifact that it holds as public, as it is read from its disk. Over a disk that tells its
+/// contents and meets the disk model these are the held bytes. Over every other disk they are bytes of the same name and size.
+/// Each arrives as public, and one commit follows. The pull is at its end with the first round in which no artifact was stored or
+/// published and after which each name that is next was asked for in it.
 ///
 /// Errors: `Project` with the peer's project code, where it has another one; `Stopped` where a commit has failed; `Full`
 /// by the first artifact with which a limit would be passed; `Disk` where a call of one of the two disks failed; `Damaged`
 /// with the name of an artifact of the peer and that of the bytes that were read for it, where that is another one;
 /// `Memory`. The rounds that were committed stay, and so does in memory what the last one appended.
+/// FORMATS: Users, logins and replies
 pub fn pull_local<D: Disk, P: Disk>(
     alloc: Global,
     repo: &mut Repo<D>,

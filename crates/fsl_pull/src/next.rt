@@ -1,4 +1,4 @@
-//! The names that a pull asks for next, and whether it is at its end.
+//! Finds the names that a pull asks for next, and tells whether it is at its end.
 ghost use Rattle.std.specs.Prelude.{◌≡◌, IfOk, filter, find, not};
 ghost use Rattle.std.specs.List.{list_all};
 ghost use Rattle.std.specs.List.Sorted.{IsStrictlySortedBy};
@@ -20,9 +20,9 @@ use std::alloc::Global;
 /// What follows a round of a pull.
 #[derive(Drop)]
 pub(crate) enum Step {
-    /// A round that asks for these names.
+    /// A round follows that asks for these names.
     On(List<Name>),
-    /// The end. The name is missing: the peer announced it and doesn't send it.
+    /// The pull is at its end. The name, where there is one, is missing: the peer announced it and doesn't send it.
     End(Option<Name>),
 }
 

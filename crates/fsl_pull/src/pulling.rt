@@ -1,4 +1,4 @@
-//! A pull.
+//! Pulls from a server.
 ghost use Rattle.std.specs.Prelude.{◌≡◌, ◌≤◌, None, IsSome, OnOk, IfOk};
 ghost use Rattle.std.specs.List.Sorted.{IsStrictlySortedBy};
 ghost use Rattle.fsl_order.specs.Names.{bytes_cmp};
@@ -117,15 +117,16 @@ fn pull_round<D: Disk, N: Dial>(
     }
 }
 
-/// Pulls from the repository at the other end of the dial. The first round asks for the wanted names, and each later one
-/// for the wanted names and those that the reply before it announced, without those that are held or shunned. The files
-/// of a reply arrive as public, and one commit follows. It is at its end with the first round in which no artifact was
-/// stored or published and after which each name that is next was asked for in it.
+/// Pulls from the repository at the other end of the dial. The first round asks for the wanted names, and each later one for the
+/// wanted names and those that the reply before it announced, without those that are held or shunned. The files of a reply arrive
+/// as public, and one commit follows. The pull is at its end with the first round in which no artifact was stored or published
+/// and after which each name that is next was asked for in it.
 ///
 /// Errors: `Stopped`, before any round, where a commit has failed; `Link` where a call of the dial failed, and `Disk` where
 /// one of the disk did; `Peer`, `TooLarge` and `Full` by the first thing that is wrong with a reply; `Missing` at the end
 /// with the least name that is next and that the last reply announced; `Rounds` after 100,000 rounds; `Memory`. The rounds
 /// that were committed stay, and so does in memory what the last one appended.
+/// FORMATS: Users, logins and replies
 pub fn pull<D: Disk, N: Dial>(
     alloc: Global,
     repo: &mut Repo<D>,

@@ -1,4 +1,4 @@
-//! A push.
+//! Pushes to a server.
 ghost use Rattle.std.specs.Prelude.{◌≡◌, ◌≤◌, ◌++◌, None, IsSome, OnOk, IfOk};
 ghost use Rattle.fsl_disk.specs.Disk.{Keeps};
 ghost use Rattle.fsl_pull.specs.PushTurns.{quiet_by, push_step, push_answer, IsPushTaken, IsPushTurned};
@@ -24,11 +24,11 @@ use std::alloc::Global;
 /// What follows a round of a push.
 #[derive(Drop)]
 pub(crate) enum PushStep {
-    /// A round that sends the files of these names.
+    /// A round follows that sends the files of these names.
     On(List<Name>),
-    /// The end.
+    /// The push is at its end.
     End,
-    /// The end, with a file that was sent and is asked for again.
+    /// The push is at its end, since a file that was sent is asked for again.
     Again(Name),
 }
 
@@ -165,13 +165,13 @@ fn push_round<D: Disk, N: Dial>(
     }
 }
 
-/// Pushes to the repository at the other end of the dial. Each round announces the public names that stand in no cluster,
-/// and sends the public artifacts that the reply before it asked for and that weren't sent, as many as a reply takes too.
-/// The files of a reply arrive as public, and one commit follows. It is at its end with the first round without files
-/// after which no public artifact is asked for. `stored` counts the files sent.
+/// Pushes to the repository at the other end of the dial. Each round announces the public names that are in no cluster, and sends
+/// the public artifacts that the reply before it asked for and that weren't sent, as many as a reply takes too. The files of a
+/// reply arrive as public, and one commit follows. The push is at its end with the first round without files after which no
+/// public artifact is asked for. `stored` counts the files sent.
 ///
-/// The files that are sent are read from the disk. Over a disk that tells its contents and meets the disk model they are the
-/// held ones; over every other disk they have the same names and sizes.
+/// The files that are sent are read from the disk. Over a disk that tells its contents and meets the disk model they are the held
+/// ones. Over every other disk they have the same names and sizes.
 ///
 /// Errors: `Stopped`, before any round, where a commit has failed; `Link` where a call of the dial failed, and `Disk` where
 /// one of the disk did; `Damaged`, before the round that was to send it, with the name of a file and that of the bytes that
@@ -179,6 +179,7 @@ fn push_round<D: Disk, N: Dial>(
 /// least name that is asked for again, where behind a round without files each public artifact that is asked for was sent;
 /// `Rounds` after 100,000 rounds; `Memory`. The rounds that were committed stay, and so does in memory what the last one
 /// appended.
+/// FORMATS: Users, logins and replies
 pub fn push<D: Disk, N: Dial>(
     alloc: Global,
     repo: &mut Repo<D>,

@@ -1,4 +1,4 @@
-//! The files that are read from a disk.
+//! Reads files from a disk.
 ghost use Rattle.std.specs.Prelude.{◌≡◌, IfOk, IfErr, OnOk};
 ghost use Rattle.fsl_pull.specs.Reading.{IsOnlyRead};
 ghost use Rattle.fsl_pull.specs.Reads.{IsPublicRead, FileFails, read_fault};

@@ -1,4 +1,4 @@
-//! What the body of a reply is: its cards, or the first thing that is wrong with it.
+//! Reads the body of a reply: its cards, or the first thing that is wrong with it.
 ghost use Rattle.std.specs.Prelude.{◌≡◌, position, option_map, IfOk};
 ghost use Rattle.std.specs.Option.{option_map_or};
 ghost use Rattle.fsl_wire.specs.Messages.{IsReadFault};

@@ -1,4 +1,4 @@
-//! The bodies of requests.
+//! Writes the bodies of requests.
 ghost use Rattle.std.specs.Prelude.{◌≡◌, ◌∷◌, ◌++◌, [], map, IfOk, IfErr, OnOk};
 ghost use Rattle.fsl_name.specs.Name.{name_text};
 ghost use Rattle.fsl_wire.specs.declared.WireCard.TheVariants as card_is;

@@ -1,4 +1,4 @@
-//! The names that a push has sent.
+//! Keeps the names that a push has sent.
 ghost use Rattle.std.specs.Prelude.{◌≡◌, ◌∷◌, ◌++◌, [], length, OnOk};
 ghost use Rattle.std.specs.List.{list_all};
 ghost use Rattle.fsl_order.specs.Names.{has};
@@ -77,7 +77,7 @@ impl SentSoFar {
         }
     }
 
-    /// Notes that names were sent. For want of memory some of them are noted.
+    /// Notes that names were sent. Where memory runs out, some of them are noted.
     pub(crate) fn note_all(&mut self, names: &[Name]) -> Result<(), Memory>
         ensures { OnOk result (self.new.order ≡ self.old.order ++ names.now) }
     {

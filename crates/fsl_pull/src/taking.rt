@@ -1,4 +1,4 @@
-//! The cards of a reply are taken: its files arrive in order as public.
+//! Takes the cards of a reply. Its files arrive in order as public.
 ghost use Rattle.std.specs.Prelude.{◌≡◌, ◌<◌, ◌||◌};
 ghost use Rattle.fsl_pull.specs.Arrivals.{arrival_fault, has_moved};
 ghost use Rattle.fsl_pull.specs.Taking.{IsArrived, GoesOnFrom, TakesCard, TakesAll};

@@ -51,9 +51,14 @@ report_by honest c items (question_of.Tags prefix) due unread are is = (items, a
 report_by honest c items (question_of.Tip symbol) due unread are is = (items, are, is)
 report_by honest c items (question_of.Files prefix) due unread are is = (items, are, is)
 report_by honest c items (question_of.Wiki title) due unread are is = (items, are, is)
-report_by honest c items (question_of.Ticket id) due unread are is = (items, are, is)
-report_by honest c items (question_of.Thread name) due unread are is = (items, are, is)
+report_by honest c items (question_of.Ticket prefix) due unread are is = (items, are, is)
+report_by honest c items (question_of.Thread prefix) due unread are is = (items, are, is)
 report_by honest c items question_of.Phantoms due unread are is = (items, are, is)
+report_by honest c items question_of.Info due unread are is = (items, are, is)
+report_by honest c items question_of.Branches due unread are is = (items, are, is)
+report_by honest c items question_of.Pages due unread are is = (items, are, is)
+report_by honest c items (question_of.Tickets fields) due unread are is = (items, are, is)
+report_by honest c items question_of.Threads due unread are is = (items, are, is)
 
 -- an answer by the items that are held is reported
 pub reported_by : (honest : Bool) (c : Contents) (items : List Item) (question : Question) (faults : ℕ) (told : Result (List ℕ) QueryFault) → prefix_of question ≡ None → AreItems c.held items → IsAnswer (report c items question) told → IsReported honest c question faults faults told
@@ -81,9 +86,14 @@ as_due honest (question_of.Tags prefix) due text unread is = is
 as_due honest (question_of.Tip symbol) due text unread is = is
 as_due honest (question_of.Files prefix) due text unread is = is
 as_due honest (question_of.Wiki title) due text unread is = is
-as_due honest (question_of.Ticket id) due text unread is = is
-as_due honest (question_of.Thread name) due text unread is = is
+as_due honest (question_of.Ticket prefix) due text unread is = is
+as_due honest (question_of.Thread prefix) due text unread is = is
 as_due honest question_of.Phantoms due text unread is = is
+as_due honest question_of.Info due text unread is = is
+as_due honest question_of.Branches due text unread is = is
+as_due honest question_of.Pages due text unread is = is
+as_due honest (question_of.Tickets fields) due text unread is = is
+as_due honest question_of.Threads due text unread is = is
 
 pub value_of : (honest : Bool) (question : Question) (due : Result (List ℕ) Refused) (told : Result (List ℕ) QueryFault) → prefix_of question ≡ None → IsAnswer due told → IfOk told (λ text. IsReportTold honest question due (Ok text))
 value_of honest question due (Ok text) unread h = as_due honest question due text unread h
@@ -100,9 +110,14 @@ is_cat (question_of.Tags other) prefix is = absurd cc
 is_cat (question_of.Tip symbol) prefix is = absurd cc
 is_cat (question_of.Files other) prefix is = absurd cc
 is_cat (question_of.Wiki title) prefix is = absurd cc
-is_cat (question_of.Ticket id) prefix is = absurd cc
-is_cat (question_of.Thread name) prefix is = absurd cc
+is_cat (question_of.Ticket other) prefix is = absurd cc
+is_cat (question_of.Thread other) prefix is = absurd cc
 is_cat question_of.Phantoms prefix is = absurd cc
+is_cat question_of.Info prefix is = absurd cc
+is_cat question_of.Branches prefix is = absurd cc
+is_cat question_of.Pages prefix is = absurd cc
+is_cat (question_of.Tickets fields) prefix is = absurd cc
+is_cat question_of.Threads prefix is = absurd cc
 
 -- a content that is told is the one that is due, as it is read; and a refusal the one that is due
 told_content : (honest : Bool) (c : Contents) (prefix : List ℕ) (before after : ℕ) (told : Result (List ℕ) QueryFault) → IsReported honest c (question_of.Cat prefix) before after told → IfOk told (λ text. IsReadContent honest (content c prefix) (Ok text))
@@ -274,9 +289,14 @@ read_for (question_of.Tags prefix) c items has unread other = has
 read_for (question_of.Tip symbol) c items has unread other = has
 read_for (question_of.Files prefix) c items has unread other = has
 read_for (question_of.Wiki title) c items has unread other = has
-read_for (question_of.Ticket id) c items has unread other = has
-read_for (question_of.Thread name) c items has unread other = has
+read_for (question_of.Ticket prefix) c items has unread other = has
+read_for (question_of.Thread prefix) c items has unread other = has
 read_for question_of.Phantoms c items has unread other = has
+read_for question_of.Info c items has unread other = has
+read_for question_of.Branches c items has unread other = has
+read_for question_of.Pages c items has unread other = has
+read_for (question_of.Tickets fields) c items has unread other = has
+read_for question_of.Threads c items has unread other = has
 
 pub items_for : (question : Question) (c : Contents) (items : List Item) → IsReadFor question c (Some items) → AreItems c.held items × All IsItem items
 items_for (question_of.Cat prefix) c items read = absurd cc
@@ -287,6 +307,11 @@ items_for (question_of.Tags prefix) c items read = read
 items_for (question_of.Tip symbol) c items read = read
 items_for (question_of.Files prefix) c items read = read
 items_for (question_of.Wiki title) c items read = read
-items_for (question_of.Ticket id) c items read = read
-items_for (question_of.Thread name) c items read = read
+items_for (question_of.Ticket prefix) c items read = read
+items_for (question_of.Thread prefix) c items read = read
 items_for question_of.Phantoms c items read = read
+items_for question_of.Info c items read = read
+items_for question_of.Branches c items read = read
+items_for question_of.Pages c items read = read
+items_for (question_of.Tickets fields) c items read = read
+items_for question_of.Threads c items read = read

@@ -70,3 +70,8 @@ rows_counted n k front xs is count short =
     let taken : k ≡ length (take n xs) = count ∙ ap (λ ys. length ys) is in
     let all : take n xs ≡ xs = all_taken n xs (subst (λ (m : ℕ). m < n) taken short) in
     taken ∙ ap (λ ys. length ys) all
+
+pub rows_whole : {X : Type 0} (n k : ℕ) (front xs : List X) → front ≡ take n xs → k ≡ length front → k < n → front ≡ xs
+rows_whole n k front xs is count short =
+    let taken : k ≡ length (take n xs) = count ∙ ap (λ ys. length ys) is in
+    is ∙ all_taken n xs (subst (λ (m : ℕ). m < n) taken short)

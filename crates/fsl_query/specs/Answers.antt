@@ -23,7 +23,7 @@ use Rattle.fsl_repo.specs.Opening.{HasItems}
 use Rattle.fsl_repo.specs.Whole.{is_modelled}
 use Rattle.fsl_query.specs.Reports.{IsReport}
 
--- the value that is due, or the refusal; want of memory has no cause. What reads no content meets no fault of the disk
+-- the value that is due, or the refusal; `Memory` has no cause. What reads no content meets no fault of the disk
 abbrev pub IsAnswer : {X : Type 0} → Result X Refused → Result X QueryFault → Type 0
 IsAnswer due (Ok value) = due ≡ Ok value
 IsAnswer due (Err (RefusedFault refused)) = due ≡ Err refused
@@ -56,7 +56,7 @@ abbrev pub content_asked : Contents → Question → Option (List ℕ)
 content_asked c (Cat prefix) = one_of (found (matching c.held prefix))
 content_asked c question = None
 
--- the report on the question or its refusal, by the items that the held artifacts are. Where a content is read, the disk may fail, so that its count of faults rises from the one to the other, or that content may be damaged; by every other answer the count is the same. Want of memory has no cause
+-- the report on the question or its refusal, by the items that the held artifacts are. Where a content is read, the disk may fail, so that its count of faults rises from the one to the other, or that content may be damaged; by every other answer the count is the same. `Memory` has no cause
 abbrev pub IsReported : Bool → Contents → Question → ℕ → ℕ → Result (List ℕ) QueryFault → Type 0
 IsReported honest c question before after (Ok text) = IsReport honest c question (Ok text) × (after ≡ before)
 IsReported honest c question before after (Err (RefusedFault refused)) = IsReport honest c question (Err refused) × (after ≡ before)

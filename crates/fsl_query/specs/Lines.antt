@@ -1,5 +1,5 @@
 -- The lines of reports.
-use Rattle.std.specs.Prelude.{ℕ, List, [], ◌∷◌, ◌++◌, Option, Some, None, if◌then◌else◌, codes}
+use Rattle.std.specs.Prelude.{ℕ, List, [], ◌∷◌, ◌++◌, Option, Some, None, if◌then◌else◌, codes, decimal, map}
 use Rattle.std.specs.Option.{option_map_or}
 use Rattle.fsl_date.specs.Moment.{moment_text}
 use Rattle.fsl_text.specs.Bytes.{is_empty}
@@ -115,6 +115,36 @@ post_kind_text Reply = codes "reply"
 -- DATE NAME KIND USER
 abbrev pub post_line : Post → List ℕ
 post_line p = spaced (moment_text p.date ∷ name_text p.name ∷ post_kind_text p.how ∷ shown p.user ∷ [])
+
+-- ---- what there is
+
+-- DATE NAME BRANCH, of a date and a name
+abbrev pub branch_line : ℕ × List ℕ → List ℕ → List ℕ
+branch_line newest branch = spaced (moment_text newest.0 ∷ name_text newest.1 ∷ shown branch ∷ [])
+
+-- DATE NAME USER TITLE
+abbrev pub title_line : Page → List ℕ
+title_line p = spaced (moment_text p.date ∷ name_text p.name ∷ shown p.user ∷ shown p.title ∷ [])
+
+-- DATE ID VALUE ..
+abbrev pub ticket_line : ℕ → List ℕ → List (List ℕ) → List ℕ
+ticket_line date id values = spaced (moment_text date ∷ name_text id ∷ map shown values)
+
+-- DATE NAME POSTS TITLE, of a thread as a row
+abbrev pub thread_line : Row → ℕ → List ℕ
+thread_line r posts = spaced (moment_text r.time ∷ name_text r.name ∷ decimal posts ∷ shown r.text ∷ [])
+
+-- WORD N
+abbrev pub count_line : List ℕ → ℕ → List ℕ
+count_line word n = spaced (word ∷ decimal n ∷ [])
+
+-- WORD CODE
+abbrev pub code_line : List ℕ → List ℕ → List ℕ
+code_line word code = spaced (word ∷ name_text code ∷ [])
+
+-- field NAME
+abbrev pub configured_line : List ℕ → List ℕ
+configured_line field = spaced (codes "field" ∷ escape field ∷ [])
 
 -- ---- phantoms
 

@@ -3,7 +3,7 @@ use Rattle.std.specs.Prelude.{ℕ, List, ◌++◌, codes}
 use Rattle.fsl_text.specs.Escapes.{escape}
 use Rattle.fsl_name.specs.Name.{name_text}
 use Rattle.fsl_query.specs.declared.Refused.{Refused}
-use Rattle.fsl_query.specs.declared.Refused.TheVariants.{NoArtifact, SeveralArtifacts, NotCheckin, NoBaseline, NoCheckin, NoPage, NoTicket, NoThread}
+use Rattle.fsl_query.specs.declared.Refused.TheVariants.{NoArtifact, SeveralArtifacts, NotCheckin, NoBaseline, NoCheckin, NoPage, NoTicket, NoThread, Several, NoField}
 
 -- the text of a refusal
 abbrev pub refusal_text : Refused → List ℕ
@@ -13,5 +13,7 @@ refusal_text (NotCheckin name) = codes "not a check-in " ++ name_text name
 refusal_text (NoBaseline name) = codes "baseline not held " ++ name_text name
 refusal_text (NoCheckin symbol) = codes "no check-in " ++ escape symbol
 refusal_text (NoPage title) = codes "no page " ++ escape title
-refusal_text (NoTicket id) = codes "no ticket " ++ name_text id
-refusal_text (NoThread name) = codes "no thread " ++ name_text name
+refusal_text (NoTicket prefix) = codes "no ticket " ++ prefix
+refusal_text (NoThread prefix) = codes "no thread " ++ prefix
+refusal_text (Several prefix) = codes "several " ++ prefix
+refusal_text (NoField field) = codes "no field " ++ escape field

@@ -2,7 +2,7 @@
 use Rattle.std.specs.Prelude.{◌≡◌, ℕ, Bool, true, List, [], ◌∷◌, ◌++◌, length, filter, flat_map, zip, Option, Result, Ok, Err}
 use Rattle.std.specs.Option.{option_map_or}
 use Rattle.std.specs.FinMap as map_of
-use Rattle.fsl_name.specs.Name.{name_of, name_text}
+use Rattle.fsl_name.specs.Name.{name_in, name_of, name_text}
 use Rattle.fsl_tags.specs.declared.Fact as tags
 use Rattle.fsl_tags.specs.Tags.{in_force}
 use Rattle.fsl_leaves.specs.declared.Fact as leaves_of
@@ -12,7 +12,7 @@ use Rattle.fsl_files.specs.declared.Listing.{Listing}
 use Rattle.fsl_files.specs.declared.Listing.TheVariants.{NotCheckin as not_checkin, NoBaseline as no_baseline, Known}
 use Rattle.fsl_files.specs.Files.{files, changes}
 use Rattle.fsl_timeline.specs.declared.Row.{Row}
-use Rattle.fsl_timeline.specs.Timeline.{latest}
+use Rattle.fsl_timeline.specs.Timeline.{latest, timeline}
 use Rattle.fsl_wiki.specs.declared.Fact as pages_of
 use Rattle.fsl_wiki.specs.Pages.{history, attached}
 use Rattle.fsl_ticket.specs.declared.Fact as tickets_of
@@ -29,9 +29,11 @@ use Rattle.fsl_blobs.specs.Held.{matching, found}
 use Rattle.fsl_repo.specs.Machine.{AreItems, configured, now, wants}
 use Rattle.fsl_repo.specs.Whole.{Seen}
 use Rattle.fsl_words.specs.declared.Question.{Question}
-use Rattle.fsl_words.specs.declared.Question.TheVariants.{Cat, Receipt, Timeline, Leaves, Tags, Tip, Files, Wiki, Ticket, Thread, Phantoms}
+use Rattle.fsl_words.specs.declared.Question.TheVariants.{Cat, Receipt, Timeline, Leaves, Tags, Tip, Files, Wiki, Ticket, Thread, Phantoms, Info, Branches, Pages, Tickets, Threads}
 use Rattle.fsl_query.specs.declared.Refused.{Refused}
 use Rattle.fsl_query.specs.declared.Refused.TheVariants as refused
+use Rattle.fsl_query.specs.Info.{info_report}
+use Rattle.fsl_query.specs.Listings.{beginning, branches_report, pages_report, thread_names, threads_report, ticket_ids, tickets_report}
 use Rattle.fsl_query.specs.Lines.{receipt_line, timeline_line, leaf_line, tag_line, tip_line, file_line, change_line, page_line, attachment_line, field_line, post_line, wanted_line}
 
 -- all tables of the items
@@ -116,11 +118,36 @@ wiki_report facts title =
 abbrev pub ticket_report : List (List ℕ) → List tickets_of.Fact → List pages_of.Fact → List ℕ → Result (List ℕ) Refused
 ticket_report configured tickets pages id =
     option_map_or (λ values. Ok (flat_map field_line (zip configured values) ++ attachments_report pages (name_text id)))
-    (fields configured tickets id) (Err (refused.NoTicket id))
+    (fields configured tickets id) (Err (refused.NoTicket (name_text id)))
 
 -- the valid posts of a thread by date and name
 abbrev pub thread_report : List posts_of.Fact → List ℕ → Result (List ℕ) Refused
-thread_report facts name = let posts = thread facts name in unless_none posts (refused.NoThread name) (flat_map post_line posts)
+thread_report facts name = let posts = thread facts name in unless_none posts (refused.NoThread (name_text name)) (flat_map post_line posts)
+
+-- what follows from the one of some names that begins with the prefix, or the refusal; 40 digits are a name themselves
+abbrev pub by_beginning : {X : Type 0} → List ℕ → Refused → (List ℕ → Result X Refused) → Found → Result X Refused
+by_beginning prefix none answer found_as.Nothing = Err none
+by_beginning prefix none answer found_as.Several = Err (refused.Several prefix)
+by_beginning prefix none answer (found_as.One name) = answer name
+
+abbrev pub of_beginning : {X : Type 0} → List (List ℕ) → List ℕ → Refused → (List ℕ → Result X Refused) → Result X Refused
+of_beginning names prefix none answer = option_map_or answer (name_in prefix) (by_beginning prefix none answer (found (beginning prefix names)))
+
+-- the ticket whose id begins with the prefix
+abbrev pub ticket_of_prefix : TableFacts → List ℕ → Result (List ℕ) Refused
+ticket_of_prefix t prefix =
+    of_beginning (ticket_ids t.tickets) prefix (refused.NoTicket prefix) (ticket_report t.fields t.tickets t.pages)
+
+-- the thread whose name begins with the prefix
+abbrev pub thread_of_facts : List posts_of.Fact → List ℕ → Result (List ℕ) Refused
+thread_of_facts facts prefix = of_beginning (thread_names facts) prefix (refused.NoThread prefix) (thread_report facts)
+
+abbrev pub thread_of_prefix : TableFacts → List ℕ → Result (List ℕ) Refused
+thread_of_prefix t prefix = thread_of_facts t.threads prefix
+
+-- the threads, with the titles that the timeline has
+abbrev pub threads_told : TableFacts → List ℕ
+threads_told t = threads_report t.threads (timeline t.timeline)
 
 -- a line for each of some names
 abbrev pub phantoms_report : List (List ℕ) → List ℕ
@@ -138,9 +165,14 @@ report c items (Tags prefix) = of_prefix c prefix (λ name. Ok (tags_report (tab
 report c items (Tip symbol) = tip_report (tip items symbol) symbol
 report c items (Files prefix) = of_prefix c prefix (files_report (tables_now c items).files)
 report c items (Wiki title) = wiki_report (tables_now c items).pages title
-report c items (Ticket id) = let t = tables_now c items in ticket_report t.fields t.tickets t.pages id
-report c items (Thread name) = thread_report (tables_now c items).threads name
+report c items (Ticket prefix) = ticket_of_prefix (tables_now c items) prefix
+report c items (Thread prefix) = thread_of_prefix (tables_now c items) prefix
 report c items Phantoms = Ok (phantoms_report (wants c items))
+report c items Info = Ok (info_report c (wants c items))
+report c items Branches = Ok (branches_report (branch items) (timeline (tables_now c items).timeline))
+report c items Pages = Ok (pages_report (tables_now c items).pages)
+report c items (Tickets asked) = let t = tables_now c items in tickets_report t.fields asked t.tickets
+report c items Threads = Ok (threads_told (tables_now c items))
 
 -- what is told for a report that is due: a content as it is read, and every other report as it is
 abbrev pub IsReportTold : Bool → Question → Result (List ℕ) Refused → Result (List ℕ) Refused → Type 0

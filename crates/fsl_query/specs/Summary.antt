@@ -1,5 +1,5 @@
 -- The summary of a set of artifacts: how many there are of each sort.
-use Rattle.std.specs.Prelude.{ℕ, List, [], ◌∷◌, ◌++◌, length, map, filter_map, Option, Some, None, codes, decimal}
+use Rattle.std.specs.Prelude.{ℕ, List, ◌++◌, length, map, filter_map, Option, Some, None, codes}
 use Rattle.std.specs.List.{sum_by}
 use Rattle.fsl_order.specs.Rows.{ascending}
 use Rattle.fsl_artifact.specs.declared.Artifact.{Artifact}
@@ -13,7 +13,7 @@ use Rattle.fsl_cross.specs.declared.Item.{Item}
 use Rattle.fsl_cross.specs.Tables.{TableFacts}
 use Rattle.fsl_query.specs.declared.Note.{Note}
 use Rattle.fsl_query.specs.declared.Note.TheVariants as note
-use Rattle.fsl_query.specs.Lines.{spaced}
+use Rattle.fsl_query.specs.Lines.{count_line}
 
 -- what the summary notes of an artifact
 abbrev pub note_of : Artifact → Note
@@ -52,10 +52,6 @@ threads_of t posts = filter_map (place t.threads) posts
 -- how many different names there are
 abbrev pub different : List (List ℕ) → ℕ
 different names = length (ascending names)
-
--- WORD N
-abbrev pub count_line : List ℕ → ℕ → List ℕ
-count_line word n = spaced (word ∷ decimal n ∷ [])
 
 -- the lines of what the artifacts are: check-ins, and leaves and tags among them
 abbrev pub checkin_lines : TableFacts → List (List ℕ × Note) → List ℕ

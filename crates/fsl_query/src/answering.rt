@@ -1,23 +1,28 @@
-//! Answers questions.
-ghost use Rattle.std.specs.Prelude.{◌≡◌, None, Ok, Err, IfOk};
+//! Answers questions about an open repository.
+ghost use Rattle.std.specs.Prelude.{◌≡◌, None, Ok, Err, IfOk, length};
+ghost use Rattle.std.specs.FinSet as set;
+ghost use Rattle.fsl_order.specs.Rows.{ascending};
 ghost use Rattle.fsl_cross.specs.Checkins.{branch};
 ghost use Rattle.fsl_disk.specs.Disk.{Quiet};
-ghost use Rattle.fsl_repo.specs.Machine.{Leaves, now};
+ghost use Rattle.fsl_repo.specs.Machine.{Leaves, now, wants};
 ghost use Rattle.fsl_repo.specs.Whole.{log_of};
 ghost use Rattle.fsl_words.specs.declared.Question.TheVariants as question_of;
 ghost use Rattle.fsl_query.specs.declared.Refused.{Refused};
 ghost use Rattle.fsl_query.specs.declared.QueryFault.TheVariants as query_fault;
+ghost use Rattle.fsl_query.specs.Info.{AreSizesOf};
 ghost use Rattle.fsl_query.specs.Reports.{IsReportTold, of_prefix, files_report, leaves_report, receipt_report, tables_now, report_in};
 ghost use Rattle.fsl_query.specs.Answers.{IsAnswer, IsReportedIn, content_asked, prefix_of};
 
 use crate::finding::{copied, found, prefix_of};
+use crate::info::Sizes;
+use crate::listing::{pages_by, thread_name, threads_by, ticket_id, tickets_report};
 use crate::{
-    QueryFault, files, leaves, phantoms, receipt, tags, thread, ticket, timeline, tip, wiki,
+    QueryFault, branches, files, info, leaves, phantoms, receipt, tags, thread, ticket, timeline,
+    tip, wiki,
 };
 use fsl_disk::Disk;
-use fsl_name::Name;
 use fsl_repo::Repo;
-use fsl_text::{Memory, Text};
+use fsl_text::{List, Memory, Text};
 use fsl_words::Question;
 use std::alloc::Global;
 
@@ -45,11 +50,13 @@ fn files_of<D: Disk>(alloc: Global, repo: &Repo<D>, prefix: &[u8]) -> Result<Tex
     files::report(alloc, repo.tables().files(), name)
 }
 
-/// The configured fields of a ticket, and its attachments.
-fn ticket_of<D: Disk>(alloc: Global, repo: &Repo<D>, id: Name) -> Result<Text, QueryFault>
-    ensures { IsAnswer (report_in repo.now.seen (question_of.Ticket id)) result }
+/// The configured fields of the one ticket that a prefix finds, and its attachments.
+fn ticket_of<D: Disk>(alloc: Global, repo: &Repo<D>, prefix: &[u8]) -> Result<Text, QueryFault>
+    ensures { IsAnswer (report_in repo.now.seen (question_of.Ticket prefix.now)) result }
 {
+    repo.is_whole();
     let tables = repo.tables();
+    let id = ticket_id(alloc, tables.items(), prefix)?;
     ticket::report(
         alloc,
         tables.ticket(),
@@ -57,6 +64,93 @@ fn ticket_of<D: Disk>(alloc: Global, repo: &Repo<D>, id: Name) -> Result<Text, Q
         repo.config().fields.items(),
         id,
     )
+}
+
+/// The posts of the one thread that a prefix finds.
+fn thread_of<D: Disk>(alloc: Global, repo: &Repo<D>, prefix: &[u8]) -> Result<Text, QueryFault>
+    ensures { IsAnswer (report_in repo.now.seen (question_of.Thread prefix.now)) result }
+{
+    repo.is_whole();
+    let tables = repo.tables();
+    let name = thread_name(alloc, tables.items(), tables.forum(), prefix)?;
+    thread::report(alloc, tables.forum(), name)
+}
+
+/// The branches.
+fn branches_of<D: Disk>(alloc: Global, repo: &Repo<D>) -> Result<Text, Memory>
+    ensures { IfOk result (λ text. report_in repo.now.seen question_of.Branches ≡ Ok text) }
+{
+    let tables = repo.tables();
+    branches::report(alloc, tables.timeline(), tables.tags())
+}
+
+/// The pages.
+fn pages_of<D: Disk>(alloc: Global, repo: &Repo<D>) -> Result<Text, Memory>
+    ensures { IfOk result (λ text. report_in repo.now.seen question_of.Pages ≡ Ok text) }
+{
+    repo.is_whole();
+    let tables = repo.tables();
+    pages_by(alloc, tables.items(), tables.wiki())
+}
+
+/// The tickets, each with the values of some fields.
+fn tickets_of<D: Disk>(
+    alloc: Global,
+    repo: &Repo<D>,
+    asked: &List<Text>,
+) -> Result<Text, QueryFault>
+    ensures { IsAnswer (report_in repo.now.seen (question_of.Tickets asked.now)) result }
+{
+    repo.is_whole();
+    let configured = repo.config().fields.items();
+    tickets_report(alloc, repo.tables().items(), configured, asked)
+}
+
+/// The threads.
+fn threads_of<D: Disk>(alloc: Global, repo: &Repo<D>) -> Result<Text, Memory>
+    ensures { IfOk result (λ text. report_in repo.now.seen question_of.Threads ≡ Ok text) }
+{
+    repo.is_whole();
+    let tables = repo.tables();
+    threads_by(alloc, tables.items(), tables.forum(), tables.timeline())
+}
+
+/// How much is held.
+fn sizes_of<D: Disk>(repo: &Repo<D>) -> Result<Sizes, Memory>
+    ensures { IfOk result (AreSizesOf (now repo.now.seen.state).held) }
+{
+    let private = repo.privates()?.items().len() as u64;
+    Ok(Sizes {
+        artifacts: repo.count(),
+        private,
+        bytes: repo.bytes(),
+    })
+}
+
+/// How many names are shunned.
+fn shunned_of<D: Disk>(repo: &Repo<D>) -> Result<usize, Memory>
+    ensures { IfOk result (λ n. n ≡ length (ascending (set.items (now repo.now.seen.state).shunned))) }
+{
+    let names = repo.shuns()?;
+    Ok(names.items().len())
+}
+
+/// How many names are wanted.
+fn wanted_of<D: Disk>(repo: &Repo<D>) -> Result<usize, Memory>
+    ensures { IfOk result (λ n. n ≡ length (wants (now repo.now.seen.state) repo.now.seen.items)) }
+{
+    let names = repo.wants()?;
+    Ok(names.items().len())
+}
+
+/// What the repository is.
+fn info_of<D: Disk>(alloc: Global, repo: &Repo<D>) -> Result<Text, Memory>
+    ensures { IfOk result (λ text. report_in repo.now.seen question_of.Info ≡ Ok text) }
+{
+    let wanted = wanted_of(repo)?;
+    let shunned = shunned_of(repo)?;
+    let sizes = sizes_of(repo)?;
+    info::report(alloc, repo.config(), sizes, shunned, wanted)
 }
 
 /// The text of a report on what a repository holds, by its tables, where no content is asked for.
@@ -83,20 +177,28 @@ fn answer<D: Disk>(alloc: Global, repo: &Repo<D>, question: &Question) -> Result
         }
         Question::Files { prefix } => files_of(alloc, repo, prefix.bytes()),
         Question::Wiki { title } => wiki::report(alloc, repo.tables().wiki(), title.bytes()),
-        Question::Ticket { id } => ticket_of(alloc, repo, *id),
-        Question::Thread { name } => thread::report(alloc, repo.tables().forum(), *name),
+        Question::Ticket { prefix } => ticket_of(alloc, repo, prefix.bytes()),
+        Question::Thread { prefix } => thread_of(alloc, repo, prefix.bytes()),
         Question::Phantoms => {
             let wanted = repo.wants()?;
             Ok(phantoms::report(alloc, wanted.items())?)
         }
+        Question::Info => Ok(info_of(alloc, repo)?),
+        Question::Branches => Ok(branches_of(alloc, repo)?),
+        Question::Pages => Ok(pages_of(alloc, repo)?),
+        Question::Tickets { fields } => tickets_of(alloc, repo, fields),
+        Question::Threads => Ok(threads_of(alloc, repo)?),
     }
 }
 
-/// The text of a report on what a repository holds, by its tables; `report_from` tells the same of what was loaded without
-/// tables. The content that `cat` asks for is read, and nothing else is. Nothing changes but the disk's count of faults.
+/// Answers a question with the text of its report, by the tables of an open repository. `report_from` answers the same
+/// about a file that was opened without tables. `cat` reads the content that it asks for, and no other question reads
+/// one. Nothing changes but the disk's count of faults.
 ///
-/// Errors: `Refused` where there is nothing to report; for `cat`, `Disk` where a call of the disk failed, and `Damaged` where
-/// the bytes that were read have another name; `Memory`.
+/// Errors: `Refused` where there is nothing to report; for `cat`, `Disk` where a call of the disk failed, and `Damaged`
+/// where the bytes that were read have another name; `Memory`.
+///
+/// FORMATS: Reports
 pub fn report<D: Disk>(
     alloc: Global,
     repo: &mut Repo<D>,

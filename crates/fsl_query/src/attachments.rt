@@ -1,4 +1,4 @@
-//! The attachments of pages and tickets, as the reports on these tell them.
+//! Prints the attachments of pages and tickets.
 ghost use Rattle.std.specs.Prelude.{◌≡◌, ◌++◌, [], ◌∷◌, filter, flat_map, OnOk};
 ghost use Rattle.fsl_query.specs.Lines.{attachment_line};
 ghost use Rattle.fsl_query.specs.Reports.{attachments_report};

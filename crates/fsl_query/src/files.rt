@@ -1,4 +1,4 @@
-//! The report on the files of a check-in.
+//! Prints the report on the files of a check-in.
 ghost use Rattle.std.specs.Prelude.{◌≡◌, ◌++◌, [], flat_map, OnOk};
 ghost use Rattle.std.specs.Option.{option_map_or};
 ghost use Rattle.fsl_files.specs.Files.{changes};

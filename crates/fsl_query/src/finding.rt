@@ -1,4 +1,4 @@
-//! The one held artifact whose digits begin with a prefix.
+//! Finds the one held artifact whose digits begin with a prefix.
 ghost use Rattle.std.specs.Prelude.{◌≡◌, ◌≤◌, None, Ok, option_map};
 ghost use Rattle.fsl_blobs.specs.Content.{IsOf};
 ghost use Rattle.fsl_blobs.specs.Fold.{contents};
@@ -102,10 +102,10 @@ pub(crate) fn copied<D: Disk>(
     }
 }
 
-/// The content of the one held artifact, public or private, whose digits begin with a prefix, as it is read.
+/// Reads the content of the one held artifact, public or private, whose digits begin with a prefix.
 ///
-/// Errors: `Refused` where there is none, or where there are several; `Disk` where a call of the disk failed; `Damaged` where
-/// the bytes that were read have another name; `Memory`.
+/// Errors: `Refused` where there is none, or where there are several; `Disk` where a call of the disk failed; `Damaged`
+/// where the bytes that were read have another name; `Memory`.
 pub fn content<D: Disk>(
     alloc: Global,
     journal: &Journal,

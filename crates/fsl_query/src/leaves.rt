@@ -1,4 +1,4 @@
-//! The report on leaves.
+//! Prints the report on leaves.
 ghost use Rattle.std.specs.Prelude.{◌≡◌, IfOk};
 ghost use Rattle.fsl_cross.specs.Inside.{branch_over};
 ghost use Rattle.fsl_query.specs.Reports.{leaves_report};

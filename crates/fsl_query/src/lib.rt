@@ -1,5 +1,5 @@
-//! Reports: what a question about a repository is answered, by what it holds and by the tables of that. Each report has a
-//! module, which prints the answers of the tables, one line each. `summary` says how many artifacts of each sort a set has.
+//! Answers questions about a repository by reports. Each report has a module, which prints the answers of the tables, one
+//! line each. `summary` counts the artifacts of each sort in a set.
 #![tactic(auto)]
 
 ghost use Rattle.std.specs.Prelude.{◌≡◌};
@@ -7,19 +7,27 @@ ghost use Rattle.fsl_query.specs.declared.QueryFault.TheVariants as query_fault;
 
 mod answering;
 mod attachments;
+mod beginning;
+mod branches;
 mod files;
 mod finding;
+mod info;
 mod leaves;
 mod lines;
+mod listing;
 mod loaded;
+mod newest;
 mod noting;
+mod pages;
 mod phantoms;
 mod receipt;
 mod refusals;
 mod summing;
 mod tags;
 mod thread;
+mod threads;
 mod ticket;
+mod tickets;
 mod timeline;
 mod tip;
 mod wiki;
@@ -33,7 +41,7 @@ pub use noting::note_of;
 pub use refusals::refusal_text;
 pub use summing::summary;
 
-/// What the summary notes of an artifact.
+/// A note of the summary on one artifact.
 #[derive(Clone, Copy, Debug, Drop)]
 pub enum Note {
     /// It is a check-in.
@@ -46,12 +54,12 @@ pub enum Note {
     Other,
 }
 
-/// Why a question gets no report.
+/// The reasons why a question gets no report.
 #[derive(Debug, Drop)]
 pub enum Refused {
-    /// The digits of no held artifact begin with the prefix.
+    /// No held artifact begins with the prefix.
     NoArtifact { prefix: Text },
-    /// Those of several held artifacts do.
+    /// Several held artifacts begin with the prefix.
     SeveralArtifacts { prefix: Text },
     /// The artifact is no check-in.
     NotCheckin { name: Name },
@@ -61,13 +69,17 @@ pub enum Refused {
     NoCheckin { symbol: Text },
     /// No page has the title.
     NoPage { title: Text },
-    /// No ticket has the id.
-    NoTicket { id: Name },
-    /// The name is that of no thread.
-    NoThread { name: Name },
+    /// No id of a ticket begins with the prefix.
+    NoTicket { prefix: Text },
+    /// No name of a thread begins with the prefix.
+    NoThread { prefix: Text },
+    /// Several ids of tickets, or several names of threads, begin with the prefix.
+    Several { prefix: Text },
+    /// The field isn't configured.
+    NoField { field: Text },
 }
 
-/// Why a question isn't answered.
+/// The reasons why a question isn't answered.
 #[derive(Debug, Drop)]
 pub enum QueryFault {
     /// There is nothing to report, for this reason.
@@ -76,7 +88,7 @@ pub enum QueryFault {
     Disk,
     /// The bytes that were read for the artifact of a name have another name.
     Damaged { name: Name, found: Name },
-    /// There was no memory.
+    /// The program is out of memory.
     Memory,
 }
 

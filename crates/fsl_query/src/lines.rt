@@ -1,11 +1,11 @@
-//! The lines of reports.
-ghost use Rattle.std.specs.Prelude.{◌≡◌, ◌∷◌, ◌++◌, [], OnOk};
+//! Prints the lines of reports.
+ghost use Rattle.std.specs.Prelude.{◌≡◌, ◌∷◌, ◌++◌, [], OnOk, decimal};
 ghost use Rattle.std.specs.Option.{option_copied};
 ghost use Rattle.fsl_date.specs.Moment.{moment_text};
 ghost use Rattle.fsl_name.specs.Name.{name_text};
 ghost use Rattle.fsl_name.specs.Ref.{ref_text};
 ghost use Rattle.fsl_query.specs.Lines as line;
-ghost use Rattle.fsl_query.specs.Lines.{shown, valued_line, leaf_line, tag_line, tip_line, receipt_line, timeline_line, file_line, change_line, page_line, attachment_line, post_line, wanted_line};
+ghost use Rattle.fsl_query.specs.Lines.{shown, valued_line, leaf_line, tag_line, tip_line, receipt_line, timeline_line, file_line, change_line, page_line, attachment_line, post_line, wanted_line, branch_line, title_line, thread_line, count_line, code_line, configured_line};
 
 use fsl_date::Moment;
 use fsl_files::{Change, FileRow, How, Perm};
@@ -16,6 +16,7 @@ use fsl_tags::Assertion;
 use fsl_text::{Memory, Text, escape_into};
 use fsl_timeline::{Row, RowKind};
 use fsl_wiki::{Attached, Page};
+use std::alloc::Global;
 
 /// Puts a text at the end of another as a line shows it: escaped, and `-` where it is empty.
 fn append_shown(into: &mut Text, text: &[u8]) -> Result<(), Memory>
@@ -51,12 +52,28 @@ fn append_dated(into: &mut Text, date: Moment, name: Name) -> Result<(), Memory>
     append_word(into, &name.text())
 }
 
+/// Puts a date and a name at the end of a text, with a blank between them.
+pub(crate) fn append_stamp(into: &mut Text, date: Moment, name: Name) -> Result<(), Memory>
+    ensures { OnOk result (into.new ≡ into.old ++ moment_text date ++ 32 ∷ name_text name) }
+{
+    append_moment(into, date)?;
+    into.append(&name.text())
+}
+
 /// Puts a text at the end of another as a line shows it, and a blank.
 fn append_shown_word(into: &mut Text, text: &[u8]) -> Result<(), Memory>
     ensures { OnOk result (into.new ≡ into.old ++ shown text.now ++ 32 ∷ []) }
 {
     append_shown(into, text)?;
     into.append(b" ")
+}
+
+/// Puts a blank at the end of a text, and then another text as a line shows it.
+pub(crate) fn append_value(into: &mut Text, value: &[u8]) -> Result<(), Memory>
+    ensures { OnOk result (into.new ≡ into.old ++ 32 ∷ shown value.now) }
+{
+    into.append(b" ")?;
+    append_shown(into, value)
 }
 
 /// Puts the last word of a line at the end of a text: a text as a line shows it, and a newline.
@@ -238,5 +255,82 @@ pub(crate) fn append_wanted(into: &mut Text, name: Name) -> Result<(), Memory>
 {
     into.append(b"wanted ")?;
     into.append(&name.text())?;
+    into.append(b"\n")
+}
+
+/// Puts the line of a branch at the end of a text: the date and the name of its newest check-in, and the branch.
+pub(crate) fn append_branch(
+    into: &mut Text,
+    newest: (Moment, Name),
+    branch: &[u8],
+) -> Result<(), Memory>
+    ensures { OnOk result (into.new ≡ into.old ++ branch_line newest branch.now) }
+{
+    append_dated(into, newest.0, newest.1)?;
+    append_last(into, branch)
+}
+
+/// Puts the line of a page at the end of a text: the date, the name and the user of a version of it, and its title.
+pub(crate) fn append_title(into: &mut Text, page: &Page) -> Result<(), Memory>
+    ensures { OnOk result (into.new ≡ into.old ++ title_line page.now) }
+{
+    append_dated(into, page.date, page.name)?;
+    append_shown_word(into, page.user.bytes())?;
+    append_last(into, page.title.bytes())
+}
+
+/// Puts a number and a blank at the end of a text.
+fn append_number(alloc: Global, into: &mut Text, number: u128) -> Result<(), Memory>
+    ensures { OnOk result (into.new ≡ into.old ++ decimal number ++ 32 ∷ []) }
+{
+    let digits = format!(in alloc; "{number}")?;
+    append_word(into, digits.as_bytes())
+}
+
+/// Puts the line of a thread at the end of a text: the date of its last post, its name, how many posts it has, and its title.
+pub(crate) fn append_thread(
+    alloc: Global,
+    into: &mut Text,
+    thread: &Row,
+    posts: u128,
+) -> Result<(), Memory>
+    ensures { OnOk result (into.new ≡ into.old ++ thread_line thread.now posts) }
+{
+    append_dated(into, thread.time, thread.name)?;
+    append_number(alloc, into, posts)?;
+    append_last(into, thread.text.bytes())
+}
+
+/// Puts the line of a word and a count at the end of a text.
+pub(crate) fn append_count(
+    alloc: Global,
+    into: &mut Text,
+    word: &[u8],
+    count: u128,
+) -> Result<(), Memory>
+    ensures { OnOk result (into.new ≡ into.old ++ count_line word.now count) }
+{
+    into.append(word)?;
+    into.append(b" ")?;
+    let digits = format!(in alloc; "{count}")?;
+    into.append(digits.as_bytes())?;
+    into.append(b"\n")
+}
+
+/// Puts the line of a word and a code at the end of a text.
+pub(crate) fn append_code(into: &mut Text, word: &[u8], code: Name) -> Result<(), Memory>
+    ensures { OnOk result (into.new ≡ into.old ++ code_line word.now code) }
+{
+    append_word(into, word)?;
+    into.append(&code.text())?;
+    into.append(b"\n")
+}
+
+/// Puts the line of a configured field at the end of a text.
+pub(crate) fn append_configured(into: &mut Text, field: &[u8]) -> Result<(), Memory>
+    ensures { OnOk result (into.new ≡ into.old ++ configured_line field.now) }
+{
+    into.append(b"field ")?;
+    escape_into(into, field)?;
     into.append(b"\n")
 }

@@ -1,28 +1,41 @@
-//! Reports on a file that is opened without tables: those by which a report is told are made for it, and those that these rest on.
-ghost use Rattle.std.specs.Prelude.{◌≡◌, ◌≤◌, ℕ, Bool, None, List as Texts, All, IfOk, IfErr};
+//! Answers questions about a file that was opened without tables. It makes the tables that a report needs, and those that
+//! these rest on.
+ghost use Rattle.std.specs.Prelude.{◌≡◌, ◌≤◌, ℕ, Bool, None, List as Texts, All, IfOk, IfErr, length, map};
+ghost use Rattle.std.specs.List.Sorted.{IsStrictlySortedBy};
 ghost use Rattle.fsl_blobs.specs.Fold.{contents};
 ghost use Rattle.fsl_cross.specs.Checkins.{branch};
-ghost use Rattle.fsl_cross.specs.Tables.{IsItem, tables};
+ghost use Rattle.fsl_cross.specs.Tables.{IsItem, forum_facts, tables};
+ghost use Rattle.fsl_timeline.specs.Timeline.{timeline};
 ghost use Rattle.fsl_disk.specs.Disk.{Quiet};
+ghost use Rattle.std.specs.FinSet as set;
+ghost use Rattle.fsl_order.specs.Names.{bytes_cmp};
+ghost use Rattle.fsl_order.specs.Rows.{ascending};
 ghost use Rattle.fsl_journal.specs.Journal.{Belongs};
 ghost use Rattle.fsl_journal.specs.Log.{IsLoaded, WhereBetween};
 ghost use Rattle.fsl_journal.specs.declared.LoadFault.TheVariants as load_fault;
-ghost use Rattle.fsl_repo.specs.Machine.{AreItems};
+ghost use Rattle.fsl_repo.specs.Machine.{AreItems, wants};
 ghost use Rattle.fsl_repo.specs.Opening.{IsFileOpened, IsFolded, OpenFailed, SparesFile};
 ghost use Rattle.fsl_query.specs.Answers.{IsAnswer, IsReadFor, IsReported, IsReportedOn, content_asked, prefix_of};
-ghost use Rattle.fsl_query.specs.Reports.{files_report, leaves_report, receipt_report, tags_report, thread_report, ticket_report, timeline_report, wiki_report, report};
+ghost use Rattle.fsl_query.specs.Info.{AreSizesOf, info_report, info_told};
+ghost use Rattle.fsl_query.specs.Listings.{branches_report, pages_report, threads_report};
+ghost use Rattle.fsl_query.specs.Reports.{files_report, leaves_report, receipt_report, tags_report, thread_of_facts, thread_of_prefix, threads_told, ticket_of_prefix, ticket_report, timeline_report, wiki_report, report};
 
 use crate::finding::{content, named, prefix_of};
+use crate::info::Sizes;
+use crate::listing::{pages_by, thread_name, threads_by, ticket_id, tickets_report};
 use crate::{
-    QueryFault, files, leaves, phantoms, receipt, tags, thread, ticket, timeline, tip, wiki,
+    QueryFault, branches, files, info, leaves, phantoms, receipt, tags, thread, ticket, timeline,
+    tip, wiki,
 };
 use fsl_blobs::Blobs;
 use fsl_cross::Items;
 use fsl_disk::Disk;
+use fsl_forum::Threads;
 use fsl_journal::LoadFault;
 use fsl_name::Name;
 use fsl_repo::{Opened, artifacts_of_file, names_of_file, wants_of};
 use fsl_text::{List, Memory, Text};
+use fsl_timeline::Timeline;
 use fsl_wiki::Pages;
 use fsl_words::Question;
 use std::alloc::Global;
@@ -104,8 +117,8 @@ fn ticket_by(
     text
 }
 
-/// The configured fields of a ticket, and its attachments.
-fn ticket_of(
+/// The configured fields of the ticket of an id, and its attachments.
+fn ticket_whole(
     alloc: Global,
     items: &Items,
     fields: &List<Text>,
@@ -119,14 +132,138 @@ fn ticket_of(
     text
 }
 
-/// The posts of a thread.
-fn thread_of(alloc: Global, items: &Items, name: Name) -> Result<Text, QueryFault>
-    ensures { (fields : Texts (Texts ℕ)) → IsAnswer (thread_report (tables fields items.now).threads name) result }
+/// The configured fields of the one ticket that a prefix finds, and its attachments.
+fn ticket_of(
+    alloc: Global,
+    items: &Items,
+    fields: &List<Text>,
+    prefix: &[u8],
+) -> Result<Text, QueryFault>
+    requires { IsStrictlySortedBy bytes_cmp (map (λ i. i.name) items.now) }
+    ensures { IsAnswer (ticket_of_prefix (tables fields.now items.now) prefix.now) result }
+{
+    let id = ticket_id(alloc, items, prefix)?;
+    ticket_whole(alloc, items, fields, id)
+}
+
+/// The posts of the one thread that a prefix finds, by the table of posts.
+fn thread_by(
+    alloc: Global,
+    items: &Items,
+    table: &Threads,
+    prefix: &[u8],
+) -> Result<Text, QueryFault>
+    requires { forum_facts items.now ≡ table.now.facts }
+    ensures { IsAnswer (thread_of_facts table.now.facts prefix.now) result }
+{
+    let name = thread_name(alloc, items, table, prefix)?;
+    thread::report(alloc, table, name)
+}
+
+/// The posts of the one thread that a prefix finds.
+fn thread_of(alloc: Global, items: &Items, prefix: &[u8]) -> Result<Text, QueryFault>
+    ensures { (fields : Texts (Texts ℕ)) → IsAnswer (thread_of_prefix (tables fields items.now) prefix.now) result }
 {
     let table = items.forum(alloc)?;
-    let text = thread::report(alloc, &table, name);
+    let text = thread_by(alloc, items, &table, prefix);
     drop(table);
     text
+}
+
+/// The branches, by the timeline.
+fn branches_by(alloc: Global, items: &Items, rows: &Timeline) -> Result<Text, Memory>
+    ensures { IfOk result (λ text. text ≡ branches_report (branch items.now) (timeline rows.now.facts)) }
+{
+    let tags = items.tags(alloc)?;
+    let text = branches::report(alloc, rows, &tags);
+    drop(tags);
+    text
+}
+
+/// The branches.
+fn branches_of(alloc: Global, items: &Items) -> Result<Text, Memory>
+    ensures { (fields : Texts (Texts ℕ)) → IfOk result (λ text. text ≡ branches_report (branch items.now) (timeline (tables fields items.now).timeline)) }
+{
+    let rows = items.timeline(alloc)?;
+    let text = branches_by(alloc, items, &rows);
+    drop(rows);
+    text
+}
+
+/// The pages.
+fn pages_of(alloc: Global, items: &Items) -> Result<Text, Memory>
+    ensures { (fields : Texts (Texts ℕ)) → IfOk result (λ text. text ≡ pages_report (tables fields items.now).pages) }
+{
+    let table = items.wiki(alloc)?;
+    let text = pages_by(alloc, items, &table);
+    drop(table);
+    text
+}
+
+/// The threads, by the table of posts.
+fn threads_over(alloc: Global, items: &Items, table: &Threads) -> Result<Text, Memory>
+    requires { forum_facts items.now ≡ table.now.facts }
+    ensures { (fields : Texts (Texts ℕ)) → IfOk result (λ text. text ≡ threads_report table.now.facts (timeline (tables fields items.now).timeline)) }
+{
+    let rows = items.timeline(alloc)?;
+    let text = threads_by(alloc, items, table, &rows);
+    drop(rows);
+    text
+}
+
+/// The threads.
+fn threads_of(alloc: Global, items: &Items) -> Result<Text, Memory>
+    ensures { (fields : Texts (Texts ℕ)) → IfOk result (λ text. text ≡ threads_told (tables fields items.now)) }
+{
+    let table = items.forum(alloc)?;
+    let text = threads_over(alloc, items, &table);
+    drop(table);
+    text
+}
+
+/// How much is held.
+fn sizes_of(alloc: Global, blobs: &Blobs) -> Result<Sizes, Memory>
+    ensures { IfOk result (AreSizesOf (contents blobs.now.records).held) }
+{
+    let private = blobs.privates(alloc)?.items().len() as u64;
+    Ok(Sizes {
+        artifacts: blobs.count(),
+        private,
+        bytes: blobs.bytes(),
+    })
+}
+
+/// How many names are shunned.
+fn shunned_of(alloc: Global, blobs: &Blobs) -> Result<usize, Memory>
+    ensures { IfOk result (λ n. n ≡ length (ascending (set.items (contents blobs.now.records).shunned))) }
+{
+    let names = blobs.shuns(alloc)?;
+    Ok(names.items().len())
+}
+
+/// What the file is, with the number of the names that are wanted.
+fn info_by(alloc: Global, blobs: &Blobs, wanted: usize) -> Result<Text, Memory>
+    ensures { IfOk result (λ text. text ≡ info_told (contents blobs.now.records) wanted) }
+{
+    let sizes = sizes_of(alloc, blobs)?;
+    let shunned = shunned_of(alloc, blobs)?;
+    info::report(alloc, blobs.config(), sizes, shunned, wanted)
+}
+
+/// How many names are wanted.
+fn wanted_of(alloc: Global, blobs: &Blobs, items: &Items) -> Result<usize, Memory>
+    ensures { IfOk result (λ n. n ≡ length (wants (contents blobs.now.records) items.now)) }
+{
+    let names = wants_of(alloc, blobs, items)?;
+    Ok(names.items().len())
+}
+
+/// What the file is.
+fn info_of(alloc: Global, blobs: &Blobs, items: &Items) -> Result<Text, Memory>
+    ensures { IfOk result (λ text. text ≡ info_report (contents blobs.now.records) (wants (contents blobs.now.records) items.now)) }
+{
+    let wanted = wanted_of(alloc, blobs, items)?;
+    info_by(alloc, blobs, wanted)
 }
 
 /// The text of a report on what was loaded, by what its artifacts are.
@@ -159,12 +296,21 @@ fn report_of(
             files_of(alloc, items, name)
         }
         Question::Wiki { title } => wiki_of(alloc, items, title.bytes()),
-        Question::Ticket { id } => ticket_of(alloc, items, &blobs.config().fields, *id),
-        Question::Thread { name } => thread_of(alloc, items, *name),
+        Question::Ticket { prefix } => {
+            ticket_of(alloc, items, &blobs.config().fields, prefix.bytes())
+        }
+        Question::Thread { prefix } => thread_of(alloc, items, prefix.bytes()),
         Question::Phantoms => {
             let wanted = wants_of(alloc, blobs, items)?;
             Ok(phantoms::report(alloc, wanted.items())?)
         }
+        Question::Info => Ok(info_of(alloc, blobs, items)?),
+        Question::Branches => Ok(branches_of(alloc, items)?),
+        Question::Pages => Ok(pages_of(alloc, items)?),
+        Question::Tickets { fields } => {
+            tickets_report(alloc, items, blobs.config().fields.items(), fields)
+        }
+        Question::Threads => Ok(threads_of(alloc, items)?),
     }
 }
 
@@ -210,10 +356,10 @@ fn report_by<D: Disk>(
     }
 }
 
-/// Opens the file of a repository for a question: by its names for `cat` and `receipt`, which are told by these, and else with
-/// what the held artifacts are. It takes memory for one group, and for what it keeps, which are no contents.
+/// Opens the file of a repository for a question: by names alone for `cat` and `receipt`, and else with what each held
+/// artifact is. It takes memory for one group and for what it keeps; it keeps no contents.
 ///
-/// Errors: `Disk` where a call of the disk failed; `NotRepository` with the place at which the file fails to stand for
+/// Errors: `Disk` where a call of the disk failed; `NotRepository` with the place at which the file doesn't read as
 /// records; `Memory`.
 pub fn open_for<D: Disk>(
     alloc: Global,
@@ -234,11 +380,14 @@ pub fn open_for<D: Disk>(
     }
 }
 
-/// The text of a report on what a file was opened as for this question: the tables by which it is told are made, and those that
-/// these rest on. For `cat` the one content is read from the disk, and that alone.
+/// Answers a question with the text of its report, about a file that was opened for it. It makes the tables that the
+/// report needs, and those that these rest on. `cat` reads its one content from the disk, and no other question reads
+/// one.
 ///
-/// Errors: `Refused` where there is nothing to report; for `cat`, `Disk` where a call of the disk failed, and `Damaged` where
-/// the bytes that were read have another name; `Memory`.
+/// Errors: `Refused` where there is nothing to report; for `cat`, `Disk` where a call of the disk failed, and `Damaged`
+/// where the bytes that were read have another name; `Memory`.
+///
+/// FORMATS: Reports
 pub fn report_from<D: Disk>(
     alloc: Global,
     mut opened: Opened,

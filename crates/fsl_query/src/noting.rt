@@ -1,4 +1,4 @@
-//! What the summary notes of artifacts.
+//! Makes the notes of the summary on artifacts.
 ghost use Rattle.std.specs.Prelude.{◌≡◌, IfOk, filter_map};
 ghost use Rattle.fsl_query.specs.Summary.{note_of, checkin_in, id_in, post_in};
 
@@ -9,7 +9,7 @@ use fsl_text::Memory;
 use std::alloc::Global;
 use std::collections::BTreeMap;
 
-/// What the summary notes of an artifact.
+/// Makes the note of the summary on an artifact.
 pub fn note_of(artifact: &Artifact) -> Note
     ensures { result ≡ note_of artifact.now }
 {

@@ -1,4 +1,4 @@
-//! The report on phantoms.
+//! Prints the report on phantoms.
 ghost use Rattle.std.specs.Prelude.{◌≡◌, IfOk};
 ghost use Rattle.fsl_query.specs.Reports.{phantoms_report};
 

@@ -1,4 +1,4 @@
-//! The report on a receipt.
+//! Prints the report on a receipt.
 ghost use Rattle.std.specs.Prelude.{◌≡◌, IfOk};
 ghost use Rattle.std.specs.Option.{option_copied};
 ghost use Rattle.fsl_query.specs.Lines.{receipt_line};

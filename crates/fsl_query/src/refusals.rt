@@ -1,4 +1,4 @@
-//! The texts of refusals.
+//! Prints the texts of refusals.
 ghost use Rattle.std.specs.Prelude.{◌≡◌, ◌++◌, IfOk};
 ghost use Rattle.fsl_text.specs.Escapes.{escape};
 ghost use Rattle.fsl_name.specs.Name.{name_text};
@@ -34,8 +34,10 @@ fn escaped(alloc: Global, words: &[u8], bytes: &Text) -> Result<Text, Memory>
     Ok(text)
 }
 
-/// The text of a refusal: the words of its reason, and what was asked for. A symbolic name and a title are escaped.
-/// `Memory` is the only error.
+/// Prints the text of a refusal: the words of its reason, and what was asked for. A symbolic name, a title and a field
+/// are escaped. `Memory` is the only error.
+///
+/// FORMATS: Reports
 pub fn refusal_text(alloc: Global, refused: &Refused) -> Result<Text, Memory>
     ensures { IfOk result (λ text. text ≡ refusal_text refused.now) }
 {
@@ -46,7 +48,9 @@ pub fn refusal_text(alloc: Global, refused: &Refused) -> Result<Text, Memory>
         Refused::NoBaseline { name } => named(alloc, b"baseline not held ", name),
         Refused::NoCheckin { symbol } => escaped(alloc, b"no check-in ", symbol),
         Refused::NoPage { title } => escaped(alloc, b"no page ", title),
-        Refused::NoTicket { id } => named(alloc, b"no ticket ", id),
-        Refused::NoThread { name } => named(alloc, b"no thread ", name),
+        Refused::NoTicket { prefix } => plain(alloc, b"no ticket ", prefix.bytes()),
+        Refused::NoThread { prefix } => plain(alloc, b"no thread ", prefix.bytes()),
+        Refused::Several { prefix } => plain(alloc, b"several ", prefix.bytes()),
+        Refused::NoField { field } => escaped(alloc, b"no field ", field),
     }
 }

@@ -1,28 +1,18 @@
-//! The summary of a set of artifacts.
+//! Prints the summary of a set of artifacts.
 ghost use Rattle.std.specs.Prelude.{◌≡◌, ◌++◌, ◌∷◌, [], IfOk, OnOk, length, map};
 ghost use Rattle.std.specs.List.{cons_option};
 ghost use Rattle.fsl_timeline.specs.Timeline.{timeline};
 ghost use Rattle.fsl_cross.specs.Tables as cross;
-ghost use Rattle.fsl_query.specs.Summary.{entry_of, tags_on, threads_of, different, count_line, checkin_lines, event_lines, cluster_lines, summary};
+ghost use Rattle.fsl_query.specs.Summary.{entry_of, tags_on, threads_of, different, checkin_lines, event_lines, cluster_lines, summary};
 
 use crate::Note;
+use crate::lines::append_count;
 use crate::noting::{checkins, ids, posts};
 use fsl_cross::Tables;
 use fsl_name::{Name, ordered};
 use fsl_text::{Memory, Text};
 use std::alloc::Global;
 use std::collections::BTreeMap;
-
-/// Puts the line of a word and a count at the end of a text.
-fn append_count(alloc: Global, into: &mut Text, word: &[u8], count: u128) -> Result<(), Memory>
-    ensures { OnOk result (into.new ≡ into.old ++ count_line word.now count) }
-{
-    into.append(word)?;
-    into.append(b" ")?;
-    let digits = format!(in alloc; "{count}")?;
-    into.append(digits.as_bytes())?;
-    into.append(b"\n")
-}
 
 /// How many pairs there are of one of these names and a tag in force on it.
 fn tags_on(alloc: Global, tables: &Tables, names: &[Name]) -> Result<u128, Memory>
@@ -37,7 +27,7 @@ fn tags_on(alloc: Global, tables: &Tables, names: &[Name]) -> Result<u128, Memor
 }
 
 /// Puts the thread of a post at the end of others, where it has one.
-fn append_thread(others: &mut Vec<Name>, thread: Option<Name>) -> Result<(), Memory>
+pub(crate) fn append_thread(others: &mut Vec<Name>, thread: Option<Name>) -> Result<(), Memory>
     ensures { OnOk result (others.new.items ≡ others.old.items ++ cons_option thread []) }
 {
     if let Some(name) = thread {
@@ -118,9 +108,11 @@ fn append_clusters(alloc: Global, into: &mut Text, tables: &Tables) -> Result<()
     Ok(())
 }
 
-/// The summary of the artifacts that tables are of, whose names are handed in with what is noted of each: nine lines of a
-/// word and a number. In time linear in what the tables hold, but for the sorting of ids and of threads. `Memory` is the only
-/// error.
+/// Counts the artifacts of some tables by their sorts, in nine lines of a word and a number. `notes` has the name of each
+/// of these artifacts, with its note. It takes time linear in what the tables hold, but for the sorting of ids and of
+/// threads. `Memory` is the only error.
+///
+/// FORMATS: Summary
 pub fn summary(alloc: Global, tables: &Tables, notes: &BTreeMap<Name, Note>) -> Result<Text, Memory>
     requires { notes.now.entries ≡ map entry_of tables.now.items }
     ensures { IfOk result (λ text. text ≡ summary (cross.tables tables.now.fields tables.now.items) tables.now.items) }

@@ -1,4 +1,4 @@
-//! The report on tags.
+//! Prints the report on tags.
 ghost use Rattle.std.specs.Prelude.{◌≡◌, IfOk};
 ghost use Rattle.fsl_query.specs.Reports.{tags_report};
 

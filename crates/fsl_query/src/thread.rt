@@ -1,4 +1,4 @@
-//! The report on a thread.
+//! Prints the report on a thread.
 ghost use Rattle.std.specs.Prelude.{◌≡◌, ◌++◌, flat_map, OnOk};
 ghost use Rattle.fsl_query.specs.Answers.{IsAnswer};
 ghost use Rattle.fsl_query.specs.Lines.{post_line};
@@ -27,7 +27,9 @@ pub(crate) fn report(alloc: Global, table: &Threads, name: Name) -> Result<Text,
 {
     let posts = table.thread(alloc, name)?;
     if posts.items().is_empty() {
-        return Err(QueryFault::Refused(Refused::NoThread { name }));
+        return Err(QueryFault::Refused(Refused::NoThread {
+            prefix: Text::of(alloc, &name.text())?,
+        }));
     }
     let mut text = Text::empty(alloc);
     append_posts(&mut text, posts.items())?;

@@ -1,4 +1,4 @@
-//! The report on a ticket.
+//! Prints the report on a ticket.
 ghost use Rattle.std.specs.Prelude.{◌≡◌, ◌++◌, flat_map, zip, OnOk};
 ghost use Rattle.fsl_query.specs.Answers.{IsAnswer};
 ghost use Rattle.fsl_query.specs.Lines.{field_line};
@@ -36,7 +36,9 @@ pub(crate) fn report(
     ensures { IsAnswer (ticket_report table.now.fields table.now.facts pages.now.facts id) result }
 {
     let Some(values) = table.fields(alloc, id)? else {
-        return Err(QueryFault::Refused(Refused::NoTicket { id }));
+        return Err(QueryFault::Refused(Refused::NoTicket {
+            prefix: Text::of(alloc, &id.text())?,
+        }));
     };
     let mut text = Text::empty(alloc);
     append_fields(&mut text, fields, values.items())?;

@@ -1,4 +1,4 @@
-//! The report on the timeline.
+//! Prints the report on the timeline.
 ghost use Rattle.std.specs.Prelude.{◌≡◌, IfOk};
 ghost use Rattle.fsl_query.specs.Reports.{timeline_report};
 

@@ -1,4 +1,4 @@
-//! The report on the tip of a symbolic name.
+//! Prints the report on the tip of a symbolic name.
 ghost use Rattle.std.specs.Prelude.{◌≡◌};
 ghost use Rattle.fsl_query.specs.Answers.{IsAnswer};
 ghost use Rattle.fsl_query.specs.Reports.{tip_report};

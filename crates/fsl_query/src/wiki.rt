@@ -1,4 +1,4 @@
-//! The report on a page.
+//! Prints the report on a page.
 ghost use Rattle.std.specs.Prelude.{◌≡◌, ◌++◌, flat_map, OnOk};
 ghost use Rattle.fsl_query.specs.Answers.{IsAnswer};
 ghost use Rattle.fsl_query.specs.Lines.{page_line};

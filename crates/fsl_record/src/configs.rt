@@ -1,4 +1,4 @@
-//! Copies of a Config.
+//! Copies a Config.
 ghost use Rattle.std.specs.Prelude.{◌≡◌, IfOk};
 
 use crate::Config;
@@ -16,7 +16,7 @@ fn copied_fields(alloc: Global, fields: &[Text]) -> Result<List<Text>, Memory>
 }
 
 impl Config {
-    /// The same Config, in memory of its own. Fails for want of memory alone.
+    /// Copies the Config into memory of its own. `Memory` is the only error.
     pub fn copied(&self, alloc: Global) -> Result<Config, Memory>
         ensures { IfOk result (λ copy. copy ≡ self.now) }
     {

@@ -1,4 +1,4 @@
-//! Want of memory, as a fault of a group's reader.
+//! Turns being out of memory into a fault of a group's reader.
 ghost use Rattle.std.specs.Prelude.{◌≡◌};
 ghost use Rattle.fsl_record.specs.declared.RecordFault.TheVariants.{Memory as MemoryFault};
 

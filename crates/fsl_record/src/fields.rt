@@ -1,4 +1,4 @@
-//! The names of configured ticket fields.
+//! Checks the names of configured ticket fields.
 ghost use Rattle.std.specs.Prelude.{◌≡◌, ◌↔◌, ◌&&◌, not, IsTrue};
 ghost use Rattle.std.specs.List.{list_all};
 ghost use Rattle.fsl_order.specs.Names.{has};
@@ -27,7 +27,7 @@ fn are_field_bytes(bytes: &[u8]) -> bool
     bytes.iter().all(|byte| is_field_byte(*byte))
 }
 
-/// Whether the bytes are a field's name: 1 to 64 of `a` to `z`, digits and `_`, the first a letter.
+/// Returns whether the bytes are a field's name: 1 to 64 of `a` to `z`, digits and `_`, the first a letter.
 fn is_field(name: &[u8]) -> bool
     ensures { result ≡ is_field name.now }
 {
@@ -46,14 +46,14 @@ fn has_field(fields: &[Text], name: &[u8]) -> bool
     fields.iter().any(|field| name == field.bytes())
 }
 
-/// Whether the bytes are a field's name, and none of these fields.
+/// Returns whether the bytes are a field's name, and none of these fields.
 pub fn is_new_field(fields: &[Text], name: &[u8]) -> bool
     ensures { result ≡ (is_field name.now && not (has fields.now name.now)) }
 {
     is_field(name) && !has_field(fields, name)
 }
 
-/// Whether the names are a list of fields: at most 256, each of them a field's name, and all different.
+/// Returns whether the names are a list of fields: at most 256, each of them a field's name, and all different.
 pub fn are_fields(fields: &[Text]) -> bool
     ensures { IsTrue result ↔ AreFields fields.now }
 {

@@ -11,7 +11,7 @@ use crate::{Record, RecordFault};
 use fsl_text::List;
 use std::alloc::Global;
 
-/// Reads a record of this version and adds it; `first`: it must be a Config, which stands nowhere else. Answers the bytes
+/// Reads a record of this version and adds it; with `first` it must be a Config, which may occur nowhere else. Answers the bytes
 /// behind it.
 fn read_one<'a>(
     alloc: Global,
@@ -31,11 +31,12 @@ fn read_one<'a>(
     }
 }
 
-/// Reads the records of a group of the file: one or more, one behind another to the end of the bytes. In the file's first
-/// group, and there alone, the first record is a Config, and no other is. The file's version is 1 or 2; in version 1 a
-/// Blob with a receipt and an Unshun are no records.
+/// Reads the records of a group of the file: one or more, one behind another to the end of the bytes. In the file's first group,
+/// and there alone, the first record is a Config, and no other is. The file's version is 1 or 2. In version 1 a Blob with a
+/// receipt and an Unshun are no records.
 ///
-/// Errors: the fault of the first record that doesn't read; `Memory` for want of memory.
+/// Errors: the fault of the first record that doesn't read, or `Memory` if out of memory.
+/// FORMATS: The repository file
 pub fn group(
     alloc: Global,
     bytes: &[u8],

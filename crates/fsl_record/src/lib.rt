@@ -1,7 +1,6 @@
-//! Records of the repository file: their bytes, and the records that the bytes of a group of the file are. What is
-//! written reads back, and bytes read as one list of records or have the one fault of the first record that doesn't
-//! read. Config is the first record of the first group and stands nowhere else. The file has two versions: a Blob with a
-//! receipt and an Unshun stand in version 2 alone.
+//! Reads and writes the records of the repository file. Written records read back. Bytes of a group either read as one list of
+//! records, or have the one fault of the first record that doesn't read. Config is the first record of the first group and occurs
+//! nowhere else. The file has two versions: a Blob with a receipt and an Unshun occur in version 2 alone.
 #![tactic(auto)]
 
 mod configs;
@@ -22,8 +21,8 @@ pub use laws::{has_no_fault, has_one_fault, is_one_group, written_reads_back};
 pub use receipts::Receipt;
 pub use writing::{write, write_config};
 
-/// The codes of a repository, and its configured ticket fields. Where a Config is written, the fields are in their form:
-/// at most 256, each of 1 to 64 bytes of `a` to `z`, digits and `_` that begin with a letter, and all different.
+/// The codes of a repository, and its configured ticket fields. A Config is written only if its fields have their form: at most
+/// 256, each of 1 to 64 bytes of `a` to `z`, digits and `_` that begin with a letter, and all different.
 #[derive(Drop)]
 pub struct Config {
     pub project: Name,
@@ -31,25 +30,26 @@ pub struct Config {
     pub fields: List<Text>,
 }
 
-/// Why bytes aren't the records of a group: what is wrong with the first record that doesn't read. Of several faults of
-/// a record it is the one that stands first in its bytes.
+/// Says why bytes aren't the records of a group, by the first record that doesn't read. If that record has several faults, this
+/// is the one that comes first in its bytes.
 #[derive(Clone, Copy, PartialEq, Eq, Debug)]
 pub enum RecordFault {
     /// A record runs past its group, or the group has no byte.
     Short,
-    /// This is no first byte of a record that may stand there, or it stands where 0 or 1 says whether a blob is private.
+    /// This byte begins no record that may occur here, or it is neither the 0 nor the 1 that says whether a blob is private.
     Kind { found: u8 },
     /// A blob has so many bytes, more than 2^24; or its receipt has this moment, behind the year 9999, or a login of so
     /// many bytes, more than 2^20; or a Config has so many fields, more than 256; or a field of so many bytes is no
     /// field's name, or is there already.
     Length { found: u64 },
-    /// A blob has the first of these names, and its bytes the second.
+    /// The blob is kept under the first of these names, and its bytes have the second.
     NameWrong { kept: Name, found: Name },
-    /// There was no memory for the records.
+    /// The records don't fit in memory.
     Memory,
 }
 
-/// A record. Its bytes are a letter and its parts, and numbers are written with the greatest byte first.
+/// A record of the repository file. Its bytes are a letter and its parts. Numbers are written with the greatest byte first.
+/// FORMATS: The repository file
 #[derive(Drop)]
 pub enum Record {
     /// `C`, the two codes, the number of fields in 2 bytes, and each field behind its length in 1 byte.
@@ -63,15 +63,15 @@ pub enum Record {
         receipt: Option<Receipt>,
         bytes: Text,
     },
-    /// `P` and a name: the private artifact of that name is public from now on.
+    /// `P` and a name: the private artifact with this name becomes public.
     Publish {
         name: Name,
     },
-    /// `S` and a name: the artifact of that name is removed, and isn't taken again.
+    /// `S` and a name: the artifact with this name is removed, and isn't taken again.
     Shun {
         name: Name,
     },
-    /// `U` and a name: the artifact of that name is taken again from now on.
+    /// `U` and a name: the artifact with this name may be taken again.
     Unshun {
         name: Name,
     },

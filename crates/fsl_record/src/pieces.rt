@@ -1,8 +1,8 @@
-//! The parts of a record, taken from the front of bytes. Numbers are written with the greatest byte first.
+//! Takes the parts of a record from the front of bytes. Numbers are written with the greatest byte first.
 ghost use Rattle.std.specs.Prelude.{◌≡◌, ◌++◌, ◌∷◌, ◌<◌, ◌≤◌, ◌^◌, length, slice_index, MatchOption};
 ghost use Rattle.std.specs.Int.{to_be_bytes, w16, w32, w64};
 
-/// The first bytes, that many, and those behind them.
+/// Splits off the first `count` bytes. Returns them and the bytes behind them, or `None` if there are fewer.
 pub fn split_bytes(bytes: &[u8], count: usize) -> Option<(&[u8], &[u8])>
     ensures { MatchOption result (length bytes.now < count) (λ split. (bytes.now ≡ split.0.now ++ split.1.now) × (length split.0.now ≡ count)) }
 {
@@ -12,7 +12,7 @@ pub fn split_bytes(bytes: &[u8], count: usize) -> Option<(&[u8], &[u8])>
     Some(bytes.split_at(count))
 }
 
-/// The number in the first 2 bytes, and the bytes behind it.
+/// Splits off the number in the first 2 bytes, and returns it and the bytes behind it.
 pub fn split_count(bytes: &[u8]) -> Option<(u16, &[u8])>
     ensures { MatchOption result (length bytes.now < 2) (λ split. (bytes.now ≡ to_be_bytes w16 split.0 ++ split.1.now) × (split.0 < 2 ^ 16)) }
 {
@@ -20,7 +20,7 @@ pub fn split_count(bytes: &[u8]) -> Option<(u16, &[u8])>
     Some((u16::from_be_bytes(*count), rest))
 }
 
-/// The number in the first 8 bytes, and the bytes behind it.
+/// Splits off the number in the first 8 bytes, and returns it and the bytes behind it.
 pub fn split_length(bytes: &[u8]) -> Option<(u64, &[u8])>
     ensures { MatchOption result (length bytes.now < 8) (λ split. (bytes.now ≡ to_be_bytes w64 split.0 ++ split.1.now) × (split.0 < 2 ^ 64)) }
 {
@@ -28,7 +28,7 @@ pub fn split_length(bytes: &[u8]) -> Option<(u64, &[u8])>
     Some((u64::from_be_bytes(*length), rest))
 }
 
-/// The number in the first 4 bytes, and the bytes behind it.
+/// Splits off the number in the first 4 bytes, and returns it and the bytes behind it.
 pub fn split_login_length(bytes: &[u8]) -> Option<(u32, &[u8])>
     ensures { MatchOption result (length bytes.now < 4) (λ split. (bytes.now ≡ to_be_bytes w32 split.0 ++ split.1.now) × (split.0 < 2 ^ 32)) }
 {

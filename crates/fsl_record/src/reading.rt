@@ -43,7 +43,7 @@ fn read_field<'a>(
     Ok(rest)
 }
 
-/// Reads that many fields.
+/// Reads so many fields.
 fn read_fields<'a>(
     alloc: Global,
     bytes: &'a [u8],
@@ -62,7 +62,7 @@ fn read_fields<'a>(
     Ok(rest)
 }
 
-/// Reads what stands behind the letter of a Config, and adds it.
+/// Reads the bytes behind the letter of a Config, and adds the Config.
 fn read_config<'a>(
     alloc: Global,
     bytes: &'a [u8],
@@ -152,7 +152,7 @@ fn read_content<'a>(
     Ok((Text::of(alloc, content)?, rest))
 }
 
-/// Reads what stands behind the letter of a Blob without a receipt, and adds it.
+/// Reads the bytes behind the letter of a Blob without a receipt, and adds the Blob.
 fn read_blob<'a>(
     alloc: Global,
     bytes: &'a [u8],
@@ -176,7 +176,7 @@ fn read_blob<'a>(
     Ok(rest)
 }
 
-/// The moment of a number.
+/// Makes the moment of a number.
 fn moment_of(number: u64) -> Moment
     requires { IsMoment number }
     ensures value { result ≡ number }
@@ -206,7 +206,7 @@ fn read_receipt(bytes: &[u8]) -> Result<(u64, &[u8], &[u8]), RecordFault>
     Ok((number, login, rest))
 }
 
-/// Reads what stands behind the letter of a Blob with a receipt, and adds it.
+/// Reads the bytes behind the letter of a Blob with a receipt, and adds the Blob.
 fn read_brought<'a>(
     alloc: Global,
     bytes: &'a [u8],
@@ -274,7 +274,8 @@ fn read_unshun<'a>(bytes: &'a [u8], records: &mut Vec<Record>) -> Result<&'a [u8
     Ok(rest)
 }
 
-/// Reads a Config and adds it. Answers the bytes behind it.
+/// Reads a Config and adds it. Returns the bytes behind it. Fails with the fault of the record if it doesn't read, or with
+/// `Memory`.
 pub fn read_first<'a>(
     alloc: Global,
     bytes: &'a [u8],
@@ -315,7 +316,8 @@ fn read_later<'a>(
     }
 }
 
-/// Reads a record of this version that is no Config and adds it. Answers the bytes behind it.
+/// Reads a record of this version that is no Config and adds it. Returns the bytes behind it. Fails with the fault of the record
+/// if it doesn't read, or with `Memory`.
 pub fn read_next<'a>(
     alloc: Global,
     bytes: &'a [u8],

@@ -1,4 +1,4 @@
-//! Who brought an artifact, and when.
+//! Receipts say who brought an artifact, and when.
 ghost use Rattle.std.specs.Prelude.{◌≡◌, ◌↔◌, ◌<◌, ◌≤◌, ◌^◌, length, IfSome, IsNone, IfOk};
 ghost use Rattle.fsl_date.specs.Moment.{IsMoment};
 
@@ -16,7 +16,7 @@ pub(crate) const MS_BEFORE_1970: i64 = 62_167_219_200_000;
 /// The number of the last moment of the year 9999, in milliseconds since the year 0 began.
 pub(crate) const LAST_MOMENT: u64 = 315_569_519_999_999;
 
-/// The receipt of an artifact: the login of who brought it, at most 2^20 bytes, and the moment.
+/// The receipt of an artifact. It has the login of the person who brought it, at most 2^20 bytes, and the moment.
 #[derive(Drop)]
 pub struct Receipt {
     login: Text,
@@ -36,7 +36,7 @@ impl Model for Receipt {
 }
 
 impl Receipt {
-    /// A receipt with this login and moment. None where the login has more than 2^20 bytes.
+    /// Makes a receipt with this login and moment. Returns `None` if the login has more than 2^20 bytes.
     pub fn new(login: Text, moment: Moment) -> Option<Receipt>
         ensures some { IfSome result (λ receipt. receipt ≡ record { login = login; moment = moment }) }
         ensures none { IsNone result ↔ (2 ^ 20 < length login) }
@@ -49,7 +49,7 @@ impl Receipt {
         Some(Receipt { login, moment })
     }
 
-    /// A receipt with this login, which isn't too long. Fails for want of memory alone.
+    /// Makes a receipt with a copy of this login, which isn't too long. `Memory` is the only error.
     pub fn of_login(alloc: Global, login: &[u8], moment: Moment) -> Result<Receipt, Memory>
         requires short { length login.now ≤ 2 ^ 20 }
         ensures { IfOk result (λ receipt. receipt ≡ record { login = login.now; moment = moment }) }
@@ -61,7 +61,7 @@ impl Receipt {
         })
     }
 
-    /// The login.
+    /// Returns the login.
     pub fn login(&self) -> &[u8]
         ensures value { result.now ≡ self.now.login }
         ensures few { length result.now ≤ 2 ^ 20 }
@@ -69,7 +69,7 @@ impl Receipt {
         self.login.bytes()
     }
 
-    /// The moment.
+    /// Returns the moment.
     pub fn moment(&self) -> Moment
         ensures value { result ≡ self.now.moment }
         ensures moment { IsMoment result }
@@ -77,14 +77,14 @@ impl Receipt {
         self.moment
     }
 
-    /// The moment, as its milliseconds since the year 0 began.
+    /// Returns the moment as its milliseconds since the year 0 began.
     pub(crate) fn moment_number(&self) -> u64
         ensures value { result ≡ self.now.moment }
     {
         (self.moment.ms() + MS_BEFORE_1970) as u64
     }
 
-    /// The same receipt, in memory of its own. Fails for want of memory alone.
+    /// Copies the receipt into memory of its own. `Memory` is the only error.
     pub fn copied(&self, alloc: Global) -> Result<Receipt, Memory>
         ensures { IfOk result (λ copy. copy ≡ self.now) }
     {

@@ -86,7 +86,7 @@ fn add_receipt(receipt: &Receipt, into: &mut Text) -> Result<(), Memory>
     into.append(login)
 }
 
-/// The byte that says whether a blob is private.
+/// Returns the byte that says whether a blob is private.
 fn private_byte(private: bool) -> u8
     ensures { result ≡ (if private then 1 else 0) }
 {
@@ -137,9 +137,9 @@ fn add_record(entry: &Record, into: &mut Text) -> Result<(), Memory>
     }
 }
 
-/// Adds the bytes of a Config's record at the end of a text. Its fields are in their form (`are_fields`).
+/// Adds a Config's record at the end of a text. Its fields are in their form (`are_fields`).
 ///
-/// Errors: want of memory, and then the text stays as it was.
+/// Fails only if out of memory, and then the text stays as it was.
 pub fn write_config(config: &Config, into: &mut Text) -> Result<(), Memory>
     requires { AreFields config.now.fields }
     ensures ok { OnOk result (into.new ≡ into.old ++ record_bytes (ConfigRecord config.now)) }
@@ -153,10 +153,11 @@ pub fn write_config(config: &Config, into: &mut Text) -> Result<(), Memory>
     written
 }
 
-/// Adds the bytes of a record at the end of a text. The fields of a Config are in their form (`are_fields`), and a Blob
-/// has at most 2^24 bytes, of which its name is the name.
+/// Adds a record at the end of a text. The fields of a Config have their form (`are_fields`). A Blob has at most 2^24 bytes, and
+/// its name is the SHA-1 of these.
 ///
-/// Errors: want of memory, and then the text stays as it was.
+/// Fails only if out of memory, and then the text stays as it was.
+/// FORMATS: The repository file
 pub fn write(entry: &Record, into: &mut Text) -> Result<(), Memory>
     requires { IsWritable entry.now }
     ensures ok { OnOk result (into.new ≡ into.old ++ record_bytes entry.now) }

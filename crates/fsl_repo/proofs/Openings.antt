@@ -1,11 +1,11 @@
 -- A repository that was opened goes together.
-use Rattle.std.proofs.Common.{◌≡◌, inl, inr, ℕ, ◌+◌, Bool, List, [], length, take, drop, Some, sym, ap, subst, ◌∙◌, arith}
+use Rattle.std.proofs.Common.{◌≡◌, inl, inr, ℕ, ◌+◌, Bool, List, [], length, take, drop, Some, sym, ap, subst, ◌∙◌, ◌&&◌, arith}
 use Rattle.std.specs.Prelude.{IsTrue, Contains}
 use Rattle.std.specs.FinSet as set
 use Rattle.std.proofs.lemmas.List.{drop_all, take_all}
 use Rattle.std.proofs.lemmas.Bool.{false≢true}
 use Rattle.fsl_order.specs.Names.{bytes_cmp}
-use Rattle.fsl_disk.specs.Disk.{DiskState, IsModelled, Told}
+use Rattle.fsl_disk.specs.Disk.{DiskState, IsModelled, Keeps, Told}
 use Rattle.fsl_journal.specs.File.{IsFileOf}
 use Rattle.fsl_record.specs.declared.Record.{Record}
 use Rattle.fsl_record.specs.Records.{AreRecords}
@@ -19,7 +19,7 @@ use Rattle.fsl_blobs.specs.Fold.{contents}
 use Rattle.fsl_cross.specs.Tables as tables
 use Rattle.fsl_repo.specs.Machine.{AreItems, AnnouncedAreNew, configured}
 use Rattle.fsl_repo.specs.Keeping.{IsKept, state_of}
-use Rattle.fsl_repo.specs.Opening.{AreDerived, IsFileOpened, IsFolded, OpenFailed}
+use Rattle.fsl_repo.specs.Opening.{AreDerived, IsFileOpened, IsFolded, IsOpened, OpenFailed}
 use Rattle.fsl_blobs.specs.Seen.{AreTrue}
 use Rattle.fsl_repo.specs.Whole as whole
 use Rattle.fsl_repo.specs.Whole.{is_modelled}
@@ -45,6 +45,31 @@ kept_of log places loaded held all count disk is_loaded placed belongs derived c
   announced = subst (λ (h : blobs.Seen). AnnouncedAreNew (state_of log h disk.faults (is_modelled disk))) (sym derived.held) (none_announced log disk.faults (is_modelled disk) loaded places);
   loaded = omega (arith, counted, is_loaded.stable, ap length is_loaded.records);
   stored = sym (ap whole.blobs (ap (λ (n : ℕ). drop n log.records) counted ∙ drop_all (length log.records) log.records (omega arith)));
+}
+
+-- a repository that was opened is as an opening says
+pub is_opened : {D : Type 0} (disk : D → DiskState) (before : DiskState) (at : D) (log : Log) (records : List Record) (places : List ℕ) (held : blobs.Seen) (all : tables.Seen) (count : ℕ) → IsLoaded log records → AreDerived records places held all
+    → count ≡ length log.records → OfBytes before (λ bytes. IsFileOf bytes records) → Told before (λ bytes. (disk at).contents ≡ Some (take (log.place + 1) bytes)) → (disk at).faults ≡ before.faults → Keeps before (disk at)
+    → IsOpened before (disk at) (record {
+      disk = at;
+      seen = record { state = state_of log held (disk at).faults (is_modelled (disk at)); items = all.items; loaded = count };
+      places = log.places;
+      mark = log.mark;
+      place = log.place;
+    })
+is_opened disk before at log records places held all count is derived counted stands cut faults keeps = record {
+  state = λ i. record {
+    records = log.records;
+    committed = (is.stable ∙ ap length (sym is.records)) i;
+    announced = (ap (λ (h : blobs.Seen). h.announced) derived.held) i;
+    stopped = is.runs i;
+    faults = faults i;
+    honest = keeps.tells i && keeps.model i;
+  };
+  loaded = counted;
+  stands = subst (λ (rs : List Record). OfBytes before (λ bytes. IsFileOf bytes rs)) (sym is.records) stands;
+  cut = cut;
+  faults = faults;
 }
 
 -- a journal that wasn't opened

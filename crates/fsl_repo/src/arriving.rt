@@ -1,4 +1,4 @@
-//! Arrivals.
+//! Takes artifacts that arrive.
 ghost use Rattle.std.specs.Prelude.{◌≡◌, ◌⊎◌, ◌++◌, ◌∷◌, [], ◌≤◌, ◌+◌, ◌^◌, length, Some, None, Err, ⊤, IfOk, OnOk, OnErr, false, true};
 ghost use Rattle.std.specs.Option.{option_copied};
 ghost use Rattle.std.specs.FinMap as map_of;
@@ -91,15 +91,16 @@ fn room(alloc: Global, blobs: &Blobs, all: &Tables, size: u64) -> Result<(), Arr
 }
 
 impl<D: Disk> Repo<D> {
-    /// An artifact arrives under a name, as a public or a private one. An artifact that is held as private becomes public
-    /// where it arrives as a public one. A fault changes nothing.
+    /// Takes an artifact that arrives under a name, as a public or a private one. Where it is held as private and arrives as
+    /// public, it becomes public. A fault changes nothing.
     ///
-    /// Whatever it answers, it takes at most twice the touches that `Tables::add` states for what the bytes are, where that
-    /// states any. `Published` takes at most 16, and an answer that only says what is known, as `Present`, none.
+    /// Whatever it answers, it takes at most twice the touches that `Tables::add` states for an artifact of these bytes, where
+    /// that states any. `Published` takes at most 16. An answer that only says what is known, as `Present`, takes none.
     ///
-    /// Errors, the first of these: `Stopped` where a commit has failed; `TooLarge` above 16,777,216 bytes; `NameWrong` where
-    /// the bytes have another name; `Full` where with it a limit is passed. `Memory` comes in place of `Published`, `Full`
-    /// or `Stored` alone.
+    /// Errors, the first of these: `Stopped` where a commit has failed; `TooLarge` above 16,777,216 bytes; `NameWrong` where the
+    /// bytes have another name; `Full` where a limit would be passed with it. `Memory` comes in place of `Published`, `Full` or
+    /// `Stored` alone.
+    /// FORMATS: Messages of files
     pub fn arrive<L: Ledger>(
         &mut self,
         name: Name,
@@ -119,8 +120,8 @@ impl<D: Disk> Repo<D> {
         self.take(name, bytes, private, None, steps)
     }
 
-    /// An artifact arrives under a name with a receipt, which tells who brought it and when. It is `arrive` in all its answers
-    /// and in its touches, and what is stored is stored with this receipt.
+    /// Takes an artifact that arrives under a name with a receipt. The receipt says who brought it and when. All answers and
+    /// touches are those of `arrive`. An artifact that is stored is stored with this receipt.
     ///
     /// Errors: those of `arrive`.
     pub fn receive<L: Ledger>(

@@ -1,4 +1,4 @@
-//! What a message asks of a reply.
+//! Finds what a message asks for.
 ghost use Rattle.std.specs.Prelude.{◌≡◌, [], IfOk, filter_map};
 ghost use Rattle.std.specs.List.{list_any};
 ghost use Rattle.fsl_answer.specs.Contents.{is_pull, is_send_private, sends_private, gimme_of, clone_of, first_clone, each_once};

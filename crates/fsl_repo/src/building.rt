@@ -182,13 +182,14 @@ impl<D: Disk> Repo<D> {
         Ok(List::from_vec(files))
     }
 
-    /// The reply to a message, by what is held, wanted and announced now: the notices, for a clone the codes, names that
-    /// are held, for a push names that are wanted or announced, and the files that are asked for, as many as the budget
-    /// takes. Private ones go to one who may see them and asks for them. Contents are read from the disk, or are among the
-    /// last that were read; only those of the reply's files are. Nothing changes but the disk's count of faults.
+    /// Builds the reply to a message from the artifacts that are held and the names that are wanted and announced now. It has the
+    /// notices, for a clone the codes, names that are held, for a push names that are wanted or announced, and the files that are
+    /// asked for, as many as the budget takes. Private ones go to one who may see them and asks for them. Only the contents of
+    /// the reply's files are read, from the disk or from the last that were read. Nothing changes but the disk's count of faults.
     ///
-    /// Errors: `Disk` where a call of the disk failed; `Damaged` where the bytes that were read for a file have another name
-    /// than it; `Memory`.
+    /// Errors: `Disk` where a call of the disk failed; `Damaged` where the bytes that were read for a file have another name;
+    /// `Memory`.
+    /// FORMATS: Users, logins and replies
     pub fn build(&mut self, ask: &Ask) -> Result<Reply, BuildFault>
         ensures step { BuildStep self.old.seen.state ask.now result self.new.seen.state }
         ensures items { self.new.seen.items ≡ self.old.seen.items }

@@ -1,4 +1,4 @@
-//! Clusters.
+//! Makes clusters.
 ghost use Rattle.std.specs.Prelude.{◌≡◌, take, true};
 ghost use Rattle.fsl_cluster.specs.Clusters.{AreMembers};
 ghost use Rattle.fsl_repo.specs.Machine.{ClusterStep};
@@ -29,7 +29,7 @@ fn front(names: &[Name]) -> &[Name]
 }
 
 impl<D: Disk> Repo<D> {
-    /// Makes a cluster of the first 4,096 public names that stand in none, where there are more than 100; it arrives as a
+    /// Makes a cluster of the first 4,096 public names that are in no cluster, where there are more than 100. It arrives as a
     /// public artifact.
     ///
     /// Errors: those of `arrive`.

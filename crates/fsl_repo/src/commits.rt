@@ -1,4 +1,4 @@
-//! Commits and announcements.
+//! Commits records, and announces names.
 ghost use Rattle.std.specs.Prelude.{◌≡◌, ◌⊎◌, List, ℕ, length, IsSome, OnOk};
 ghost use Rattle.fsl_disk.specs.Disk.{DiskState, IsModelled, Keeps, LeavesOnly};
 ghost use Rattle.fsl_journal.specs.File.{IsFileOf};
@@ -14,8 +14,8 @@ use fsl_name::Name;
 use fsl_text::Memory;
 
 impl<D: Disk> Repo<D> {
-    /// Puts the appended records on the disk, all of them or none, and answers how many records are committed. It takes
-    /// no memory.
+    /// Puts the appended records on the disk, all of them or none, and returns the number of committed records. It takes no
+    /// memory.
     ///
     /// Errors: `Stopped` with the disk's count of faults when an earlier commit failed; `Disk` where a call of the disk
     /// failed, after which the repository is stopped.
@@ -36,7 +36,7 @@ impl<D: Disk> Repo<D> {
         self.journal.commit(&mut self.disk)
     }
 
-    /// Announces a name, also to a stopped repository. Takes memory for `New` alone; `Memory` is the only error.
+    /// Announces a name, also to a stopped repository. It takes memory for `New` alone. `Memory` is the only error.
     pub fn announce(&mut self, name: Name) -> Result<Known, Memory>
         ensures step { AnnounceStep self.old.seen.state name result self.new.seen.state }
         ensures items { self.new.seen.items ≡ self.old.seen.items }

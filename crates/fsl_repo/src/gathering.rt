@@ -1,4 +1,4 @@
-//! Gathers what the records of a file leave, while it is read group by group.
+//! Gathers the blobs that the records of a file leave, while it is read group by group.
 ghost use Rattle.std.specs.Prelude.{◌≡◌, ◌++◌, [], length, All, IfOk, OnOk, None as NoneSeen, List as ItemList};
 ghost use Rattle.std.specs.List.{AllZip};
 ghost use Rattle.fsl_blobs.specs.Fold.{contents};
@@ -23,17 +23,17 @@ use std::mem::replace;
 #[derive(Drop)]
 pub(crate) struct Named {
     alloc: Global,
-    /// None before the first group.
+    /// The blobs so far. It is `None` before the first group.
     blobs: Option<Blobs>,
 }
 
-/// The same, and what the bytes of each blob are.
+/// The blobs of a file so far, and the parsed artifact of each.
 #[derive(Drop)]
 pub(crate) struct Gathered {
     alloc: Global,
-    /// None before the first group.
+    /// The blobs so far. It is `None` before the first group.
     blobs: Option<Blobs>,
-    /// What was read of each record, in order.
+    /// The parsed artifact of each record, in order, where the record has one.
     artifacts: Vec<Option<Artifact>>,
 }
 

@@ -1,4 +1,4 @@
-//! The repository machine: a repository owns its disk, keeps its records, its held artifacts and its tables, and each
+//! Runs a repository as a machine. The repository owns its disk, and keeps its records, its held artifacts and its tables. Each
 //! call is one step of it.
 #![tactic(auto)]
 
@@ -41,8 +41,8 @@ pub use repo::Repo;
 use std::marker::Model;
 pub use wanting::wants_of;
 
-/// What the file of a repository was opened as, without tables: its journal, what its records leave, without contents, and
-/// what the held artifacts are, where that was read.
+/// The opened file of a repository, without tables. It has the journal, the blobs that the records leave, without contents, and
+/// the held artifacts as they were parsed, where they were.
 #[derive(Drop)]
 pub struct Opened {
     pub journal: Journal,
@@ -50,95 +50,95 @@ pub struct Opened {
     pub items: Option<Items>,
 }
 
-/// What became of an artifact that arrived.
+/// The outcome of an arrival.
 #[derive(Clone, Copy, PartialEq, Eq, Debug)]
 pub enum Arrival {
-    /// Its name is shunned. Nothing changed.
+    /// The name of the artifact is shunned. Nothing changed.
     Shunned,
-    /// It is held already. Nothing changed.
+    /// The artifact is held already. Nothing changed.
     Present,
-    /// It was held as private, and is public from now on.
+    /// The artifact was held as private, and is public from now on.
     Published,
-    /// It is held from now on.
+    /// The artifact is held from now on.
     Stored,
 }
 
-/// Why an artifact didn't arrive. Nothing changed.
+/// A reason why an artifact didn't arrive. Nothing changed.
 #[derive(Clone, Copy, PartialEq, Eq, Debug)]
 pub enum ArriveFault {
-    /// A commit has failed, with the disk's count of faults at this.
+    /// A commit has failed. The field has the disk's count of faults at that time.
     Stopped { faults: u64 },
-    /// It has so many bytes, more than 16,777,216.
+    /// The artifact has this many bytes, more than 16,777,216.
     TooLarge { size: u64 },
     /// The bytes have this name.
     NameWrong { found: Name },
-    /// With it so many bytes, artifacts and wanted names would be there, and one of these is too many.
+    /// With the artifact there would be this many bytes, artifacts and wanted names. One of these is too many.
     Full { bytes: u128, count: u64, wants: u64 },
-    /// There was no memory.
+    /// Memory ran out.
     Memory,
 }
 
-/// What became of a name that was shunned.
+/// The outcome of shunning a name.
 #[derive(Clone, Copy, PartialEq, Eq, Debug)]
 pub enum Shunning {
-    /// It was shunned before. Nothing changed.
+    /// The name was shunned before. Nothing changed.
     Already,
-    /// It was held, and isn't any more.
+    /// The artifact was held, and isn't any more.
     Removed,
-    /// It wasn't held.
+    /// The artifact wasn't held.
     Listed,
 }
 
-/// Why a name wasn't shunned. Nothing changed.
+/// A reason why a name wasn't shunned. Nothing changed.
 #[derive(Clone, Copy, PartialEq, Eq, Debug)]
 pub enum ShunFault {
-    /// A commit has failed, with the disk's count of faults at this.
+    /// A commit has failed. The field has the disk's count of faults at that time.
     Stopped { faults: u64 },
-    /// There was no memory.
+    /// Memory ran out.
     Memory,
 }
 
-/// What became of a name that was to be taken off the list of the shunned ones.
+/// The outcome of taking a name off the list of the shunned ones.
 #[derive(Clone, Copy, PartialEq, Eq, Debug)]
 pub enum Unshunning {
-    /// It wasn't shunned. Nothing changed.
+    /// The name wasn't shunned. Nothing changed.
     NotShunned,
-    /// It was, and isn't any more.
+    /// The name was shunned, and isn't any more.
     Unshunned,
 }
 
-/// Why a name wasn't taken off the list. Nothing changed.
+/// A reason why a name wasn't taken off the list. Nothing changed.
 #[derive(Clone, Copy, PartialEq, Eq, Debug)]
 pub enum UnshunFault {
-    /// A commit has failed, with the disk's count of faults at this.
+    /// A commit has failed. The field has the disk's count of faults at that time.
     Stopped { faults: u64 },
-    /// Without it in the list so many names would be wanted, more than 1,048,576.
+    /// Without the name in the list this many names would be wanted, more than 1,048,576.
     Full { wants: u64 },
-    /// There was no memory.
+    /// Memory ran out.
     Memory,
 }
 
-/// What became of a cluster that was asked for.
+/// The outcome of a call for a cluster.
 #[derive(Clone, Copy, PartialEq, Eq, Debug)]
 pub enum Clustering {
-    /// Only so many public names stand in no cluster, at most 100.
+    /// Only this many public names are in no cluster, at most 100.
     Few { count: u64 },
     /// A cluster of the first 4,096 was made, and arrived under this name.
     Arrived { name: Name, arrival: Arrival },
 }
 
-/// Why a reply wasn't built. Nothing changed but the disk's count of faults.
+/// A reason why a reply wasn't built. Nothing changed but the disk's count of faults.
 #[derive(Clone, Copy, PartialEq, Eq, Debug)]
 pub enum BuildFault {
     /// A call of the disk failed.
     Disk,
     /// The bytes that were read for the artifact of a name have another name.
     Damaged { name: Name, found: Name },
-    /// There was no memory.
+    /// Memory ran out.
     Memory,
 }
 
-/// What a reply answers: a message, what its sender may do, and notices for it.
+/// A question for a reply: a message, the rights of its sender, and notices for it.
 #[derive(Drop)]
 pub struct Ask {
     pub caps: Caps,
@@ -146,7 +146,7 @@ pub struct Ask {
     pub notices: List<Text>,
 }
 
-/// The reply to a message, which `Repo::build` alone makes. Contracts see its bytes.
+/// The reply to a message. Only `Repo::build` makes one. Contracts see its bytes.
 #[derive(Drop)]
 pub struct Reply {
     held: Text,
@@ -161,7 +161,7 @@ impl Model for Reply {
 }
 
 impl Reply {
-    /// The bytes of the reply.
+    /// Returns the bytes of the reply.
     pub fn bytes(&self) -> &[u8]
         ensures { result.now ≡ self.now }
     {
@@ -169,7 +169,7 @@ impl Reply {
     }
 }
 
-/// What is asked of a repository.
+/// A call to a repository.
 #[derive(Drop)]
 pub enum Event {
     /// An artifact arrives.
@@ -178,7 +178,7 @@ pub enum Event {
         bytes: Text,
         private: bool,
     },
-    /// An artifact arrives with a receipt, which tells who brought it and when.
+    /// An artifact arrives with a receipt. The receipt says who brought it and when.
     Receive {
         name: Name,
         bytes: Text,
@@ -197,7 +197,7 @@ pub enum Event {
     Unshun {
         name: Name,
     },
-    /// A cluster of public names that stand in none is made, where there are enough.
+    /// A cluster of public names that are in none is made, where there are enough.
     Cluster,
     /// A reply is built.
     Build {
@@ -207,7 +207,7 @@ pub enum Event {
     Commit,
 }
 
-/// What a repository answers to an event, that of the event's own call.
+/// The answer of a repository to an event. It is that of the event's own call.
 #[derive(Drop)]
 pub enum Answer {
     Arrive(Result<Arrival, ArriveFault>),

@@ -1,4 +1,4 @@
-//! Shuns.
+//! Shuns names, and takes them off the list.
 ghost use Rattle.std.specs.Prelude.{◌≡◌, ◌≤◌, ◌++◌, ◌∷◌, [], None, Err, ⊤, OnOk, OnErr, false, true, length};
 ghost use Rattle.std.specs.FinSet as set;
 ghost use Rattle.fsl_record.specs.declared.Record.TheVariants as record_of;
@@ -22,9 +22,10 @@ use fsl_text::{MOST_NAMES, Memory};
 use std::mem::replace;
 
 impl<D: Disk> Repo<D> {
-    /// Shuns a name: its artifact isn't held any more, nor ever again.
+    /// Shuns a name. Its artifact isn't held any more, nor ever again.
     ///
-    /// Errors: `Stopped` where a commit has failed; `Memory` in place of `Removed` or `Listed` alone. Then nothing changes.
+    /// Errors: `Stopped` where a commit has failed; `Memory` in place of `Removed` or `Listed` alone. An error changes nothing.
+    /// FORMATS: Messages of files
     pub fn shun(&mut self, name: Name) -> Result<Shunning, ShunFault>
         ensures step { ShunStep self.old.seen.state name result self.new.seen.state }
         ensures loaded { self.new.seen.loaded ≡ self.old.seen.loaded }
@@ -51,10 +52,12 @@ impl<D: Disk> Repo<D> {
         }
     }
 
-    /// Takes a name off the list of the shunned ones. Its artifact may arrive again. The tables know no shuns, and stay.
+    /// Takes a name off the list of the shunned ones. Its artifact may arrive again. The tables know no shuns, and stay as they
+    /// are.
     ///
     /// Errors: `Stopped` where a commit has failed; `Full` where without it in the list more than 1,048,576 names would be
-    /// wanted; `Memory` in place of `Full` or `Unshunned` alone. Then nothing changes.
+    /// wanted; `Memory` in place of `Full` or `Unshunned` alone. An error changes nothing.
+    /// FORMATS: Messages of files
     pub fn unshun(&mut self, name: Name) -> Result<Unshunning, UnshunFault>
         ensures step { UnshunStep self.old.seen.state name result self.new.seen.state }
         ensures items { self.new.seen.items ≡ self.old.seen.items }

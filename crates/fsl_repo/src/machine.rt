@@ -1,4 +1,4 @@
-//! The repository as a machine that makes one step for each event.
+//! Makes the repository a machine with one step for each event.
 ghost use Rattle.std.specs.Prelude.{◌≡◌};
 ghost use Rattle.fsl_disk.specs.Disk.{Keeps};
 ghost use Rattle.fsl_repo.specs.Onward.{Step, DiskStep, StepsGoOn};
@@ -78,7 +78,7 @@ impl<D: Disk> Machine for Repo<D> {
     }
 }
 
-/// A law and no code: whatever the event and its answer, the records go on, and the state after it is later.
+/// The records go on with every event and every answer, and the state after it is later. This is a law and no code.
 pub fn steps_go_on()
     ensures { StepsGoOn }
 {}

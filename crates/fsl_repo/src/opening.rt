@@ -1,4 +1,4 @@
-//! Opens a repository, and its file alone.
+//! Opens a repository, or its file alone.
 ghost use Rattle.std.specs.Prelude.{◌≡◌, ℕ, List, length, IfOk, IfErr, None as NoneSeen};
 ghost use Rattle.fsl_blobs.specs.Fold.{contents};
 ghost use Rattle.fsl_disk.specs.Disk.{DiskState, IsModelled, Told, Keeps, Quiet, LeavesOnly};
@@ -15,12 +15,13 @@ use fsl_journal::{Journal, LoadFault};
 use std::alloc::Global;
 
 impl<D: Disk> Repo<D> {
-    /// Opens the repository of a disk: makes what it holds stable, reads the file, cuts what stands behind the closed
-    /// gate, and derives all tables. It reads the file group by group, and a group's contents go before the next one is read.
-    /// It may be stopped at any moment. On a fault the disk comes back.
+    /// Opens the repository of a disk. It makes the disk's contents stable, reads the file, cuts the bytes behind the closed
+    /// gate, and derives all tables. It reads the file group by group, and drops a group's contents before it reads the next one.
+    /// It may be stopped at any moment. The disk comes back with an error.
     ///
-    /// Errors: `Disk` where a call of the disk failed; `NotRepository` with the place at which the file fails to stand for
-    /// records; `Memory`.
+    /// Errors: `Disk` where a call of the disk failed; `NotRepository` where the file stands for no records, with the place at
+    /// which it fails to; `Memory`.
+    /// FORMATS: The repository file
     pub fn load(alloc: Global, mut disk: D) -> Result<Repo<D>, (D, LoadFault)>
         ensures opened { IfOk result (λ repo. IsOpened (D.state disk) (D.state repo.disk) repo) }
         ensures fault { IfErr result (λ failed. OpenFailed failed.1 (D.state disk) (D.state failed.0)) }
@@ -65,13 +66,13 @@ impl<D: Disk> Repo<D> {
     }
 }
 
-/// Opens the file of a repository by its held names: makes what the disk holds stable, reads the file, and cuts what stands
-/// behind the closed gate. It reads the file group by group, tests each content against its name, and lets it go before the
-/// next group is read; nothing is parsed. So it takes memory for one group, and for the names, sizes, receipts and places of
-/// the blobs. It may be stopped at any moment.
+/// Opens the file of a repository by its held names. It makes the disk's contents stable, reads the file, and cuts the bytes
+/// behind the closed gate. It reads the file group by group, tests each content against its name, and drops it before it reads
+/// the next group. It parses nothing. So it takes memory for one group, and for the names, sizes, receipts and places of the
+/// blobs. It may be stopped at any moment.
 ///
-/// Errors: `Disk` where a call of the disk failed; `NotRepository` with the place at which the file fails to stand for
-/// records; `Memory`.
+/// Errors: `Disk` where a call of the disk failed; `NotRepository` where the file stands for no records, with the place at which
+/// it fails to; `Memory`.
 pub fn names_of_file<D: Disk>(alloc: Global, disk: &mut D) -> Result<Opened, LoadFault>
     ensures opened { IfOk result (λ f. IsFileOpened (D.state disk.old) (D.state disk.new) f.journal f.blobs) }
     ensures items { IfOk result (λ f. f.items ≡ NoneSeen) }
@@ -94,8 +95,9 @@ pub fn names_of_file<D: Disk>(alloc: Global, disk: &mut D) -> Result<Opened, Loa
     }
 }
 
-/// The same, and what the held artifacts are: the bytes of each blob are parsed once, before they go, also of one that a later
-/// record takes out, as a shun does. So it takes memory for one group, for the names, and for what is parsed. No table is made.
+/// Opens the file of a repository as `names_of_file` does, with the same errors, and parses the held artifacts too. It parses the
+/// bytes of each blob once, before they go, also of one that a later record takes out, as a shun does. So it takes memory for one
+/// group, for the names, and for the parsed artifacts. It makes no table.
 pub fn artifacts_of_file<D: Disk>(alloc: Global, disk: &mut D) -> Result<Opened, LoadFault>
     ensures opened { IfOk result (λ f. IsFileOpened (D.state disk.old) (D.state disk.new) f.journal f.blobs) }
     ensures items { IfOk result (λ f. HasItems (contents f.blobs.records) f.items) }

@@ -1,4 +1,4 @@
-//! The held artifacts by place, and which of them a reply sends.
+//! Lists the held artifacts by place, and finds those that a reply sends.
 ghost use Rattle.std.specs.Prelude.{◌≡◌, IfOk, IfSome, map, filter_map};
 ghost use Rattle.std.specs.List.{AllByRecursion};
 ghost use Rattle.std.specs.Option.{option_map};

@@ -1,4 +1,4 @@
-//! What a repository answers without a change.
+//! Answers questions without a change.
 ghost use Rattle.std.specs.Prelude.{◌≡◌, ◌↔◌, Some, None, Err, IfOk, IfErr, OnOk, map};
 ghost use Rattle.std.specs.Option.{option_copied};
 ghost use Rattle.std.specs.FinMap as map_of;
@@ -22,7 +22,7 @@ use fsl_record::{Config, Receipt};
 use fsl_text::{List, Memory, Text};
 
 impl<D: Disk> Repo<D> {
-    /// All tables.
+    /// Returns all tables.
     pub fn tables(&self) -> &Tables
         ensures fields { result.now.fields ≡ configured (now self.now.seen.state) }
         ensures items { result.now.items ≡ self.now.seen.items }
@@ -30,93 +30,94 @@ impl<D: Disk> Repo<D> {
         &self.tables
     }
 
-    /// How many artifacts were stored since the repository was loaded.
+    /// Counts the artifacts that were stored since the repository was loaded.
     pub fn stored(&self) -> u64
         ensures { result ≡ stored self.now.seen }
     {
         self.stored
     }
 
-    /// The codes of the repository, and its configured ticket fields.
+    /// Returns the codes of the repository, and its configured ticket fields.
     pub fn config(&self) -> &Config
         ensures { (now self.now.seen.state).config ≡ Some result.now }
     {
         self.blobs.config()
     }
 
-    /// The sum of the sizes of all held artifacts, in bytes. Takes no memory.
+    /// Returns the sum of the sizes of all held artifacts, in bytes. Takes no memory.
     pub fn bytes(&self) -> u128
         ensures { result ≡ held_bytes (now self.now.seen.state).held }
     {
         self.blobs.bytes()
     }
 
-    /// How many artifacts are held. Takes no memory.
+    /// Counts the held artifacts. Takes no memory.
     pub fn count(&self) -> u64
         ensures { result ≡ map_of.len (now self.now.seen.state).held }
     {
         self.blobs.count()
     }
 
-    /// The names of the held artifacts that are private, ascending. `Memory` is the only error.
+    /// Returns the names of the held artifacts that are private, ascending. `Memory` is the only error.
     pub fn privates(&self) -> Result<List<Name>, Memory>
         ensures { IfOk result (λ names. names ≡ private_names (now self.now.seen.state).held) }
     {
         self.blobs.privates(self.alloc)
     }
 
-    /// What a name is. Takes no memory.
+    /// Returns the state of a name. Takes no memory.
     pub fn state(&self, name: Name) -> BlobState
         ensures { result ≡ state_of (now self.now.seen.state) name }
     {
         self.blobs.state(name)
     }
 
-    /// Which held name begins with these digits. Takes no memory.
+    /// Finds the held name that begins with these digits. Takes no memory.
     pub fn find(&self, prefix: &[u8]) -> Found
         ensures { result ≡ found (matching (now self.now.seen.state).held prefix.now) }
     {
         self.blobs.find(prefix)
     }
 
-    /// The held names whose place is at least this, by place. `Memory` is the only error.
+    /// Returns the held names at this place and behind it, by place. `Memory` is the only error.
     pub fn held(&self, from: u64) -> Result<List<Placed>, Memory>
         ensures { IfOk result (λ names. map (λ p. (p.place, p.name)) names ≡ held_from self.now.seen.state.records from) }
     {
         self.blobs.held(self.alloc, from)
     }
 
-    /// The names that are referred to and neither held nor shunned, ascending. `Memory` is the only error.
+    /// Returns the names that an artifact refers to and that are neither held nor shunned, ascending. `Memory` is the only error.
     pub fn wants(&self) -> Result<List<Name>, Memory>
         ensures { IfOk result (λ names. names ≡ wants (now self.now.seen.state) self.now.seen.items) }
     {
         wanted(self.alloc, self.tables.cluster(), &self.blobs)
     }
 
-    /// The shunned names, ascending. `Memory` is the only error.
+    /// Returns the shunned names, ascending. `Memory` is the only error.
     pub fn shuns(&self) -> Result<List<Name>, Memory>
         ensures { IfOk result (λ names. names ≡ ascending (set.items (now self.now.seen.state).shunned)) }
     {
         self.blobs.shuns(self.alloc)
     }
 
-    /// The disk's count of faults when a commit failed, or nothing where it goes on. Takes no memory.
+    /// Returns the disk's count of faults when a commit failed. It is `None` where the repository isn't stopped. Takes no memory.
     pub fn stopped(&self) -> Option<u64>
         ensures { result ≡ self.now.seen.state.stopped }
     {
         self.journal.stopped()
     }
 
-    /// Who brought a held artifact, and when; none where that wasn't told, or the name isn't held. Takes no memory.
+    /// Returns the receipt of a held artifact, which says who brought it and when. It is `None` where the artifact has none, or
+    /// the name isn't held. Takes no memory.
     pub fn receipt(&self, name: Name) -> Option<&Receipt>
         ensures { option_copied result ≡ map_of.get (now self.now.seen.state).receipts name }
     {
         self.blobs.receipt(name)
     }
 
-    /// The content of a held artifact, public or private. It is read from the disk and its name is tested, or it is one of
-    /// the last that were read. Over a disk that tells its contents and meets the disk model these are the held bytes; over
-    /// every other disk they are bytes of the same name and size.
+    /// Returns the content of a held artifact, public or private. It reads the content from the disk and tests its name, or takes
+    /// it from the last that were read. Over a disk that tells its contents and meets the disk model these are the held bytes;
+    /// over every other disk they are bytes of the same name and size.
     ///
     /// Errors: `Absent` where the name isn't held; `Disk` where a call of the disk failed; `Damaged` with the name of the bytes
     /// that were read, where it is another one; `Memory`.

@@ -1,4 +1,4 @@
-//! A repository: the disk that it owns, the journal of its records, the artifacts that these leave, and their tables.
+//! Holds a repository: its disk, the journal of its records, the artifacts that these leave, and their tables.
 ghost use Rattle.std.specs.Prelude.{◌≡◌};
 ghost use Rattle.fsl_repo.specs.Whole.{IsWholeOn};
 
@@ -9,9 +9,9 @@ use fsl_journal::Journal;
 use std::alloc::Global;
 use std::marker::Model;
 
-/// A repository over a disk of its own. Its tables are those of its held artifacts, these are what its records leave, and
-/// its announced names are neither held nor shunned, between any two calls. Contracts see all records, how many of them
-/// are committed, the announced names, the artifacts of the tables, and the disk.
+/// A repository over a disk of its own. Between any two calls its tables are those of its held artifacts, these are the ones that
+/// its records leave, and its announced names are neither held nor shunned. Contracts see all records, how many of them are
+/// committed, the announced names, the artifacts of the tables, and the disk.
 #[derive(Drop)]
 pub struct Repo<D: Disk> {
     pub(crate) alloc: Global,
@@ -44,14 +44,14 @@ impl<D: Disk> Model for Repo<D> {
 }
 
 impl<D: Disk> Repo<D> {
-    /// What every repository meets. This call does nothing: by it a caller learns so.
+    /// States what every repository meets. The call does nothing when the program runs.
     pub fn is_whole(&self)
         ensures { IsWholeOn (D.state self.now.disk) self.now }
     {
         let _ = &self.disk;
     }
 
-    /// Hands the disk back.
+    /// Returns the disk.
     pub fn close(self) -> D
         ensures { result ≡ self.disk }
     {

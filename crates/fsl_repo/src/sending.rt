@@ -1,4 +1,4 @@
-//! The files of a reply, and where a clone goes on. Which files are due is told by names and sizes; only those that the
+//! Reads the files of a reply, and finds where a clone goes on. Names and sizes decide which files are due. Only those that the
 //! budget takes are read.
 ghost use Rattle.std.specs.Prelude.{◌≡◌, IfOk, IfErr, OnOk, map, filter_map, take, drop, length};
 ghost use Rattle.std.specs.List.{AllByRecursion, AllZip};

@@ -1,4 +1,4 @@
-//! The names that are wanted.
+//! Finds the wanted names.
 ghost use Rattle.std.specs.Prelude.{◌≡◌, IfOk, filter, not};
 ghost use Rattle.std.specs.FinSet as set;
 ghost use Rattle.fsl_blobs.specs.Fold.{contents};
@@ -34,8 +34,8 @@ pub(crate) fn wanted(alloc: Global, table: &Clusters, blobs: &Blobs) -> Result<L
     Ok(List::from_vec(names))
 }
 
-/// The names to which some artifacts refer, of which none is among them or shunned, ascending: where they are those that are
-/// held, the names that are wanted. `Memory` is the only error.
+/// Returns the names that some artifacts refer to and that are neither among them nor shunned, ascending. For the held artifacts
+/// these are the wanted names. `Memory` is the only error.
 pub fn wants_of(alloc: Global, blobs: &Blobs, items: &Items) -> Result<List<Name>, Memory>
     ensures { IfOk result (λ names. names ≡ wants (contents blobs.now.records) items.now) }
 {

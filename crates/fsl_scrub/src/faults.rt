@@ -1,4 +1,4 @@
-//! Why a file isn't written.
+//! Holds the reasons why a file isn't written.
 ghost use Rattle.std.specs.Prelude.{◌≡◌};
 ghost use Rattle.fsl_scrub.specs.Faults.{fault_of};
 ghost use Rattle.fsl_scrub.specs.declared.faults.ScrubFault.TheVariants as scrub_fault;
@@ -8,16 +8,16 @@ use fsl_name::Name;
 use fsl_outside::Failed;
 use fsl_text::Memory;
 
-/// Why a repository wasn't scrubbed.
+/// A reason why a repository wasn't scrubbed.
 #[derive(Clone, Copy, PartialEq, Eq, Debug)]
 pub enum ScrubFault {
-    /// The spare file has so many bytes.
+    /// The spare file isn't empty. It has this many bytes.
     NotEmpty { len: u64 },
     /// A call of the repository's disk failed, or one of the spare file's.
     Disk,
     /// The bytes that were read for the artifact of a name have another name.
     Damaged { name: Name, found: Name },
-    /// There was no memory.
+    /// Memory ran out.
     Memory,
 }
 
@@ -30,7 +30,7 @@ pub(crate) enum WriteFault {
     Unread,
     /// The bytes that were read for the artifact of a name have another name.
     Damaged { name: Name, found: Name },
-    /// There was no memory.
+    /// Memory ran out.
     Memory,
 }
 

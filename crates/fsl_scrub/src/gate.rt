@@ -1,4 +1,5 @@
-//! The ends of a new file: its header, the length of its group, and the one gate whose opening makes it a repository.
+//! Writes the two ends of a new file: its header, the length of its group, and the one gate. When that gate opens, the file
+//! becomes a repository.
 ghost use Rattle.std.specs.Prelude.{◌≡◌, ◌≤◌, ◌++◌, [], ℕ, List, length, IsTrue, Some, OnOk};
 ghost use Rattle.fsl_order.specs.Causes.{HasCause};
 ghost use Rattle.fsl_disk.specs.Disk.{Told, Keeps, Only, LeavesOnly};

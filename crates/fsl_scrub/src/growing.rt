@@ -1,4 +1,4 @@
-//! A file that grows at its end, record by record.
+//! Grows a file at its end, record by record.
 ghost use Rattle.std.specs.Prelude.{◌≡◌, ◌∷◌, [], ℕ, List, map, IfErr};
 ghost use Rattle.fsl_record.specs.declared.Record.TheVariants as record_of;
 ghost use Rattle.fsl_record.specs.Records.{AreFields, IsWritable, record_bytes, records_bytes};

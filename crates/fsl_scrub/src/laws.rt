@@ -1,4 +1,4 @@
-//! Laws of scrubbed records and their file. These functions have no code.
+//! States laws on scrubbed records and their file. These functions have no code.
 ghost use Rattle.fsl_scrub.specs.Closing.{MomentsStand, UnopenedStandsForNone, WholeStandsForAll, WrittenMomentsStand};
 ghost use Rattle.fsl_scrub.specs.Scrubbed.{FoldsAlike, HeldHaveBlobs, HonestIsSame, LoadsAlike, ScrubbedAreRecords, WrittenAreRecords, WrittenFoldsAlike};
 
@@ -22,7 +22,7 @@ pub fn scrubbed_records_leave_the_same()
     ensures { FoldsAlike }
 {}
 
-/// Whatever the file of scrubbed records is read as, it leaves what the records left, and so the same tables.
+/// The file of scrubbed records leaves the same as the records, in every reading of it, and so the same tables.
 pub fn scrubbed_file_leaves_the_same()
     ensures { LoadsAlike }
 {}
@@ -47,12 +47,12 @@ pub fn written_are_records()
     ensures { WrittenAreRecords }
 {}
 
-/// They leave what the records left, with contents as they were read.
+/// Records as they are written leave the same as the records, with contents as they were read.
 pub fn written_records_leave_the_same()
     ensures { WrittenFoldsAlike }
 {}
 
-/// And at each moment of a scrub each image stands for no records or for these.
+/// At each moment of a scrub each image stands for no records or for those that are written.
 pub fn each_written_moment_stands()
     ensures { WrittenMomentsStand }
 {}

@@ -1,5 +1,5 @@
-//! Scrubbing: a new file of a repository without the bytes of shunned artifacts. It holds what the repository holds, and a
-//! crash at any moment leaves no repository there or the whole new one.
+//! Writes a new file of a repository without the bytes of shunned artifacts. The file holds the same artifacts as the repository.
+//! A crash at any moment leaves no repository there or the whole new one.
 #![tactic(auto)]
 
 mod faults;

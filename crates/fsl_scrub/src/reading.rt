@@ -1,4 +1,4 @@
-//! Reads a held artifact as the record that a new file has of it.
+//! Reads a held artifact as its record in a new file.
 ghost use Rattle.std.specs.Prelude.{◌≡◌, IfOk, IfErr};
 ghost use Rattle.std.specs.FinMap as map_of;
 ghost use Rattle.fsl_record.specs.Records.{IsWritable};

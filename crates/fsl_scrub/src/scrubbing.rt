@@ -1,4 +1,4 @@
-//! Writes a repository into a new file, without what is shunned.
+//! Writes a repository into a new file, without the shunned artifacts.
 ghost use Rattle.std.specs.Prelude.{◌≡◌, ◌≢◌, [], List, length, Some, IfOk, IfErr, OnOk};
 ghost use Rattle.fsl_disk.specs.Disk.{IsModelled, Keeps, LeavesOnly, Only, Quiet, Told};
 ghost use Rattle.fsl_journal.specs.File.{IsFileOf};
@@ -20,14 +20,14 @@ use fsl_name::Name;
 use fsl_repo::Repo;
 use std::alloc::Global;
 
-/// What a new file holds.
+/// The counts of a new file.
 #[derive(Clone, Copy, PartialEq, Eq, Debug)]
 pub struct Scrubbed {
-    /// How many artifacts.
+    /// The number of artifacts.
     pub blobs: u64,
-    /// How many shunned names.
+    /// The number of shunned names.
     pub shuns: u64,
-    /// How many bytes.
+    /// The number of bytes.
     pub len: u64,
 }
 
@@ -124,18 +124,18 @@ fn write_file<D: Disk, P: Disk>(
     Ok(end)
 }
 
-/// Writes a repository into an empty file, without what is shunned: its Config, its held artifacts by their places, each
-/// with its present privacy and its receipt, and its shunned names, in one group of a file of version 2. Until the last
-/// write, which opens the one gate, the file is no repository; each step is made stable before the next, and one content is
-/// in memory at a time. Nothing is appended and uncommitted in the repository, which stays: its disk is read alone.
+/// Writes a repository into an empty file, without the shunned artifacts. The file gets its Config, its held artifacts by their
+/// places, each with its present privacy and its receipt, and its shunned names, in one group of a file of version 2. The last
+/// write opens the one gate. Until then the file is no repository. Each step is made stable before the next, and one content is
+/// in memory at a time. The repository has no appended and uncommitted record. It stays as it is: its disk is only read.
 ///
 /// Over a repository's disk that tells its contents and meets the disk model the new file has the held contents. Over every
 /// other disk it has bytes of the same names and sizes in their place.
 ///
-/// Errors: `NotEmpty` with the length of the spare file where it was read and isn't 0, before anything is read of the
-/// repository, and nothing else for such a file; `Disk` where a call of one of the two disks failed; `Damaged` with a held
-/// name and that of the bytes that were read for it, where it is another one; `Memory`. A spare file that isn't finished is
-/// no repository.
+/// Errors: `NotEmpty` with the length of the spare file where it was read and isn't 0, before anything is read of the repository,
+/// and no other error for such a file; `Disk` where a call of one of the two disks failed; `Damaged` with a held name and that of
+/// the bytes that were read for it, where they have another name; `Memory`. A spare file that isn't finished is no repository.
+/// FORMATS: Scrubbed files
 pub fn scrub<D: Disk, P: Disk>(
     alloc: Global,
     repo: &mut Repo<D>,

@@ -1,4 +1,4 @@
-//! Sessions of one user alone.
+//! Runs sessions of one user alone.
 ghost use Rattle.std.specs.Prelude.{◌≡◌, ◌≢◌};
 ghost use Rattle.fsl_order.specs.Causes.{Rose};
 ghost use Rattle.fsl_repo.specs.Onward.{MayStep};
@@ -19,8 +19,8 @@ use fsl_turn::{Solo, SoloPass};
 use std::alloc::Global;
 use std::sync::Wait;
 
-/// A session of the form for one user, whose pass tells its calls. The gate, the connection and the clock are as [`session`] says, by these calls, and
-/// one after another they lead from the machine before to the machine after.
+/// Runs a session over a machine that has one user. The pass tells its calls. The gate, the connection and the clock are as
+/// [`session`] says for these calls. One after another the calls lead from the machine before to the machine after.
 pub fn session_alone<D: Disk, K: Link, G: Gate, C: Clock, R: Wait>(
     rt: &R,
     alloc: Global,

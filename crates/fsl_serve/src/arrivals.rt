@@ -1,4 +1,4 @@
-//! The arrivals of a message.
+//! Makes the arrivals of a message.
 ghost use Rattle.std.specs.Prelude.{◌≡◌, ℕ, List as Items, [], ◌∷◌, ◌++◌, Bool, false, IfOk, OnOk, option_to_list};
 ghost use Rattle.std.specs.Result.{result_err};
 ghost use Rattle.fsl_name.specs.Name.{name_text};

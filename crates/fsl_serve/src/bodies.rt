@@ -1,4 +1,4 @@
-//! The bodies that stand in place of a reply.
+//! Writes the bodies that come in place of a reply.
 ghost use Rattle.std.specs.Prelude.{◌≡◌, ◌⊎◌, IfOk, codes, [], ◌++◌, decimal};
 ghost use Rattle.fsl_wire.specs.declared.WireFault.TheVariants as wire_fault;
 ghost use Rattle.fsl_answer.specs.Replies.{error_line};

@@ -1,4 +1,4 @@
-//! Events one by one, and whether a session goes on after each.
+//! Makes events one by one, and tells whether a session goes on after each.
 ghost use Rattle.std.specs.Prelude.{◌≡◌, [], ◌∷◌};
 ghost use Rattle.std.specs.Result.{result_err};
 ghost use Rattle.fsl_serve.specs.Calls.{Gains, May, halt_of};

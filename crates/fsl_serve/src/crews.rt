@@ -1,4 +1,4 @@
-//! Workers in threads.
+//! Runs workers in threads.
 ghost use Rattle.std.specs.Prelude.{◌≡◌, ◌<◌, ◌≤◌, ◌+◌, [], ◌∷◌, map, slice_index_or, vec_len, ℕ, Some, IfOk, IfErr, IfSome};
 ghost use Rattle.fsl_repo.specs.Onward.{IsLaterOn};
 ghost use Rattle.fsl_repo.specs.Whole.{stored};
@@ -89,8 +89,8 @@ where
     );
 }
 
-/// Commits what a session added that no commit followed: want of memory cut that session off, and no other one came behind it. A
-/// repository that its disk stops says so itself.
+/// Commits what a session added that no commit followed: memory ran out and cut that session off, and no other one came behind
+/// it. A repository that its disk stops says so itself.
 fn settle<D: Disk>(repo: &mut Repo<D>)
     ensures later { IsLaterOn (D.state repo.old.disk) (D.state repo.new.disk) repo.old repo.new }
     ensures stored { stored repo.new.seen ≡ stored repo.old.seen }
@@ -100,19 +100,20 @@ fn settle<D: Disk>(repo: &mut Repo<D>)
     step_uncounted(repo, &Event::Commit);
 }
 
-/// What the crews left: the repository, the crews in their order, what each did, and how many artifacts were stored.
+/// The repository behind all crews, the crews in their order, the work of each, and the number of artifacts that were stored.
 pub struct Served<D: Disk, A, G, C> {
-    /// The repository, later than the one that came. All its records are committed, unless it is stopped.
+    /// The repository, in a later state than the one that came. All its records are committed, unless it is stopped.
     pub repo: Repo<D>,
     /// The crews, in their order.
     pub crews: Vec<Crew<A, G, C>>,
-    /// What each did.
+    /// The work of each crew.
     pub works: Vec<Work>,
-    /// How many artifacts were stored.
+    /// The number of artifacts that were stored.
     pub stored: u64,
 }
 
-/// Runs a worker for each crew over the repository, by turns that make one history. All comes back as it was where memory ran out.
+/// Runs a worker for each crew over the repository, by turns that make one history. Out of memory is the only error. The
+/// repository and the crews then come back as they were.
 pub fn serve_crews<
     D: Disk + Send,
     A: Door + Send,

@@ -1,4 +1,4 @@
-//! The events of a message, and what they say.
+//! Makes the events of a message, and reads their answers.
 ghost use Rattle.std.specs.Prelude.{◌≡◌, [], ◌∷◌, ◌++◌, true, false, IfOk, OnOk, OnErr, IsTrue, filter_map, option_to_list, option_map};
 ghost use Rattle.std.specs.Result.{result_err};
 ghost use Rattle.std.specs.List.{list_any};

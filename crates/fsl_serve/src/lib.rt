@@ -1,5 +1,6 @@
-//! Sessions over one repository: one request, its events one by one, each under the lock for that time alone, and its reply. What
-//! a session brings has a receipt: who sent it, and the moment, for which the session asks its clock once.
+//! Serves sessions over one repository. A session reads one request, makes its events one by one, each under the lock for that
+//! time alone, and writes its reply. Each artifact that it brings has a receipt: who sent it, and the moment. The session asks
+//! its clock once for that moment.
 //!
 //! [`session`] serves one connection, [`worker`] those of one door, and [`serve_crews`] runs a worker for each crew in a thread of its
 //! own. All are generic over the way in which the repository is shared.

@@ -1,4 +1,4 @@
-//! The receipt of what a message brings.
+//! Makes the receipt of the files that a message brings.
 ghost use Rattle.std.specs.Prelude.{◌≡◌, ◌≤◌, ◌^◌, ℕ, [], ◌∷◌, length, IfOk, OnErr};
 ghost use Rattle.fsl_outside.specs.Clocks.{Asks};
 ghost use Rattle.fsl_serve.specs.Session.{login_in, receipt_of};

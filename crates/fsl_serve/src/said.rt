@@ -1,11 +1,11 @@
-//! What is said to a request, and how a session ends.
+//! Decides the reply to a request, and how a session ends.
 ghost use Rattle.std.specs.Prelude.{◌≡◌};
 ghost use Rattle.fsl_serve.specs.Sessions.{sent_of};
 
 use fsl_repo::Reply;
 use fsl_text::Text as Bytes;
 
-/// How a session ended.
+/// The end of a session.
 #[derive(Clone, Copy, Debug, PartialEq, Eq)]
 pub enum SessionEnd {
     /// No byte came.
@@ -21,14 +21,14 @@ pub enum SessionEnd {
 pub(crate) enum Halt {
     /// The repository is stopped, or a content of its disk couldn't be read or is damaged.
     Stopped,
-    /// There was no memory.
+    /// Memory ran out.
     Memory,
 }
 
 /// What is said to a request.
 #[derive(Drop)]
 pub(crate) enum Said {
-    /// A status alone, for a request that isn't one for a message.
+    /// A status alone, for a request that brings no message.
     Refused(u16),
     /// An error card.
     Text(Bytes),

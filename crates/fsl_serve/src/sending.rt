@@ -1,4 +1,4 @@
-//! The reply on its way.
+//! Writes the reply.
 ghost use Rattle.std.specs.Prelude.{◌≡◌, ◌≢◌};
 ghost use Rattle.fsl_order.specs.Causes.{Rose};
 ghost use Rattle.fsl_outside.specs.Connections.{Between};

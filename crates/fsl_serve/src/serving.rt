@@ -1,4 +1,4 @@
-//! A session.
+//! Runs a session.
 ghost use Rattle.std.specs.Prelude.{◌≡◌, ◌≢◌, ◌≤◌, ◌^◌, ℕ, List as Items, [], None, Ok, IfOk, IfErr, length};
 ghost use Rattle.fsl_order.specs.Causes.{Rose};
 ghost use Rattle.fsl_http.specs.declared.request.Asked.TheVariants as asked_as;
@@ -95,9 +95,10 @@ fn said_to<T: Calls<Repo<D>>, D: Disk, G: Gate, C: Clock>(
     }
 }
 
-/// Serves the present connection: reads one request, makes its events one by one, and writes one reply. Behind its refusal test and
-/// before its first arrival it asks the clock once, for the receipt of all that it brings, which has the user of the first login
-/// or `nobody`. The gate is passed behind the arrivals and announcements, and once the reply is written.
+/// Serves the present connection. It reads one request, makes its events one by one, and writes one reply. Behind its refusal
+/// test and before its first arrival it asks the clock once, for the receipt of all that it brings. That receipt has the user of
+/// the first login or `nobody`. The gate is passed behind the arrivals and announcements, and once the reply is written.
+/// FORMATS: Users, logins and replies
 pub fn session<T: Calls<Repo<D>>, D: Disk, K: Link, G: Gate, C: Clock>(
     alloc: Global,
     turns: &T,

@@ -1,4 +1,4 @@
-//! What all sessions share.
+//! Holds what all sessions share.
 use fsl_login::Users;
 use fsl_name::Name;
 use std::alloc::Global;

@@ -1,4 +1,4 @@
-//! Crews and passes as jobs, and jobs taken apart.
+//! Puts crews and passes together as jobs, and takes jobs apart.
 ghost use Rattle.std.specs.Prelude.{◌≡◌, ◌<◌, ◌≤◌, map, vec_len, vec_capacity};
 
 use crate::crews::Job;

@@ -1,19 +1,19 @@
-//! Turns for callers that may not wait themselves.
+//! Gives turns to callers that may not wait themselves.
 ghost use Rattle.std.specs.Prelude.{◌≡◌, List, [], ◌∷◌, Option};
 ghost use Rattle.fsl_turn.specs.Told.{Tells};
 
 use fsl_turn::{Machine, Turns};
 use std::sync::Wait;
 
-/// Turns on a machine, for a caller that has nothing by which it could wait: a turn may wait, and nothing else that it does.
+/// Turns on a machine, for a caller that can't wait itself. Only a turn may wait, and nothing else that the caller does.
 pub trait Calls<M: Machine> {
-    /// What a user steps the machine through.
+    /// The pass by which a user steps the machine.
     type Pass;
 
-    /// As of [`Turns`].
+    /// The calls of a pass, as in [`Turns`].
     ghost calls: { Self.Pass → Option (List (M.Event × M.Answer)) };
 
-    /// As of [`Turns`].
+    /// Says that the second pass is the first after any number of turns, as in [`Turns`].
     ghost grows: { Self.Pass → Self.Pass → Type 0 };
 
     /// Makes the step of an event, between two states of the machine, while no other user makes one.
@@ -22,7 +22,7 @@ pub trait Calls<M: Machine> {
         ensures told { Tells (calls pass.old) (calls pass.new) (λ made. made ≡ (event.now, result) ∷ []) }
         ensures grown { grows pass.old pass.new };
 
-    /// As of [`Turns`].
+    /// Lets others go first, as in [`Turns`].
     fn stand_back(&self);
 
     ghost grows_self: { (p : Self.Pass) → grows p p };
@@ -30,7 +30,7 @@ pub trait Calls<M: Machine> {
     ghost grows_through: { (p q r : Self.Pass) → grows p q → grows q r → grows p r };
 }
 
-/// The turns of a form, with the handle by which they wait. Nobody else gets at it.
+/// Turns with the handle by which they wait. Nobody else gets at the handle.
 #[derive(Drop)]
 pub struct Waiting<'a, T, R> {
     turns: &'a T,
@@ -38,7 +38,7 @@ pub struct Waiting<'a, T, R> {
 }
 
 impl<'a, T, R> Waiting<'a, T, R> {
-    /// These turns, which wait by this handle.
+    /// Makes turns that wait by this handle.
     pub fn new(turns: &'a T, rt: &'a R) -> Waiting<'a, T, R>
         ensures turns { result.turns.now ≡ turns.now }
     {

@@ -1,4 +1,4 @@
-//! Workers.
+//! Runs workers.
 ghost use Rattle.fsl_serve.specs.Workers.{HasWorked, HasPassed};
 
 use crate::serving::serve_link;
@@ -11,28 +11,28 @@ use fsl_outside::{Accepted, Clock, Door, Gate};
 use fsl_repo::Repo;
 use std::alloc::Global;
 
-/// What a worker works with.
+/// The things that a worker needs.
 #[derive(Drop)]
 pub struct Crew<A, G, C> {
-    /// Where its connections come in.
+    /// The door for its connections.
     pub door: A,
-    /// What its sessions pass.
+    /// The gate that its sessions pass.
     pub gate: G,
-    /// What tells its sessions the moment.
+    /// The clock that tells its sessions the moment.
     pub clock: C,
 }
 
-/// What a worker did.
+/// The work of a worker.
 #[derive(Clone, Copy, Debug, PartialEq, Eq)]
 pub struct Work {
-    /// The connections that it served.
+    /// The number of connections that it served.
     pub sessions: u64,
-    /// Whether its door failed.
+    /// Says whether its door failed.
     pub failed: bool,
 }
 
-/// Serves as many connections as are asked for, or up to where the door fails or is closed. Each connection is let go once its session
-/// ended. The sessions are numbered from 0 where they pass the gate. Each asks the clock at most once.
+/// Serves as many connections as are asked for, or until the door fails or is closed. Each connection is let go once its session
+/// ended. The sessions pass the gate under numbers from 0 on. Each asks the clock at most once.
 pub fn worker<T: Calls<Repo<D>>, D: Disk, A: Door, G: Gate, C: Clock>(
     alloc: Global,
     turns: &T,

@@ -1,4 +1,4 @@
-//! Keys that their order tells apart.
+//! A key's order tells it apart from all others.
 ghost use Rattle.std.specs.Prelude.{◌≡◌};
 ghost use Rattle.std.specs.declared.cmp.Ordering.TheVariants.{Equal};
 ghost use Rattle.std.proofs.lemmas.Map.Lookups.{exact_bytes};
@@ -7,7 +7,7 @@ ghost use Rattle.fsl_table.specs.Exact.{exact_pair};
 use fsl_name::Name;
 use fsl_text::Text;
 
-/// An order that holds no two keys for equal.
+/// A key has an order that holds no two keys for equal.
 pub trait Key: Ord {
     ghost exact: { (x y : Self) → Self.cmp x y ≡ Equal → x ≡ y };
 }
@@ -20,7 +20,7 @@ impl Key for Text {
     ghost exact = { exact_bytes };
 }
 
-/// A name, and one that belongs to it. What belongs to a name is walked from the name with none.
+/// A pair holds a name, and one that belongs to it. A walk through the names that belong to a name begins at the name with none.
 #[derive(Clone, Copy, PartialEq, Eq, PartialOrd, Ord)]
 pub struct Pair {
     pub first: Name,

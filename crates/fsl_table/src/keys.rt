@@ -1,4 +1,4 @@
-//! The names of a table, one after another.
+//! These calls read the names of a table, one after another.
 ghost use Rattle.std.specs.Prelude.{◌≡◌, IfOk};
 ghost use Rattle.std.specs.List.Sorted.{IsStrictlySortedBy};
 ghost use Rattle.std.specs.Map.{keys_of};
@@ -12,7 +12,7 @@ use fsl_text::{List, Memory, Steps};
 use std::alloc::Global;
 use std::sync::ledger::Ledger;
 
-/// The first name of a table, or the first above another.
+/// Gives the first name of a table, or the first above another.
 fn name_after<L: Ledger>(
     table: &Table<Name, ()>,
     after: Option<Name>,
@@ -32,7 +32,7 @@ fn name_after<L: Ledger>(
     }
 }
 
-/// The names of a table, ascending. `Memory` is the only error.
+/// Lists the names of a table, ascending. `Memory` is the only error.
 pub fn keys<L: Ledger>(
     alloc: Global,
     table: &Table<Name, ()>,

@@ -1,4 +1,4 @@
-//! The steps that take tables back, the last one first.
+//! A log has the steps that take a table back, the last one first.
 ghost use Rattle.std.specs.Prelude.{◌≡◌, ◌+◌, ◌≤◌, length, [], ◌∷◌, ◌++◌, is_some, IfOk, OnOk, OnErr, MatchOption};
 ghost use Rattle.fsl_table.specs.Contents.{Contents, value_at, with_entry, without_key};
 ghost use Rattle.fsl_table.specs.Undo.{stepped, undone, IsAllowed, IsAsGood, CanUndo, Undoes};
@@ -12,7 +12,7 @@ use std::alloc::Global;
 use std::marker::Model;
 use std::sync::ledger::Ledger;
 
-/// The steps that take a table back.
+/// A log keeps the steps that take a table back.
 #[derive(Drop)]
 pub struct Log<K, V> {
     steps: Vec<Step<K, V>>,
@@ -28,7 +28,7 @@ impl<K, V> Model for Log<K, V> {
 }
 
 impl<K, V> Log<K, V> {
-    /// A log of no step. Takes no memory until one is logged.
+    /// Makes a log of no step. It takes no memory until one is logged.
     pub fn new(alloc: Global) -> Log<K, V>
         ensures { result ≡ [] }
     {
@@ -54,7 +54,7 @@ impl<K, V> Log<K, V> {
     }
 }
 
-/// Does one step, which finds its memory.
+/// Does one step. It finds its memory.
 fn step_back<K: Key + Drop, V: Drop, L: Ledger>(
     table: &mut Table<K, V>,
     step: Step<K, V>,
@@ -75,7 +75,7 @@ fn step_back<K: Key + Drop, V: Drop, L: Ledger>(
     }
 }
 
-/// Takes the table back by all steps of a log. It takes no memory.
+/// Takes the table back by all steps of a log, and empties the log. It takes no memory.
 pub(crate) fn unwind<K: Key + Drop, V: Drop, L: Ledger>(
     table: &mut Table<K, V>,
     log: &mut Log<K, V>,
@@ -91,7 +91,7 @@ pub(crate) fn unwind<K: Key + Drop, V: Drop, L: Ledger>(
     }
 }
 
-/// Takes the table back. It takes no memory.
+/// Takes the table back by all steps of a log. It takes no memory.
 pub fn undo<K: Key + Drop, V: Drop, L: Ledger>(
     table: &mut Table<K, V>,
     log: Log<K, V>,
@@ -105,7 +105,7 @@ pub fn undo<K: Key + Drop, V: Drop, L: Ledger>(
     unwind(table, &mut left, steps);
 }
 
-/// The step that takes a put back, by what was at its key.
+/// Makes the step that takes a put back, from the value that was at its key.
 fn step_before<K, V: Drop>(key: K, before: Option<V>) -> Step<K, V>
     ensures { MatchOption before (result ≡ step_type.Remove key) (λ value. result ≡ step_type.Put key value) }
 {
@@ -115,7 +115,8 @@ fn step_before<K, V: Drop>(key: K, before: Option<V>) -> Step<K, V>
     }
 }
 
-/// Puts a value, logs what takes it back, and tells whether the key was there. For want of memory all stays.
+/// Puts a value, logs what takes it back, and tells whether the key was there. `Memory` is the only error, and nothing
+/// changes then.
 pub fn insert<K: Key + Drop, V: Drop, L: Ledger>(
     table: &mut Table<K, V>,
     log: &mut Log<K, V>,
@@ -146,7 +147,7 @@ pub fn insert<K: Key + Drop, V: Drop, L: Ledger>(
     }
 }
 
-/// Puts a value, and logs what takes it back. For want of memory all stays.
+/// Puts a value, and logs what takes it back. `Memory` is the only error, and nothing changes then.
 pub fn put<K: Key + Drop, V: Drop, L: Ledger>(
     table: &mut Table<K, V>,
     log: &mut Log<K, V>,
@@ -167,7 +168,8 @@ pub fn put<K: Key + Drop, V: Drop, L: Ledger>(
     Ok(())
 }
 
-/// Takes a key out, logs what takes that back, and tells whether the key was there. For want of memory all stays.
+/// Takes a key out, logs what takes that back, and tells whether the key was there. `Memory` is the only error, and nothing
+/// changes then.
 pub fn take<K: Key + Drop, V: Drop, L: Ledger>(
     table: &mut Table<K, V>,
     log: &mut Log<K, V>,
@@ -194,7 +196,7 @@ pub fn take<K: Key + Drop, V: Drop, L: Ledger>(
     }
 }
 
-/// Removes a key, and logs what takes it back. For want of memory all stays.
+/// Removes a key, and logs what takes it back. `Memory` is the only error, and nothing changes then.
 pub fn remove<K: Key + Drop, V: Drop, L: Ledger>(
     table: &mut Table<K, V>,
     log: &mut Log<K, V>,

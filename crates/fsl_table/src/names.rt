@@ -1,4 +1,4 @@
-//! Sets of names, in which the names of the rows that change are gathered.
+//! A set of names gathers the names of the rows that change.
 ghost use Rattle.std.specs.Prelude.{◌≡◌, ◌||◌, ◌&&◌, not, if◌then◌else◌, ℕ, List, OnOk, IfOk};
 ghost use Rattle.std.specs.Str.{bytes_eq};
 ghost use Rattle.std.specs.List.Sorted.{IsStrictlySortedBy};
@@ -19,7 +19,7 @@ pub fn note(names: &mut BTreeSet<Name>, name: Name) -> Result<(), Memory>
     }
 }
 
-/// Puts some names in. After `Memory` some may be there.
+/// Puts some names in. `Memory` is the only error, and some may be there then.
 pub fn note_all(names: &mut BTreeSet<Name>, more: &[Name]) -> Result<(), Memory>
     ensures noted { OnOk result ((q : List ℕ) → has names.new.keys q ≡ (has more.now q || has names.old.keys q)) }
 {
@@ -29,7 +29,7 @@ pub fn note_all(names: &mut BTreeSet<Name>, more: &[Name]) -> Result<(), Memory>
     Ok(())
 }
 
-/// Puts a name in, unless another set has it.
+/// Puts a name in, unless another set has it. `Memory` is the only error.
 fn note_unless(names: &mut BTreeSet<Name>, name: Name, but: &BTreeSet<Name>) -> Result<(), Memory>
     ensures noted { OnOk result ((q : List ℕ) → has names.new.keys q ≡ ((bytes_eq q name && not (has but.now.keys q)) || has names.old.keys q)) }
 {
@@ -39,7 +39,7 @@ fn note_unless(names: &mut BTreeSet<Name>, name: Name, but: &BTreeSet<Name>) -> 
     note(names, name)
 }
 
-/// Puts those of some names in that another set hasn't. After `Memory` some may be there.
+/// Puts those of some names in that another set hasn't. `Memory` is the only error, and some may be there then.
 pub fn note_others(
     names: &mut BTreeSet<Name>,
     more: &[Name],
@@ -66,7 +66,7 @@ pub fn flip(names: &mut BTreeSet<Name>, name: Name) -> Result<(), Memory>
     }
 }
 
-/// The names of a set, ascending. `Memory` is the only error.
+/// Lists the names of a set, ascending. `Memory` is the only error.
 pub fn listed(alloc: Global, names: &BTreeSet<Name>) -> Result<List<Name>, Memory>
     ensures names { IfOk result (λ list. list ≡ names.now.keys) }
     ensures rising { IsStrictlySortedBy bytes_cmp names.now.keys }

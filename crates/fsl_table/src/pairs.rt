@@ -1,5 +1,5 @@
-//! Pairs of a name and one that belongs to it: put, taken out, and walked by their first name.
-ghost use Rattle.std.specs.Prelude.{◌≡◌, ◌+◌, ◌≤◌, ◌&&◌, ◌||◌, not, length, option_and_then, None, OnOk, IfOk};
+//! A pair holds a name and one that belongs to it. Calls put pairs, take them out, and walk them by their first name.
+ghost use Rattle.std.specs.Prelude.{◌≡◌, ◌+◌, ◌≤◌, ◌&&◌, ◌||◌, not, length, option_and_then, None, OnOk, OnErr, IfOk};
 ghost use Rattle.std.specs.List.Sorted.{IsStrictlySortedBy};
 ghost use Rattle.std.specs.Map.{keys_of};
 ghost use Rattle.fsl_table.specs.Contents.{Contents, first_of, entries_after};
@@ -17,7 +17,7 @@ use fsl_text::{List, Memory, Steps};
 use std::alloc::Global;
 use std::sync::ledger::Ledger;
 
-/// The name that comes next among those that belong to a name: the least one, or the least above another.
+/// Gives the least name that belongs to a name, or the least of them above another. `None` says that there is none.
 pub fn second_after<L: Ledger>(
     pairs: &Table<Pair, ()>,
     first: Name,
@@ -39,7 +39,7 @@ pub fn second_after<L: Ledger>(
     }
 }
 
-/// The names that belong to a name, ascending. `Memory` is the only error.
+/// Lists the names that belong to a name, ascending. `Memory` is the only error.
 pub fn seconds<L: Ledger>(
     alloc: Global,
     pairs: &Table<Pair, ()>,
@@ -61,7 +61,8 @@ pub fn seconds<L: Ledger>(
     Ok(list)
 }
 
-/// Puts the pair of a name and of the one to which it belongs, where it belongs to one. For want of memory all stays.
+/// Puts the pair of a name and of the one to which it belongs, where it belongs to one. `Memory` is the only error, and nothing
+/// changes then.
 pub fn link<L: Ledger>(
     pairs: &mut Table<Pair, ()>,
     log: &mut Log<Pair, ()>,
@@ -72,6 +73,8 @@ pub fn link<L: Ledger>(
     requires { IsStrictlySortedBy pair_cmp (keys_of pairs.old.entries) }
     ensures ordered { OnOk result (IsStrictlySortedBy pair_cmp (keys_of pairs.new.entries)) }
     ensures pairs { OnOk result ((k : pair.Pair) → is_linked pairs.new.entries k ≡ (is_link second first k || is_linked pairs.old.entries k)) }
+    ensures err { OnErr result (pairs.new ≡ pairs.old) }
+    ensures kept { OnErr result (log.new ≡ log.old) }
     ensures undoes { (before : Contents pair.Pair Unit) → Undoes pair_cmp log.old pairs.old before → Undoes pair_cmp log.new pairs.new before }
     ensures most { steps.new ≤ steps.old + 1 }
     ensures logged { length log.new ≤ length log.old + 1 }
@@ -92,7 +95,8 @@ pub fn link<L: Ledger>(
     }
 }
 
-/// Takes the pair of a name and of the one to which it belongs out, where it belongs to one. For want of memory all stays.
+/// Takes out the pair of a name and of the one to which it belongs, where it belongs to one. `Memory` is the only error, and
+/// nothing changes then.
 pub fn unlink<L: Ledger>(
     pairs: &mut Table<Pair, ()>,
     log: &mut Log<Pair, ()>,
@@ -103,6 +107,8 @@ pub fn unlink<L: Ledger>(
     requires { IsStrictlySortedBy pair_cmp (keys_of pairs.old.entries) }
     ensures ordered { OnOk result (IsStrictlySortedBy pair_cmp (keys_of pairs.new.entries)) }
     ensures pairs { OnOk result ((k : pair.Pair) → is_linked pairs.new.entries k ≡ (not (is_link second first k) && is_linked pairs.old.entries k)) }
+    ensures err { OnErr result (pairs.new ≡ pairs.old) }
+    ensures kept { OnErr result (log.new ≡ log.old) }
     ensures undoes { (before : Contents pair.Pair Unit) → Undoes pair_cmp log.old pairs.old before → Undoes pair_cmp log.new pairs.new before }
     ensures none { first ≡ None → steps.new ≡ steps.old }
     ensures none_logged { first ≡ None → length log.new ≡ length log.old }
@@ -121,7 +127,8 @@ pub fn unlink<L: Ledger>(
     }
 }
 
-/// Puts the pairs of a name and of each of those to which it belongs. After `Memory` some may be put; the log has them.
+/// Puts the pairs of a name and of each of those to which it belongs. `Memory` is the only error: some may be put then, and the
+/// log has them.
 pub fn link_each<L: Ledger>(
     pairs: &mut Table<Pair, ()>,
     log: &mut Log<Pair, ()>,
@@ -149,7 +156,8 @@ pub fn link_each<L: Ledger>(
     Ok(())
 }
 
-/// Takes the pairs of a name and of each of those to which it belongs out. After `Memory` some may be out; the log has them.
+/// Takes out the pairs of a name and of each of those to which it belongs. `Memory` is the only error: some may be out then, and
+/// the log has them.
 pub fn unlink_each<L: Ledger>(
     pairs: &mut Table<Pair, ()>,
     log: &mut Log<Pair, ()>,

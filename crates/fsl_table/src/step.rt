@@ -1,6 +1,6 @@
-//! One step back.
+//! A step undoes one change of a table.
 
-/// What undoes one change of a table.
+/// A step undoes one change of a table.
 #[derive(Drop)]
 pub enum Step<K, V> {
     /// The key had this value.

@@ -1,4 +1,4 @@
-//! An ordered map, as its entries in the order of their keys.
+//! A table is an ordered map. Contracts see its entries in the order of their keys.
 ghost use Rattle.std.specs.Prelude.{◌≡◌, ◌+◌, ◌-◌, ◌<◌, ◌≤◌, [], length, IsSome, IfOk, IfErr, OnOk, OnErr, IfSome, IfNone, None};
 ghost use Rattle.std.specs.Option.{option_map, option_copied};
 ghost use Rattle.std.specs.List.Sorted.{IsStrictlySortedBy};
@@ -13,7 +13,7 @@ use std::marker::Model;
 use std::ops::Bound;
 use std::sync::ledger::Ledger;
 
-/// An ordered map. What the tree finds no memory for waits beside it, where there is always room.
+/// A table is an ordered map. An entry for which the tree finds no memory waits beside it, where there is always room.
 #[derive(Drop)]
 pub struct Table<K: Ord, V> {
     tree: BTreeMap<K, V>,
@@ -41,7 +41,7 @@ fn first_above<'a, K: Ord, V>(tree: &'a BTreeMap<K, V>, key: &K) -> Option<(&'a 
 }
 
 impl<K: Ord, V> Table<K, V> {
-    /// A table without a pair. Takes no memory until one is put.
+    /// Makes a table without a pair. It takes no memory until one is put.
     pub fn new(alloc: Global) -> Table<K, V>
         ensures { result.entries ≡ [] }
     {
@@ -51,7 +51,7 @@ impl<K: Ord, V> Table<K, V> {
         }
     }
 
-    /// The number of pairs.
+    /// Counts the pairs.
     pub fn len(&self) -> u64
         ensures len { result ≡ length self.now.entries }
         ensures ordered { IsStrictlySortedBy K.cmp (keys_of self.now.entries) }
@@ -59,7 +59,7 @@ impl<K: Ord, V> Table<K, V> {
         (self.tree.len() + self.waiting.len()) as u64
     }
 
-    /// The value at a key, or `None` where the key isn't there. One step.
+    /// Gives the value at a key, or `None` where the key isn't there. One step.
     pub fn get<L: Ledger>(&self, key: &K, steps: &mut Steps<L>) -> Option<&V>
         ensures value { option_copied result ≡ value_at K.cmp key.now self.now.entries }
         ensures cost { steps.new ≡ steps.old + 1 }
@@ -71,8 +71,8 @@ impl<K: Ord, V> Table<K, V> {
         }
     }
 
-    /// Puts a value at a key, and gives the one that was there. One step. The pair comes back for want of memory, and the
-    /// table then stays: never at a key that is there, nor where anything is spare.
+    /// Puts a value at a key, and gives the one that was there. One step. The only error is that memory is out: the pair then
+    /// comes back, and the table stays as it was. That never happens at a key that is there, nor where anything is spare.
     pub fn put<L: Ledger>(
         &mut self,
         key: K,
@@ -117,7 +117,7 @@ impl<K: Ord, V> Table<K, V> {
         }
     }
 
-    /// The pair with the least key, or `None` of an empty table. One step.
+    /// Gives the pair with the least key, or `None` of an empty table. One step.
     pub fn first<L: Ledger>(&self, steps: &mut Steps<L>) -> Option<(&K, &V)>
         ensures entry { option_map (λ p. (p.0.now, p.1.now)) result ≡ first_of self.now.entries }
         ensures cost { steps.new ≡ steps.old + 1 }
@@ -132,7 +132,7 @@ impl<K: Ord, V> Table<K, V> {
         best
     }
 
-    /// The pair with the least key above this one, whether or not this one is there. One step.
+    /// Gives the pair with the least key above this one, whether or not this one is there. One step.
     pub fn next_after<L: Ledger>(&self, key: &K, steps: &mut Steps<L>) -> Option<(&K, &V)>
         ensures entry { option_map (λ p. (p.0.now, p.1.now)) result ≡ first_of (entries_after K.cmp key.now self.now.entries) }
         ensures cost { steps.new ≡ steps.old + 1 }

@@ -1,4 +1,4 @@
-//! Maps that know their way back to where a change began.
+//! A tracked map knows its way back to where a change began.
 ghost use Rattle.std.specs.Prelude.{◌≡◌, ◌+◌, ◌≤◌, ◌&&◌, ◌||◌, not, length, [], None, OnOk, OnErr, IfOk, is_some};
 ghost use Rattle.std.specs.List.Sorted.{IsStrictlySortedBy};
 ghost use Rattle.std.specs.Map.{keys_of};
@@ -21,7 +21,7 @@ use std::mem;
 use std::snapshot::Snapshot;
 use std::sync::ledger::Ledger;
 
-/// The way back from what a map became to what it was. Contracts see both.
+/// A way leads a map back from its contents after a change to its contents before. Contracts see both, and the number of steps.
 #[derive(Drop)]
 pub struct Way<K: Key, V> {
     log: Log<K, V>,
@@ -41,8 +41,8 @@ impl<K: Key, V> Model for Way<K, V> {
     ghost invariant = { λ w. Undoes K.cmp w.log w.held.value w.was.value };
 }
 
-/// A map with the way back to where its change began. Contracts see what it holds, what it was then, and how many steps lead
-/// back.
+/// A tracked map keeps the way back to where its change began. Contracts see what it holds, what it held then, and how many
+/// steps lead back.
 #[derive(Drop)]
 pub struct Tracked<K: Key, V> {
     map: Table<K, V>,
@@ -63,9 +63,10 @@ impl<K: Key, V> Model for Tracked<K, V> {
 }
 
 impl<K: Key + Drop, V: Drop> Tracked<K, V> {
-    /// A map without a pair. Takes no memory.
+    /// Makes a map without a pair. It takes no memory.
     pub fn new(alloc: Global) -> Tracked<K, V>
-        ensures { result.held.entries ≡ [] }
+        ensures empty { result.held.entries ≡ [] }
+        ensures begun { (result.was ≡ result.held) × (result.back ≡ 0) }
     {
         let map = Table::new(alloc);
         let was = Snapshot::of(&map);
@@ -76,9 +77,10 @@ impl<K: Key + Drop, V: Drop> Tracked<K, V> {
         }
     }
 
-    /// A map that was filled without a way back. Takes no memory.
+    /// Tracks a map that was filled without a way back. It takes no memory.
     pub fn of(alloc: Global, map: Table<K, V>) -> Tracked<K, V>
-        ensures { result.held ≡ map }
+        ensures held { result.held ≡ map }
+        ensures begun { (result.was ≡ result.held) × (result.back ≡ 0) }
     {
         let was = Snapshot::of(&map);
         Tracked {
@@ -88,14 +90,14 @@ impl<K: Key + Drop, V: Drop> Tracked<K, V> {
         }
     }
 
-    /// What it holds.
+    /// Gives the map.
     pub fn map(&self) -> &Table<K, V>
         ensures { result.now ≡ self.now.held }
     {
         &self.map
     }
 
-    /// The value at a key, or `None` where the key isn't there.
+    /// Gives the value at a key, or `None` where the key isn't there.
     pub fn get<L: Ledger>(&self, key: &K, steps: &mut Steps<L>) -> Option<&V>
         ensures value { option_copied result ≡ value_at K.cmp key.now self.now.held.entries }
         ensures cost { steps.new ≡ steps.old + 1 }
@@ -103,7 +105,7 @@ impl<K: Key + Drop, V: Drop> Tracked<K, V> {
         self.map.get(key, steps)
     }
 
-    /// Begins a change: the way back ends here from now on.
+    /// Begins a change: from now on the way back ends here.
     pub fn begin(&mut self)
         ensures held { self.new.held ≡ self.old.held }
         ensures was { self.new.was ≡ self.old.held }
@@ -113,7 +115,7 @@ impl<K: Key + Drop, V: Drop> Tracked<K, V> {
         self.was = Snapshot::of(&self.map);
     }
 
-    /// Puts a value, and tells whether the key was there. For want of memory all stays.
+    /// Puts a value, and tells whether the key was there. `Memory` is the only error, and nothing changes then.
     pub fn insert<L: Ledger>(
         &mut self,
         key: K,
@@ -132,7 +134,7 @@ impl<K: Key + Drop, V: Drop> Tracked<K, V> {
         log::insert(&mut self.map, &mut self.log, key, again, value, steps)
     }
 
-    /// Puts a value. For want of memory all stays.
+    /// Puts a value at a key. `Memory` is the only error, and nothing changes then.
     pub fn put<L: Ledger>(
         &mut self,
         key: K,
@@ -150,7 +152,7 @@ impl<K: Key + Drop, V: Drop> Tracked<K, V> {
         log::put(&mut self.map, &mut self.log, key, again, value, steps)
     }
 
-    /// Takes a key out, and tells whether it was there. For want of memory all stays.
+    /// Takes a key out, and tells whether it was there. `Memory` is the only error, and nothing changes then.
     pub fn take<L: Ledger>(&mut self, key: K, steps: &mut Steps<L>) -> Result<bool, Memory>
         ensures there { IfOk result (λ there. there ≡ is_some (value_at K.cmp key self.old.held.entries)) }
         ensures ok { OnOk result (self.new.held.entries ≡ without_key K.cmp key self.old.held.entries) }
@@ -162,7 +164,7 @@ impl<K: Key + Drop, V: Drop> Tracked<K, V> {
         log::take(&mut self.map, &mut self.log, key, steps)
     }
 
-    /// Removes a key. For want of memory all stays.
+    /// Removes a key. `Memory` is the only error, and nothing changes then.
     pub fn remove<L: Ledger>(&mut self, key: K, steps: &mut Steps<L>) -> Result<(), Memory>
         ensures ok { OnOk result (self.new.held.entries ≡ without_key K.cmp key self.old.held.entries) }
         ensures err { OnErr result (self.new ≡ self.old) }
@@ -176,16 +178,20 @@ impl<K: Key + Drop, V: Drop> Tracked<K, V> {
     /// Goes back to where the change began. It takes no memory.
     pub fn turn_back<L: Ledger>(&mut self, steps: &mut Steps<L>)
         ensures good { IsAsGood self.old.was self.new.held }
+        ensures was { self.new.was ≡ self.old.was }
+        ensures back { self.new.back ≡ 0 }
         ensures cost { steps.new ≡ steps.old + self.old.back }
     {
         log::unwind(&mut self.map, &mut self.log, steps);
     }
 
-    /// Hands the way back out, and begins the next change.
+    /// Hands out the way back, and begins the next change. It takes no memory.
     pub fn way(&mut self, alloc: Global) -> Way<K, V>
         ensures end { result.held ≡ self.old.held }
         ensures start { result.was ≡ self.old.was }
+        ensures back { result.back ≡ self.old.back }
         ensures held { self.new.held ≡ self.old.held }
+        ensures begun { (self.new.was ≡ self.old.held) × (self.new.back ≡ 0) }
     {
         let log = mem::replace(&mut self.log, Log::new(alloc));
         let was = mem::replace(&mut self.was, Snapshot::of(&self.map));
@@ -193,10 +199,12 @@ impl<K: Key + Drop, V: Drop> Tracked<K, V> {
         Way { log, held, was }
     }
 
-    /// Goes a way back from what is as good as its end. It takes no memory.
+    /// Goes a way back, from a map that is as good as the end of the way. It takes no memory.
     pub fn undo<L: Ledger>(&mut self, way: Way<K, V>, steps: &mut Steps<L>)
         requires { IsAsGood way.held self.old.held }
-        ensures { IsAsGood way.was self.new.held }
+        ensures good { IsAsGood way.was self.new.held }
+        ensures begun { (self.new.was ≡ way.was) × (self.new.back ≡ 0) }
+        ensures cost { steps.new ≡ steps.old + way.back }
     {
         let Way { log, was, .. } = way;
         self.log = log;
@@ -206,7 +214,7 @@ impl<K: Key + Drop, V: Drop> Tracked<K, V> {
 }
 
 impl Tracked<Pair, ()> {
-    /// The name that comes next among those that belong to a name: the least one, or the least above another.
+    /// Gives the least name that belongs to a name, or the least of them above another. `None` says that there is none.
     pub fn second_after<L: Ledger>(
         &self,
         first: Name,
@@ -219,7 +227,7 @@ impl Tracked<Pair, ()> {
         pairs::second_after(&self.map, first, after, steps)
     }
 
-    /// The names that belong to a name, ascending. `Memory` is the only error.
+    /// Lists the names that belong to a name, ascending. `Memory` is the only error.
     pub fn seconds<L: Ledger>(
         &self,
         alloc: Global,
@@ -233,7 +241,8 @@ impl Tracked<Pair, ()> {
         pairs::seconds(alloc, &self.map, first, steps)
     }
 
-    /// Puts the pair of a name and of the one to which it belongs, where it belongs to one. For want of memory all stays.
+    /// Puts the pair of a name and of the one to which it belongs, where it belongs to one. `Memory` is the only error, and
+    /// nothing changes then.
     pub fn link<L: Ledger>(
         &mut self,
         second: Name,
@@ -243,6 +252,7 @@ impl Tracked<Pair, ()> {
         requires { IsStrictlySortedBy pair_cmp (keys_of self.old.held.entries) }
         ensures ordered { OnOk result (IsStrictlySortedBy pair_cmp (keys_of self.new.held.entries)) }
         ensures pairs { OnOk result ((k : pair.Pair) → is_linked self.new.held.entries k ≡ (is_link second first k || is_linked self.old.held.entries k)) }
+        ensures err { OnErr result (self.new ≡ self.old) }
         ensures was { self.new.was ≡ self.old.was }
         ensures back { self.new.back ≤ self.old.back + 1 }
         ensures most { steps.new ≤ steps.old + 1 }
@@ -250,7 +260,8 @@ impl Tracked<Pair, ()> {
         pairs::link(&mut self.map, &mut self.log, second, first, steps)
     }
 
-    /// Takes the pair of a name and of the one to which it belongs out, where it belongs to one. For want of memory all stays.
+    /// Takes out the pair of a name and of the one to which it belongs, where it belongs to one. `Memory` is the only error,
+    /// and nothing changes then.
     pub fn unlink<L: Ledger>(
         &mut self,
         second: Name,
@@ -260,6 +271,7 @@ impl Tracked<Pair, ()> {
         requires { IsStrictlySortedBy pair_cmp (keys_of self.old.held.entries) }
         ensures ordered { OnOk result (IsStrictlySortedBy pair_cmp (keys_of self.new.held.entries)) }
         ensures pairs { OnOk result ((k : pair.Pair) → is_linked self.new.held.entries k ≡ (not (is_link second first k) && is_linked self.old.held.entries k)) }
+        ensures err { OnErr result (self.new ≡ self.old) }
         ensures was { self.new.was ≡ self.old.was }
         ensures none { first ≡ None → steps.new ≡ steps.old }
         ensures none_back { first ≡ None → self.new.back ≡ self.old.back }
@@ -269,7 +281,7 @@ impl Tracked<Pair, ()> {
         pairs::unlink(&mut self.map, &mut self.log, second, first, steps)
     }
 
-    /// Puts the pairs of a name and of each of those to which it belongs. After `Memory` some may be put.
+    /// Puts the pairs of a name and of each of those to which it belongs. `Memory` is the only error, and some may be put then.
     pub fn link_each<L: Ledger>(
         &mut self,
         second: Name,
@@ -285,7 +297,8 @@ impl Tracked<Pair, ()> {
         pairs::link_each(&mut self.map, &mut self.log, second, heads, steps)
     }
 
-    /// Takes the pairs of a name and of each of those to which it belongs out. After `Memory` some may be out.
+    /// Takes out the pairs of a name and of each of those to which it belongs. `Memory` is the only error, and some may be
+    /// out then.
     pub fn unlink_each<L: Ledger>(
         &mut self,
         second: Name,

@@ -1,4 +1,4 @@
-//! The entries that wait beside the tree, in no order.
+//! Entries wait beside the tree, in no order.
 ghost use Rattle.std.specs.Prelude.{◌≡◌, ◌+◌, ◌<◌, ◌≤◌, ◌⊎◌, ◌∷◌, false, length, slice_index_or, slice_set, vec_capacity, vec_len, IsSome, IsTrue, None, Ok};
 ghost use Rattle.std.specs.List.{remove};
 ghost use Rattle.std.specs.Option.{option_map};
@@ -99,7 +99,7 @@ fn wait<K, V>(waiting: &mut Vec<(K, V)>, entry: (K, V)) -> Result<Option<V>, (K,
     }
 }
 
-/// Puts an entry whose key doesn't wait into the tree, or beside it for want of memory.
+/// Puts an entry whose key doesn't wait into the tree, or beside it where memory is out.
 fn put_beside<K: Ord + Drop, V>(
     tree: &mut BTreeMap<K, V>,
     waiting: &mut Vec<(K, V)>,
@@ -120,7 +120,7 @@ fn put_beside<K: Ord + Drop, V>(
     }
 }
 
-/// Puts an entry where its key waits, or else into the tree. It comes back for want of memory.
+/// Puts an entry where its key waits, or else into the tree. It comes back where memory is out.
 pub(crate) fn put_entry<K: Ord + Drop, V>(
     tree: &mut BTreeMap<K, V>,
     waiting: &mut Vec<(K, V)>,

@@ -1,4 +1,4 @@
-//! Keys of a first part and of what belongs to it, and the walk of what belongs to a first part.
+//! A key within a group has a first part, and a second part that belongs to it. A call walks what belongs to a first part.
 ghost use Rattle.std.specs.Prelude.{◌≡◌, ◌+◌};
 ghost use Rattle.std.specs.Option.{option_map, option_and_then};
 ghost use Rattle.std.specs.List.Sorted.{IsStrictlySortedBy};
@@ -12,7 +12,7 @@ use crate::table::Table;
 use fsl_text::Steps;
 use std::sync::ledger::Ledger;
 
-/// A first part, and what belongs to it. What belongs to a first part is walked from that part with none.
+/// A key has a first part, and one that belongs to it. A walk through what belongs to a first part begins at that part with none.
 #[derive(Drop, PartialEq, Eq, PartialOrd, Ord)]
 pub struct Within<A, B> {
     pub first: A,
@@ -23,7 +23,7 @@ impl<A: Key, B: Key> Key for Within<A, B> {
     ghost exact = { exact_within A.cmp B.cmp A.exact B.exact };
 }
 
-/// The second part of the next key, where that has the first part of this one.
+/// Gives the second part of the next key, where that has the first part of this one.
 fn second_of_next<A: Key, B: Key + Copy, L: Ledger>(
     table: &Table<Within<A, B>, ()>,
     key: &Within<A, B>,
@@ -40,7 +40,8 @@ fn second_of_next<A: Key, B: Key + Copy, L: Ledger>(
     }
 }
 
-/// What comes next among what belongs to the first part of a key: the least, or the least above the second part of the key.
+/// Gives what comes next among what belongs to the first part of a key: the least, or the least above the second part of the
+/// key.
 pub fn next_within<A: Key, B: Key + Copy, L: Ledger>(
     table: &Table<Within<A, B>, ()>,
     key: &Within<A, B>,

@@ -9,7 +9,7 @@ use Rattle.std.specs.Map.{keys_of}
 use Rattle.fsl_order.specs.Names.{bytes_cmp, has}
 use Rattle.fsl_order.proofs.RowLemmas.{has-filter}
 use Rattle.fsl_order.proofs.SortedLemmas.{ascending-from, same_names}
-use Rattle.fsl_rows.proofs.Rising.{rising-filter}
+use Rattle.fsl_name.proofs.Rising.{rising-filter}
 use Rattle.fsl_table.specs.Contents.{value_at, first_of, entries_after}
 use Rattle.fsl_table.specs.Pairs.{rest_after}
 use Rattle.fsl_tags.specs.declared.Fact.{Fact}

@@ -1,3 +1,4 @@
+pub mod Crossing
 pub mod Newest
 pub mod EffectiveLaw
 pub mod Climb

@@ -1,17 +1,17 @@
--- What the tables of tags keep, and what takes a change back.
-use Rattle.std.specs.Prelude.{◌≡◌, ℕ, List, [], ◌∷◌, map}
+-- What the tables of tags keep.
+use Rattle.std.specs.Prelude.{◌≡◌, ◌+◌, ℕ, List, [], ◌∷◌, map}
 use Rattle.std.specs.List.Sorted.{IsStrictlySortedBy}
 use Rattle.std.specs.Map.{keys_of}
-use Rattle.fsl_order.specs.TableState.{TableState, IsAsBefore}
+use Rattle.fsl_order.specs.TableState.{TableState}
 use Rattle.fsl_order.specs.Names.{bytes_cmp}
 use Rattle.fsl_order.specs.Rows.{named}
-use Rattle.fsl_table.specs.Exact.{pair_cmp}
 use Rattle.fsl_table.specs.declared.key.Pair.{Pair}
 use Rattle.fsl_table.specs.Contents.{Contents}
-use Rattle.fsl_table.specs.declared.step.Step.{Step}
-use Rattle.fsl_table.specs.Undo.{undone, CanUndo}
+use Rattle.fsl_table.specs.Undo.{IsAsGood}
 use Rattle.fsl_tags.specs.declared.Fact.{Fact}
 use Rattle.fsl_tags.specs.declared.Assertion.{Assertion}
+use Rattle.fsl_tags.specs.declared.maps.Maps.{Maps}
+use Rattle.fsl_tags.specs.declared.maps.Ways.{Ways}
 use Rattle.fsl_tags.specs.declared.node.Node.{Node}
 use Rattle.fsl_tags.specs.Tags.{direct, AreTagFacts}
 use Rattle.fsl_tags.specs.Laid.{row_in, AreRight}
@@ -38,26 +38,29 @@ pub record IsKept (r : Rows) : Type 0 where
   pub newest : (x tag : List ℕ) → named (λ a. a.tag) (row_in r.own.entries x) tag ≡ direct (facts_of r.facts.entries) x tag
   pub right : AreRight r.facts.entries r.children.entries r.own.entries r.rows.entries
 
-pub record Logs : Type 0 where
-  pub facts : List (Step (List ℕ) Node)
-  pub children : List (Step Pair (Unit {0}))
-  pub own : List (Step (List ℕ) (List Assertion))
-  pub rows : List (Step (List ℕ) (List Assertion))
+abbrev pub facts_in : Maps → List Fact
+facts_in m = facts_of m.graph.facts.held.entries
 
--- what the logs leave
-abbrev pub undone_rows : Logs → Rows → Rows
-undone_rows logs r = record {
-  facts = undone bytes_cmp logs.facts r.facts;
-  children = undone pair_cmp logs.children r.children;
-  own = undone bytes_cmp logs.own r.own;
-  rows = undone bytes_cmp logs.rows r.rows;
-}
+-- the maps as they are, and as they were where the change began
+abbrev pub rows_of : Maps → Rows
+rows_of m = record { facts = m.graph.facts.held; children = m.graph.children.held; own = m.own.held; rows = m.flow.rows.held }
 
--- the logs find their memory, and lead back
-pub record TakesBack (logs : Logs) (before : TableState Fact) (now : Rows) : Type 0 where
-  pub facts_can : CanUndo bytes_cmp logs.facts now.facts
-  pub children_can : CanUndo pair_cmp logs.children now.children
-  pub own_can : CanUndo bytes_cmp logs.own now.own
-  pub rows_can : CanUndo bytes_cmp logs.rows now.rows
-  pub kept : IsKept (undone_rows logs now)
-  pub back : IsAsBefore before (held_of (undone_rows logs now))
+abbrev pub rows_before : Maps → Rows
+rows_before m = record { facts = m.graph.facts.was; children = m.graph.children.was; own = m.own.was; rows = m.flow.rows.was }
+
+abbrev pub steps_back : Maps → ℕ
+steps_back m = m.graph.facts.back + m.graph.children.back + m.own.back + m.flow.rows.back
+
+-- where ways back end, and where they begin
+abbrev pub starts_of : Ways → Rows
+starts_of w = record { facts = w.facts.was; children = w.children.was; own = w.own.was; rows = w.rows.was }
+
+abbrev pub ends_of : Ways → Rows
+ends_of w = record { facts = w.facts.held; children = w.children.held; own = w.own.held; rows = w.rows.held }
+
+-- each map is as good
+pub record AreAsGood (before now : Rows) : Type 0 where
+  pub facts : IsAsGood before.facts now.facts
+  pub children : IsAsGood before.children now.children
+  pub own : IsAsGood before.own now.own
+  pub rows : IsAsGood before.rows now.rows

@@ -18,18 +18,27 @@ use Rattle.fsl_tags.specs.Gathered.{is_shown}
 use Rattle.fsl_tags.specs.Joined.{joined}
 use Rattle.fsl_tags.specs.Tags.{direct, newer_cmp}
 use Rattle.fsl_tags.specs.Held.{facts_of}
-use Rattle.fsl_tags.specs.Kept.{newest_of}
+use Rattle.fsl_tags.specs.Kept.{newest_of, newest_on}
 use Rattle.fsl_tags.specs.Laid.{Rises, row_in, parent_in, settled, AreFull, AreLaid}
 
 -- a row has of each tag the newer of what another row has and of what is found
 abbrev pub HasNewer : List Assertion → (List ℕ → Option Assertion) → List Assertion → Type 0
 HasNewer other found row = (tag : List ℕ) → named (λ a. a.tag) row tag ≡ greater newer_cmp (named (λ a. a.tag) other tag) (found tag)
 
+-- the same the other way round, which tells where neither is newer
+abbrev pub HasOver : (List ℕ → Option Assertion) → List Assertion → List Assertion → Type 0
+HasOver found other row = (tag : List ℕ) → named (λ a. a.tag) row tag ≡ greater newer_cmp (found tag) (named (λ a. a.tag) other tag)
+
 -- the own row of a name has got the newest of a group, and the others are what they were
 abbrev pub HasTaken : List ℕ → List Assertion → List (List ℕ × List Assertion) → List (List ℕ × List Assertion) → Type 0
 HasTaken name group own now =
     (x tag : List ℕ) → named (λ a. a.tag) (row_in now x) tag
     ≡ cond (bytes_eq x name) (greater newer_cmp (named (λ a. a.tag) (row_in own x) tag) (newest_of tag group)) (named (λ a. a.tag) (row_in own x) tag)
+
+-- the own row of each name has got the newest of some assertions that are on it
+abbrev pub HaveTaken : List Assertion → List (List ℕ × List Assertion) → List (List ℕ × List Assertion) → Type 0
+HaveTaken as_ own now =
+    (x tag : List ℕ) → named (λ a. a.tag) (row_in now x) tag ≡ greater newer_cmp (named (λ a. a.tag) (row_in own x) tag) (newest_on x tag as_)
 
 -- own rows in order, none of them empty, each by rising tag
 pub record AreOwn (own : List (List ℕ × List Assertion)) : Type 0 where

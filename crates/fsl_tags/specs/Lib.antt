@@ -15,3 +15,4 @@ pub mod Held
 pub mod Quick
 pub mod Laying
 pub mod Laws
+pub mod InMaps

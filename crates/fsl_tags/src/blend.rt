@@ -1,4 +1,4 @@
-//! Rows with the newest assertion of each tag.
+//! A row takes the newest assertion of each tag from a group.
 ghost use Rattle.std.specs.Prelude.{◌∷◌, [], IfOk};
 ghost use Rattle.fsl_tags.specs.Kept.{newest_of};
 ghost use Rattle.fsl_tags.specs.Laid.{Rises};
@@ -23,7 +23,7 @@ fn put_newer(alloc: Global, row: &Row, assertion: &Shared) -> Result<Row, Memory
     }
 }
 
-/// A row with each assertion of a group in the place of the one of its tag, where it is newer than that. `Memory` is the only error.
+/// Puts each assertion of a group into a row, where it is newer than the one of its tag. `Memory` is the only error.
 pub(crate) fn folded(alloc: Global, row: &Row, group: &[Shared]) -> Result<Row, Memory>
     requires { Rises row.now }
     ensures rises { IfOk result (λ list. Rises list) }

@@ -1,4 +1,4 @@
-//! What is in force on a name, and the names on which a tag is.
+//! These calls gather the tags that are in force on a name, and the names on which a tag is.
 ghost use Rattle.std.specs.List.Sorted.{IsStrictlySortedBy};
 ghost use Rattle.std.specs.Map.{keys_of};
 ghost use Rattle.std.specs.Option.{option_copied};
@@ -15,7 +15,7 @@ use super::rows::row_of;
 use super::shared::Shared;
 use super::{Assertion, copy};
 use fsl_name::Name;
-use fsl_table::Table;
+use fsl_table::Tracked;
 use fsl_text::{List, Memory, Steps};
 use std::alloc::Global;
 use std::sync::ledger::Ledger;
@@ -80,31 +80,35 @@ fn append_if(wanted: bool, list: &mut List<Name>, name: Name) -> Result<(), Memo
 }
 
 /// The first name that has a row.
-fn first_name<L: Ledger>(rows: &Table<Name, Row>, steps: &mut Steps<L>) -> Option<Name>
-    ensures { result ≡ option_map (λ e. e.0) (first_of rows.now.entries) }
+fn first_name<L: Ledger>(rows: &Tracked<Name, Row>, steps: &mut Steps<L>) -> Option<Name>
+    ensures { result ≡ option_map (λ e. e.0) (first_of rows.now.held.entries) }
 {
-    let (name, _) = rows.first(steps)?;
+    let (name, _) = rows.map().first(steps)?;
     Some(*name)
 }
 
 /// The name after another that has a row.
-fn name_after<L: Ledger>(rows: &Table<Name, Row>, name: Name, steps: &mut Steps<L>) -> Option<Name>
-    ensures { result ≡ option_map (λ e. e.0) (first_of (entries_after bytes_cmp name rows.now.entries)) }
+fn name_after<L: Ledger>(
+    rows: &Tracked<Name, Row>,
+    name: Name,
+    steps: &mut Steps<L>,
+) -> Option<Name>
+    ensures { result ≡ option_map (λ e. e.0) (first_of (entries_after bytes_cmp name rows.now.held.entries)) }
 {
-    let (next, _) = rows.next_after(&name, steps)?;
+    let (next, _) = rows.map().next_after(&name, steps)?;
     Some(*next)
 }
 
 /// The names whose rows show a tag, ascending.
 pub(crate) fn holders<L: Ledger>(
     alloc: Global,
-    rows: &Table<Name, Row>,
+    rows: &Tracked<Name, Row>,
     tag: &[u8],
     steps: &mut Steps<L>,
 ) -> Result<List<Name>, Memory>
-    requires ordered { IsStrictlySortedBy bytes_cmp (keys_of rows.now.entries) }
-    requires rise { (x : List ℕ) → Rises (row_in rows.now.entries x) }
-    ensures { IfOk result (λ names. names ≡ filter (shows rows.now.entries tag.now) (keys_of rows.now.entries)) }
+    requires ordered { IsStrictlySortedBy bytes_cmp (keys_of rows.now.held.entries) }
+    requires rise { (x : List ℕ) → Rises (row_in rows.now.held.entries x) }
+    ensures { IfOk result (λ names. names ≡ filter (shows rows.now.held.entries tag.now) (keys_of rows.now.held.entries)) }
 {
     let mut list = List::new(alloc);
     let none = Row::new();

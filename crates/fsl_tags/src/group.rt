@@ -1,4 +1,4 @@
-//! Assertions by their targets.
+//! A group has the assertions on one target.
 ghost use Rattle.std.specs.Prelude.{◌≡◌, ◌++◌, ◌∷◌, [], List, ℕ, OnOk, IfOk, cond};
 ghost use Rattle.std.specs.Str.{bytes_eq};
 ghost use Rattle.fsl_tags.specs.Kept.{on_target};

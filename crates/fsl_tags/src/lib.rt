@@ -1,6 +1,6 @@
-//! Tags of artifacts, and what check-ins take over from their primary ancestors. `Tags` is the table of them. It is built from facts
-//! at once, or takes facts in one after the other; its answers are those of the definitions over its facts, in whatever order they
-//! came: `fsl_order::by_name_in_any_order`.
+//! The table `Tags` knows the tags of artifacts, and the tags that check-ins take over from their primary ancestors. It is built from
+//! facts at once, or takes facts in one after the other. Its answers are those of the definitions over its facts, in whatever order
+//! they came: `fsl_order::by_name_in_any_order`.
 //!
 //! The table keeps the facts by name, the pairs of a primary parent and a child, the newest assertions on each name, and for each
 //! name the row of its effective assertions by rising tag, where it has any. A row is a tree, and rows share its branches and the
@@ -24,6 +24,7 @@ mod changed;
 mod gathered;
 mod group;
 mod lay;
+mod maps;
 mod merge;
 mod node;
 mod order;
@@ -38,13 +39,12 @@ mod tags;
 mod take;
 
 use fsl_date::Moment;
-use fsl_name::Name;
-use fsl_rows::Named;
+use fsl_name::{Name, Named};
 use fsl_text::{List, Memory, Text};
 use std::alloc::Global;
 pub use tags::{Tags, Undo};
 
-/// How a tag is set.
+/// A prefix tells how a tag is set.
 #[derive(Clone, Copy, PartialEq, Eq, Debug)]
 pub enum Prefix {
     /// `+`: on the target alone.
@@ -55,7 +55,7 @@ pub enum Prefix {
     Propagate,
 }
 
-/// What one T card says.
+/// An assertion is one T card of an artifact.
 #[derive(Drop)]
 pub struct Assertion {
     /// The date of the artifact that has the card.
@@ -74,7 +74,7 @@ pub struct Assertion {
     pub target: Name,
 }
 
-/// An artifact with its T cards, and the primary parent of a check-in.
+/// A fact is an artifact with its T cards, and the primary parent of a check-in.
 #[derive(Drop)]
 pub struct Fact {
     /// Its name.
@@ -83,7 +83,7 @@ pub struct Fact {
     pub checkin: bool,
     /// The primary parent of a check-in, where that is there.
     pub parent: Option<Name>,
-    /// What its T cards say, in their order.
+    /// The assertions of its T cards, in their order.
     pub tags: List<Assertion>,
 }
 

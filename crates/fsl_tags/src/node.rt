@@ -1,9 +1,9 @@
-//! A fact beside its name.
+//! A node is a fact without its name.
 use super::shared::Shared;
 use fsl_name::Name;
 use fsl_text::List;
 
-/// What a fact has beside its name.
+/// A node has all of a fact but its name.
 #[derive(Drop)]
 pub(crate) struct Node {
     pub checkin: bool,

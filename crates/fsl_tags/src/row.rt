@@ -1,5 +1,5 @@
-//! Rows by rising tag, as trees whose branches rows share: a row that is made of another one has some branches of its own, by log n for
-//! each assertion in which they differ, and all others in common with it.
+//! Rows hold assertions by rising tag, as trees whose branches rows share. A row that is made of another one has some branches of its
+//! own, by log n for each assertion in which they differ, and all others in common with it.
 ghost use Rattle.std.specs.Prelude.{◌≡◌, ◌+◌, ◌++◌, ◌∷◌, [], ◌==◌, ℕ, length, drop, filter, map, IfOk, OnOk};
 ghost use Rattle.std.specs.List.{list_all};
 ghost use Rattle.std.specs.List.Sorted.{IsStrictlySortedBy};
@@ -21,7 +21,7 @@ use std::cmp::Ordering;
 use std::marker::Model;
 use std::sync::Arc;
 
-/// Assertions in order. Contracts see them as a list.
+/// A row holds assertions by rising tag. Contracts see it as their list.
 #[cycle(row)]
 #[derive(Drop)]
 pub struct Row {
@@ -80,14 +80,14 @@ impl Model for Row {
 }
 
 impl Row {
-    /// No assertions. Takes no memory.
+    /// Makes a row without assertions. It takes no memory.
     pub fn new() -> Row
         ensures { result ≡ [] }
     {
         Row { tree: None }
     }
 
-    /// How many there are.
+    /// Counts the assertions.
     pub fn len(&self) -> u64
         ensures { result ≡ length self.now }
     {
@@ -107,7 +107,7 @@ impl Row {
         }
     }
 
-    /// The sum of their marks.
+    /// Gives the sum of their marks.
     pub fn marks(&self) -> u64
         ensures { result ≡ marks_of self.now }
     {
@@ -117,7 +117,7 @@ impl Row {
         }
     }
 
-    /// The same row once more. `Memory` is the only error.
+    /// Gives the same row once more. `Memory` is the only error.
     pub fn again(&self) -> Result<Row, Memory>
         ensures { IfOk result (λ row. row ≡ self.now) }
     {

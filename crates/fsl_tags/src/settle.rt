@@ -1,5 +1,5 @@
-//! The rows of names, each after that of its primary parent, from which it is merged by the law `effective_by_parent`. Only in a circle
-//! of parents, which no hashes make, the row is worked out from as many names above as there are facts.
+//! A build works out the row of each name after that of its primary parent, and merges it from that by the law `effective_by_parent`.
+//! Only in a circle of parents, which no hashes make, it takes as many names above as there are facts.
 ghost use Rattle.std.specs.List.{AllByRecursion};
 ghost use Rattle.std.specs.Prelude.{◌≡◌, List, ℕ, [], length, IfOk, OnOk};
 ghost use Rattle.fsl_tags.specs.Climbed.{climbed as climbed_row};
@@ -14,7 +14,7 @@ use super::spread::pop as pop_name;
 use super::take::parent_of;
 use super::{Assertion, Fact};
 use fsl_name::Name;
-use fsl_table::Table;
+use fsl_table::Tracked;
 use fsl_text::{Memory, Steps};
 use std::alloc::Global;
 use std::collections::BTreeMap;
@@ -23,12 +23,12 @@ use std::sync::ledger::Ledger;
 /// A name and its primary ancestors, nearest first, and not more than `most` of these.
 fn ancestors<L: Ledger>(
     alloc: Global,
-    facts: &Table<Name, Node>,
+    facts: &Tracked<Name, Node>,
     name: Name,
     most: u64,
     steps: &mut Steps<L>,
 ) -> Result<Vec<Name>, Memory>
-    ensures { IfOk result (λ names. names.items ≡ line (parent_in facts.now.entries) most name) }
+    ensures { IfOk result (λ names. names.items ≡ line (parent_in facts.now.held.entries) most name) }
 {
     let mut names = Vec::new(alloc);
     names.push(name)?;
@@ -48,12 +48,12 @@ fn ancestors<L: Ledger>(
 /// The row that own rows make along a line of names, from the last to the first.
 fn descend<L: Ledger>(
     alloc: Global,
-    own: &Table<Name, Row>,
+    own: &Tracked<Name, Row>,
     names: Vec<Name>,
     steps: &mut Steps<L>,
 ) -> Result<Row, Memory>
-    requires { (x : List ℕ) → Rises (row_in own.now.entries x) }
-    ensures { IfOk result (λ row. row ≡ down (row_in own.now.entries) names.items []) }
+    requires { (x : List ℕ) → Rises (row_in own.now.held.entries x) }
+    ensures { IfOk result (λ row. row ≡ down (row_in own.now.held.entries) names.items []) }
 {
     let mut left = names;
     let none = Row::new();
@@ -68,14 +68,14 @@ fn descend<L: Ledger>(
 /// The row of a name by so many steps up at most.
 fn climbed<L: Ledger>(
     alloc: Global,
-    facts: &Table<Name, Node>,
-    own: &Table<Name, Row>,
+    facts: &Tracked<Name, Node>,
+    own: &Tracked<Name, Row>,
     name: Name,
     most: u64,
     steps: &mut Steps<L>,
 ) -> Result<Row, Memory>
-    requires { (x : List ℕ) → Rises (row_in own.now.entries x) }
-    ensures { IfOk result (λ row. row ≡ climbed_row (parent_in facts.now.entries) (row_in own.now.entries) most name) }
+    requires { (x : List ℕ) → Rises (row_in own.now.held.entries x) }
+    ensures { IfOk result (λ row. row ≡ climbed_row (parent_in facts.now.held.entries) (row_in own.now.held.entries) most name) }
 {
     let names = ancestors(alloc, facts, name, most, steps)?;
     descend(alloc, own, names, steps)
@@ -84,17 +84,17 @@ fn climbed<L: Ledger>(
 /// The row of a name: from that of its primary parent, where this is worked out, and else from all names above.
 fn row_for<L: Ledger>(
     alloc: Global,
-    facts: &Table<Name, Node>,
-    own: &Table<Name, Row>,
+    facts: &Tracked<Name, Node>,
+    own: &Tracked<Name, Row>,
     settled: &BTreeMap<Name, Row>,
     name: Name,
     most: u64,
     steps: &mut Steps<L>,
 ) -> Result<Row, Memory>
-    requires rise { (x : List ℕ) → Rises (row_in own.now.entries x) }
-    requires most { most ≡ length facts.now.entries }
-    requires right { AreSettled facts.now.entries own.now.entries settled.now.entries }
-    ensures { IfOk result (λ row. row ≡ settled_row facts.now.entries own.now.entries name) }
+    requires rise { (x : List ℕ) → Rises (row_in own.now.held.entries x) }
+    requires most { most ≡ length facts.now.held.entries }
+    requires right { AreSettled facts.now.held.entries own.now.held.entries settled.now.entries }
+    ensures { IfOk result (λ row. row ≡ settled_row facts.now.held.entries own.now.held.entries name) }
 {
     let none = Row::new();
     let near = row_of(own, name, &none, steps);
@@ -110,17 +110,17 @@ fn row_for<L: Ledger>(
 /// Works the row of a name out, unless it is.
 fn settle_one<L: Ledger>(
     alloc: Global,
-    facts: &Table<Name, Node>,
-    own: &Table<Name, Row>,
+    facts: &Tracked<Name, Node>,
+    own: &Tracked<Name, Row>,
     settled: &mut BTreeMap<Name, Row>,
     name: Name,
     most: u64,
     steps: &mut Steps<L>,
 ) -> Result<(), Memory>
-    requires rise { (x : List ℕ) → Rises (row_in own.now.entries x) }
-    requires most { most ≡ length facts.now.entries }
-    requires right { AreSettled facts.now.entries own.now.entries settled.old.entries }
-    ensures right { OnOk result (AreSettled facts.now.entries own.now.entries settled.new.entries) }
+    requires rise { (x : List ℕ) → Rises (row_in own.now.held.entries x) }
+    requires most { most ≡ length facts.now.held.entries }
+    requires right { AreSettled facts.now.held.entries own.now.held.entries settled.old.entries }
+    ensures right { OnOk result (AreSettled facts.now.held.entries own.now.held.entries settled.new.entries) }
     ensures there { OnOk result (IsKnown settled.new.entries name) }
     ensures stay { OnOk result ((q : List ℕ) → IsKnown settled.old.entries q → IsKnown settled.new.entries q) }
 {
@@ -137,7 +137,7 @@ fn settle_one<L: Ledger>(
 /// The primary ancestors of a name up to the first whose row is worked out, nearest first, and not more than `most` of them.
 fn waiting<L: Ledger>(
     alloc: Global,
-    facts: &Table<Name, Node>,
+    facts: &Tracked<Name, Node>,
     settled: &BTreeMap<Name, Row>,
     name: Name,
     most: u64,
@@ -163,17 +163,17 @@ fn waiting<L: Ledger>(
 /// Works the row of a name out, and before it those of its ancestors, the farthest first.
 fn settle<L: Ledger>(
     alloc: Global,
-    facts: &Table<Name, Node>,
-    own: &Table<Name, Row>,
+    facts: &Tracked<Name, Node>,
+    own: &Tracked<Name, Row>,
     settled: &mut BTreeMap<Name, Row>,
     name: Name,
     most: u64,
     steps: &mut Steps<L>,
 ) -> Result<(), Memory>
-    requires rise { (x : List ℕ) → Rises (row_in own.now.entries x) }
-    requires most { most ≡ length facts.now.entries }
-    requires right { AreSettled facts.now.entries own.now.entries settled.old.entries }
-    ensures right { OnOk result (AreSettled facts.now.entries own.now.entries settled.new.entries) }
+    requires rise { (x : List ℕ) → Rises (row_in own.now.held.entries x) }
+    requires most { most ≡ length facts.now.held.entries }
+    requires right { AreSettled facts.now.held.entries own.now.held.entries settled.old.entries }
+    ensures right { OnOk result (AreSettled facts.now.held.entries own.now.held.entries settled.new.entries) }
     ensures there { OnOk result (IsKnown settled.new.entries name) }
     ensures stay { OnOk result ((q : List ℕ) → IsKnown settled.old.entries q → IsKnown settled.new.entries q) }
 {
@@ -187,17 +187,17 @@ fn settle<L: Ledger>(
 /// Works the rows of the targets of assertions out.
 fn settle_targets<L: Ledger>(
     alloc: Global,
-    facts: &Table<Name, Node>,
-    own: &Table<Name, Row>,
+    facts: &Tracked<Name, Node>,
+    own: &Tracked<Name, Row>,
     settled: &mut BTreeMap<Name, Row>,
     assertions: &[Assertion],
     most: u64,
     steps: &mut Steps<L>,
 ) -> Result<(), Memory>
-    requires rise { (x : List ℕ) → Rises (row_in own.now.entries x) }
-    requires most { most ≡ length facts.now.entries }
-    requires right { AreSettled facts.now.entries own.now.entries settled.old.entries }
-    ensures right { OnOk result (AreSettled facts.now.entries own.now.entries settled.new.entries) }
+    requires rise { (x : List ℕ) → Rises (row_in own.now.held.entries x) }
+    requires most { most ≡ length facts.now.held.entries }
+    requires right { AreSettled facts.now.held.entries own.now.held.entries settled.old.entries }
+    ensures right { OnOk result (AreSettled facts.now.held.entries own.now.held.entries settled.new.entries) }
     ensures there { OnOk result (AllByRecursion (λ a. IsKnown settled.new.entries a.target) assertions.now) }
     ensures stay { OnOk result ((q : List ℕ) → IsKnown settled.old.entries q → IsKnown settled.new.entries q) }
 {
@@ -207,20 +207,20 @@ fn settle_targets<L: Ledger>(
     Ok(())
 }
 
-/// Works the rows of facts and of what they have assertions on out.
+/// Works out the rows of facts and of the targets of their assertions. `Memory` is the only error.
 pub(crate) fn settle_all<L: Ledger>(
     alloc: Global,
     given: &[Fact],
-    facts: &Table<Name, Node>,
-    own: &Table<Name, Row>,
+    facts: &Tracked<Name, Node>,
+    own: &Tracked<Name, Row>,
     settled: &mut BTreeMap<Name, Row>,
     most: u64,
     steps: &mut Steps<L>,
 ) -> Result<(), Memory>
-    requires rise { (x : List ℕ) → Rises (row_in own.now.entries x) }
-    requires most { most ≡ length facts.now.entries }
-    requires right { AreSettled facts.now.entries own.now.entries settled.old.entries }
-    ensures right { OnOk result (AreSettled facts.now.entries own.now.entries settled.new.entries) }
+    requires rise { (x : List ℕ) → Rises (row_in own.now.held.entries x) }
+    requires most { most ≡ length facts.now.held.entries }
+    requires right { AreSettled facts.now.held.entries own.now.held.entries settled.old.entries }
+    ensures right { OnOk result (AreSettled facts.now.held.entries own.now.held.entries settled.new.entries) }
     ensures all { OnOk result (AllByRecursion (AreKnown settled.new.entries) given.now) }
 {
     for fact in given {

@@ -1,98 +1,88 @@
-//! How a new row of a name is taken down to its descendants, as far as they differ.
+//! A new row of a name goes down to its descendants, as far as their rows differ.
 ghost use Rattle.std.specs.List.{AllByRecursion};
-ghost use Rattle.std.specs.Map.{keys_of};
-ghost use Rattle.std.specs.Prelude.{◌≡◌, ◌+◌, ◌++◌, ◌∷◌, [], ◌≤◌, ◌⊎◌, List, ℕ, Some, false, true, length, OnOk, MatchOption, cond};
+ghost use Rattle.std.specs.Prelude.{◌≡◌, ◌+◌, ◌++◌, ◌∷◌, [], ◌≤◌, List, ℕ, Some, length, OnOk, MatchOption, cond};
 ghost use Rattle.std.specs.Str.{bytes_eq};
-ghost use Rattle.fsl_order.specs.Names.{bytes_cmp};
-ghost use Rattle.fsl_table.specs.Contents.{Contents};
-ghost use Rattle.fsl_table.specs.Pairs.{seconds};
-ghost use Rattle.fsl_table.specs.Undo.{Undoes};
-ghost use Rattle.fsl_tags.specs.Climbed.{row_up};
+ghost use Rattle.fsl_tags.specs.InMaps.{AreEvenBelow, AreLaidBy, AreOnly, IsBrief, IsComingDown, IsStill, IsTakenDown, StayNoted, kids_of, left_to_do, notes, own_at, parents, right_at, row_at, waiting_with};
 ghost use Rattle.fsl_tags.specs.Joined.{joined};
-ghost use Rattle.fsl_tags.specs.Laid.{row_in, Rises, AreFull, AreLaid, AreNoted, parent_in, settled};
-ghost use Rattle.fsl_tags.specs.Quick.{IsIdle, IsQuick};
-ghost use Rattle.fsl_tags.specs.Same.{same_rows};
-ghost use Rattle.fsl_tags.specs.Spread.{wrong, IsSpread, IsSpreading};
-ghost use Rattle.fsl_tags.specs.declared.Assertion as assertion;
+ghost use Rattle.fsl_tags.specs.Laid.{Rises, AreFull};
 
+use super::maps::{Flow, Graph};
 use super::merge::merged;
-use super::node::Node;
 use super::row::Row;
 use super::rows::{place, row_of};
 use super::same::is_same;
 use fsl_name::Name;
-use fsl_table::{Log, Pair, Table, pairs};
+use fsl_table::Tracked;
 use fsl_text::{Memory, Steps};
 use std::alloc::Global;
-use std::collections::BTreeMap;
 use std::sync::ledger::Ledger;
+
+/// A name whose row is taken down to its children. The root, where that began, stays as it is.
+#[derive(Drop)]
+struct Above {
+    root: Name,
+    at: Name,
+    row: Row,
+}
 
 /// Works out the row of a child from its own and from what is above it, and where it isn't the one that it has, puts it and lets the
 /// child wait.
 fn refresh<L: Ledger>(
     alloc: Global,
-    own: &Table<Name, Row>,
-    rows: &mut Table<Name, Row>,
-    log: &mut Log<Name, Row>,
-    noted: &mut BTreeMap<Name, Row>,
-    waiting: &mut Vec<Name>,
+    own: &Tracked<Name, Row>,
+    flow: &mut Flow,
     name: Name,
     above: &Row,
     steps: &mut Steps<L>,
 ) -> Result<(), Memory>
-    requires full { AreFull rows.old.entries }
-    requires rise { Rises (row_in own.now.entries name) }
+    requires full { AreFull flow.old.rows.held.entries }
+    requires rise { Rises (own_at own.now name) }
     requires above { Rises above.now }
-    ensures full { OnOk result (AreFull rows.new.entries) }
-    ensures row { OnOk result ((x : List ℕ) → row_in rows.new.entries x ≡ cond (bytes_eq x name) (joined above.now (row_in own.now.entries name)) (row_in rows.old.entries x)) }
-    ensures waiting { OnOk result (waiting.new.items ≡ waiting.old.items ++ cond (same_rows (row_in rows.old.entries name) (joined above.now (row_in own.now.entries name))) [] (name ∷ [])) }
-    ensures noted { OnOk result ((before : List ℕ → List assertion.Assertion) → AreNoted before noted.old.entries rows.old.entries → AreNoted before noted.new.entries rows.new.entries) }
-    ensures undoes { (before : Contents (List ℕ) (List assertion.Assertion)) → Undoes bytes_cmp log.old rows.old before → Undoes bytes_cmp log.new rows.new before }
+    ensures full { OnOk result (AreFull flow.new.rows.held.entries) }
+    ensures row { OnOk result ((x : List ℕ) → row_at flow.new x ≡ cond (bytes_eq x name) (joined above.now (own_at own.now name)) (row_at flow.old x)) }
+    ensures waiting { OnOk result (flow.new.waiting.items ≡ waiting_with flow.old name (joined above.now (own_at own.now name))) }
+    ensures noted { OnOk result (StayNoted flow.old flow.new) }
+    ensures was { flow.new.rows.was ≡ flow.old.rows.was }
 {
     let none = Row::new();
     let near = row_of(own, name, &none, steps);
     let row = merged(alloc, near, above)?;
-    let before = row_of(rows, name, &none, steps);
+    let before = row_of(&flow.rows, name, &none, steps);
     if is_same(before, &row) {
         return Ok(());
     }
-    waiting.push(name)?;
-    place(rows, log, noted, name, row, steps)
+    flow.waiting.push(name)?;
+    place(flow, name, row, steps)
 }
 
-/// Takes the row of a name down to some of its children; the root stays as it is.
+/// Takes the row of a name down to some of its children.
 fn follow<L: Ledger>(
     alloc: Global,
-    facts: &Table<Name, Node>,
-    own: &Table<Name, Row>,
-    rows: &mut Table<Name, Row>,
-    log: &mut Log<Name, Row>,
-    noted: &mut BTreeMap<Name, Row>,
-    waiting: &mut Vec<Name>,
-    root: Name,
-    at: Name,
+    graph: &Graph,
+    own: &Tracked<Name, Row>,
+    flow: &mut Flow,
+    above: &Above,
     kids: &[Name],
-    above: &Row,
     steps: &mut Steps<L>,
 ) -> Result<(), Memory>
-    requires rise { (x : List ℕ) → Rises (row_in own.now.entries x) }
-    requires full { AreFull rows.old.entries }
-    requires kids { AllByRecursion (λ c. parent_in facts.now.entries c ≡ Some at) kids.now }
-    requires above { above.now ≡ settled facts.now.entries own.now.entries at }
-    requires spread { IsSpreading (parent_in facts.now.entries) (row_in own.now.entries) (settled facts.now.entries own.now.entries) root at kids.now waiting.old.items (row_in rows.old.entries) (row_in rows.old.entries) }
-    ensures full { OnOk result (AreFull rows.new.entries) }
-    ensures spread { OnOk result (IsSpreading (parent_in facts.now.entries) (row_in own.now.entries) (settled facts.now.entries own.now.entries) root at [] waiting.new.items (row_in rows.old.entries) (row_in rows.new.entries)) }
-    ensures less { OnOk result (length waiting.new.items + wrong (settled facts.now.entries own.now.entries) (row_in rows.new.entries) (keys_of facts.now.entries) ≤ length waiting.old.items + wrong (settled facts.now.entries own.now.entries) (row_in rows.old.entries) (keys_of facts.now.entries)) }
-    ensures noted { OnOk result ((before : List ℕ → List assertion.Assertion) → AreNoted before noted.old.entries rows.old.entries → AreNoted before noted.new.entries rows.new.entries) }
-    ensures undoes { (before : Contents (List ℕ) (List assertion.Assertion)) → Undoes bytes_cmp log.old rows.old before → Undoes bytes_cmp log.new rows.new before }
-    ensures idle { AllByRecursion (λ c. bytes_eq c root ≡ true) kids.now → IsIdle steps.old steps.new (length log.old) (length log.new) waiting.old.items waiting.new.items }
-    ensures noted_idle { AllByRecursion (λ c. bytes_eq c root ≡ true) kids.now → length noted.new.entries ≡ length noted.old.entries }
+    requires rise { (x : List ℕ) → Rises (own_at own.now x) }
+    requires full { AreFull flow.old.rows.held.entries }
+    requires kids { AllByRecursion (λ c. parents graph.now c ≡ Some above.now.at) kids.now }
+    requires above { above.now.row ≡ right_at graph.now own.now above.now.at }
+    requires spread { IsComingDown graph.now own.now above.now.root above.now.at kids.now flow.old flow.old }
+    ensures full { OnOk result (AreFull flow.new.rows.held.entries) }
+    ensures spread { OnOk result (IsComingDown graph.now own.now above.now.root above.now.at [] flow.old flow.new) }
+    ensures less { OnOk result (left_to_do graph.now own.now flow.new ≤ left_to_do graph.now own.now flow.old) }
+    ensures noted { OnOk result (StayNoted flow.old flow.new) }
+    ensures was { flow.new.rows.was ≡ flow.old.rows.was }
+    ensures idle { AreOnly above.now.root kids.now → IsStill steps.old steps.new flow.old flow.new }
+    ensures noted_idle { AreOnly above.now.root kids.now → notes flow.new ≡ notes flow.old }
 {
     for child in kids {
-        if *child == root {
+        if *child == above.root {
             continue;
         }
-        refresh(alloc, own, rows, log, noted, waiting, *child, above, steps)?;
+        refresh(alloc, own, flow, *child, &above.row, steps)?;
     }
     Ok(())
 }
@@ -100,46 +90,30 @@ fn follow<L: Ledger>(
 /// Takes the row of a name down to its children.
 fn spread_one<L: Ledger>(
     alloc: Global,
-    facts: &Table<Name, Node>,
-    children: &Table<Pair, ()>,
-    own: &Table<Name, Row>,
-    rows: &mut Table<Name, Row>,
-    log: &mut Log<Name, Row>,
-    noted: &mut BTreeMap<Name, Row>,
-    waiting: &mut Vec<Name>,
+    graph: &Graph,
+    own: &Tracked<Name, Row>,
+    flow: &mut Flow,
     root: Name,
     at: Name,
     steps: &mut Steps<L>,
 ) -> Result<(), Memory>
-    requires laid { AreLaid facts.now.entries children.now.entries own.now.entries }
-    requires full { AreFull rows.old.entries }
-    requires spread { IsSpread (parent_in facts.now.entries) (row_in own.now.entries) (settled facts.now.entries own.now.entries) root (waiting.old.items ++ at ∷ []) (row_in rows.old.entries) (row_in rows.old.entries) }
-    ensures full { OnOk result (AreFull rows.new.entries) }
-    ensures spread { OnOk result (IsSpread (parent_in facts.now.entries) (row_in own.now.entries) (settled facts.now.entries own.now.entries) root waiting.new.items (row_in rows.old.entries) (row_in rows.new.entries)) }
-    ensures less { OnOk result (length waiting.new.items + wrong (settled facts.now.entries own.now.entries) (row_in rows.new.entries) (keys_of facts.now.entries) ≤ length waiting.old.items + wrong (settled facts.now.entries own.now.entries) (row_in rows.old.entries) (keys_of facts.now.entries)) }
-    ensures noted { OnOk result ((before : List ℕ → List assertion.Assertion) → AreNoted before noted.old.entries rows.old.entries → AreNoted before noted.new.entries rows.new.entries) }
-    ensures undoes { (before : Contents (List ℕ) (List assertion.Assertion)) → Undoes bytes_cmp log.old rows.old before → Undoes bytes_cmp log.new rows.new before }
-    ensures idle { AllByRecursion (λ c. bytes_eq c root ≡ true) (seconds at children.now.entries) → IsQuick (2 + length (seconds at children.now.entries)) steps.old steps.new (length log.old) (length log.new) }
-    ensures noted_idle { AllByRecursion (λ c. bytes_eq c root ≡ true) (seconds at children.now.entries) → length noted.new.entries ≡ length noted.old.entries }
-    ensures done { OnOk result (AllByRecursion (λ c. bytes_eq c root ≡ true) (seconds at children.now.entries) → waiting.new.items ≡ waiting.old.items) }
+    requires laid { AreLaidBy graph.now own.now }
+    requires full { AreFull flow.old.rows.held.entries }
+    requires spread { IsTakenDown graph.now own.now root (flow.old.waiting.items ++ at ∷ []) flow.old flow.old }
+    ensures full { OnOk result (AreFull flow.new.rows.held.entries) }
+    ensures spread { OnOk result (IsTakenDown graph.now own.now root flow.new.waiting.items flow.old flow.new) }
+    ensures less { OnOk result (left_to_do graph.now own.now flow.new ≤ left_to_do graph.now own.now flow.old) }
+    ensures noted { OnOk result (StayNoted flow.old flow.new) }
+    ensures was { flow.new.rows.was ≡ flow.old.rows.was }
+    ensures idle { AreOnly root (kids_of graph.now at) → IsBrief (2 + length (kids_of graph.now at)) steps.old steps.new flow.old flow.new }
+    ensures noted_idle { AreOnly root (kids_of graph.now at) → notes flow.new ≡ notes flow.old }
+    ensures done { OnOk result (AreOnly root (kids_of graph.now at) → flow.new.waiting.items ≡ flow.old.waiting.items) }
 {
     let none = Row::new();
-    let above = row_of(rows, at, &none, steps).again()?;
-    let kids = pairs::seconds(alloc, children, at, steps)?;
-    follow(
-        alloc,
-        facts,
-        own,
-        rows,
-        log,
-        noted,
-        waiting,
-        root,
-        at,
-        kids.items(),
-        &above,
-        steps,
-    )
+    let row = row_of(&flow.rows, at, &none, steps).again()?;
+    let kids = graph.children.seconds(alloc, at, steps)?;
+    let above = Above { root, at, row };
+    follow(alloc, graph, own, flow, &above, kids.items(), steps)
 }
 
 /// Takes the last name out.
@@ -152,42 +126,27 @@ pub(crate) fn pop(names: &mut Vec<Name>) -> Option<Name>
 /// Takes the row of the root down to its descendants.
 pub(crate) fn spread<L: Ledger>(
     alloc: Global,
-    facts: &Table<Name, Node>,
-    children: &Table<Pair, ()>,
-    own: &Table<Name, Row>,
-    rows: &mut Table<Name, Row>,
-    log: &mut Log<Name, Row>,
-    noted: &mut BTreeMap<Name, Row>,
+    graph: &Graph,
+    own: &Tracked<Name, Row>,
+    flow: &mut Flow,
     root: Name,
     steps: &mut Steps<L>,
 ) -> Result<(), Memory>
-    requires laid { AreLaid facts.now.entries children.now.entries own.now.entries }
-    requires full { AreFull rows.old.entries }
-    requires root { row_in rows.old.entries root ≡ settled facts.now.entries own.now.entries root }
-    requires even { (x : List ℕ) → bytes_eq x root ≡ false → (row_in rows.old.entries x ≡ joined (row_up (row_in rows.old.entries) (parent_in facts.now.entries x)) (row_in own.now.entries x)) ⊎ (parent_in facts.now.entries x ≡ Some root) }
-    ensures full { OnOk result (AreFull rows.new.entries) }
-    ensures spread { OnOk result (IsSpread (parent_in facts.now.entries) (row_in own.now.entries) (settled facts.now.entries own.now.entries) root [] (row_in rows.old.entries) (row_in rows.new.entries)) }
-    ensures noted { OnOk result ((before : List ℕ → List assertion.Assertion) → AreNoted before noted.old.entries rows.old.entries → AreNoted before noted.new.entries rows.new.entries) }
-    ensures undoes { (before : Contents (List ℕ) (List assertion.Assertion)) → Undoes bytes_cmp log.old rows.old before → Undoes bytes_cmp log.new rows.new before }
-    ensures idle { AllByRecursion (λ c. bytes_eq c root ≡ true) (seconds root children.now.entries) → IsQuick (2 + length (seconds root children.now.entries)) steps.old steps.new (length log.old) (length log.new) }
-    ensures noted_idle { AllByRecursion (λ c. bytes_eq c root ≡ true) (seconds root children.now.entries) → length noted.new.entries ≡ length noted.old.entries }
+    requires laid { AreLaidBy graph.now own.now }
+    requires full { AreFull flow.old.rows.held.entries }
+    requires root { row_at flow.old root ≡ right_at graph.now own.now root }
+    requires even { AreEvenBelow graph.now own.now root flow.old }
+    ensures full { OnOk result (AreFull flow.new.rows.held.entries) }
+    ensures spread { OnOk result (IsTakenDown graph.now own.now root [] flow.old flow.new) }
+    ensures noted { OnOk result (StayNoted flow.old flow.new) }
+    ensures was { flow.new.rows.was ≡ flow.old.rows.was }
+    ensures idle { AreOnly root (kids_of graph.now root) → IsBrief (2 + length (kids_of graph.now root)) steps.old steps.new flow.old flow.new }
+    ensures noted_idle { AreOnly root (kids_of graph.now root) → notes flow.new ≡ notes flow.old }
 {
-    let mut waiting = Vec::new(alloc);
-    waiting.push(root)?;
-    while let Some(at) = pop(&mut waiting) {
-        spread_one(
-            alloc,
-            facts,
-            children,
-            own,
-            rows,
-            log,
-            noted,
-            &mut waiting,
-            root,
-            at,
-            steps,
-        )?;
+    flow.waiting.clear();
+    flow.waiting.push(root)?;
+    while let Some(at) = pop(&mut flow.waiting) {
+        spread_one(alloc, graph, own, flow, root, at, steps)?;
     }
     Ok(())
 }

@@ -1,4 +1,4 @@
-//! The table of tags.
+//! The table of tags takes facts in, takes changes back, and answers.
 ghost use Rattle.std.specs.List.{AllByRecursion};
 ghost use Rattle.std.specs.Option.{option_copied};
 ghost use Rattle.std.specs.Prelude.{◌≡◌, false, ◌+◌, ◌*◌, ◌≤◌, ◌<◌, [], ◌∷◌, length, map, OnOk, OnErr, IfOk};
@@ -10,65 +10,55 @@ ghost use Rattle.fsl_tags.specs.Tags as table;
 
 use super::arrive::{give_parent, take_in};
 use super::build::fill;
-use super::node::Node;
+use super::maps::{Maps, Ways};
 use super::row::{Row, find};
 use super::rows::row_of;
 use super::{Assertion, Fact, gathered};
 use fsl_name::Name;
-use fsl_table::{Log, Pair, Table, log};
 use fsl_text::{List, Memory, Steps};
 use std::alloc::Global;
 use std::marker::{Brand, Model};
-use std::snapshot::Snapshot;
 use std::sync::ledger::{Blank, Ledger};
 
-/// The tags of artifacts. Contracts see it as the facts by name, and what each table inside has to spare.
+/// This table has the tags of artifacts. Contracts see it as the facts by name, and the room that each table inside has to spare.
 #[derive(Drop)]
 pub struct Tags {
-    facts: Table<Name, Node>,
-    children: Table<Pair, ()>,
-    own: Table<Name, Row>,
-    rows: Table<Name, Row>,
+    maps: Maps,
 }
 
 impl Model for Tags {
     ghost use Rattle.fsl_order.specs.TableState.{TableState};
     ghost use Rattle.fsl_tags.specs.declared.Fact.{Fact};
-    ghost use Rattle.fsl_tags.specs.Held.{held_of, IsKept};
+    ghost use Rattle.fsl_tags.specs.Held.{held_of, rows_of, IsKept};
 
     ghost Value = { TableState Fact };
 
-    ghost view = { λ t. held_of (record { facts = t.facts; children = t.children; own = t.own; rows = t.rows }) };
+    ghost view = { λ t. held_of (rows_of t.maps) };
 
-    ghost invariant = { λ t. IsKept (record { facts = t.facts; children = t.children; own = t.own; rows = t.rows }) };
+    ghost invariant = { λ t. IsKept (rows_of t.maps) };
 }
 
-/// What takes a change back.
+/// An undo takes a change back.
 #[derive(Drop)]
 pub struct Undo {
-    facts: Log<Name, Node>,
-    children: Log<Pair, ()>,
-    own: Log<Name, Row>,
-    rows: Log<Name, Row>,
+    ways: Ways,
     changed: List<Name>,
-    before: Snapshot<Tags>,
-    after: Snapshot<Tags>,
 }
 
 impl Model for Undo {
-    ghost use Rattle.fsl_order.specs.TableState.{Change, IsAsBefore};
+    ghost use Rattle.fsl_order.specs.TableState.{Change};
     ghost use Rattle.fsl_tags.specs.declared.Fact.{Fact};
-    ghost use Rattle.fsl_tags.specs.Held.{Rows, IsKept, held_of, TakesBack};
+    ghost use Rattle.fsl_tags.specs.Held.{IsKept, ends_of, held_of, starts_of};
 
     ghost Value = { Change Fact };
 
-    ghost view = { λ u. record { before = u.before.value; after = u.after.value; changed = u.changed } };
+    ghost view = { λ u. record { before = held_of (starts_of u.ways); after = held_of (ends_of u.ways); changed = u.changed } };
 
-    ghost invariant = { λ u. (now : Rows) → IsKept now → IsAsBefore u.after.value (held_of now) → TakesBack (record { facts = u.facts; children = u.children; own = u.own; rows = u.rows }) u.before.value now };
+    ghost invariant = { λ u. IsKept (starts_of u.ways) × IsKept (ends_of u.ways) };
 }
 
 impl Undo {
-    /// The names whose rows the change changed, ascending.
+    /// Lists the names whose rows the change changed, ascending.
     pub fn changed(&self) -> &List<Name>
         ensures { result.now ≡ self.now.changed }
     {
@@ -77,24 +67,17 @@ impl Undo {
 }
 
 impl Tags {
-    /// A table of no facts. Takes no memory.
+    /// Makes a table of no facts. It takes no memory.
     pub fn new(alloc: Global) -> Tags
         ensures { result.facts ≡ [] }
     {
-        let facts = Table::new(alloc);
-        let children = Table::new(alloc);
-        let own = Table::new(alloc);
-        let rows = Table::new(alloc);
         Tags {
-            facts,
-            children,
-            own,
-            rows,
+            maps: Maps::new(alloc),
         }
     }
 
-    /// The table of some facts, of which no two have one name. It is the same in whatever order they stand:
-    /// that is the law `fsl_order::by_name_in_any_order`. `Memory` is the only error.
+    /// Builds the table of some facts, of which no two have one name. It is the same in whatever order they come, by the law
+    /// `fsl_order::by_name_in_any_order`. `Memory` is the only error.
     pub fn build(alloc: Global, facts: &[Fact]) -> Result<Tags, Memory>
         requires { table.AreTagFacts facts.now }
         ensures facts { IfOk result (λ t. t.facts ≡ by_name (λ f. f.name) facts.now) }
@@ -110,36 +93,17 @@ impl Tags {
         ensures { IfOk result (λ t. t.facts ≡ by_name (λ f. f.name) given.now) }
     {
         let mut steps: Steps<L> = Steps::new(blank);
-        let mut facts = Table::new(alloc);
-        let mut children = Table::new(alloc);
-        let mut own = Table::new(alloc);
-        let mut rows = Table::new(alloc);
-        match fill(
-            alloc,
-            given,
-            &mut facts,
-            &mut children,
-            &mut own,
-            &mut rows,
-            &mut steps,
-        ) {
-            Ok(()) => Ok(Tags {
-                facts,
-                children,
-                own,
-                rows,
-            }),
+        let mut maps = Maps::new(alloc);
+        match fill(alloc, given, &mut maps, &mut steps) {
+            Ok(()) => Ok(Tags { maps }),
             Err(Memory) => {
-                drop(facts);
-                drop(children);
-                drop(own);
-                drop(rows);
+                drop(maps);
                 Err(Memory)
             }
         }
     }
 
-    /// Adds a fact whose artifact isn't there. Where memory is wanting, the table holds what it held.
+    /// Adds a fact whose artifact isn't there. `Memory` is the only error, and the table then holds what it held.
     pub fn add<L: Ledger>(
         &mut self,
         alloc: Global,
@@ -155,47 +119,20 @@ impl Tags {
         ensures err { OnErr result (IsAsBefore self.old self.new) }
         ensures cost { AllByRecursion (λ a. a.target ≡ fact.name) fact.tags → steps.new ≤ steps.old + 20 * (1 + length fact.tags) }
     {
-        let before = Snapshot::of(&*self);
-        let mut facts = Log::new(alloc);
-        let mut children = Log::new(alloc);
-        let mut own = Log::new(alloc);
-        let mut rows = Log::new(alloc);
-        match take_in(
-            alloc,
-            &mut self.facts,
-            &mut self.children,
-            &mut self.own,
-            &mut self.rows,
-            &mut facts,
-            &mut children,
-            &mut own,
-            &mut rows,
-            fact,
-            steps,
-        ) {
-            Ok(changed) => {
-                let after = Snapshot::of(&*self);
-                Ok(Undo {
-                    facts,
-                    children,
-                    own,
-                    rows,
-                    changed,
-                    before,
-                    after,
-                })
-            }
+        self.maps.begin();
+        match take_in(alloc, &mut self.maps, fact, steps) {
+            Ok(changed) => Ok(Undo {
+                ways: self.maps.ways(alloc),
+                changed,
+            }),
             Err(Memory) => {
-                log::undo(&mut self.facts, facts, steps);
-                log::undo(&mut self.children, children, steps);
-                log::undo(&mut self.own, own, steps);
-                log::undo(&mut self.rows, rows, steps);
+                self.maps.turn_back(steps);
                 Err(Memory)
             }
         }
     }
 
-    /// Gives a fact that is there another primary parent. Where memory is wanting, the table holds what it held.
+    /// Gives a fact that is there another primary parent. `Memory` is the only error, and the table then holds what it held.
     pub fn change<L: Ledger>(
         &mut self,
         alloc: Global,
@@ -210,39 +147,14 @@ impl Tags {
         ensures changed { IfOk result (λ undo. ListsChanged (table.tags_row self.old.facts) (table.tags_row self.new.facts) undo.changed) }
         ensures err { OnErr result (IsAsBefore self.old self.new) }
     {
-        let before = Snapshot::of(&*self);
-        let mut facts = Log::new(alloc);
-        let mut children = Log::new(alloc);
-        let own = Log::new(alloc);
-        let mut rows = Log::new(alloc);
-        match give_parent(
-            alloc,
-            &mut self.facts,
-            &mut self.children,
-            &self.own,
-            &mut self.rows,
-            &mut facts,
-            &mut children,
-            &mut rows,
-            fact,
-            steps,
-        ) {
-            Ok(changed) => {
-                let after = Snapshot::of(&*self);
-                Ok(Undo {
-                    facts,
-                    children,
-                    own,
-                    rows,
-                    changed,
-                    before,
-                    after,
-                })
-            }
+        self.maps.begin();
+        match give_parent(alloc, &mut self.maps, fact, steps) {
+            Ok(changed) => Ok(Undo {
+                ways: self.maps.ways(alloc),
+                changed,
+            }),
             Err(Memory) => {
-                log::undo(&mut self.facts, facts, steps);
-                log::undo(&mut self.children, children, steps);
-                log::undo(&mut self.rows, rows, steps);
+                self.maps.turn_back(steps);
                 Err(Memory)
             }
         }
@@ -256,20 +168,11 @@ impl Tags {
         ensures { IsAsBefore undo.before self.new }
     {
         let mut steps: Steps<L> = Steps::new(blank);
-        let Undo {
-            facts,
-            children,
-            own,
-            rows,
-            ..
-        } = undo;
-        log::undo(&mut self.facts, facts, &mut steps);
-        log::undo(&mut self.children, children, &mut steps);
-        log::undo(&mut self.own, own, &mut steps);
-        log::undo(&mut self.rows, rows, &mut steps);
+        let Undo { ways, .. } = undo;
+        self.maps.undo(ways, &mut steps);
     }
 
-    /// Takes the last change back that wasn't taken back. It takes no memory.
+    /// Takes back the last change that wasn't taken back. It takes no memory.
     pub fn undo(&mut self, undo: Undo)
         requires { IsAsBefore undo.after self.old }
         ensures { IsAsBefore undo.before self.new }
@@ -277,9 +180,9 @@ impl Tags {
         self.take_back::<Brand>(undo, Blank::new(1));
     }
 
-    /// The assertion of a tag that takes effect on a name: of those on the name and on its primary ancestors, the newest that is newer
-    /// than each on a nearer name, where it propagates or is on the name itself. None where there is none; one that takes the tag away
-    /// is given too.
+    /// Finds the assertion of a tag that takes effect on a name: of those on the name and on its primary ancestors, the newest that is
+    /// newer than each on a nearer name, where it propagates or is on the name itself. None where there is none. One that takes the
+    /// tag away is given too.
     pub fn effective(&self, name: Name, tag: &[u8]) -> Option<&Assertion>
         ensures { option_copied result ≡ table.effective self.now.facts name tag.now }
     {
@@ -298,13 +201,13 @@ impl Tags {
         ensures { option_copied result ≡ table.effective self.now.facts name tag.now }
     {
         let mut steps: Steps<L> = Steps::new(blank);
-        match self.rows.get(&name, &mut steps) {
+        match self.maps.flow.rows.get(&name, &mut steps) {
             Some(row) => find(row, tag),
             None => None,
         }
     }
 
-    /// The assertions that put tags in force on a name, by rising tag: the effective ones, without those that take the tag away.
+    /// Lists the assertions that put tags in force on a name, by rising tag: the effective ones, without those that take the tag away.
     /// `Memory` is the only error.
     pub fn in_force(&self, alloc: Global, name: Name) -> Result<List<Assertion>, Memory>
         ensures { IfOk result (λ list. list ≡ table.in_force self.now.facts name) }
@@ -325,10 +228,10 @@ impl Tags {
     {
         let mut steps: Steps<L> = Steps::new(blank);
         let none = Row::new();
-        gathered::in_force(alloc, row_of(&self.rows, name, &none, &mut steps))
+        gathered::in_force(alloc, row_of(&self.maps.flow.rows, name, &none, &mut steps))
     }
 
-    /// The names on which a tag is in force, ascending. `Memory` is the only error.
+    /// Lists the names on which a tag is in force, ascending. `Memory` is the only error.
     pub fn holders(&self, alloc: Global, tag: &[u8]) -> Result<List<Name>, Memory>
         ensures { IfOk result (λ names. names ≡ table.holders self.now.facts tag.now) }
     {
@@ -347,6 +250,6 @@ impl Tags {
         ensures { IfOk result (λ names. names ≡ table.holders self.now.facts tag.now) }
     {
         let mut steps: Steps<L> = Steps::new(blank);
-        gathered::holders(alloc, &self.rows, tag, &mut steps)
+        gathered::holders(alloc, &self.maps.flow.rows, tag, &mut steps)
     }
 }

@@ -1,10 +1,10 @@
-//! Numbers in decimal digits.
+//! Reads numbers in decimal digits.
 ghost use Rattle.std.specs.Prelude.{◌≡◌, ℕ, ◌+◌, ◌*◌, ◌-◌, ◌≤◌};
 ghost use Rattle.fsl_text.specs.Decimals.{decimal_of, fitting};
 
 use super::fault::DecimalFault;
 
-/// The number with one digit more behind it, where both fit into 64 bits.
+/// Adds a digit behind a number, if both fit into 64 bits.
 fn next_value(value: Option<u64>, digit: u8) -> Option<u64>
     requires { 48 ≤ digit }
     ensures { (n : ℕ) → value ≡ fitting n → result ≡ fitting (10 * n + (digit - 48)) }
@@ -12,9 +12,10 @@ fn next_value(value: Option<u64>, digit: u8) -> Option<u64>
     value?.checked_mul(10)?.checked_add(u64::from(digit - b'0'))
 }
 
-/// The number that a text is in decimal digits. Leading zeros are allowed; a sign or a blank is no digit.
-/// `Empty` of no byte, else `Digit` with the place of the first byte that is no digit, and `Range` only of
-/// digits alone whose number is 2^64 or more.
+/// Reads a text as a number in decimal digits. Leading zeros are allowed. A sign or a blank is no digit. Fails with `Empty` only
+/// for no byte, else with `Digit` and the place of the first byte that is no digit, and with `Range` only for digits alone whose
+/// number is 2^64 or more.
+/// FORMATS: Texts
 pub fn decimal(text: &[u8]) -> Result<u64, DecimalFault>
     ensures { result ≡ decimal_of text.now }
 {

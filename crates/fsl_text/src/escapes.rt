@@ -1,4 +1,4 @@
-//! Bytes that cards and messages can't hold as they are, written as two bytes.
+//! Writes bytes that cards and messages can't hold as two bytes each.
 ghost use Rattle.std.specs.Prelude.{◌≡◌, ◌++◌, ◌∷◌, [], length, take, IfOk, OnOk, OnErr, MatchOption};
 ghost use Rattle.fsl_text.specs.Escapes.{escape, escaped_byte, unescape, byte_meant, UnescapesEscaped};
 
@@ -6,7 +6,7 @@ use super::memory::Memory;
 use super::text::Text;
 use std::alloc::Global;
 
-/// The byte behind a backslash that stands for a byte, if it can't stand for itself.
+/// Returns the letter behind the backslash for a byte that can't be written as itself.
 fn letter_of(byte: u8) -> Option<u8>
     ensures { MatchOption result (escaped_byte byte ≡ byte ∷ []) (λ letter. escaped_byte byte ≡ 92 ∷ letter ∷ []) }
 {
@@ -23,7 +23,7 @@ fn letter_of(byte: u8) -> Option<u8>
     }
 }
 
-/// The byte that a backslash and this byte stand for.
+/// Returns the byte that a backslash and this byte mean.
 fn byte_of(letter: u8) -> u8
     ensures { result ≡ byte_meant letter }
 {
@@ -39,9 +39,9 @@ fn byte_of(letter: u8) -> u8
     }
 }
 
-/// The text that stands for the bytes in a card or a message. Space, newline, backslash, tab, carriage return
-/// and the bytes 11, 12 and 0 are written `\s`, `\n`, `\\`, `\t`, `\r`, `\v`, `\f` and `\0`; every other byte
-/// stands for itself. `Memory` is the only error.
+/// Writes bytes as the text of a card or a message. Space, newline, backslash, tab, carriage return and the bytes 11, 12 and 0
+/// become `\s`, `\n`, `\\`, `\t`, `\r`, `\v`, `\f` and `\0`. Every other byte stays itself. `Memory` is the only error.
+/// FORMATS: Texts
 pub fn escape(alloc: Global, bytes: &[u8]) -> Result<Text, Memory>
     ensures { IfOk result (λ text. text ≡ escape bytes.now) }
 {
@@ -50,7 +50,7 @@ pub fn escape(alloc: Global, bytes: &[u8]) -> Result<Text, Memory>
     Ok(text)
 }
 
-/// Puts one byte at the end of a text as it is written.
+/// Writes one byte at the end of a text, escaped if it needs that.
 fn append_byte(into: &mut Text, byte: u8) -> Result<(), Memory>
     ensures ok { OnOk result (into.new ≡ into.old ++ escaped_byte byte) }
     ensures err { OnErr result (into.new ≡ into.old) }
@@ -61,7 +61,7 @@ fn append_byte(into: &mut Text, byte: u8) -> Result<(), Memory>
     }
 }
 
-/// Puts bytes at the end of a text as they are written, all of them or some.
+/// Writes bytes at the end of a text, escaped, all of them or some.
 #[tactic(auto, using(crate::proofs::Fronts::front_stays))]
 fn append_bytes(into: &mut Text, bytes: &[u8]) -> Result<(), Memory>
     ensures ok { OnOk result (into.new ≡ into.old ++ escape bytes.now) }
@@ -73,8 +73,8 @@ fn append_bytes(into: &mut Text, bytes: &[u8]) -> Result<(), Memory>
     Ok(())
 }
 
-/// Puts bytes at the end of a text as `escape` writes them. `Memory` is the only error, and then the text stays
-/// as it was.
+/// Adds bytes at the end of a text, written as `escape` writes them. `Memory` is the only error, and then the text stays as it
+/// was.
 pub fn escape_into(into: &mut Text, bytes: &[u8]) -> Result<(), Memory>
     ensures ok { OnOk result (into.new ≡ into.old ++ escape bytes.now) }
     ensures err { OnErr result (into.new ≡ into.old) }
@@ -87,9 +87,9 @@ pub fn escape_into(into: &mut Text, bytes: &[u8]) -> Result<(), Memory>
     written
 }
 
-/// The bytes that a text of a card or a message stands for. A backslash and the byte behind it are one byte:
-/// one of the eight of `escape`, or else the byte behind it. A last backslash stands for itself. `Memory` is
-/// the only error.
+/// Reads the text of a card or a message back into bytes. A backslash and the byte behind it give one byte: one of the eight of
+/// `escape`, or else the byte behind it. A last backslash gives itself. `Memory` is the only error.
+/// FORMATS: Texts
 pub fn unescape(alloc: Global, text: &[u8]) -> Result<Text, Memory>
     ensures { IfOk result (λ bytes. bytes ≡ unescape text.now) }
 {
@@ -111,7 +111,7 @@ pub fn unescape(alloc: Global, text: &[u8]) -> Result<Text, Memory>
     Ok(Text::from_vec(bytes))
 }
 
-/// A law and no code: whatever the bytes are, `unescape` of what `escape` makes of them gives them back.
+/// Says that `unescape` gives back the bytes that `escape` took. This is a law and runs no code.
 pub fn unescapes_escaped()
     ensures { UnescapesEscaped }
 {}

@@ -1,7 +1,7 @@
-/// Why a text is no decimal number of 64 bits.
+/// Says why a text is no decimal number of 64 bits.
 #[derive(Clone, Copy, Debug, PartialEq, Eq)]
 pub enum DecimalFault {
-    /// It has no byte.
+    /// The text has no byte.
     Empty,
     /// This byte is the first that is no digit.
     Digit { at: u64 },
@@ -9,11 +9,11 @@ pub enum DecimalFault {
     Range,
 }
 
-/// Where a token stands in its line, counted in bytes from the line's beginning.
+/// The place of a token in its line, counted in bytes from the line's beginning.
 #[derive(Clone, Copy, Debug, PartialEq, Eq)]
 pub struct Span {
-    /// The place of its first byte.
+    /// The place of the token's first byte.
     pub from: u64,
-    /// The place right behind its last byte.
+    /// The place right behind the token's last byte.
     pub to: u64,
 }

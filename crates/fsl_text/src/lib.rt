@@ -1,6 +1,5 @@
-//! Bytes, lists and texts that every crate above takes, and what is read from bytes and written into them
-//! before any format: escapes, the tokens of a line, decimal numbers and paths. Each reader answers exactly
-//! what its definition says of the bytes, whatever they are.
+//! Gives bytes, lists and texts to every crate above, and reads and writes the parts below any format: escapes, the tokens of a
+//! line, decimal numbers and paths. Each reader answers exactly as its definition says, whatever the bytes are.
 #![tactic(auto)]
 
 mod decimals;

@@ -1,4 +1,4 @@
-//! Limits that several rooms share. Each stands here once, and definitions name those that they speak of (`specs/Limits.antt`).
+//! Limits that several rooms share. Each is written here once, and definitions name the ones that they use (`specs/Limits.antt`).
 ghost use Rattle.std.specs.Prelude.{◌≡◌};
 ghost use Rattle.fsl_text.specs.Limits.{most_of_artifact, most_of_message, most_held_bytes, most_names, most_of_users};
 
@@ -26,7 +26,7 @@ pub const MOST_OF_PATH: usize = 512;
 /// The bytes that a reply or a request gives to the files that it sends. The file that passes them is the last.
 pub const BUDGET: u64 = 1_000_000;
 
-/// What a file takes of these beside its content.
+/// The bytes that a file counts of the budget beside its content.
 pub const SHARE: u64 = 64;
 
 /// The most notices that a reply has in one message.
@@ -35,7 +35,7 @@ pub const MOST_NOTICES: usize = 100;
 /// The most rounds of a sync.
 pub const MOST_ROUNDS: u64 = 100_000;
 
-/// The limits that definitions have a word for are these constants.
+/// Says that these constants are the limits of the definitions.
 pub fn limits_are_those_of_the_definitions()
     ensures artifact { MOST_OF_ARTIFACT ≡ most_of_artifact }
     ensures message { MOST_OF_MESSAGE ≡ most_of_message }

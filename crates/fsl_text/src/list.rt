@@ -4,7 +4,7 @@ use super::memory::Memory;
 use std::alloc::Global;
 use std::marker::Model;
 
-/// Items in order, which contracts see as a list.
+/// A list of items in order. Contracts see it as a list.
 #[derive(Debug, Drop)]
 pub struct List<T> {
     items: Vec<T>,
@@ -19,7 +19,7 @@ impl<T> Model for List<T> {
 }
 
 impl<T> List<T> {
-    /// No items. Takes no memory.
+    /// Returns an empty list. Takes no memory.
     pub fn new(alloc: Global) -> List<T>
         ensures { result ≡ [] }
     {
@@ -28,21 +28,21 @@ impl<T> List<T> {
         }
     }
 
-    /// The items of a vector, which are moved. Takes no memory.
+    /// Takes the items of a vector without a copy. Takes no memory.
     pub fn from_vec(items: Vec<T>) -> List<T>
         ensures { result ≡ items.items }
     {
         List { items }
     }
 
-    /// The items as a vector, which are moved. Takes no memory.
+    /// Gives the items as a vector without a copy. Takes no memory.
     pub fn into_vec(self) -> Vec<T>
         ensures { result.items ≡ self }
     {
         self.items
     }
 
-    /// Puts an item at the end. It comes back for want of memory.
+    /// Adds an item at the end. If out of memory, it gives the item back.
     pub fn push(&mut self, item: T) -> Result<(), T>
         ensures ok { OnOk result (self.new ≡ self.old ++ item ∷ []) }
         ensures err { OnErr result (self.new ≡ self.old) }
@@ -54,7 +54,7 @@ impl<T> List<T> {
         }
     }
 
-    /// The items.
+    /// Returns the items.
     pub fn items(&self) -> &[T]
         ensures { result.now ≡ self.now }
     {
@@ -63,7 +63,7 @@ impl<T> List<T> {
 }
 
 impl<T: Drop> List<T> {
-    /// Puts an item at the end. For want of memory the list stays as it is, and the item is let go.
+    /// Adds an item at the end. If out of memory, the list stays as it is, and the item is dropped.
     pub fn append(&mut self, item: T) -> Result<(), Memory>
         ensures ok { OnOk result (self.new ≡ self.old ++ item ∷ []) }
         ensures err { OnErr result (self.new ≡ self.old) }

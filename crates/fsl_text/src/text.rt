@@ -10,7 +10,7 @@ use std::alloc::Global;
 use std::cmp::Ordering;
 use std::marker::Model;
 
-/// Bytes, ordered by them, which contracts see as a list.
+/// A text of bytes, ordered by its bytes. Contracts see it as a list.
 #[derive(Debug, Drop)]
 pub struct Text {
     bytes: Vec<u8>,
@@ -25,7 +25,7 @@ impl Model for Text {
 }
 
 impl Text {
-    /// No bytes. Takes no memory.
+    /// Returns an empty text. Takes no memory.
     pub fn empty(alloc: Global) -> Text
         ensures { result ≡ [] }
     {
@@ -34,14 +34,14 @@ impl Text {
         }
     }
 
-    /// The bytes of a vector, which are moved. Takes no memory.
+    /// Takes the bytes of a vector without a copy. Takes no memory.
     pub fn from_vec(bytes: Vec<u8>) -> Text
         ensures { result ≡ bytes.items }
     {
         Text { bytes }
     }
 
-    /// A copy of the bytes.
+    /// Copies bytes into a new text. `Memory` is the only error.
     pub fn of(alloc: Global, bytes: &[u8]) -> Result<Text, Memory>
         ensures { IfOk result (λ text. text ≡ bytes.now) }
     {
@@ -51,14 +51,14 @@ impl Text {
         }
     }
 
-    /// The bytes.
+    /// Returns the bytes.
     pub fn bytes(&self) -> &[u8]
         ensures { result.now ≡ self.now }
     {
         &self.bytes
     }
 
-    /// Puts bytes at the end. For want of memory the text stays as it is.
+    /// Adds bytes at the end. If out of memory, the text stays as it is.
     pub fn append(&mut self, bytes: &[u8]) -> Result<(), Memory>
         ensures ok { OnOk result (self.new ≡ self.old ++ bytes.now) }
         ensures err { OnErr result (self.new ≡ self.old) }
@@ -69,7 +69,7 @@ impl Text {
         }
     }
 
-    /// Leaves the first `len` bytes, and all where there are fewer. Takes no memory.
+    /// Keeps the first `len` bytes, or all if there are fewer. Takes no memory.
     pub fn truncate(&mut self, len: usize)
         ensures { self.new ≡ take len self.old }
     {

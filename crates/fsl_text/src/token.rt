@@ -1,4 +1,4 @@
-//! The tokens of a line.
+//! Finds the tokens of a line.
 ghost use Rattle.std.specs.Prelude.{◌≡◌, IfOk, OnOk, ◌++◌};
 ghost use Rattle.fsl_text.specs.Tokens.{token_spans, token_at, is_blank, AreTokens, AreTextsOfSpans};
 
@@ -13,7 +13,7 @@ fn is_blank(byte: u8) -> bool
     byte == b' ' || byte == b'\t' || byte == b'\r'
 }
 
-/// Puts the bytes from one place to another at the end as a token, if there are any.
+/// Adds the bytes between two places as a token at the end, if there are any.
 fn push_token(spans: &mut List<Span>, from: usize, to: usize) -> Result<(), Memory>
     ensures { OnOk result (spans.new ≡ spans.old ++ token_at from to) }
 {
@@ -27,9 +27,9 @@ fn push_token(spans: &mut List<Span>, from: usize, to: usize) -> Result<(), Memo
     Ok(())
 }
 
-/// The places of the tokens of a line, in order. A token is a longest run of bytes that are no blank, and the
-/// blanks are space, tab and carriage return. Places are counted in bytes from the line's beginning. `Memory`
-/// is the only error.
+/// Finds the places of the tokens of a line, in order. A token is a longest run of bytes that are no blank. The blanks are space,
+/// tab and carriage return. Places count bytes from the line's beginning. `Memory` is the only error.
+/// FORMATS: Texts
 pub fn tokens(alloc: Global, line: &[u8]) -> Result<List<Span>, Memory>
     ensures spans { IfOk result (λ spans. spans ≡ token_spans line.now) }
     ensures every { IfOk result (AreTokens line.now) }
@@ -46,7 +46,7 @@ pub fn tokens(alloc: Global, line: &[u8]) -> Result<List<Span>, Memory>
     Ok(spans)
 }
 
-/// A law and no code: the bytes at the places of the tokens are the parts between blanks that have a byte.
+/// Says that the bytes at the places of the tokens are the parts between blanks that have a byte. This is a law and runs no code.
 pub fn tokens_at_spans()
     ensures { AreTextsOfSpans }
 {}

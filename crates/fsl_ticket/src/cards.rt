@@ -1,11 +1,11 @@
-//! Copies of J cards and of the names of fields.
+//! Copies J cards and the names of fields.
 ghost use Rattle.std.specs.Prelude.{◌≡◌, IfOk};
 
 use super::FieldChange;
 use fsl_text::{List, Memory, Text};
 use std::alloc::Global;
 
-/// Copies of some cards.
+/// Copies some cards. `Memory` is the only error.
 pub fn copied(alloc: Global, cards: &[FieldChange]) -> Result<List<FieldChange>, Memory>
     ensures { IfOk result (λ copy. copy ≡ cards.now) }
 {
@@ -18,7 +18,7 @@ pub fn copied(alloc: Global, cards: &[FieldChange]) -> Result<List<FieldChange>,
     Ok(copy)
 }
 
-/// Copies of some texts.
+/// Copies some texts. `Memory` is the only error.
 pub fn texts(alloc: Global, texts: &[Text]) -> Result<List<Text>, Memory>
     ensures { IfOk result (λ copy. copy ≡ texts.now) }
 {

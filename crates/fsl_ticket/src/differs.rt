@@ -1,6 +1,6 @@
-//! Whether one change more makes another row of its ticket. That is found from the fields that it touches: what it puts at the end of
-//! one makes it longer, what replaces one is compared with what stands since the last change that replaced it, and a newer change that
-//! replaces the field leaves it as it was.
+//! Tells whether a new change alters the row of its ticket. Only the fields that it touches matter. An appended value makes its
+//! field longer. A replacement is compared with the value that the field has since the last change that replaced it. Where a
+//! newer change replaces the field, that stays as it was.
 ghost use Rattle.std.specs.Prelude.{◌≡◌, ◌&&◌, ◌==◌, not, length, ℕ, [], List, Some, IfOk};
 ghost use Rattle.std.specs.List.{list_any};
 ghost use Rattle.std.specs.List.Sorted.{IsStrictlySortedBy};

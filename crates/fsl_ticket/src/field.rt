@@ -1,4 +1,4 @@
-//! A field of a ticket.
+//! Names a field of a ticket.
 ghost use Rattle.std.specs.Prelude.{◌≡◌};
 ghost use Rattle.fsl_ticket.specs.FieldOrder.{exact_field};
 

@@ -1,6 +1,7 @@
-//! Tickets: from the changes of each ticket the values of its fields. `Tickets` is the table of them, and its answers are those of the
-//! definitions over the changes that it holds. In whatever order these came it is the same: `fsl_order::by_name_in_any_order`. A
-//! change more, and another in the place of one, are calls of their own, which tell the ids whose rows differ and can be taken back.
+//! Finds the values of the fields of each ticket from its changes. `Tickets` is the table of them. It answers as the definitions
+//! do over the changes that it holds. It is the same in whatever order these came: that is the law
+//! `fsl_order::by_name_in_any_order`. One call adds a change, and another one replaces a change. Each returns the ids whose rows
+//! differ, and can be undone.
 #![tactic(auto)]
 
 ghost use Rattle.std.specs.Prelude.{◌≡◌, IfOk};
@@ -23,19 +24,19 @@ use fsl_text::{List, Memory, Text};
 use std::alloc::Global;
 pub use tickets::{Tickets, Undo};
 
-/// A J card: a field gets a value, or more at its end.
+/// A J card. It replaces the value of a field, or adds to its end.
 #[derive(Drop)]
 pub struct FieldChange {
-    /// Whether the value is put at the end of what the field has, and doesn't replace it.
+    /// Says whether the card adds the value to the end of the field, and doesn't replace the field.
     pub append: bool,
     /// The name of the field.
     pub field: Text,
-    /// The value, empty where the card has none.
+    /// The value. It is empty where the card has none.
     pub value: Text,
 }
 
 impl FieldChange {
-    /// A card with the same content. `Memory` is the only error.
+    /// Returns a card with the same content. `Memory` is the only error.
     pub fn copied(&self, alloc: Global) -> Result<FieldChange, Memory>
         ensures { IfOk result (λ card. card ≡ self.now) }
     {
@@ -52,7 +53,7 @@ impl FieldChange {
 pub struct Fact {
     /// The name of its artifact.
     pub name: Name,
-    /// When it was made.
+    /// The date of its artifact.
     pub date: Moment,
     /// The id of the ticket.
     pub id: Name,
@@ -61,7 +62,7 @@ pub struct Fact {
 }
 
 impl Fact {
-    /// A change with the same content. `Memory` is the only error.
+    /// Returns a change with the same content. `Memory` is the only error.
     pub fn copied(&self, alloc: Global) -> Result<Fact, Memory>
         ensures { IfOk result (λ fact. fact ≡ self.now) }
     {

@@ -1,4 +1,4 @@
-//! The maps in which the changes are held.
+//! Keeps the changes in maps.
 ghost use Rattle.std.specs.Prelude.{◌≡◌, []};
 ghost use Rattle.fsl_ticket.specs.Kept.{AreAsGood, IsKept, ends_of, rows_before, rows_of, starts_of};
 
@@ -14,15 +14,15 @@ use std::sync::ledger::Ledger;
 /// The maps of the changes of tickets.
 #[derive(Drop)]
 pub struct Maps {
-    /// What is kept of each change, by its name.
+    /// Maps the name of each change to the rest of it.
     pub facts: Tracked<Name, Entry>,
-    /// The ticket, the date and the name of each change.
+    /// Has the ticket, the date and the name of each change.
     pub spots: Tracked<Within<Name, Place>, ()>,
-    /// For each change and each field that it replaces the ticket and the field, and the date and the name of the change.
+    /// Has a key for each change and each field that it replaces: the ticket and the field, the date and the name of the change.
     pub sets: Tracked<Within<TicketField, Place>, ()>,
 }
 
-/// The ways back of a change.
+/// The way back from a change, for each map.
 #[derive(Drop)]
 pub struct Ways {
     pub facts: Way<Name, Entry>,
@@ -31,7 +31,7 @@ pub struct Ways {
 }
 
 impl Maps {
-    /// The maps without changes. Takes no memory.
+    /// Returns maps without changes. Takes no memory.
     pub fn new(alloc: Global) -> Maps
         ensures none { result.facts.held.entries ≡ [] }
         ensures kept { IsKept (rows_of result) }
@@ -53,7 +53,7 @@ impl Maps {
         self.sets.begin();
     }
 
-    /// Goes back to where the change began. It takes no memory.
+    /// Undoes the change that was begun. It takes no memory.
     pub fn turn_back<L: Ledger>(&mut self, steps: &mut Steps<L>)
         ensures { AreAsGood (rows_before self.old) (rows_of self.new) }
     {
@@ -62,7 +62,7 @@ impl Maps {
         self.sets.turn_back(steps);
     }
 
-    /// Hands the ways back out.
+    /// Returns the way back of each map. The rows stay as they are.
     pub fn ways(&mut self, alloc: Global) -> Ways
         ensures ends { ends_of result ≡ rows_of self.old }
         ensures starts { starts_of result ≡ rows_before self.old }
@@ -75,7 +75,7 @@ impl Maps {
         }
     }
 
-    /// Goes these ways back from what is as good as their ends. It takes no memory.
+    /// Undoes the change whose ways back are given. The rows must be as good as those where these ways end. It takes no memory.
     pub fn undo<L: Ledger>(&mut self, ways: Ways, steps: &mut Steps<L>)
         requires { AreAsGood (ends_of ways) (rows_of self.old) }
         ensures { AreAsGood (starts_of ways) (rows_of self.new) }

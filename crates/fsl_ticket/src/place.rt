@@ -1,4 +1,4 @@
-//! Where a change stands among those of its ticket: the newest first.
+//! Orders the changes of a ticket, the newest first.
 ghost use Rattle.std.specs.Prelude.{◌≡◌, refl};
 ghost use Rattle.std.specs.Cmp.{partial_order_from_total, partial_equiv_from_equiv, eq_by_cmp_equiv};
 ghost use Rattle.std.specs.Ordering.{eq_by_cmp, as_partial_cmp};
@@ -29,14 +29,14 @@ impl Model for Place {
 }
 
 impl Place {
-    /// The place of a date and a name.
+    /// Makes the place of a date and a name.
     pub fn new(date: Moment, name: Name) -> Place
         ensures { result ≡ (date, name) }
     {
         Place { date, name }
     }
 
-    /// Its name.
+    /// Returns the name.
     pub fn name(&self) -> Name
         ensures { result ≡ self.now.1 }
     {

@@ -1,4 +1,4 @@
-//! The rows of tickets: a change put into the maps and taken out, and the ids whose rows differ then.
+//! Puts a change into the maps, takes it out, and finds the ids whose rows differ then.
 ghost use Rattle.std.specs.Prelude.{◌≡◌, [], ◌&&◌, ◌||◌, not, ℕ, List, Option, Some, None, ◌∷◌, ◌++◌, if◌then◌else◌, IfOk, OnOk, is_some, map};
 ghost use Rattle.std.specs.List.{filter_map};
 ghost use Rattle.std.specs.Option.{option_to_list};
@@ -17,8 +17,7 @@ use crate::maps::Maps;
 use crate::place::Place;
 use crate::sets::{put_sets, unset};
 use crate::walk::{fields_of, key};
-use fsl_name::Name;
-use fsl_rows::Named;
+use fsl_name::{Name, Named};
 use fsl_table::{Tracked, Within, names};
 use fsl_text::{List, Memory, Steps, Text};
 use std::alloc::Global;

@@ -1,4 +1,4 @@
-//! The keys of the fields that changes replace: put for a change, taken out, and asked for the newest change that replaces one.
+//! Keeps the keys of the fields that changes replace, and finds the newest change that replaces a field.
 ghost use Rattle.std.specs.Prelude.{◌≡◌, ◌||◌, IfOk, OnOk};
 ghost use Rattle.std.specs.Option.{option_map};
 ghost use Rattle.std.specs.List.Sorted.{IsStrictlySortedBy};

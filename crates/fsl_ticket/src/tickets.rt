@@ -1,4 +1,4 @@
-//! The table of ticket changes.
+//! Keeps the table of ticket changes.
 ghost use Rattle.std.specs.Prelude.{◌≡◌, ◌<◌, [], ◌∷◌, false, true, IfOk, OnOk, OnErr, map};
 ghost use Rattle.fsl_order.specs.Names.{has};
 ghost use Rattle.fsl_order.specs.Rows.{by_name, AreDistinct, ListsChanged};
@@ -17,8 +17,8 @@ use std::marker::{Brand, Model};
 use std::snapshot::Snapshot;
 use std::sync::ledger::{Blank, Ledger};
 
-/// The changes of tickets, and the configured fields. Contracts see it as the fields, the changes by name, and the room that its
-/// maps have to spare.
+/// A table of the changes of tickets, and of the configured fields. Contracts see it as the fields, the changes by name, and the
+/// room that its maps have to spare.
 #[derive(Drop)]
 pub struct Tickets {
     configured: List<Text>,
@@ -36,7 +36,7 @@ impl Model for Tickets {
     ghost invariant = { λ t. IsKept (rows_of t.maps) };
 }
 
-/// What takes a change back, and the ids whose rows it changed. Contracts see it as both, with the table before and after.
+/// The way back from a change, and the ids whose rows it changed. Contracts see it as both, with the table before and after.
 #[derive(Drop)]
 pub struct Undo {
     ways: Ways,
@@ -56,7 +56,7 @@ impl Model for Undo {
 }
 
 impl Undo {
-    /// The ids of the tickets whose rows the change changed, ascending. A row is the values of the configured fields.
+    /// Returns the ids of the tickets whose rows the change changed, ascending. A row has the values of the configured fields.
     pub fn changed(&self) -> &List<Name>
         ensures { result.now ≡ self.now.changed }
     {
@@ -65,7 +65,7 @@ impl Undo {
 }
 
 impl Tickets {
-    /// The table without fields and changes. Takes no memory.
+    /// Returns a table without fields and changes. Takes no memory.
     pub fn new(alloc: Global) -> Tickets
         ensures fields { result.fields ≡ [] }
         ensures facts { result.facts ≡ [] }
@@ -76,8 +76,8 @@ impl Tickets {
         }
     }
 
-    /// The table of the configured fields and of some changes, of which no two have one name. It is the same in whatever order the
-    /// changes stand. It takes time by n log n of the changes. `Memory` is the only error.
+    /// Makes the table of the configured fields and of some changes. No two changes have one name. The table is the same in
+    /// whatever order they come. It takes time by n log n of the changes. `Memory` is the only error.
     pub fn build(alloc: Global, fields: &List<Text>, facts: &[Fact]) -> Result<Tickets, Memory>
         requires { AreDistinct (map (λ f. f.name) facts.now) }
         ensures fields { IfOk result (λ t. t.fields ≡ fields.now) }
@@ -127,11 +127,12 @@ impl Tickets {
         }
     }
 
-    /// Adds a change whose name isn't there, which is moved. It looks at its cards once for each configured field, and takes time by the
-    /// logarithm of all changes for each of its cards and of these fields. Where it replaces such a field and no newer change of the ticket does, it also passes the older ones down to
-    /// the last that did: as long as none is changed or taken back, each is passed so once for a field, and once more as the last, so
-    /// n changes take time by n log n in whatever order they come, as far as the number of their cards and of the configured fields
-    /// stays the same. `Memory` is the only error, and the table then holds what it held.
+    /// Adds a change, which is moved. No other one of its name is in the table. It looks at its cards once for each configured
+    /// field, and takes time by the logarithm of all changes for each of its cards and of these fields. Where it replaces such a
+    /// field and no newer change of the ticket does, it also passes the older ones down to the last that did. As long as none is
+    /// changed or undone, each is passed so once for a field, and once more as the last. So n changes take time by n log n in
+    /// whatever order they come, as far as the number of their cards and of the configured fields stays the same. `Memory` is the
+    /// only error. The table then holds the same as before.
     pub fn add<L: Ledger>(
         &mut self,
         alloc: Global,
@@ -149,8 +150,8 @@ impl Tickets {
         self.put(alloc, fact, steps)
     }
 
-    /// Puts a change in the place of that of its name, which is there. It is moved. It takes time by all changes of both tickets. `Memory`
-    /// is the only error, and the table then holds what it held.
+    /// Replaces the change of the same name. The table has one. The new change is moved. It takes time by all changes of both
+    /// tickets. `Memory` is the only error. The table then holds the same as before.
     pub fn change<L: Ledger>(
         &mut self,
         alloc: Global,
@@ -196,7 +197,7 @@ impl Tickets {
         }
     }
 
-    /// Takes the last change back that wasn't taken back. It takes no memory.
+    /// Undoes the last change that wasn't undone yet. It takes no memory.
     pub fn undo(&mut self, undo: Undo)
         requires { IsAsBefore undo.after self.old }
         ensures { IsAsBefore undo.before self.new }
@@ -216,9 +217,11 @@ impl Tickets {
         self.maps.undo(ways, &mut steps);
     }
 
-    /// The values of the configured fields of a ticket, in their order: each begins empty, and takes the J cards of its field in the
-    /// order of the changes, by date and name. None where no change has the id. It takes one pass over the changes of the ticket, and
-    /// time by the logarithm of all changes for each, and of the fields for each card. `Memory` is the only error.
+    /// Returns the values of the configured fields of a ticket, in their order. Each begins empty, and takes the J cards of its
+    /// field in the order of the changes, by date and name. The answer is `None` where no change has the id. It takes one pass
+    /// over the changes of the ticket, and time by the logarithm of all changes for each, and of the fields for each card.
+    /// `Memory` is the only error.
+    /// FORMATS: Derived tables
     pub fn fields(&self, alloc: Global, id: Name) -> Result<Option<List<Text>>, Memory>
         ensures { IfOk result (λ values. values ≡ table.fields self.now.fields self.now.facts id) }
     {

@@ -1,4 +1,4 @@
-//! What the J cards of a ticket make of its fields.
+//! Finds the values that the J cards of a ticket give its fields.
 ghost use Rattle.std.specs.Prelude.{◌≡◌, ◌&&◌, not, [], ℕ, List, None, IfOk, OnOk, cond, map};
 ghost use Rattle.std.specs.BTreeMap.{is_at};
 ghost use Rattle.fsl_order.specs.Names.{bytes_cmp};
@@ -63,7 +63,7 @@ fn take_card(
     }
 }
 
-/// Takes cards into the values, in their order.
+/// Takes cards into the values, in their order. `Memory` is the only error. Some cards may be in then.
 pub fn take_all(
     alloc: Global,
     values: &mut BTreeMap<Text, Text>,
@@ -77,7 +77,7 @@ pub fn take_all(
     Ok(())
 }
 
-/// What the cards of one change make of the fields by themselves.
+/// Returns the values that the cards of one change give the fields by themselves. `Memory` is the only error.
 pub fn made(alloc: Global, cards: &[FieldChange]) -> Result<BTreeMap<Text, Text>, Memory>
     ensures { IfOk result (λ values. (q : List ℕ) → value_in values.entries q ≡ made cards.now q []) }
 {
@@ -95,14 +95,14 @@ fn is_replaced(card: &FieldChange, field: &Text) -> bool
     card.field.bytes() == field.bytes() && !card.append
 }
 
-/// Whether one of the cards replaces the field.
+/// Tells whether one of the cards replaces the field.
 pub fn is_set(cards: &[FieldChange], field: &Text) -> bool
     ensures { result ≡ is_set cards.now field.now }
 {
     cards.iter().any(|card| is_replaced(card, field))
 }
 
-/// The value of a field, empty where there is none.
+/// Returns the value of a field. It is empty where there is none.
 pub fn value_of<'a>(values: &'a BTreeMap<Text, Text>, field: &Text) -> &'a [u8]
     ensures { result.now ≡ value_in values.now.entries field.now }
 {
@@ -112,7 +112,7 @@ pub fn value_of<'a>(values: &'a BTreeMap<Text, Text>, field: &Text) -> &'a [u8]
     }
 }
 
-/// A copy of the value of a field, empty where there is none.
+/// Copies the value of a field. It is empty where there is none. `Memory` is the only error.
 pub fn copied(alloc: Global, values: &BTreeMap<Text, Text>, field: &Text) -> Result<Text, Memory>
     ensures { IfOk result (λ value. value ≡ value_in values.now.entries field.now) }
 {
@@ -122,7 +122,7 @@ pub fn copied(alloc: Global, values: &BTreeMap<Text, Text>, field: &Text) -> Res
     }
 }
 
-/// The values of some fields, in their order.
+/// Copies the values of some fields, in their order. `Memory` is the only error.
 pub fn of_fields(
     alloc: Global,
     values: &BTreeMap<Text, Text>,

@@ -1,4 +1,4 @@
-//! The changes of a ticket from the newest down, and the values that they give its fields.
+//! Walks the changes of a ticket from the newest down, and finds the values that they give its fields.
 ghost use Rattle.std.specs.Prelude.{◌≡◌, ℕ, List, Some, IfOk, OnOk};
 ghost use Rattle.std.specs.List.Sorted.{IsStrictlySortedBy};
 ghost use Rattle.std.specs.Map.{keys_of};

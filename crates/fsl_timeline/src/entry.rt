@@ -1,9 +1,9 @@
-//! What is kept of a row beside its name.
+//! Holds a row without its name.
 use crate::RowKind;
 use fsl_date::Moment;
 use fsl_text::Text;
 
-/// When it happened, what it tells of, who did it, and its text.
+/// The time, the kind, the user and the text of a row.
 #[derive(Drop)]
 pub struct Entry {
     pub time: Moment,

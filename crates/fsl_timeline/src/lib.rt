@@ -1,7 +1,6 @@
-//! The timeline: rows with a time, the latest first. `Timeline` is the table of them, and its answers are those of the
-//! definitions over the rows that it holds. In whatever order these came it is the same: `fsl_order::by_name_in_any_order`. A row
-//! more, another in the place of one, and one less are calls of their own, which tell the names whose rows differ and can be
-//! taken back.
+//! Keeps the timeline: rows with a time, the latest first. `Timeline` is the table of them. It answers as the definitions do over
+//! the rows that it holds. It is the same in whatever order these came: that is the law `fsl_order::by_name_in_any_order`. One
+//! call adds a row, one replaces a row, and one takes a row out. Each returns the names whose rows differ, and can be undone.
 #![tactic(auto)]
 
 ghost use Rattle.std.specs.Prelude.{◌≡◌, IfOk};
@@ -18,7 +17,7 @@ use fsl_text::{Memory, Text};
 use std::alloc::Global;
 pub use timeline::{Timeline, Undo};
 
-/// What a row of the timeline tells of.
+/// The kind of artifact of a row of the timeline.
 #[derive(Clone, Copy, PartialEq, Eq, Debug)]
 pub enum RowKind {
     /// A check-in.
@@ -38,20 +37,20 @@ pub enum RowKind {
 /// A row of the timeline.
 #[derive(Drop)]
 pub struct Row {
-    /// When it happened.
+    /// The time of the row.
     pub time: Moment,
-    /// The artifact that it tells of.
+    /// The name of its artifact.
     pub name: Name,
-    /// What that is.
+    /// The kind of that artifact.
     pub kind: RowKind,
-    /// Who did it, empty where that isn't said.
+    /// The user. It is empty where the artifact names none.
     pub user: Text,
     /// A comment, a title, an id or the like.
     pub text: Text,
 }
 
 impl Row {
-    /// A row with the same content. `Memory` is the only error.
+    /// Returns a row with the same content. `Memory` is the only error.
     pub fn copied(&self, alloc: Global) -> Result<Row, Memory>
         ensures { IfOk result (λ row. row ≡ self.now) }
     {

@@ -1,4 +1,4 @@
-//! The maps in which the rows are held.
+//! Keeps the rows in maps.
 ghost use Rattle.std.specs.Prelude.{◌≡◌, ◌+◌, []};
 ghost use Rattle.fsl_timeline.specs.Kept.{AreAsGood, ends_of, rows_before, rows_in, starts_of, steps_back};
 
@@ -13,13 +13,13 @@ use std::sync::ledger::Ledger;
 /// The maps of a timeline.
 #[derive(Drop)]
 pub struct Maps {
-    /// What is kept of each row, by its name.
+    /// Maps the name of each row to the rest of it.
     pub rows: Tracked<Name, Entry>,
-    /// The time and name of each row, in the order of the timeline.
+    /// Has the time and the name of each row, in the order of the timeline.
     pub places: Tracked<Place, ()>,
 }
 
-/// The ways back of a change.
+/// The way back from a change, for each map.
 #[derive(Drop)]
 pub struct Ways {
     pub rows: Way<Name, Entry>,
@@ -27,7 +27,7 @@ pub struct Ways {
 }
 
 impl Maps {
-    /// The maps without rows. Takes no memory.
+    /// Returns maps without rows. Takes no memory.
     pub fn new(alloc: Global) -> Maps
         ensures rows { result.rows.held.entries ≡ [] }
         ensures places { result.places.held.entries ≡ [] }
@@ -48,7 +48,7 @@ impl Maps {
         self.places.begin();
     }
 
-    /// Goes back to where the change began. It takes no memory.
+    /// Undoes the change that was begun. It takes no memory.
     pub fn turn_back<L: Ledger>(&mut self, steps: &mut Steps<L>)
         ensures good { AreAsGood (rows_before self.old) (rows_in self.new) }
         ensures cost { steps.new ≡ steps.old + steps_back self.old }
@@ -57,7 +57,7 @@ impl Maps {
         self.places.turn_back(steps);
     }
 
-    /// Hands the ways back out.
+    /// Returns the way back of each map. The rows stay as they are.
     pub fn ways(&mut self, alloc: Global) -> Ways
         ensures ends { ends_of result ≡ rows_in self.old }
         ensures starts { starts_of result ≡ rows_before self.old }
@@ -69,7 +69,7 @@ impl Maps {
         }
     }
 
-    /// Goes these ways back from what is as good as their ends. It takes no memory.
+    /// Undoes the change whose ways back are given. The rows must be as good as those where these ways end. It takes no memory.
     pub fn undo<L: Ledger>(&mut self, ways: Ways, steps: &mut Steps<L>)
         requires { AreAsGood (ends_of ways) (rows_in self.old) }
         ensures { AreAsGood (starts_of ways) (rows_in self.new) }

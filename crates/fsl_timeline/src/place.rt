@@ -1,4 +1,4 @@
-//! Where a row stands in the timeline.
+//! Orders the rows of the timeline.
 ghost use Rattle.std.specs.Prelude.{◌≡◌, refl};
 ghost use Rattle.std.specs.Cmp.{partial_order_from_total, partial_equiv_from_equiv, eq_by_cmp_equiv};
 ghost use Rattle.std.specs.Ordering.{eq_by_cmp, as_partial_cmp};
@@ -27,14 +27,14 @@ impl Model for Place {
 }
 
 impl Place {
-    /// The place of a time and a name.
+    /// Makes the place of a time and a name.
     pub fn new(time: Moment, name: Name) -> Place
         ensures { result ≡ (time, name) }
     {
         Place { time, name }
     }
 
-    /// Its name.
+    /// Returns the name.
     pub fn name(&self) -> Name
         ensures { result ≡ self.now.1 }
     {

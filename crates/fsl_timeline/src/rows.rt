@@ -1,4 +1,4 @@
-//! The rows of the timeline: a row put into the two maps and taken out, and the latest ones.
+//! Puts a row into the two maps, takes it out, and finds the latest ones.
 ghost use Rattle.std.specs.Prelude.{List, ◌≡◌, ◌+◌, ◌-◌, ◌<◌, ◌≤◌, ◌++◌, [], ◌∷◌, take, OnOk, IfOk, None, true, false, map, is_some, ◌&&◌, if◌then◌else◌};
 ghost use Rattle.std.specs.Str.{bytes_eq};
 ghost use Rattle.std.specs.List.Sorted.{IsStrictlySortedBy};

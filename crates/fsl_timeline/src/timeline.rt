@@ -1,4 +1,4 @@
-//! The table of rows.
+//! Keeps the table of rows.
 ghost use Rattle.std.specs.Prelude.{◌≡◌, ◌+◌, ◌≤◌, ◌<◌, [], ◌∷◌, false, true, map, OnOk, OnErr, IfOk};
 ghost use Rattle.fsl_order.specs.Names.{has};
 ghost use Rattle.fsl_order.specs.Rows.{by_name, AreDistinct, ListsChanged};
@@ -15,7 +15,7 @@ use std::alloc::Global;
 use std::marker::{Brand, Model};
 use std::sync::ledger::{Blank, Ledger};
 
-/// The rows of the timeline. Contracts see it as the rows by name, and the room that its maps have to spare.
+/// A table of the rows of the timeline. Contracts see it as the rows by name, and the room that its maps have to spare.
 #[derive(Drop)]
 pub struct Timeline {
     maps: Maps,
@@ -33,7 +33,7 @@ impl Model for Timeline {
     ghost invariant = { λ t. IsKept (rows_in t.maps) };
 }
 
-/// What takes a change back, and the names whose rows it changed. Contracts see it as both, with the table before and after.
+/// The way back from a change, and the names whose rows it changed. Contracts see it as both, with the table before and after.
 #[derive(Drop)]
 pub struct Undo {
     ways: Ways,
@@ -53,7 +53,7 @@ impl Model for Undo {
 }
 
 impl Undo {
-    /// The names whose rows the change changed, ascending: one or none.
+    /// Returns the names whose rows the change changed, ascending: one or none.
     pub fn changed(&self) -> &List<Name>
         ensures { result.now ≡ self.now.changed }
     {
@@ -73,7 +73,7 @@ fn copies(alloc: Global, rows: &[Row]) -> Result<List<Row>, Memory>
 }
 
 impl Timeline {
-    /// The table without rows. Takes no memory.
+    /// Returns a table without rows. Takes no memory.
     pub fn new(alloc: Global) -> Timeline
         ensures { result.facts ≡ [] }
     {
@@ -82,8 +82,8 @@ impl Timeline {
         }
     }
 
-    /// The table of some rows, of which no two have one name. They are copied. The table is the same in whatever order they stand: that
-    /// is the law `fsl_order::by_name_in_any_order`. `Memory` is the only error.
+    /// Makes the table of some rows. No two of them have one name. The rows are copied. The table is the same in whatever order
+    /// they come: that is the law `fsl_order::by_name_in_any_order`. `Memory` is the only error.
     pub fn build(alloc: Global, rows: &[Row]) -> Result<Timeline, Memory>
         requires { AreDistinct (map (λ r. r.name) rows.now) }
         ensures facts { IfOk result (λ t. t.facts ≡ by_name (λ r. r.name) rows.now) }
@@ -91,7 +91,7 @@ impl Timeline {
         Timeline::from_rows(alloc, copies(alloc, rows)?)
     }
 
-    /// The table that `build` makes, of rows that are moved: none is copied. `Memory` is the only error.
+    /// Makes the table of some rows as `build` does, and moves them. None is copied. `Memory` is the only error.
     pub fn from_rows(alloc: Global, rows: List<Row>) -> Result<Timeline, Memory>
         requires { AreDistinct (map (λ r. r.name) rows) }
         ensures facts { IfOk result (λ t. t.facts ≡ by_name (λ r. r.name) rows) }
@@ -130,8 +130,8 @@ impl Timeline {
         }
     }
 
-    /// Adds a row whose name isn't there, which is moved. `Memory` is the only error, and the table then holds what it held. It
-    /// takes at most 4 touches.
+    /// Adds a row, which is moved. No other one of its name is in the table. `Memory` is the only error. The table then holds the
+    /// same as before. It takes at most 4 touches.
     pub fn add<L: Ledger>(
         &mut self,
         alloc: Global,
@@ -149,8 +149,8 @@ impl Timeline {
         self.put(alloc, fact, true, steps)
     }
 
-    /// Puts a row in the place of that of its name, which is there. It is moved. `Memory` is the only error, and the table then
-    /// holds what it held.
+    /// Replaces the row of the same name. The table has one. The new row is moved. `Memory` is the only error. The table then
+    /// holds the same as before.
     pub fn change<L: Ledger>(
         &mut self,
         alloc: Global,
@@ -196,7 +196,7 @@ impl Timeline {
         }
     }
 
-    /// Takes a row out that is there. `Memory` is the only error, and the table then holds what it held.
+    /// Takes a row out. The table has it. `Memory` is the only error. The table then holds the same as before.
     pub fn retire<L: Ledger>(
         &mut self,
         alloc: Global,
@@ -223,7 +223,7 @@ impl Timeline {
         }
     }
 
-    /// Takes the last change back that wasn't taken back. It takes no memory.
+    /// Undoes the last change that wasn't undone yet. It takes no memory.
     pub fn undo(&mut self, undo: Undo)
         requires { IsAsBefore undo.after self.old }
         ensures { IsAsBefore undo.before self.new }
@@ -243,8 +243,9 @@ impl Timeline {
         self.maps.undo(ways, &mut steps);
     }
 
-    /// So many of the first rows, or all where there are fewer: the latest time first, equal times by rising name. They are copied.
-    /// `Memory` is the only error.
+    /// Returns copies of the first `count` rows, or of all where there are fewer. The latest time comes first, and equal times by
+    /// rising name. `Memory` is the only error.
+    /// FORMATS: Derived tables
     pub fn latest(&self, alloc: Global, count: u64) -> Result<List<Row>, Memory>
         ensures { IfOk result (λ rows. rows ≡ table.latest self.now.facts count) }
     {

@@ -1,7 +1,7 @@
-//! Turns on a machine that several threads share.
+//! Lets several threads share a machine in turns.
 //!
 //! A [`Machine`] makes one step for each event, by a relation that it names. [`Turns`] lets several users step one machine, each
-//! through a pass of its own: [`Locked`] puts the machine under a lock, [`Solo`] has one user alone, whose pass tells its calls.
+//! through a pass of its own. [`Locked`] puts the machine under a lock. [`Solo`] has one user, whose pass records its calls.
 #![tactic(auto)]
 
 mod locked;

@@ -9,7 +9,7 @@ use std::marker::{Brand, Model, PhantomData};
 use std::sync::ledger::{Blank, Book, Ledger, Share};
 use std::sync::{Mutex, Wait};
 
-/// Which ledger the shares are of, and the state that the machine began with.
+/// Names the ledger of the shares, and the state that the machine began with.
 pub trait Origin<M>: Ledger {
     ghost use Rattle.std.specs.Prelude.{Option};
 
@@ -22,13 +22,13 @@ impl<M> Origin<M> for Brand {
     ghost first = { None };
 }
 
-/// What lies under the lock: the machine, and the total of the shares. The machine is later than the one that the ledger names, and
-/// its count rose by that total.
+/// Holds the machine and the total of the shares under the lock. The machine is later than the one that the ledger names, and its
+/// count rose by that total.
 #[derive(Drop)]
 struct Under<M: Machine, L: Origin<M>> {
     machine: M,
     book: Book<L>,
-    /// What is left of the shares: nothing.
+    /// The rest of the shares, which is nothing.
     rest: Share<L>,
 }
 
@@ -42,7 +42,7 @@ impl<M: Machine, L: Origin<M>> Model for Under<M, L> {
     ghost invariant = { λ u. (u.rest.parts ≡ 0) × (u.rest.amount ≡ 0) × (u.book.total ≤ M.stored_count u.machine) × IfSome L.first (λ m. M.later m u.machine × (M.stored_count u.machine ≡ M.stored_count m + u.book.total)) };
 }
 
-/// One user's part of the turns, with its share of the machine's count. Contracts see it as by how much the count rose in its turns.
+/// One user's part of the turns, with its share of the machine's count. Contracts see the rise of the count in its turns.
 #[derive(Drop)]
 pub struct LockedPass<M, L: Origin<M>> {
     stored: u64,
@@ -60,14 +60,15 @@ impl<M, L: Origin<M>> Model for LockedPass<M, L> {
     ghost invariant = { λ p. (p.share.parts ≡ 1) × (p.share.amount ≡ p.stored) };
 }
 
-/// A machine under a lock. Each turn holds the lock for one step, and for no longer.
+/// A machine under a lock, kept because the interface of turns has it, though no program uses it. Each turn holds the lock for
+/// one step, and for no longer.
 #[derive(Drop)]
 pub struct Locked<M: Machine, L: Origin<M>> {
     under: Mutex<Under<M, L>>,
 }
 
 impl<M: Machine, L: Origin<M>> Under<M, L> {
-    /// One step of the machine, whose rise goes to this pass.
+    /// Makes one step of the machine, and counts its rise for this pass.
     fn turn(&mut self, mine: &mut LockedPass<M, L>, event: &M::Event) -> M::Answer
         ensures step { M.may_step self.old.0 event.now result self.new.0 }
         ensures share { mine.new + self.old.1 ≡ mine.old + self.new.1 }
@@ -112,8 +113,8 @@ impl<M: Machine, L: Origin<M>> Under<M, L> {
 }
 
 impl<M: Machine, L: Origin<M>> Locked<M, L> {
-    /// Puts the machine under a lock, for this many users, 1 to 16, and makes a pass for each. For want of memory, which is the
-    /// only error, the machine comes back as it was.
+    /// Puts the machine under a lock, for this many users, 1 to 16, and makes a pass for each. Fails only if out of memory, and
+    /// then gives the machine back as it was.
     pub fn make(
         alloc: Global,
         machine: M,
@@ -155,8 +156,8 @@ impl<M: Machine, L: Origin<M>> Locked<M, L> {
         ))
     }
 
-    /// Takes the machine out, once all its passes came back. It is later than the one that `make` took, and its count rose since then
-    /// by the sum of the passes, which is answered beside it.
+    /// Takes the machine out, once all its passes came back. It is later than the one that `make` took. Its count rose since then
+    /// by the sum of the passes, which is returned beside it.
     pub fn finish(self, passes: Vec<LockedPass<M, L>>) -> (M, u64)
         requires { vec_len passes ≡ L.parts }
         ensures sum { result.1 ≡ sum passes.items }

@@ -5,28 +5,28 @@ use fsl_text::Steps;
 use std::marker::Brand;
 use std::sync::ledger::{Blank, Ledger};
 
-/// A value that makes one step for each event. What a step may be is a relation that the machine names.
+/// A value that makes one step for each event. The machine names a relation that each step keeps.
 pub trait Machine {
-    /// What is asked of it.
+    /// The events that it takes.
     type Event;
 
-    /// What it answers.
+    /// The answers that it gives.
     type Answer;
 
     /// The relation of one step: the state before, the event, the answer and the state after.
     ghost may_step: { Self → Self.Event → Self.Answer → Self → Type 0 };
 
-    /// The second state may follow the first, by any number of steps.
+    /// Says that the second state may follow the first, by any number of steps.
     ghost later: { Self → Self → Type 0 };
 
-    /// A count that never falls, which the shares of the users add up to.
+    /// A count that never falls. The shares of the users add up to it.
     ghost stored_count: { Self → ℕ };
 
     /// Makes the step of an event. The counter rises by the touches of its tables.
     fn step<L: Ledger>(&mut self, event: &Self::Event, steps: &mut Steps<L>) -> Self::Answer
         ensures { may_step self.old event.now result self.new };
 
-    /// The count.
+    /// Returns the count.
     fn stored(&self) -> u64
         ensures { result ≡ stored_count self.now };
 
@@ -39,7 +39,7 @@ pub trait Machine {
     ghost never_falls: { (a b : Self) → later a b → stored_count a ≤ stored_count b };
 }
 
-/// One step, with a counter of its own that nobody reads.
+/// Makes one step, with a counter of its own that nobody reads.
 pub fn step_uncounted<M: Machine>(machine: &mut M, event: &M::Event) -> M::Answer
     ensures { M.may_step machine.old event.now result machine.new }
 {

@@ -8,22 +8,22 @@ use http_server::Log;
 use std::marker::PhantomData;
 use std::sync::Wait;
 
-/// The turns of one user, whose pass has the machine and tells its calls. Nothing is locked, and nothing waits.
+/// The turns of one user, whose pass has the machine and records its calls. Nothing is locked, and nothing waits.
 #[derive(Drop)]
 pub struct Solo<M> {
     of: PhantomData<M>,
 }
 
-/// The machine, and what was asked of it and answered.
+/// The machine, and the events and answers so far.
 pub struct SoloPass<M: Machine> {
-    /// The machine as it stands.
+    /// The machine in its present state.
     pub machine: M,
     /// The events and answers so far. It takes no bytes.
     pub told: Log<M::Event, M::Answer>,
 }
 
 impl<M: Machine> Solo<M> {
-    /// The turns of a machine, with their one pass, which has told no call.
+    /// Makes the turns of a machine, with their one pass, which has recorded no call.
     pub fn make(machine: M) -> (Solo<M>, SoloPass<M>)
         ensures machine { result.1.machine ≡ machine }
         ensures told { result.1.told.items ≡ [] }

@@ -1,4 +1,4 @@
-//! Users that step one machine in turns.
+//! Lets users step one machine in turns.
 ghost use Rattle.std.specs.Prelude.{◌≡◌, List, [], ◌∷◌, Option};
 ghost use Rattle.fsl_turn.specs.Told.{Tells};
 
@@ -7,13 +7,13 @@ use std::sync::Wait;
 
 /// A way to let several users step one machine in turns.
 pub trait Turns<M: Machine> {
-    /// What a user steps the machine through.
+    /// The pass of a user.
     type Pass;
 
-    /// The calls of a pass, in their order. None where the pass doesn't tell them.
+    /// The calls of a pass, in their order, or none if the pass doesn't record them.
     ghost calls: { Self.Pass → Option (List (M.Event × M.Answer)) };
 
-    /// The second is the first after any number of turns.
+    /// Says that the second pass is the first after any number of turns.
     ghost grows: { Self.Pass → Self.Pass → Type 0 };
 
     /// Makes the step of an event, between two states of the machine, while no other user makes one. It may wait.
@@ -22,7 +22,7 @@ pub trait Turns<M: Machine> {
         ensures told { Tells (calls pass.old) (calls pass.new) (λ made. made ≡ (event.now, result) ∷ []) }
         ensures grown { grows pass.old pass.new };
 
-    /// Lets those who wait for a turn go first, for a short while at most. It makes no turn, and may do nothing.
+    /// Lets others that wait for a turn go first, for a short while at most. It makes no turn, and may do nothing.
     fn stand_back(&self);
 
     ghost grows_self: { (p : Self.Pass) → grows p p };

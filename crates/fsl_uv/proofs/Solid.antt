@@ -1,18 +1,19 @@
 -- Words that stand in a line: none has a space or a newline, and each is the word of one value.
-use Rattle.std.proofs.Common.{◌≡◌, ℕ, suc, ◌+◌, ◌-◌, ◌*◌, ◌/◌, ◌%◌, ◌<◌, ◌≤◌, ◌^◌, Bool, true, false, cond, eqb, List, [], ◌∷◌, ◌++◌, length, take, drop, get_or, position, Option, Some, None, refl, sym, ap, subst, ◌∙◌, arith, add-one, drop-cons}
-use Rattle.std.specs.Prelude.{◌==◌, ◌&&◌, ◌||◌, not, decimal, codes, nat_lt}
+use Rattle.std.proofs.Common.{◌≡◌, ℕ, suc, ◌+◌, ◌<◌, ◌^◌, Bool, true, false, cond, eqb, List, [], ◌∷◌, ◌++◌, length, take, drop, get_or, position, Option, Some, None, refl, sym, ap, subst, ◌∙◌, arith, add-one, drop-cons}
+use Rattle.std.specs.Prelude.{◌==◌, ◌&&◌, ◌||◌, not, decimal, codes}
 use Rattle.std.specs.List.{list_all}
 use Rattle.std.specs.Cmp.Lexicographic.{pointwise}
 use Rattle.std.proofs.lemmas.Bool.{eqb-true, and_from, not-true}
-use Rattle.std.proofs.lemmas.Fmt.{decimal_by_steps}
 use Rattle.std.proofs.lemmas.List.{take-append-drop, length-take-le, get_or-take}
 use Rattle.std.proofs.lemmas.List.Folds.{list_all-append}
-use Rattle.std.proofs.lemmas.List.Sums.{fold-append, fails_before_first}
+use Rattle.std.proofs.lemmas.List.Sums.{fails_before_first}
 use Rattle.std.proofs.lemmas.List.Quantifiers.{position-Some}
 use Rattle.fsl_order.proofs.Booleans.{first_holds, second_holds}
 use Rattle.fsl_text.specs.Bytes.{is_empty}
 use Rattle.fsl_text.specs.Escapes.{escape, escaped_byte, unescape}
-use Rattle.fsl_text.specs.Decimals.{IsDecimal, decimal_value, is_decimal_digit}
+use Rattle.fsl_text.specs.Decimals.{decimal_value, is_decimal_digit}
+use Rattle.fsl_text.proofs.Bytewise.{none_past, weaker}
+use Rattle.fsl_text.proofs.DecimalTexts.{decimal_is}
 use Rattle.fsl_text.proofs.Unescaping.{unescape-escape}
 use Rattle.fsl_name.specs.Name.{IsName, name_text, name_in, is_name_digit, are_digits}
 use Rattle.fsl_name.proofs.ReadAgain.{name_again}
@@ -77,9 +78,6 @@ unique c (x ∷ a) r (y ∷ b) s h k e =
 
 -- ---- a split at the first such byte
 
-none_past : (i n : ℕ) → cond (nat_lt i n) (Some i) None ≡ None → n ≤ i
-none_past i n h = grind (arith)
-
 lacks_each : (c : ℕ) (s : List ℕ) → ((k : ℕ) → k < length s → eqb (get_or s k 0) c ≡ false) → Lacks c s
 lacks_each c [] h = refl
 lacks_each c (b ∷ bs) h = ap (λ t. t || stands c bs) (h 0 (omega arith)) ∙ lacks_each c bs (λ k lt. h (suc k) (omega arith))
@@ -127,10 +125,6 @@ solid-newline (b ∷ text) h =
     (λ i. not-true (b == 10) (second_holds (not (b == 32)) (not (b == 10)) (first_holds (solid b) (list_all solid text) h)) i || stands 10 text)
     ∙ solid-newline text (second_holds (solid b) (list_all solid text) h)
 
-weaker : (p r : ℕ → Bool) → ((b : ℕ) → p b ≡ true → r b ≡ true) → (text : List ℕ) → list_all p text ≡ true → list_all r text ≡ true
-weaker p r f [] h = refl
-weaker p r f (b ∷ text) h = and_from (r b) (list_all r text) (f b (first_holds (p b) (list_all p text) h)) (weaker p r f text (second_holds (p b) (list_all p text) h))
-
 digit_solid : (b : ℕ) → is_decimal_digit b ≡ true → solid b ≡ true
 digit_solid b h = grind (arith, h)
 
@@ -175,30 +169,11 @@ one-moment a b h k e = inside a b (sym (moment-again a h) ∙ ap date_in e ∙ m
 
 -- ---- numbers
 
-digit_is : (d : ℕ) → d < 10 → is_decimal_digit (48 + d) ≡ true
-digit_is d h = grind arith
-
-one_digit : (n : ℕ) → n < 10 → IsDecimal ((48 + n) ∷ []) n
-one_digit n h = (rw (digit_is n h) refl, omega arith)
-
-filled_behind : (ds : List ℕ) (d : ℕ) → is_empty (ds ++ d ∷ []) ≡ false
-filled_behind [] d = refl
-filled_behind (x ∷ ds) d = refl
-
-more_digits : (n : ℕ) (ds : List ℕ) → 10 ≤ n → IsDecimal ds (n / 10) → IsDecimal (ds ++ ((48 + n % 10) ∷ [])) n
-more_digits n ds h k =
-    let digits = second_holds (not (is_empty ds)) _ k.0 in
-    let value : decimal_value (ds ++ ((48 + n % 10) ∷ [])) ≡ 10 * decimal_value ds + (48 + n % 10 - 48) = fold-append (λ (m : ℕ) (c : ℕ). 10 * m + (c - 48)) 0 ds ((48 + n % 10) ∷ []) in
-    (rw (filled_behind ds (48 + n % 10), list_all-append is_decimal_digit ds ((48 + n % 10) ∷ []), digits, digit_is (n % 10) (omega arith)) refl, omega (arith, value, k.1))
-
-pub decimal-is : (n : ℕ) → n < 2 ^ 64 → IsDecimal (decimal n) n
-decimal-is n h = decimal_by_steps (λ n ds. IsDecimal ds n) one_digit more_digits n h
-
 pub decimal-solid : (n : ℕ) → n < 2 ^ 64 → Solid (decimal n)
-decimal-solid n h = weaker is_decimal_digit solid digit_solid (decimal n) (second_holds (not (is_empty (decimal n))) (list_all is_decimal_digit (decimal n)) (decimal-is n h).0)
+decimal-solid n h = weaker is_decimal_digit solid digit_solid (decimal n) (second_holds (not (is_empty (decimal n))) (list_all is_decimal_digit (decimal n)) (decimal_is n h).0)
 
 pub one-decimal : (a b : ℕ) → a < 2 ^ 64 → b < 2 ^ 64 → decimal a ≡ decimal b → a ≡ b
-one-decimal a b h k e = sym (decimal-is a h).1 ∙ ap decimal_value e ∙ (decimal-is b k).1
+one-decimal a b h k e = sym (decimal_is a h).1 ∙ ap decimal_value e ∙ (decimal_is b k).1
 
 -- ---- hashes
 

@@ -10,6 +10,7 @@ use Rattle.fsl_order.proofs.Booleans.{first_holds}
 use Rattle.fsl_text.specs.Escapes.{escape, unescape}
 use Rattle.fsl_text.specs.Decimals.{decimal_value}
 use Rattle.fsl_text.proofs.Unescaping.{unescape-escape}
+use Rattle.fsl_text.proofs.DecimalTexts.{decimal_is}
 use Rattle.fsl_name.specs.Name.{IsName, name_of, name_text, name_in, is_name_digit}
 use Rattle.fsl_name.proofs.ReadAgain.{name_again}
 use Rattle.fsl_date.specs.Moment.{moment_text, date_in}
@@ -32,7 +33,7 @@ use Rattle.fsl_uv.specs.Stores.{IsMessageFault}
 use Rattle.fsl_uv.specs.Refusals.{FailsBy, MessagesReadSomeWay}
 use Rattle.fsl_uv.proofs.FrontLemmas.{front-is, no-head, no-newline, more-good, more-layout, more-within, fails}
 use Rattle.fsl_uv.proofs.HeadLemmas.{sized-hash, sized-small}
-use Rattle.fsl_uv.proofs.Solid.{Lacks, solid-space, moment-again, moment-solid, hash-solid, escape-solid, decimal-is, name-digits}
+use Rattle.fsl_uv.proofs.Solid.{Lacks, solid-space, moment-again, moment-solid, hash-solid, escape-solid, name-digits}
 use Rattle.fsl_uv.proofs.SomeMap.{before, behind, before-is, behind-is, or_zero}
 
 -- ---- what the words of a line would say
@@ -77,7 +78,7 @@ stamped-again s good =
     let path = ap unescape first ∙ unescape-escape s.path in
     let moment = ap (λ (w : List ℕ). or_zero (date_in w)) second ∙ ap or_zero (moment-again s.moment good.moment) in
     let hash = ap named_as third ∙ named-again s.hash (sized-hash s.hash s.size good.sized) in
-    let number = ap decimal_value last ∙ (decimal-is s.size (sized-small s.hash s.size good.sized)).1 in
+    let number = ap decimal_value last ∙ (decimal_is s.size (sized-small s.hash s.size good.sized)).1 in
     λ i. record { path = path i; moment = moment i; hash = hash i; size = number i }
 
 -- ---- whether a line is a card's

@@ -1,6 +1,6 @@
 -- What the readers of words answer.
-use Rattle.std.proofs.Common.{◌≡◌, ℕ, ◌+◌, ◌-◌, ◌<◌, ◌^◌, Bool, true, false, List, [], ◌∷◌, ◌++◌, length, take, drop, position, Some, None, refl, sym, ap, ◌∙◌, arith}
-use Rattle.std.specs.Prelude.{◌==◌, ◌&&◌, not, decimal, nat_lt, Result, Ok, Err, IsTrue}
+use Rattle.std.proofs.Common.{◌≡◌, ℕ, ◌+◌, ◌-◌, ◌<◌, ◌^◌, Bool, true, false, List, [], ◌∷◌, ◌++◌, length, take, drop, position, Some, None, refl, sym, ap, ◌∙◌}
+use Rattle.std.specs.Prelude.{◌==◌, ◌&&◌, not, decimal, Result, Ok, Err, IsTrue}
 use Rattle.std.specs.List.{list_all}
 use Rattle.std.specs.Str.{bytes_eq}
 use Rattle.std.specs.Cmp.Lexicographic.{bytes_decides}
@@ -12,9 +12,10 @@ use Rattle.fsl_text.specs.Escapes.{escape, unescape}
 use Rattle.fsl_text.specs.Decimals.{decimal_of, is_decimal_digit}
 use Rattle.fsl_text.specs.declared.fault.DecimalFault.{DecimalFault}
 use Rattle.fsl_text.proofs.Unescaping.{unescape-escape}
+use Rattle.fsl_text.proofs.DecimalTexts.{decimal_is, fits}
 use Rattle.fsl_date.specs.Moment.{IsMoment, moment_text, date_in}
 use Rattle.fsl_uv.specs.Entries.{is_path}
-use Rattle.fsl_uv.proofs.Solid.{Lacks, at-place, moment-again, decimal-is}
+use Rattle.fsl_uv.proofs.Solid.{Lacks, at-place, moment-again}
 
 some-is : {X : Type 0} (x y : X) → Some x ≡ Some y → x ≡ y
 some-is x y e = cc
@@ -43,12 +44,9 @@ other-moment word n is differs m h e = let same : n ≡ m = some-is n m (sym is 
 pub no-moment : (word : List ℕ) → date_in word ≡ None → (m : ℕ) → IsMoment m → word ≡ moment_text m → ⊥
 no-moment word is m h e = let s = sym is ∙ ap date_in e ∙ moment-again m h in cc
 
-fits : (n : ℕ) → n < 2 ^ 64 → nat_lt n (2 ^ 64) ≡ true
-fits n h = grind (arith, h)
-
 pub decimal-again : (n : ℕ) → n < 2 ^ 64 → decimal_of (decimal n) ≡ Ok n
 decimal-again n h =
-    let d = decimal-is n h in
+    let d = decimal_is n h in
     let some : is_empty (decimal n) ≡ false = not-true (is_empty (decimal n)) (first_holds (not (is_empty (decimal n))) (list_all is_decimal_digit (decimal n)) d.0) in
     let digits : list_all is_decimal_digit (decimal n) ≡ true = second_holds (not (is_empty (decimal n))) (list_all is_decimal_digit (decimal n)) d.0 in
     rw (some, digits, d.1, fits n h) refl

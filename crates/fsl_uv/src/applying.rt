@@ -30,14 +30,15 @@ use fsl_journal::Journal;
 use fsl_text::{List, Memory, Text};
 use std::alloc::Global;
 
-/// What takes the change of one path back: what it had before.
+/// The change that takes one path back to its version before.
 #[derive(Drop)]
 pub(crate) struct Change {
     path: Text,
     before: Option<Version>,
 }
 
-/// Puts one entry in, unless its path has an equal or a greater one, and notes what takes that back. For want of memory all stays.
+/// Puts one entry in, unless its path has an equal or a greater one, and notes the change that takes it back. If out of memory,
+/// everything stays.
 fn take_in(
     alloc: Global,
     journal: &mut Journal,
@@ -79,7 +80,7 @@ fn take_in(
     }
 }
 
-/// Puts the file of a card in, where the card is one.
+/// Puts the file of a card in, if the card is one.
 fn take_card(
     alloc: Global,
     journal: &mut Journal,
@@ -101,7 +102,7 @@ fn take_card(
     }
 }
 
-/// Puts the files of some cards in, in order. For want of memory some may be in; the changes have them.
+/// Puts the files of some cards in, in order. If out of memory, some may be in, and the changes list them.
 fn take_files(
     alloc: Global,
     journal: &mut Journal,
@@ -152,7 +153,7 @@ fn take_back(journal: &mut Journal, held: &mut Held, changes: Vec<Change>)
     }
 }
 
-/// What is due once the files were put in, or memory was wanting.
+/// Returns the result once the files were put in, or memory ran out.
 fn due(held: &Held, taken: Result<(), Memory>, count: usize) -> Result<u64, ApplyFault>
     ensures { result ≡ due_of held.now taken count }
 {
@@ -171,7 +172,8 @@ fn due(held: &Held, taken: Result<(), Memory>, count: usize) -> Result<u64, Appl
     }
 }
 
-/// Puts the files of some cards in, where the map with them is above no limit, and answers how many were stored; else all stays.
+/// Puts the files of some cards in, if the map with them keeps all limits, and returns how many were stored. Else everything
+/// stays.
 pub(crate) fn take_all(
     alloc: Global,
     journal: &mut Journal,
@@ -201,7 +203,7 @@ pub(crate) fn take_all(
     }
 }
 
-/// What is refused of a message that doesn't read.
+/// Returns the fault of a message that doesn't read.
 pub(crate) fn refused(fault: &UvMessageFault) -> ApplyFault
     ensures { result ≡ refusal fault.now }
 {

@@ -1,4 +1,4 @@
-//! The cards of a message, as they are written.
+//! Writes the cards of a message.
 ghost use Rattle.std.specs.Prelude.{◌≡◌, ◌++◌, ◌∷◌, [], decimal, codes, OnOk};
 ghost use Rattle.std.specs.Prelude.{length};
 ghost use Rattle.std.specs.Option.{option_map};
@@ -19,7 +19,7 @@ use fsl_text::{Memory, Text, escape};
 use itoa::Buffer;
 use std::alloc::Global;
 
-/// Puts a space, a moment, a hash, a size and a newline at the end of a text.
+/// Writes a space, a moment, a hash, a size and a newline at the end of a text.
 fn add_marks(into: &mut Text, moment: &Moment, hash: &Option<Name>, size: u64) -> Result<(), Memory>
     ensures { OnOk result (into.new ≡ into.old ++ 32 ∷ stamped moment.now hash.now (decimal size) ++ 10 ∷ []) }
 {
@@ -28,7 +28,7 @@ fn add_marks(into: &mut Text, moment: &Moment, hash: &Option<Name>, size: u64) -
     into.append(b"\n")
 }
 
-/// Puts an operator and a path, escaped, at the end of a text.
+/// Writes an operator and an escaped path at the end of a text.
 fn add_operator(alloc: Global, into: &mut Text, operator: &[u8], path: &Text) -> Result<(), Memory>
     ensures { OnOk result (into.new ≡ into.old ++ operator.now ++ 32 ∷ escape path.now) }
 {
@@ -37,7 +37,7 @@ fn add_operator(alloc: Global, into: &mut Text, operator: &[u8], path: &Text) ->
     add_word(into, written.bytes())
 }
 
-/// Puts the line of a path and a version at the end of a text.
+/// Writes the line of a path and a version at the end of a text.
 fn add_stamp_line(
     alloc: Global,
     into: &mut Text,
@@ -56,7 +56,7 @@ fn add_stamp_line(
     )
 }
 
-/// Puts the `uvigot` card of a path at the end of a text.
+/// Writes the `uvigot` card of a path at the end of a text.
 pub(crate) fn add_igot(
     alloc: Global,
     into: &mut Text,
@@ -68,7 +68,7 @@ pub(crate) fn add_igot(
     add_stamp_line(alloc, into, b"uvigot", path, version)
 }
 
-/// Puts the line `MOMENT HASH SIZE PATH` of a content at the end of a text.
+/// Writes the line `MOMENT HASH SIZE PATH` of a content at the end of a text.
 fn add_listed(
     alloc: Global,
     into: &mut Text,
@@ -87,7 +87,7 @@ fn add_listed(
     into.append(b"\n")
 }
 
-/// Puts the line of a path at the end of a text, and none where it is deleted.
+/// Writes the line of a path at the end of a text, and none if it is deleted.
 pub(crate) fn add_line(
     alloc: Global,
     into: &mut Text,
@@ -102,7 +102,7 @@ pub(crate) fn add_line(
     }
 }
 
-/// Puts a `uvgimme` card at the end of a text.
+/// Writes a `uvgimme` card at the end of a text.
 pub(crate) fn add_gimme(alloc: Global, into: &mut Text, path: &Text) -> Result<(), Memory>
     ensures { OnOk result (into.new ≡ into.old ++ card_text (card_is.Gimme path.now)) }
 {
@@ -110,7 +110,7 @@ pub(crate) fn add_gimme(alloc: Global, into: &mut Text, path: &Text) -> Result<(
     into.append(b"\n")
 }
 
-/// Puts a `uvfile` card at the end of a text: its line, the content and a newline.
+/// Writes a `uvfile` card at the end of a text: its line, the content and a newline.
 pub(crate) fn add_file(
     alloc: Global,
     into: &mut Text,

@@ -1,4 +1,4 @@
-//! Entries as they are stored: written, and read as they are written and in no other form.
+//! Writes stored entries, and reads them in their written form and in no other.
 ghost use Rattle.std.specs.Prelude.{◌≡◌, ◌≢◌, ◌++◌, ◌≤◌, ℕ, List, Option, length, IfOk, OnOk, MatchBool, MatchOption, ◌∷◌, []};
 ghost use Rattle.std.specs.Option.{option_map};
 ghost use Rattle.fsl_name.specs.Name.{name_of};
@@ -18,7 +18,7 @@ use std::alloc::Global;
 /// The most bytes of a content.
 pub(crate) const MOST_OF_CONTENT: usize = 16_711_680;
 
-/// The name of a content, or none of a deleted file.
+/// Returns the name of a content, or none of a deleted file.
 pub(crate) fn hash_of(bytes: &Option<Text>) -> Option<Name>
     ensures value { result ≡ option_map name_of bytes.now }
     ensures named { IsHash result }
@@ -48,7 +48,7 @@ pub(crate) fn read_stamp(words: &[u8]) -> Option<(Moment, Option<Name>, &[u8])>
     }
 }
 
-/// Whether bytes are the content that has this hash, and are not too many.
+/// Returns whether bytes are the content with this hash, and are not too many.
 pub(crate) fn is_content(hash: &Option<Name>, held: &[u8]) -> bool
     ensures { MatchBool result (IsContent hash.now held.now) (¬ (IsContent hash.now held.now)) }
 {
@@ -58,7 +58,7 @@ pub(crate) fn is_content(hash: &Option<Name>, held: &[u8]) -> bool
     }
 }
 
-/// What an entry's text says, with its path as it is written.
+/// The parts of an entry's text, with its path as it is written.
 #[derive(Clone, Copy)]
 pub(crate) struct Parts<'a> {
     pub(crate) moment: Moment,
@@ -67,7 +67,7 @@ pub(crate) struct Parts<'a> {
     pub(crate) held: &'a [u8],
 }
 
-/// The parts of a stamp and these bytes, where they are the content of the hash.
+/// Returns the parts of a stamp and these bytes, if they are the content of the hash.
 fn checked<'a>(stamp: (Moment, Option<Name>, &'a [u8]), held: &'a [u8]) -> Option<Parts<'a>>
     ensures { MatchOption result (¬ (IsContent stamp.entry.1 held.now)) (λ p. (p.moment ≡ stamp.entry.0) × (p.hash ≡ stamp.entry.1) × (p.word.now ≡ stamp.entry.2.now) × (p.held.now ≡ held.now) × IsContent stamp.entry.1 held.now) }
 {
@@ -84,7 +84,7 @@ fn checked<'a>(stamp: (Moment, Option<Name>, &'a [u8]), held: &'a [u8]) -> Optio
     }
 }
 
-/// The parts of an entry's text.
+/// Splits an entry's text into its parts.
 fn parts_of(text: &[u8]) -> Option<Parts<'_>>
     ensures { MatchOption result (HasNoParts text.now) (λ p. AreParts text.now p.moment p.hash p.word.now p.held.now) }
 {
@@ -103,7 +103,7 @@ fn parts_of(text: &[u8]) -> Option<Parts<'_>>
     }
 }
 
-/// The content that has this hash.
+/// Returns the content with this hash.
 pub(crate) fn content_of(
     alloc: Global,
     hash: &Option<Name>,
@@ -118,7 +118,8 @@ pub(crate) fn content_of(
     }
 }
 
-/// The entry whose text this is, written as [`entry_text`] writes it. `None` of every other text.
+/// Reads the entry of a text, which is written as [`entry_text`] writes it. Returns `None` for every other text.
+/// FORMATS: Unversioned files
 pub(crate) fn read_entry(alloc: Global, text: &[u8]) -> Result<Option<Entry>, Memory>
     ensures { IfOk result (λ o. MatchOption o ((e : entry_type.Entry) → IsEntry e → text.now ≢ entry_text e) (IsEntryText text.now)) }
 {
@@ -137,7 +138,7 @@ pub(crate) fn read_entry(alloc: Global, text: &[u8]) -> Result<Option<Entry>, Me
     }
 }
 
-/// Puts a space and a word at the end of a text.
+/// Writes a space and a word at the end of a text.
 pub(crate) fn add_word(into: &mut Text, word: &[u8]) -> Result<(), Memory>
     ensures { OnOk result (into.new ≡ into.old ++ 32 ∷ word.now) }
 {
@@ -145,7 +146,7 @@ pub(crate) fn add_word(into: &mut Text, word: &[u8]) -> Result<(), Memory>
     into.append(word)
 }
 
-/// Puts a space and a hash at the end of a text.
+/// Writes a space and a hash at the end of a text.
 pub(crate) fn add_hash(into: &mut Text, hash: &Option<Name>) -> Result<(), Memory>
     ensures { OnOk result (into.new ≡ into.old ++ 32 ∷ hashed hash.now) }
 {
@@ -155,7 +156,7 @@ pub(crate) fn add_hash(into: &mut Text, hash: &Option<Name>) -> Result<(), Memor
     }
 }
 
-/// Puts a space, a moment, a hash and a further word at the end of a text.
+/// Writes a space, a moment, a hash and a further word at the end of a text.
 pub(crate) fn add_stamp(
     into: &mut Text,
     moment: &Moment,
@@ -169,7 +170,8 @@ pub(crate) fn add_stamp(
     add_word(into, word)
 }
 
-/// The text of an entry.
+/// Writes the text of an entry.
+/// FORMATS: Unversioned files
 pub(crate) fn entry_text(alloc: Global, entry: &Entry) -> Result<Text, Memory>
     ensures { IfOk result (λ text. text ≡ entry_text entry.now) }
 {

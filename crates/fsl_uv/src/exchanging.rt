@@ -1,4 +1,4 @@
-//! A sync of two stores: each takes in what it lacks of the other, in one commit of its own, the one here first.
+//! Syncs two stores. Each takes in what it lacks of the other, in one commit of its own, the one here first.
 ghost use Rattle.std.specs.Prelude.{◌≡◌, List, IfOk};
 ghost use Rattle.fsl_uv.specs.declared.Card as card_type;
 ghost use Rattle.fsl_uv.specs.Cards.{message_text, IsMessage};
@@ -10,7 +10,7 @@ use crate::{ApplyFault, Store, SyncFault};
 use fsl_disk::Disk;
 use fsl_text::{Memory, Text};
 
-/// The answer of a store to the offer of the one here.
+/// Returns the answer of a store to the offer of the one here.
 fn answered<D: Disk, P: Disk>(here: &Store<D>, there: &Store<P>) -> Result<Text, Memory>
     ensures { IfOk result (λ text. text ≡ message_text (peer_answer here.now.seen.map there.now.seen.map)) }
 {
@@ -20,18 +20,18 @@ fn answered<D: Disk, P: Disk>(here: &Store<D>, there: &Store<P>) -> Result<Text,
     drop(offer);
     match answer {
         Ok(answer) => Ok(answer),
-        // An offer is a message, so memory was wanting.
+        // An offer is a message, so memory ran out.
         Err(_) => Err(Memory),
     }
 }
 
-/// What a store gives for an answer.
+/// Returns the files that a store gives for an answer.
 fn given_for<D: Disk>(here: &Store<D>, answer: &[u8]) -> Result<Text, Memory>
     ensures { IfOk result (λ text. (cards : List card_type.Card) → IsMessage answer.now cards → text ≡ message_text (given here.now.seen.map cards)) }
 {
     match here.give(answer) {
         Ok(files) => Ok(files),
-        // An answer is a message, so memory was wanting.
+        // An answer is a message, so memory ran out.
         Err(_) => Err(Memory),
     }
 }
@@ -48,12 +48,12 @@ fn take<D: Disk>(store: &mut Store<D>, message: &[u8]) -> Result<u64, SyncFault>
             Err(_) => Err(SyncFault::Disk),
         },
         Err(ApplyFault::Full { .. }) => Err(SyncFault::Full),
-        // The store runs, and what it gets is a message, so memory was wanting.
+        // The store runs, and what it gets is a message, so memory ran out.
         Err(_) => Err(SyncFault::Memory),
     }
 }
 
-/// Gives a store what it asked for in its answer.
+/// Gives a store the files that it asked for in its answer.
 fn hand_on<D: Disk, P: Disk>(
     here: &Store<D>,
     there: &mut Store<P>,
@@ -74,12 +74,12 @@ fn hand_on<D: Disk, P: Disk>(
     }
 }
 
-/// Syncs two stores, of which all is committed: the one here takes in what it lacks of the other, and commits that; then the
-/// other takes in what it lacks, and commits it. Answers how many entries each stored.
+/// Syncs two stores, of which all is committed. The one here takes in the entries that it lacks of the other, and commits them.
+/// Then the other does the same. Returns how many entries each stored.
 ///
-/// Errors: `Full` where a store would be above a limit, which is told here before anything is stored, as far as versions of a
-/// path with one moment and one hash are the same; `Disk` where a call of one of the disks failed, whose store is stopped then;
-/// `Memory`.
+/// Errors: `Full` if a store would be above a limit, which is found before anything is stored, as far as versions of a path with
+/// one moment and one hash are the same; `Disk` if a call of one of the disks failed, whose store is stopped then; `Memory`.
+/// FORMATS: Unversioned files
 pub fn sync<D: Disk, P: Disk>(
     here: &mut Store<D>,
     there: &mut Store<P>,

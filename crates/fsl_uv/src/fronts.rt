@@ -1,4 +1,4 @@
-//! What the bytes of a message begin with.
+//! Reads the front of a message.
 ghost use Rattle.std.specs.Prelude.{◌≡◌, ◌≢◌, ◌+◌, ◌<◌, ◌^◌, ◌++◌, ◌∷◌, ℕ, List, length, drop, Some, IfOk, MatchOption};
 ghost use Rattle.fsl_name.specs.Name.{name_of};
 ghost use Rattle.fsl_uv.specs.Reading.{IsFront, IsStamped, IsHead, IsNamedFront, IsFrontBehind};
@@ -11,18 +11,18 @@ use fsl_name::Name;
 use fsl_text::Memory;
 use std::alloc::Global;
 
-/// What bytes begin with.
+/// The front of some bytes.
 #[derive(Drop)]
 pub(crate) enum Front {
-    /// A card, whose text has this length.
+    /// The bytes begin with a card, whose text has this length.
     Card { card: Card, size: usize },
-    /// A file whose content has the second name, and its line the first.
+    /// The bytes begin with a file whose content has the second name, and its line the first.
     Misnamed { kept: Name, found: Name },
-    /// No card.
+    /// The bytes begin with no card.
     Bad,
 }
 
-/// The content of this size, which a newline follows.
+/// Returns the content of this size, which a newline follows.
 fn held_behind(behind: &[u8], size: u64) -> Option<&[u8]>
     ensures { MatchOption result ((held rest : List ℕ) → length held ≡ size → behind.now ≢ held ++ 10 ∷ rest) (λ held. (length held.now ≡ size) × (behind.now ≡ held.now ++ 10 ∷ drop (size + 1) behind.now)) }
 {
@@ -33,7 +33,7 @@ fn held_behind(behind: &[u8], size: u64) -> Option<&[u8]>
     }
 }
 
-/// The name of a line and that of the bytes behind it, where they differ.
+/// Returns the name of a line and that of the bytes behind it, if they differ.
 fn misnamed(hash: &Option<Name>, held: &[u8]) -> Option<(Name, Name)>
     ensures { MatchOption result ((name : List ℕ) → hash.now ≡ Some name → name ≡ name_of held.now) (λ p. (hash.now ≡ Some p.0) × (p.1 ≡ name_of held.now) × (p.0 ≢ p.1)) }
 {
@@ -50,7 +50,7 @@ fn misnamed(hash: &Option<Name>, held: &[u8]) -> Option<(Name, Name)>
     }
 }
 
-/// The file of a line and its content, whose text has this length.
+/// Makes the file of a line and its content, whose text has this length.
 fn file_front(alloc: Global, stamped: Stamped, held: &[u8], size: usize) -> Result<Front, Memory>
     requires good { IsStamped stamped }
     requires size { length held.now ≡ stamped.size }
@@ -71,7 +71,7 @@ fn file_front(alloc: Global, stamped: Stamped, held: &[u8], size: usize) -> Resu
     })
 }
 
-/// The front that a line's head and the bytes behind it make.
+/// Makes the front of a line's head and the bytes behind it.
 fn front_behind(alloc: Global, head: Head, behind: &[u8], from: usize) -> Result<Front, Memory>
     requires fits { from + length behind.now < 2 ^ 63 }
     requires good { IsHead head }
@@ -98,7 +98,7 @@ fn front_behind(alloc: Global, head: Head, behind: &[u8], from: usize) -> Result
     }
 }
 
-/// What bytes begin with.
+/// Reads the front of some bytes.
 pub(crate) fn front_of(alloc: Global, bytes: &[u8]) -> Result<Front, Memory>
     ensures { IfOk result (IsFront bytes.now) }
 {

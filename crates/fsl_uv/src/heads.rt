@@ -1,4 +1,4 @@
-//! The lines of cards, read as they are written and in no other form.
+//! Reads the lines of cards in their written form and in no other.
 ghost use Rattle.std.specs.Prelude.{◌≡◌, ◌≢◌, ◌++◌, ◌∷◌, ◌<◌, ◌^◌, ℕ, List, Option, decimal, IfOk, MatchBool, MatchOption};
 ghost use Rattle.std.specs.Option.{option_map};
 ghost use Rattle.fsl_date.specs.Moment.{IsMoment};
@@ -16,7 +16,7 @@ use fsl_name::Name;
 use fsl_text::{Memory, Text};
 use std::alloc::Global;
 
-/// What a line says of a path: its moment, the name of its content or none, and the size.
+/// The facts of a line on a path: its moment, the name of its content or none, and the size.
 #[derive(Drop)]
 pub(crate) struct Stamped {
     pub(crate) path: Text,
@@ -33,7 +33,7 @@ pub(crate) enum Head {
     File(Stamped),
 }
 
-/// Whether a content of this hash may have a size.
+/// Returns whether a content of this hash may have a size.
 fn is_sized(hash: &Option<Name>, size: u64) -> bool
     ensures { MatchBool result (IsSized hash.now size) (¬ (IsSized hash.now size)) }
 {
@@ -46,7 +46,7 @@ fn is_sized(hash: &Option<Name>, size: u64) -> bool
     }
 }
 
-/// A stamp with its size, where a content of the hash may have that size.
+/// Returns a stamp with its size, if a content of the hash may have that size.
 fn sized(stamp: (Moment, Option<Name>, &[u8]), size: u64) -> Option<(Moment, Option<Name>, u64)>
     ensures { MatchOption result (¬ (IsSized stamp.entry.1 size)) (λ s. (s.0 ≡ stamp.entry.0) × (s.1 ≡ stamp.entry.1) × (s.2 ≡ size) × IsSized stamp.entry.1 size) }
 {
@@ -58,7 +58,7 @@ fn sized(stamp: (Moment, Option<Name>, &[u8]), size: u64) -> Option<(Moment, Opt
     }
 }
 
-/// A moment, a hash and a size.
+/// Reads a moment, a hash and a size.
 fn read_marks(words: &[u8]) -> Option<(Moment, Option<Name>, u64)>
     ensures { MatchOption result ((m : ℕ) (h : Option (List ℕ)) (n : ℕ) → IsMoment m → IsSized h n → words.now ≢ stamped m h (decimal n)) (λ s. IsMoment s.0 × IsSized s.1 s.2 × (words.now ≡ stamped s.0 s.1 (decimal s.2))) }
 {
@@ -74,7 +74,7 @@ fn read_marks(words: &[u8]) -> Option<(Moment, Option<Name>, u64)>
     }
 }
 
-/// A path, a moment, a hash and a size.
+/// Reads a path, a moment, a hash and a size.
 fn read_stamped(alloc: Global, words: &[u8]) -> Result<Option<Stamped>, Memory>
     ensures { IfOk result (λ o. MatchOption o ((s : stamped_type.Stamped) → IsStamped s → words.now ≢ stamped_text s) (λ s. IsStamped s × (words.now ≡ stamped_text s))) }
 {
@@ -96,7 +96,7 @@ fn read_stamped(alloc: Global, words: &[u8]) -> Result<Option<Stamped>, Memory>
     }
 }
 
-/// The line of an offer.
+/// Makes the line of an offer.
 fn igot_of(stamped: Option<Stamped>) -> Option<Head>
     ensures { result ≡ option_map head_is.Igot stamped }
 {
@@ -106,7 +106,7 @@ fn igot_of(stamped: Option<Stamped>) -> Option<Head>
     }
 }
 
-/// The line of a file.
+/// Makes the line of a file.
 fn file_of(stamped: Option<Stamped>) -> Option<Head>
     ensures { result ≡ option_map head_is.File stamped }
 {
@@ -116,7 +116,7 @@ fn file_of(stamped: Option<Stamped>) -> Option<Head>
     }
 }
 
-/// The line of a question.
+/// Makes the line of a question.
 fn gimme_of(path: Option<Text>) -> Option<Head>
     ensures { result ≡ option_map head_is.Gimme path }
 {
@@ -126,7 +126,7 @@ fn gimme_of(path: Option<Text>) -> Option<Head>
     }
 }
 
-/// The line that a card begins with.
+/// Reads the line at the front of a card.
 pub(crate) fn read_head(alloc: Global, line: &[u8]) -> Result<Option<Head>, Memory>
     ensures { IfOk result (λ o. MatchOption o ((h : head_type.Head) → IsHead h → line.now ≢ head_text h) (λ h. IsHead h × (line.now ≡ head_text h))) }
 {

@@ -1,4 +1,4 @@
-//! The newest version of each path.
+//! Holds the newest version of each path.
 ghost use Rattle.std.specs.Prelude.{◌≡◌, ◌+◌, ◌<◌, ◌≤◌, ◌^◌, [], length, not, is_some, true, nat_lt, ◌||◌, OnOk, OnErr, IfOk};
 ghost use Rattle.std.specs.Option.{option_copied};
 ghost use Rattle.std.specs.Map.{remove_entry, keys_of};
@@ -32,25 +32,25 @@ const MOST_BYTES: u64 = 1 << 26;
 /// The most paths, deleted ones included.
 const MOST_PATHS: u64 = 65_536;
 
-/// Where an entry goes.
+/// The place of an entry.
 #[derive(Clone, Copy)]
 pub(crate) enum Place {
-    /// Nowhere: its path has an equal or a greater one.
+    /// The entry goes nowhere: its path has an equal or a greater one.
     Kept,
-    /// Nowhere: with it there are so many bytes and paths, which is too many.
+    /// The entry goes nowhere: with it there are so many bytes and paths, which is too many.
     Over { bytes: u64, count: u64 },
-    /// To its path.
+    /// The entry goes to its path.
     Free,
 }
 
-/// Whether so many bytes and paths are too many.
+/// Returns whether so many bytes and paths are too many.
 pub(crate) fn is_over(bytes: u64, count: u64) -> bool
     ensures { result ≡ (nat_lt most_bytes bytes || nat_lt most_paths count) }
 {
     bytes > MOST_BYTES || count > MOST_PATHS
 }
 
-/// The version of each path, by path, and the bytes of all contents. A look-up and a change take time by the logarithm of the number
+/// The version of each path, by path, and the bytes of all contents. A look-up and a change take time logarithmic in the number
 /// of paths.
 #[derive(Drop)]
 pub(crate) struct Held {
@@ -71,7 +71,7 @@ impl Model for Held {
 }
 
 impl Held {
-    /// No path.
+    /// Returns no paths.
     pub(crate) fn new(alloc: Global) -> Held
         ensures { result ≡ [] }
     {
@@ -81,14 +81,14 @@ impl Held {
         }
     }
 
-    /// What a path has.
+    /// Returns the version of a path.
     pub(crate) fn get(&self, path: &Text) -> Option<&Version>
         ensures { option_copied result ≡ value_at self.now path.now }
     {
         self.map.get(path)
     }
 
-    /// The bytes of all contents, which are below 2^63.
+    /// Returns the bytes of all contents, which are below 2^63.
     pub(crate) fn bytes(&self) -> u64
         ensures bytes { result ≡ total self.now }
         ensures fits { result < 2 ^ 63 }
@@ -96,7 +96,7 @@ impl Held {
         self.bytes
     }
 
-    /// The number of paths.
+    /// Returns the number of paths.
     pub(crate) fn count(&self) -> u64
         ensures count { result ≡ length self.now }
         ensures fits { result < 2 ^ 63 }
@@ -105,7 +105,7 @@ impl Held {
         self.map.len() as u64
     }
 
-    /// The bytes of the content of a path, 0 where it isn't there.
+    /// Returns the bytes of the content of a path, 0 if it isn't there.
     pub(crate) fn size_of(&self, path: &Text) -> u64
         ensures size { result ≡ size_at self.now path.now }
         ensures within { result ≤ total self.now }
@@ -116,7 +116,7 @@ impl Held {
         }
     }
 
-    /// The bytes of all contents where that of a path becomes one of this size.
+    /// Returns the bytes of all contents once that of a path has this size.
     pub(crate) fn bytes_with(&self, path: &Text, size: usize) -> u64
         requires { size < 2 ^ 63 }
         ensures { result + size_at self.now path.now ≡ total self.now + size }
@@ -124,7 +124,7 @@ impl Held {
         self.bytes - self.size_of(path) + size as u64
     }
 
-    /// The number of paths where a path is there.
+    /// Returns the number of paths once a path is there.
     pub(crate) fn count_with(&self, path: &Text) -> u64
         ensures { result ≡ length self.now + new_paths self.now path.now }
     {
@@ -135,7 +135,7 @@ impl Held {
         }
     }
 
-    /// Whether the path of an entry has an equal or a greater one.
+    /// Returns whether the path of an entry has an equal or a greater one.
     pub(crate) fn keeps(&self, entry: &Entry) -> bool
         ensures kept { result ≡ is_kept self.now entry.now }
         ensures rises { Rises self.now }
@@ -147,7 +147,7 @@ impl Held {
         }
     }
 
-    /// Where an entry goes whose content isn't too large. Takes no memory.
+    /// Finds the place of an entry whose content isn't too large. Takes no memory.
     pub(crate) fn place_for(&self, entry: &Entry) -> Place
         ensures { IsPlace self.now entry.now result }
     {
@@ -163,7 +163,7 @@ impl Held {
         }
     }
 
-    /// Gives a path a version, and answers the one that it had. For want of memory all stays.
+    /// Gives a path a version, and returns the one that it had. If out of memory, everything stays.
     pub(crate) fn set(&mut self, path: Text, version: Version) -> Result<Option<Version>, Memory>
         ensures before { IfOk result (λ before. before ≡ value_at self.old path) }
         ensures ok { OnOk result (self.new ≡ insert_entry bytes_cmp self.old path version) }
@@ -199,7 +199,7 @@ impl Held {
         }
     }
 
-    /// Puts an entry in, where its path has no equal or greater one, and tells whether it did. For want of memory all stays.
+    /// Puts an entry in, if its path has no equal or greater one, and returns whether it did. If out of memory, everything stays.
     pub(crate) fn put(&mut self, entry: Entry) -> Result<bool, Memory>
         ensures stored { IfOk result (λ stored. stored ≡ not (is_kept self.old entry)) }
         ensures ok { OnOk result (self.new ≡ with_entry self.old entry) }
@@ -231,7 +231,7 @@ impl Held {
         self.bytes = bytes;
     }
 
-    /// The newest entry of each path, by path.
+    /// Returns the newest entry of each path, by path.
     pub(crate) fn entries(&self, alloc: Global) -> Result<List<Entry>, Memory>
         ensures { IfOk result (λ entries. entries ≡ entries_of self.now) }
     {
@@ -243,7 +243,7 @@ impl Held {
         Ok(entries)
     }
 
-    /// Each path, without an offer.
+    /// Returns each path, without an offer.
     pub(crate) fn paths(&self, alloc: Global) -> Result<BTreeMap<Text, Option<Offer>>, Memory>
         ensures { IfOk result (λ paths. offers_seen paths.entries ≡ first_offers (keys_of self.now) []) }
     {
@@ -254,7 +254,7 @@ impl Held {
         Ok(paths)
     }
 
-    /// A `uvigot` card for each path, by path.
+    /// Writes a `uvigot` card for each path, by path.
     pub(crate) fn offer(&self, alloc: Global) -> Result<Text, Memory>
         ensures { IfOk result (λ text. text ≡ message_text (offered self.now)) }
     {
@@ -265,7 +265,7 @@ impl Held {
         Ok(text)
     }
 
-    /// A line `MOMENT HASH SIZE PATH` for each path that isn't deleted, by path.
+    /// Writes a line `MOMENT HASH SIZE PATH` for each path that isn't deleted, by path.
     pub(crate) fn list(&self, alloc: Global) -> Result<Text, Memory>
         ensures { IfOk result (λ text. text ≡ listed self.now) }
     {
@@ -277,7 +277,7 @@ impl Held {
     }
 }
 
-/// The entry of a path and what it has.
+/// Makes the entry of a path and its version.
 pub(crate) fn entry_at(alloc: Global, path: &Text, version: &Version) -> Result<Entry, Memory>
     ensures { IfOk result (λ e. e ≡ entry_of path.now version.now) }
 {
@@ -290,7 +290,7 @@ pub(crate) fn entry_at(alloc: Global, path: &Text, version: &Version) -> Result<
     })
 }
 
-/// A copy of a content, or none.
+/// Copies a content, or none.
 pub(crate) fn copied(alloc: Global, bytes: &Option<Text>) -> Result<Option<Text>, Memory>
     ensures { IfOk result (λ copy. copy ≡ bytes.now) }
 {

@@ -1,13 +1,13 @@
-//! Unversioned files: files without history, of which the newest counts.
+//! Keeps unversioned files: files without history, of which the newest counts.
 //!
-//! A store is a file of records. Each Blob in it is the text of an entry: the line `uv MOMENT HASH PATH` with the path
-//! escaped and `-` for the hash of a deletion, a newline, and the content. Of the entries of a path the greatest by moment,
-//! by hash as it is written, and by content counts, so a store is a map from paths to versions, and the same map in
-//! whatever order its entries came.
+//! A store is a file of records. Each Blob in it is the text of an entry: the line `uv MOMENT HASH PATH` with the path escaped
+//! and `-` for the hash of a deletion, a newline, and the content. Of the entries of a path the greatest by moment, by hash as it
+//! is written, and by content counts. So a store is a map from paths to versions, and the same map in whatever order its entries
+//! came.
 //!
-//! Two stores agree by four messages: one offers what it has, the other answers what it asks for and what it sends, the
-//! first takes that in, and gives what was asked for. Then both have the merge of their maps, as far as versions of a path
-//! with one moment and one hash are the same.
+//! Two stores agree by four messages. One offers its entries, and the other answers with questions and files. The first takes
+//! these in, and gives the files of the questions. Then both have the merge of their maps, as far as versions of a path with one
+//! moment and one hash are the same.
 #![tactic(auto)]
 
 ghost use Rattle.std.specs.Prelude.{◌≡◌};
@@ -42,7 +42,7 @@ pub use store::Store;
 pub use version::Version;
 pub use words::is_path;
 
-/// What a path has from a moment on: a content, or none where the file is deleted.
+/// An entry of a path: its content from a moment on, or none if the file is deleted.
 #[derive(Drop)]
 pub struct Entry {
     pub path: Text,
@@ -71,75 +71,76 @@ pub enum Card {
     },
 }
 
-/// What became of an entry that was put in.
+/// The result of putting an entry in.
 #[derive(Clone, Copy, PartialEq, Eq, Debug)]
 pub enum Put {
     /// The path has an equal or a greater entry. Nothing changed.
     Kept,
-    /// It is the path's newest entry from now on.
+    /// The entry is the path's newest from now on.
     Stored,
 }
 
-/// Why an entry wasn't put in. Nothing changed.
+/// Says why an entry wasn't put in. Nothing changed.
 #[derive(Clone, Copy, PartialEq, Eq, Debug)]
 pub enum UvFault {
     /// A commit has failed, with the disk's count of faults at this.
     Stopped { faults: u64 },
-    /// Its content has so many bytes, more than 16,711,680.
+    /// The content of the entry has so many bytes, more than 16,711,680.
     TooLarge { size: u64 },
-    /// With it all contents have so many bytes, and there are so many paths, deleted ones included; more than 67,108,864 or 65,536.
+    /// With the entry all contents have so many bytes, and there are so many paths, deleted ones included; more than 67,108,864
+    /// or 65,536.
     Full { bytes: u64, count: u64 },
-    /// There was no memory.
+    /// The entry doesn't fit in memory.
     Memory,
 }
 
-/// Why a store wasn't opened.
+/// Says why a store wasn't opened.
 #[derive(Clone, Copy, PartialEq, Eq, Debug)]
 pub enum UvLoadFault {
     /// A call of the disk failed.
     Disk,
-    /// The file stands for no records, and this is the place at which it fails to.
+    /// The file is no list of records, and fails to be one at this place.
     NotRepository { at: u64 },
-    /// This is the name of the first artifact that is no entry.
+    /// The first artifact that is no entry has this name.
     NotEntry { name: Name },
-    /// There was no memory.
+    /// The store doesn't fit in memory.
     Memory,
 }
 
-/// Why a message doesn't read.
+/// Says why a message doesn't read.
 #[derive(Clone, Copy, PartialEq, Eq, Debug)]
 pub enum UvMessageFault {
     /// The first line, counted from 1, that is none of the three cards, or whose content is short or too large.
     Line { line: u64 },
     /// The first content that has another name than its line says.
     NameWrong { kept: Name, found: Name },
-    /// There was no memory.
+    /// The message doesn't fit in memory.
     Memory,
 }
 
-/// Why the files of a message weren't put in. Nothing changed.
+/// Says why the files of a message weren't put in. Nothing changed.
 #[derive(Clone, Copy, PartialEq, Eq, Debug)]
 pub enum ApplyFault {
     /// A commit has failed, with the disk's count of faults at this.
     Stopped { faults: u64 },
-    /// As of [`UvMessageFault`].
+    /// The message doesn't read, as in [`UvMessageFault`].
     Line { line: u64 },
-    /// As of [`UvMessageFault`].
+    /// A content has another name, as in [`UvMessageFault`].
     NameWrong { kept: Name, found: Name },
-    /// With them all contents have so many bytes, and there are so many paths, more than 67,108,864 or 65,536.
+    /// With the files all contents have so many bytes, and there are so many paths, more than 67,108,864 or 65,536.
     Full { bytes: u64, count: u64 },
-    /// There was no memory.
+    /// The files don't fit in memory.
     Memory,
 }
 
-/// Why a sync of two stores didn't go to its end.
+/// Says why a sync of two stores didn't go to its end.
 #[derive(Clone, Copy)]
 pub enum SyncFault {
     /// One of the stores would be above a limit.
     Full,
     /// A call of one of the disks failed.
     Disk,
-    /// There was no memory.
+    /// The files don't fit in memory.
     Memory,
 }
 

@@ -1,4 +1,4 @@
-//! Messages about unversioned files: read as their cards, answered, and given.
+//! Reads messages about unversioned files as their cards, answers them, and gives files.
 ghost use Rattle.std.specs.Prelude.{◌≡◌, ◌++◌, IfOk, IfErr, OnOk};
 ghost use Rattle.fsl_uv.specs.Cards.{IsMessage};
 ghost use Rattle.fsl_uv.specs.Syncing.{answered, answer_at, given, given_for};
@@ -52,7 +52,7 @@ fn add_card(cards: &mut Vec<Card>, card: Card) -> Result<(), Memory>
     Ok(())
 }
 
-/// Why bytes begin with no card, where their line has this number; none where they begin with one.
+/// Returns why bytes begin with no card, if their line has this number. Returns `None` if they begin with one.
 fn fault_at(front: &Front, line: u64) -> Option<UvMessageFault>
     ensures { result ≡ fault_seen line front.now }
 {
@@ -66,7 +66,7 @@ fn fault_at(front: &Front, line: u64) -> Option<UvMessageFault>
     }
 }
 
-/// Reads the card at the front of bytes, adds it, and answers the length of its text. The line has this number.
+/// Reads the card at the front of bytes, adds it, and returns the length of its text. The line has this number.
 fn read_next(
     alloc: Global,
     rest: &[u8],
@@ -91,7 +91,7 @@ fn read_next(
     }
 }
 
-/// The cards of a message.
+/// Reads the cards of a message.
 pub(crate) fn read_cards(alloc: Global, message: &[u8]) -> Result<List<Card>, UvMessageFault>
     ensures message { IfOk result (IsMessage message.now) }
     ensures fault { IfErr result (IsMessageFault message.now) }
@@ -109,7 +109,7 @@ pub(crate) fn read_cards(alloc: Global, message: &[u8]) -> Result<List<Card>, Uv
     Ok(List::from_vec(cards))
 }
 
-/// Whether a path is noted with an offer.
+/// Returns whether a path is noted with an offer.
 fn is_offered(offers: &BTreeMap<Text, Option<Offer>>, path: &Text) -> bool
     ensures { result ≡ has_offer (value_at offers.now.entries path.now) }
 {
@@ -136,7 +136,7 @@ pub(crate) fn note(
     }
 }
 
-/// Notes the offer of a card, where it is the first one of its path.
+/// Notes the offer of a card, if it is the first one of its path.
 fn note_offer(
     alloc: Global,
     offers: &mut BTreeMap<Text, Option<Offer>>,
@@ -163,7 +163,7 @@ fn note_offer(
     note(alloc, offers, path, Some(offer))
 }
 
-/// Each path that is here or offered, with its first offer.
+/// Returns each path that is here or offered, with its first offer.
 fn offers_of(
     alloc: Global,
     held: &Held,
@@ -178,7 +178,7 @@ fn offers_of(
     Ok(offers)
 }
 
-/// Adds the answer to an offer of a path, by what it has here.
+/// Adds the answer to an offer of a path, by its version here.
 fn add_answer(
     alloc: Global,
     into: &mut Text,
@@ -200,7 +200,7 @@ fn add_answer(
     }
 }
 
-/// The answers to the offers of paths, in their order.
+/// Writes the answers to the offers of paths, in their order.
 fn answers_to(
     alloc: Global,
     held: &Held,
@@ -215,7 +215,7 @@ fn answers_to(
     Ok(text)
 }
 
-/// The answer to the offers of a message, by path.
+/// Writes the answer to the offers of a message, by path.
 pub(crate) fn answer_to(alloc: Global, held: &Held, cards: &[Card]) -> Result<Text, Memory>
     ensures { IfOk result (λ text. text ≡ message_text (answered held.now cards.now)) }
 {
@@ -225,7 +225,7 @@ pub(crate) fn answer_to(alloc: Global, held: &Held, cards: &[Card]) -> Result<Te
     text
 }
 
-/// Adds the file that a card asks for, where it is here.
+/// Adds the file that a card asks for, if it is here.
 fn add_given(alloc: Global, into: &mut Text, held: &Held, card: &Card) -> Result<(), Memory>
     ensures { OnOk result (into.new ≡ into.old ++ message_text (given_for held.now card.now)) }
 {
@@ -238,7 +238,7 @@ fn add_given(alloc: Global, into: &mut Text, held: &Held, card: &Card) -> Result
     }
 }
 
-/// The files that the cards of a message ask for and that are here, in order.
+/// Writes the files that the cards of a message ask for and that are here, in order.
 pub(crate) fn given_to(alloc: Global, held: &Held, cards: &[Card]) -> Result<Text, Memory>
     ensures { IfOk result (λ text. text ≡ message_text (given held.now cards.now)) }
 {

@@ -20,7 +20,7 @@ use fsl_record::{Config, Record};
 use fsl_text::List;
 use std::alloc::Global;
 
-/// What a store keeps of its file.
+/// The parts of a store's file that it keeps.
 #[derive(Drop)]
 pub(crate) struct Opened {
     pub(crate) journal: Journal,
@@ -28,7 +28,7 @@ pub(crate) struct Opened {
     pub(crate) held: Held,
 }
 
-/// Takes the entry of a record in, where the record is a Blob.
+/// Takes the entry of a record in, if the record is a Blob.
 fn take_record(alloc: Global, held: &mut Held, entry: &Record) -> Result<(), UvLoadFault>
     ensures ok { OnOk result ((records : List record_type.Record) → IsUv records held.old → IsUv (records ++ entry.now ∷ []) held.new) }
     ensures fault { IfErr result (RecordFails entry.now) }
@@ -46,7 +46,7 @@ fn take_record(alloc: Global, held: &mut Held, entry: &Record) -> Result<(), UvL
     }
 }
 
-/// The map of some records.
+/// Makes the map of some records.
 fn held_of(alloc: Global, records: &[Record]) -> Result<Held, UvLoadFault>
     ensures ok { IfOk result (IsUv records.now) }
     ensures fault { IfErr result (RecordsFail records.now) }
@@ -61,7 +61,7 @@ fn held_of(alloc: Global, records: &[Record]) -> Result<Held, UvLoadFault>
     Ok(held)
 }
 
-/// The Config that a record is.
+/// Returns the Config of a record.
 fn config_in(first: Record) -> Config
     requires { IsTrue (is_config first) }
     ensures { first ≡ record_of.Config result }
@@ -72,7 +72,7 @@ fn config_in(first: Record) -> Config
     config
 }
 
-/// The Config of some records.
+/// Returns the Config of some records.
 fn config_of(records: List<Record>) -> Config
     requires { AreRecords records }
     ensures { (rest : List record_type.Record) × (records ≡ record_of.Config result ∷ rest) }
@@ -85,7 +85,7 @@ fn config_of(records: List<Record>) -> Config
     config_in(first)
 }
 
-/// What is kept of these records, beside their journal.
+/// Returns the parts that are kept of these records, beside their journal.
 fn kept(alloc: Global, records: List<Record>) -> Result<(Config, Held), UvLoadFault>
     requires { AreRecords records }
     ensures ok { IfOk result (λ k. AreKept records k.0 k.1) }
@@ -97,7 +97,7 @@ fn kept(alloc: Global, records: List<Record>) -> Result<(Config, Held), UvLoadFa
     }
 }
 
-/// What it means for a store that its journal didn't open.
+/// Returns the fault of a store whose journal didn't open.
 fn fault_of(fault: LoadFault) -> UvLoadFault
     ensures { result ≡ fault_meant fault }
 {

@@ -30,6 +30,7 @@ use std::marker::Model;
 
 /// A store over a disk of its own. Its map is that of its records between any two calls: each path of an entry with the greatest
 /// one. Contracts see the disk, all records, how many of them are committed, the Config record and the map.
+/// FORMATS: Unversioned files
 #[derive(Drop)]
 pub struct Store<D: Disk> {
     pub(crate) alloc: Global,
@@ -50,17 +51,17 @@ impl<D: Disk> Model for Store<D> {
 }
 
 impl<D: Disk> Store<D> {
-    /// What every store meets. This call does nothing: by it a caller learns so.
+    /// Says what every store meets. This call only proves it to its caller, and does nothing.
     pub fn is_store(&self)
         ensures { IsStore (D.state self.now.disk) self.now.seen }
     {
         let _ = &self.disk;
     }
 
-    /// Opens the store of a disk: makes what it holds stable, reads the file, cuts what stands behind the closed gate, and takes the
-    /// greatest entry of each path. It may be stopped at any moment. On a fault the disk comes back.
+    /// Opens the store of a disk. It makes the content of the disk stable, reads the file, cuts the bytes behind the closed gate,
+    /// and takes the greatest entry of each path. It may be stopped at any moment. On a fault the disk comes back.
     ///
-    /// Errors: `Disk` where a call of the disk failed; `NotRepository` with the place at which the file fails to stand for records;
+    /// Errors: `Disk` if a call of the disk failed; `NotRepository` with the place at which the file fails to be records;
     /// `NotEntry` with the name of the first artifact whose bytes aren't an entry; `Memory`.
     pub fn load(alloc: Global, disk: D) -> Result<Store<D>, (D, UvLoadFault)>
         ensures opened { IfOk result (λ store. IsOpened (D.state disk) (D.state store.disk) store.seen) }
@@ -72,7 +73,7 @@ impl<D: Disk> Store<D> {
         ensures any_moment { WhereBetween (D.state disk) (λ low high. LeavesOnly (D.state disk) (D.state (disk_of result)) (StandsBetween low high)) }
         ensures between { IfOk result (λ store. WhereBetween (D.state disk) (λ low high. IsBetween low high store.seen.log.records)) }
         ensures durable { IfOk result (λ store. IsModelled (D.state disk) → (c : List ℕ) → (D.state store.disk).images c → IsFileOf c store.seen.log.records) }
-        // It isn't `NotRepository` where each image stands for records between two lists.
+        // The fault isn't `NotRepository` if each image stands for records between two lists.
         ensures stays { IfErr result (λ failed. (at : ℕ) → failed.1 ≡ load_fault.NotRepository at → WhereBetween (D.state disk) (λ _ _. ⊥)) }
     {
         let mut disk = disk;
@@ -94,32 +95,32 @@ impl<D: Disk> Store<D> {
         }
     }
 
-    /// The Config record of the file.
+    /// Returns the Config record of the file.
     pub fn config(&self) -> &Config
         ensures { result.now ≡ self.now.seen.config }
     {
         &self.config
     }
 
-    /// The disk's count of faults when a commit failed, or nothing.
+    /// Returns the disk's count of faults when a commit failed, or nothing.
     pub fn stopped(&self) -> Option<u64>
         ensures { result ≡ self.now.seen.log.stopped }
     {
         self.journal.stopped()
     }
 
-    /// The newest entry of a path, deleted or not.
+    /// Returns the newest entry of a path, deleted or not.
     pub fn find(&self, path: &Text) -> Option<&Version>
         ensures { option_copied result ≡ value_at self.now.seen.map path.now }
     {
         self.held.get(path)
     }
 
-    /// Puts an entry in: it is stored, unless its path has an equal or a greater one. The path is one that an entry may have. It
+    /// Puts an entry in. It is stored, unless its path has an equal or a greater one. The path is one that an entry may have. It
     /// takes memory for `Stored` alone.
     ///
-    /// Errors: `Stopped` after a commit that failed; `TooLarge` of a content above 16,711,680 bytes; `Full` where all contents would
-    /// have more than 67,108,864 bytes or there would be more than 65,536 paths; `Memory`. Nothing changes then.
+    /// Errors: `Stopped` after a commit that failed; `TooLarge` for a content above 16,711,680 bytes; `Full` if all contents
+    /// would have more than 67,108,864 bytes or there would be more than 65,536 paths; `Memory`. Nothing changes then.
     pub fn put(&mut self, entry: &Entry) -> Result<Put, UvFault>
         requires { IsTrue (is_path entry.now.path) }
         ensures put { IsPut self.old.seen entry.now result self.new.seen }
@@ -136,10 +137,11 @@ impl<D: Disk> Store<D> {
         put_in(self.alloc, &mut self.journal, &mut self.held, entry)
     }
 
-    /// Puts the appended records on the disk, all of them or none, and answers how many records are committed. It takes no memory.
+    /// Puts the appended records on the disk, all of them or none, and returns how many records are committed. It takes no
+    /// memory.
     ///
-    /// Errors: `Stopped` with the disk's count of faults when an earlier commit failed; `Disk` where a call of the disk failed, after
-    /// which the store is stopped.
+    /// Errors: `Stopped` with the disk's count of faults when an earlier commit failed; `Disk` if a call of the disk failed,
+    /// after which the store is stopped.
     pub fn commit(&mut self) -> Result<u64, CommitFault>
         ensures ok { IfOk result (λ count. Committed count self.old.seen.log self.new.seen.log (D.state self.old.disk) (D.state self.new.disk)) }
         ensures fault { IfErr result (λ fault. CommitFailed fault self.old.seen.log self.new.seen.log (D.state self.old.disk) (D.state self.new.disk)) }
@@ -159,33 +161,33 @@ impl<D: Disk> Store<D> {
         self.journal.commit(&mut self.disk)
     }
 
-    /// The newest entries, by path, deleted ones included. `Memory` is the only error.
+    /// Returns the newest entries, by path, deleted ones included. `Memory` is the only error.
     pub fn entries(&self) -> Result<List<Entry>, Memory>
         ensures { IfOk result (λ entries. entries ≡ entries_of self.now.seen.map) }
     {
         self.held.entries(self.alloc)
     }
 
-    /// A line `MOMENT HASH SIZE PATH` for each path that isn't deleted, by path. `Memory` is the only error.
+    /// Writes a line `MOMENT HASH SIZE PATH` for each path that isn't deleted, by path. `Memory` is the only error.
     pub fn list(&self) -> Result<Text, Memory>
         ensures { IfOk result (λ text. text ≡ listed self.now.seen.map) }
     {
         self.held.list(self.alloc)
     }
 
-    /// A line `uvigot PATH MOMENT HASH SIZE` for each path, by path. `Memory` is the only error.
+    /// Writes a line `uvigot PATH MOMENT HASH SIZE` for each path, by path. `Memory` is the only error.
     pub fn offer(&self) -> Result<Text, Memory>
         ensures { IfOk result (λ text. text ≡ message_text (offered self.now.seen.map)) }
     {
         self.held.offer(self.alloc)
     }
 
-    /// The answer to the offers of a message, by path: `uvgimme PATH` where the offer is greater by moment and hash or the path isn't
-    /// here, and the file where the entry here is greater by these or the path isn't offered. Of several offers of a path the first
-    /// counts.
+    /// Writes the answer to the offers of a message, by path. It has `uvgimme PATH` if the offer is greater by moment and hash or
+    /// the path isn't here. It has the file if the entry here is greater by these or the path isn't offered. Of several offers of
+    /// a path the first counts.
     ///
-    /// Errors: `Line` at the first line that is none of the three cards, or whose content is short or too large; `NameWrong` at the
-    /// first content with another name; `Memory`.
+    /// Errors: `Line` at the first line that is none of the three cards, or whose content is short or too large; `NameWrong` at
+    /// the first content with another name; `Memory`.
     pub fn answer(&self, message: &[u8]) -> Result<Text, UvMessageFault>
         ensures ok { IfOk result (Answers (answered self.now.seen.map) message.now) }
         ensures fault { IfErr result (IsMessageFault message.now) }
@@ -194,9 +196,9 @@ impl<D: Disk> Store<D> {
         Ok(answer_to(self.alloc, &self.held, cards.items())?)
     }
 
-    /// A file for each `uvgimme` of a path that is here, in order.
+    /// Writes a file for each `uvgimme` of a path that is here, in order.
     ///
-    /// Errors: as of `answer`.
+    /// Errors: those of `answer`.
     pub fn give(&self, message: &[u8]) -> Result<Text, UvMessageFault>
         ensures ok { IfOk result (Answers (given self.now.seen.map) message.now) }
         ensures fault { IfErr result (IsMessageFault message.now) }
@@ -205,10 +207,10 @@ impl<D: Disk> Store<D> {
         Ok(given_to(self.alloc, &self.held, cards.items())?)
     }
 
-    /// Puts all files of a message in, or changes nothing, and answers how many were stored.
+    /// Puts all files of a message in, or changes nothing, and returns how many were stored.
     ///
-    /// Errors: `Stopped` after a commit that failed; `Line` and `NameWrong` as of `answer`; `Full` where the map with them is above a
-    /// limit of `put`; `Memory`.
+    /// Errors: `Stopped` after a commit that failed; `Line` and `NameWrong` as for `answer`; `Full` if the map with them is above
+    /// a limit of `put`; `Memory`.
     pub fn apply(&mut self, message: &[u8]) -> Result<u64, ApplyFault>
         ensures applied { IsApplied self.old.seen message.now result self.new.seen }
         ensures disk { self.new.disk ≡ self.old.disk }
@@ -222,7 +224,7 @@ impl<D: Disk> Store<D> {
         }
     }
 
-    /// Hands the disk back.
+    /// Gives the disk back.
     pub fn close(self) -> D
         ensures { result ≡ self.disk }
     {

@@ -14,7 +14,7 @@ use fsl_record::Record;
 use fsl_text::{Memory, Text};
 use std::alloc::Global;
 
-/// The record of an entry: a public Blob of its text, without a receipt.
+/// Makes the record of an entry: a public Blob of its text, without a receipt.
 fn record_of(alloc: Global, entry: &Entry) -> Result<Record, Memory>
     requires { IsEntry entry.now }
     ensures is { IfOk result (λ r. r ≡ blob_of entry.now) }
@@ -29,7 +29,7 @@ fn record_of(alloc: Global, entry: &Entry) -> Result<Record, Memory>
     })
 }
 
-/// A copy of an entry.
+/// Copies an entry.
 pub(crate) fn copy_of(alloc: Global, entry: &Entry) -> Result<Entry, Memory>
     ensures { IfOk result (λ copy. copy ≡ entry.now) }
 {
@@ -42,7 +42,7 @@ pub(crate) fn copy_of(alloc: Global, entry: &Entry) -> Result<Entry, Memory>
     })
 }
 
-/// Appends the record of an entry to a journal that isn't stopped. For want of memory all stays.
+/// Appends the record of an entry to a journal that isn't stopped. If out of memory, everything stays.
 pub(crate) fn append_entry(
     alloc: Global,
     journal: &mut Journal,
@@ -63,7 +63,8 @@ pub(crate) fn append_entry(
     }
 }
 
-/// Appends the record of an entry, and puts the entry into the map, in which it isn't outdone. For want of memory all stays.
+/// Appends the record of an entry, and puts the entry into the map, in which it isn't outdone. If out of memory, everything
+/// stays.
 fn store_in(
     alloc: Global,
     journal: &mut Journal,

@@ -1,4 +1,4 @@
-//! What a path has, and which of two is the greater.
+//! Holds the version of a path, and compares two.
 ghost use Rattle.std.specs.Prelude.{◌≡◌, length};
 ghost use Rattle.std.specs.Option.{option_map};
 ghost use Rattle.fsl_order.specs.Names.{bytes_cmp, dated_cmp};
@@ -15,8 +15,8 @@ use fsl_text::Text;
 use std::cmp::Ordering;
 use std::marker::Model;
 
-/// What a path has: a moment, and a content beside its name, or none where the file is deleted. Contracts see the moment and the
-/// content.
+/// The version of a path: a moment, and a content beside its name, or none if the file is deleted. Contracts see the moment and
+/// the content.
 #[derive(Drop)]
 pub struct Version {
     moment: Moment,
@@ -37,7 +37,7 @@ impl Model for Version {
     ghost invariant = { λ v. v.hash ≡ option_map name_of v.bytes };
 }
 
-/// The bytes of a content, none of a deleted file.
+/// Returns the bytes of a content, none of a deleted file.
 pub(crate) fn bytes_of(bytes: &Option<Text>) -> &[u8]
     ensures { result.now ≡ content bytes.now }
 {
@@ -47,7 +47,7 @@ pub(crate) fn bytes_of(bytes: &Option<Text>) -> &[u8]
     }
 }
 
-/// How two hashes compare as they are written: none is written `-`, which stands before each digit.
+/// Compares two hashes as they are written. A missing one is written `-`, which comes before each digit.
 pub(crate) fn hash_order(one: &Option<Name>, other: &Option<Name>) -> Ordering
     ensures { result ≡ bytes_cmp (hashed one.now) (hashed other.now) }
 {
@@ -66,7 +66,7 @@ pub(crate) fn hash_order(one: &Option<Name>, other: &Option<Name>) -> Ordering
 }
 
 impl Version {
-    /// A content, or none, from a moment on.
+    /// Makes a content, or none, from a moment on.
     pub(crate) fn of(moment: Moment, bytes: Option<Text>) -> Version
         ensures { result ≡ record { moment = moment; bytes = bytes } }
     {
@@ -78,42 +78,42 @@ impl Version {
         }
     }
 
-    /// Its moment.
+    /// Returns its moment.
     pub fn moment(&self) -> Moment
         ensures { result ≡ self.now.moment }
     {
         self.moment
     }
 
-    /// The name of its content, or none.
+    /// Returns the name of its content, or none.
     pub fn hash(&self) -> &Option<Name>
         ensures { result.now ≡ option_map name_of self.now.bytes }
     {
         &self.hash
     }
 
-    /// Its content, or none.
+    /// Returns its content, or none.
     pub fn held(&self) -> &Option<Text>
         ensures { result.now ≡ self.now.bytes }
     {
         &self.bytes
     }
 
-    /// The bytes of its content, none of a deleted file.
+    /// Returns the bytes of its content, none of a deleted file.
     pub fn bytes(&self) -> &[u8]
         ensures { result.now ≡ content self.now.bytes }
     {
         bytes_of(&self.bytes)
     }
 
-    /// How its moment and its hash compare to others.
+    /// Compares its moment and its hash to others.
     pub(crate) fn order_to(&self, moment: Moment, hash: &Option<Name>) -> Ordering
         ensures { result ≡ dated_cmp (stamp_of self.now) (moment, hashed hash.now) }
     {
         self.moment.cmp(&moment).then(hash_order(&self.hash, hash))
     }
 
-    /// How it compares to a content, or none, of this hash from a moment on: by moment, by the hash as it is written, and by the
+    /// Compares it to a content, or none, of this hash from a moment on: by moment, by the hash as it is written, and by the
     /// content.
     pub(crate) fn order_with(
         &self,

@@ -1,4 +1,4 @@
-//! A dial that puts out a line for each connection, which is a round of a sync.
+//! A dial that writes a line for each connection, which is a round of a sync.
 ghost use Rattle.std.specs.Prelude.{◌≡◌, ◌<◌, length, take, None, Some, IfOk, OnOk, OnErr, option_map};
 ghost use Rattle.std.specs.Io.{ReadsAtMost, WritesAtMost};
 ghost use Rattle.fsl_order.specs.Causes.{HasCause};
@@ -14,9 +14,9 @@ use std::alloc::Global;
 use std::marker::Model;
 use std::time::Clock;
 
-/// A dial before another one, whose connections, answers and counts come through unchanged. When the next connection is to begin, and at
-/// `end`, it puts out a line of the one that was there: which it was, counted from 1, the bytes in both directions, and the milliseconds
-/// from its beginning to its last byte by the clock.
+/// Writes a line for each connection of another dial, whose connections, answers and counts come through unchanged. The line is
+/// written before the next connection begins, and at `end`. It gives the connection's number, counted from 1, the bytes in both
+/// directions, and the milliseconds from its beginning to its last byte by the clock.
 #[derive(Drop)]
 pub struct LoggedDial<N: Dial, K: Sink, C: Clock> {
     dial: N,
@@ -36,7 +36,7 @@ impl<N: Dial, K: Sink, C: Clock> Model for LoggedDial<N, K, C> {
 }
 
 impl<N: Dial, K: Sink, C: Clock> LoggedDial<N, K, C> {
-    /// A dial before `dial` whose lines go to `out`.
+    /// Returns a dial around `dial` whose lines go to `out`.
     pub fn new(alloc: Global, dial: N, out: K, clock: C) -> LoggedDial<N, K, C>
         ensures { result ≡ record { dial = dial; out = out; rounds = 0; traffic = None } }
     {
@@ -50,21 +50,21 @@ impl<N: Dial, K: Sink, C: Clock> LoggedDial<N, K, C> {
         }
     }
 
-    /// The dial behind it.
+    /// Returns the dial behind it.
     pub fn dial(&self) -> &N
         ensures { result.now ≡ self.now.dial }
     {
         &self.dial
     }
 
-    /// Where its lines go.
+    /// Returns the sink of its lines.
     pub fn out(&self) -> &K
         ensures { result.now ≡ self.now.out }
     {
         &self.out
     }
 
-    /// Puts out the line of the connection that was there, where there was one: the last of a sync has no next one.
+    /// Writes the line of the present connection, if there is one. The last connection of a sync has no next one to end it.
     pub fn end(&mut self)
         ensures dial { self.new.dial ≡ self.old.dial }
         ensures rounds { self.new.rounds ≡ self.old.rounds }
@@ -119,7 +119,7 @@ impl<N: Dial, K: Sink, C: Clock> Link for LoggedDial<N, K, C> {
 }
 
 impl<N: Dial, K: Sink, C: Clock> Dial for LoggedDial<N, K, C> {
-    /// Puts out the line of the connection that was there before it tries the next one.
+    /// Writes the line of the present connection, and then tries the next one.
     fn connect(&mut self) -> Result<(), Failed>
         ensures begins { OnOk result (Begins (N.state self.old.dial) (N.state self.new.dial)) }
         ensures accepts { (N.state self.new.dial).standing.accept_faults ≡ (N.state self.old.dial).standing.accept_faults }

@@ -1,4 +1,4 @@
-//! A disk that tells how much of it was read and written.
+//! A disk that reports how much of it was read and written.
 ghost use Rattle.std.specs.Prelude.{◌≡◌, ◌+◌, ◌^◌, ◌<◌, ◌≤◌, length, take, drop, Some, IsTrue, IfOk, OnOk, OnErr};
 ghost use Rattle.fsl_order.specs.Causes.{HasCause};
 ghost use Rattle.fsl_disk.specs.Disk.{Told, Calls, Same, Torn, CutShort, Only, written};
@@ -13,8 +13,9 @@ use std::alloc::Global;
 use std::marker::Model;
 use std::time::Clock;
 
-/// A disk before another one, whose contents, answers and images come through unchanged. At most once a second, and not before one has
-/// passed, a read or a write puts out a line of the bytes that were read and written so far, and of the length that was told last.
+/// Reports the progress of another disk, whose contents, answers and images come through unchanged. A read or a write writes a
+/// line of the bytes that were read and written so far, and of the last known length. It does so at most once a second, and not
+/// in the first second.
 #[derive(Drop)]
 pub struct WatchedDisk<D: Disk, K: Sink, C: Clock> {
     disk: D,
@@ -33,7 +34,7 @@ impl<D: Disk, K: Sink, C: Clock> Model for WatchedDisk<D, K, C> {
 }
 
 impl<D: Disk, K: Sink, C: Clock> WatchedDisk<D, K, C> {
-    /// A disk before `disk` whose lines go to `out`. Its first second begins now.
+    /// Returns a disk around `disk` whose lines go to `out`. Its first second begins now.
     pub fn new(alloc: Global, disk: D, whose: Whose, out: K, clock: C) -> WatchedDisk<D, K, C>
         ensures disk { result.disk ≡ disk }
         ensures out { result.lines.out ≡ out }
@@ -54,14 +55,14 @@ impl<D: Disk, K: Sink, C: Clock> WatchedDisk<D, K, C> {
         }
     }
 
-    /// Where its lines go.
+    /// Returns the sink of its lines.
     pub fn out(&self) -> &K
         ensures { result.now ≡ self.now.lines.out }
     {
         self.lines.out()
     }
 
-    /// TellsSoFar how much was read and written, where that is due.
+    /// Writes how much was read and written, if that is due.
     fn tell(&mut self)
         ensures disk { self.new.disk ≡ self.old.disk }
         ensures whose { self.new.whose ≡ self.old.whose }

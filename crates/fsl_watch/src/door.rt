@@ -1,4 +1,4 @@
-//! A door that puts out a line for each connection.
+//! A door that writes a line for each connection.
 ghost use Rattle.std.specs.Prelude.{◌≡◌, ◌<◌, length, take, None, IfOk, OnErr, option_map};
 ghost use Rattle.std.specs.Io.{ReadsAtMost, WritesAtMost};
 ghost use Rattle.fsl_order.specs.Causes.{HasCause};
@@ -13,9 +13,10 @@ use std::alloc::Global;
 use std::marker::Model;
 use std::time::Clock;
 
-/// A door before another one, whose connections, answers and counts come through unchanged. When a connection ends, by `leave` or by the
-/// next `accept`, it puts out a line: the status of what was sent, the bytes in both directions, and the milliseconds from its beginning to
-/// its last byte by the clock. The peer's address isn't among them, since a door doesn't tell it.
+/// Writes a line for each connection of another door, whose connections, answers and counts come through unchanged. The line is
+/// written when a connection ends, by `leave` or by the next `accept`. It gives the status of the reply, the bytes in both
+/// directions, and the milliseconds from its beginning to its last byte by the clock. It doesn't give the peer's address, since a
+/// door doesn't tell it.
 #[derive(Drop)]
 pub struct LoggedDoor<A: Door, K: Sink, C: Clock> {
     door: A,
@@ -34,7 +35,7 @@ impl<A: Door, K: Sink, C: Clock> Model for LoggedDoor<A, K, C> {
 }
 
 impl<A: Door, K: Sink, C: Clock> LoggedDoor<A, K, C> {
-    /// A door before `door` whose lines go to `out`.
+    /// Returns a door around `door` whose lines go to `out`.
     pub fn new(alloc: Global, door: A, out: K, clock: C) -> LoggedDoor<A, K, C>
         ensures { result ≡ record { door = door; out = out; traffic = None } }
     {
@@ -47,21 +48,21 @@ impl<A: Door, K: Sink, C: Clock> LoggedDoor<A, K, C> {
         }
     }
 
-    /// The door behind it.
+    /// Returns the door behind it.
     pub fn door(&self) -> &A
         ensures { result.now ≡ self.now.door }
     {
         &self.door
     }
 
-    /// Where its lines go.
+    /// Returns the sink of its lines.
     pub fn out(&self) -> &K
         ensures { result.now ≡ self.now.out }
     {
         &self.out
     }
 
-    /// Puts out the line of the connection that was there, where there was one.
+    /// Writes the line of the present connection, if there is one.
     fn end(&mut self)
         ensures door { self.new.door ≡ self.old.door }
         ensures ended { self.new.traffic ≡ None }
@@ -73,7 +74,7 @@ impl<A: Door, K: Sink, C: Clock> LoggedDoor<A, K, C> {
         }
     }
 
-    /// What is counted behind this answer of an accept.
+    /// Begins the counts for this answer of an accept.
     fn begun(&self, accepted: Accepted) -> Option<Traffic>
         ensures { result ≡ begun_by accepted }
     {
@@ -130,7 +131,7 @@ impl<A: Door, K: Sink, C: Clock> Door for LoggedDoor<A, K, C> {
         self.door.closings()
     }
 
-    /// Puts out the line of the connection that was there before it waits for the next one.
+    /// Writes the line of the present connection, and then waits for the next one.
     fn accept(&mut self) -> Result<Accepted, Failed>
         ensures lists { IfOk result (AcceptLists (A.state self.old.door) (A.state self.new.door)) }
         ensures counts { AcceptCounts result (A.state self.old.door).standing (A.state self.new.door).standing }
@@ -146,8 +147,7 @@ impl<A: Door, K: Sink, C: Clock> Door for LoggedDoor<A, K, C> {
         Ok(accepted)
     }
 
-    /// Puts out the line of the connection that was there, where there was one. It is left first, so that its peer doesn't wait for a slow
-    /// sink.
+    /// Drops the present connection, and then writes its line, if there is one. So its peer doesn't wait for a slow sink.
     fn leave(&mut self)
         ensures same { A.state self.new.door ≡ A.state self.old.door }
         ensures counted { self.new.traffic ≡ None }

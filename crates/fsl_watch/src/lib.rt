@@ -1,6 +1,6 @@
-//! What a program says of itself while it runs: a door and a dial that put out a line for each connection, and a source and a disk that
-//! tell how far they are. Each stands before another one of its kind, whose answers and states come through unchanged, and counts what
-//! moves. Its lines go to a sink; one that can't be put out is dropped, and changes nothing else.
+//! Reports of a running program. A door and a dial write a line for each connection, and a source and a disk say how far they
+//! are. Each wraps another one of its kind, whose answers and states come through unchanged, and counts the bytes that move. Its
+//! lines go to a sink. A line that can't be written is dropped, and changes nothing else.
 #![tactic(auto)]
 
 mod dial;

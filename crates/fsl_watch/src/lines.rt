@@ -1,4 +1,4 @@
-//! The lines that are put out.
+//! The lines of the reports.
 ghost use Rattle.std.specs.Prelude.{◌≡◌, ◌++◌, ℕ, List, decimal, IfOk, OnOk, IsErr};
 ghost use Rattle.fsl_watch.specs.Lines.{request_line as request_text, round_line as round_text, input_line as input_text, disk_line as disk_text, said_of as said_text, Takes, Notes};
 
@@ -8,16 +8,17 @@ use fsl_text::{Memory, Text};
 use itoa::Buffer;
 use std::alloc::Global;
 
-/// Whose file a disk is.
+/// Says to whom the file of a disk belongs.
 #[derive(Clone, Copy)]
 pub enum Whose {
-    /// The command's own.
+    /// The file is the command's own.
     Own,
-    /// The peer's.
+    /// The file is the peer's.
     Peer,
 }
 
-/// What was counted of a disk: the bytes that were read and written, up to the last value of `u64`, and the length that it told last, in bytes.
+/// The counts of a disk: the bytes that were read and written, up to the last value of `u64`, and its last known length, in
+/// bytes.
 #[derive(Clone, Copy)]
 pub struct Progress {
     pub read: u64,
@@ -25,7 +26,7 @@ pub struct Progress {
     pub len: u64,
 }
 
-/// Puts a number and what stands behind it at the end.
+/// Adds a number and the bytes behind it at the end.
 fn append_count(text: &mut Text, count: u64, behind: &[u8]) -> Result<(), Memory>
     ensures { OnOk result (text.new ≡ text.old ++ decimal count ++ behind.now) }
 {
@@ -33,7 +34,7 @@ fn append_count(text: &mut Text, count: u64, behind: &[u8]) -> Result<(), Memory
     text.append(behind)
 }
 
-/// The line of a request that took so many milliseconds.
+/// Writes the line of a request that took so many milliseconds.
 pub(crate) fn request_line(alloc: Global, traffic: &Traffic, ms: u64) -> Result<Text, Memory>
     ensures { IfOk result (λ text. text ≡ request_text traffic.now ms) }
 {
@@ -46,7 +47,7 @@ pub(crate) fn request_line(alloc: Global, traffic: &Traffic, ms: u64) -> Result<
     Ok(text)
 }
 
-/// The line of a round of a sync that took so many milliseconds.
+/// Writes the line of a round of a sync that took so many milliseconds.
 pub(crate) fn round_line(
     alloc: Global,
     round: u64,
@@ -63,7 +64,7 @@ pub(crate) fn round_line(
     Ok(text)
 }
 
-/// The line of an input.
+/// Writes the line of an input.
 pub(crate) fn input_line(alloc: Global, count: u64) -> Result<Text, Memory>
     ensures { IfOk result (λ text. text ≡ input_text count) }
 {
@@ -72,7 +73,7 @@ pub(crate) fn input_line(alloc: Global, count: u64) -> Result<Text, Memory>
     Ok(text)
 }
 
-/// What the line of a file begins with.
+/// Returns the beginning of the line of a file.
 fn name_of(whose: Whose) -> &'static [u8]
     ensures { result.now ≡ said_text whose }
 {
@@ -82,7 +83,7 @@ fn name_of(whose: Whose) -> &'static [u8]
     }
 }
 
-/// The line of a file.
+/// Writes the line of a file.
 pub(crate) fn disk_line(alloc: Global, whose: Whose, progress: Progress) -> Result<Text, Memory>
     ensures { IfOk result (λ text. text ≡ disk_text whose progress) }
 {
@@ -93,7 +94,7 @@ pub(crate) fn disk_line(alloc: Global, whose: Whose, progress: Progress) -> Resu
     Ok(text)
 }
 
-/// Puts a line out, where there was memory for it. What can't be put out is dropped.
+/// Puts a line out, if it could be made. A line that can't be put out is dropped.
 pub(crate) fn put_out<K: Sink>(out: &mut K, line: Result<Text, Memory>)
     ensures took { IfOk line (λ text. Takes (K.state out.old) (K.state out.new) text) }
     ensures none { IsErr line → out.new ≡ out.old }

@@ -1,4 +1,4 @@
-//! Lines of which at most one a second is put out.
+//! Puts out at most one line a second.
 ghost use Rattle.std.specs.Prelude.{◌≡◌, ◌≤◌, ℕ, List, IfOk};
 ghost use Rattle.fsl_watch.specs.Lines.{Notes};
 ghost use Rattle.fsl_watch.specs.Watched.{Ticks};
@@ -13,7 +13,7 @@ use std::time::Clock;
 /// The milliseconds between two lines, and before the first.
 const SECOND: u64 = 1000;
 
-/// Where lines go, and the millisecond of the clock from which the next one may come.
+/// The sink of the lines, and the millisecond of the clock from which the next one may come.
 #[derive(Drop)]
 pub(crate) struct Pace<K: Sink, C: Clock> {
     out: K,
@@ -30,7 +30,7 @@ impl<K: Sink, C: Clock> Model for Pace<K, C> {
 }
 
 impl<K: Sink, C: Clock> Pace<K, C> {
-    /// Lines to `out`, the first of them not before a second has passed.
+    /// Returns lines to `out`, the first of them not before a second has passed.
     pub(crate) fn new(out: K, clock: C) -> Pace<K, C>
         ensures out { result.out ≡ out }
         ensures later { 1000 ≤ result.due }
@@ -39,14 +39,14 @@ impl<K: Sink, C: Clock> Pace<K, C> {
         Pace { out, clock, due }
     }
 
-    /// Where lines go.
+    /// Returns the sink of the lines.
     pub(crate) fn out(&self) -> &K
         ensures { result.now ≡ self.now.out }
     {
         &self.out
     }
 
-    /// Whether a line is due, and then the next is a second later.
+    /// Returns whether a line is due, and then the next is a second later.
     pub(crate) fn is_due(&mut self) -> bool
         ensures ticks { Ticks self.old.due self.new.due result }
         ensures out { self.new.out ≡ self.old.out }
@@ -59,7 +59,7 @@ impl<K: Sink, C: Clock> Pace<K, C> {
         is_due
     }
 
-    /// Puts a line out that is due.
+    /// Puts a due line out.
     pub(crate) fn put(&mut self, line: Result<Text, Memory>)
         ensures due { self.new.due ≡ self.old.due }
         ensures notes { (text : List ℕ) → IfOk line (λ t. t ≡ text) → Notes (K.state self.old.out) (K.state self.new.out) text }

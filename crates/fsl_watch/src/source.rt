@@ -1,4 +1,4 @@
-//! A source that tells how much of it was read.
+//! A source that reports how much of it was read.
 ghost use Rattle.std.specs.Prelude.{◌≡◌, ◌≤◌, IfOk, OnOk, OnErr};
 ghost use Rattle.std.specs.Io.{ReadsAtMost};
 ghost use Rattle.std.specs.Io.KnownBytes.{ReadConsumes};
@@ -13,8 +13,8 @@ use std::alloc::Global;
 use std::marker::Model;
 use std::time::Clock;
 
-/// A source before another one, whose bytes and answers come through unchanged. At most once a second, and not before one has passed, a
-/// read puts out a line of the bytes that were read so far.
+/// Reports the progress of another source, whose bytes and answers come through unchanged. A read writes a line of the bytes that
+/// were read so far. It does so at most once a second, and not in the first second.
 #[derive(Drop)]
 pub struct WatchedSource<S: Source, K: Sink, C: Clock> {
     source: S,
@@ -32,7 +32,7 @@ impl<S: Source, K: Sink, C: Clock> Model for WatchedSource<S, K, C> {
 }
 
 impl<S: Source, K: Sink, C: Clock> WatchedSource<S, K, C> {
-    /// A source before `source` whose lines go to `out`. Its first second begins now.
+    /// Returns a source around `source` whose lines go to `out`. Its first second begins now.
     pub fn new(alloc: Global, source: S, out: K, clock: C) -> WatchedSource<S, K, C>
         ensures source { result.source ≡ source }
         ensures out { result.lines.out ≡ out }
@@ -47,14 +47,14 @@ impl<S: Source, K: Sink, C: Clock> WatchedSource<S, K, C> {
         }
     }
 
-    /// Where its lines go.
+    /// Returns the sink of its lines.
     pub fn out(&self) -> &K
         ensures { result.now ≡ self.now.lines.out }
     {
         self.lines.out()
     }
 
-    /// TellsSoFar how much was read, where that is due.
+    /// Writes how much was read, if that is due.
     fn tell(&mut self)
         ensures source { self.new.source ≡ self.old.source }
         ensures count { self.new.count ≡ self.old.count }

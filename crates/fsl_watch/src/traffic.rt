@@ -1,4 +1,4 @@
-//! What is counted of a connection.
+//! Counts the bytes of a connection.
 ghost use Rattle.std.specs.Prelude.{◌≡◌, ◌++◌, [], take, length, option_map};
 ghost use Rattle.fsl_watch.specs.Lines.{status_in};
 ghost use Rattle.fsl_watch.specs.Logged.{nothing_moved, came_more, went_more};
@@ -6,13 +6,13 @@ ghost use Rattle.fsl_watch.specs.Logged.{nothing_moved, came_more, went_more};
 use std::marker::Model;
 use std::time::{Clock, Duration};
 
-/// How many bytes of a reply say its status: `HTTP/1.1 200`.
+/// The number of bytes of a reply that say its status: `HTTP/1.1 200`.
 const FRONT: usize = 12;
 
 /// The place in them at which the status begins.
 const STATUS: usize = 9;
 
-/// The first bytes of what went.
+/// The first bytes that were sent.
 #[derive(Drop)]
 struct Front {
     bytes: [u8; FRONT],
@@ -30,7 +30,7 @@ impl Model for Front {
 }
 
 impl Front {
-    /// No bytes.
+    /// Returns no bytes.
     fn new() -> Front
         ensures { result ≡ [] }
     {
@@ -49,7 +49,7 @@ impl Front {
         self.len += count;
     }
 
-    /// The three digits of the status, or `-` where fewer bytes went.
+    /// Returns the three digits of the status, or `-` if fewer bytes were sent.
     fn status(&self) -> &[u8]
         ensures { result.now ≡ status_in self.now }
     {
@@ -61,8 +61,8 @@ impl Front {
     }
 }
 
-/// What came and what went on a connection, up to the last value of `u64`, with the first bytes of what went, and the milliseconds
-/// that a clock showed when it began and when bytes moved last.
+/// The bytes received and sent on a connection, up to the last value of `u64`. It also has the first bytes that were sent, and
+/// the milliseconds that a clock showed at its beginning and when bytes moved last.
 #[derive(Drop)]
 pub(crate) struct Traffic {
     came: u64,
@@ -81,7 +81,7 @@ impl Model for Traffic {
 }
 
 impl Traffic {
-    /// A connection that has just begun.
+    /// Returns a connection that has just begun.
     pub(crate) fn new<C: Clock>(clock: &C) -> Traffic
         ensures { result ≡ nothing_moved }
     {
@@ -95,7 +95,7 @@ impl Traffic {
         }
     }
 
-    /// So many bytes came.
+    /// Counts bytes that were received.
     fn come<C: Clock>(&mut self, clock: &C, count: usize)
         ensures { self.new ≡ came_more count self.old }
     {
@@ -103,7 +103,7 @@ impl Traffic {
         self.last = millis(clock);
     }
 
-    /// These bytes went.
+    /// Counts these bytes as sent.
     fn go<C: Clock>(&mut self, clock: &C, bytes: &[u8])
         ensures { self.new ≡ went_more bytes.now self.old }
     {
@@ -112,34 +112,34 @@ impl Traffic {
         self.last = millis(clock);
     }
 
-    /// How many bytes came.
+    /// Returns how many bytes were received.
     pub(crate) fn came(&self) -> u64
         ensures { result ≡ self.now.came }
     {
         self.came
     }
 
-    /// How many bytes went.
+    /// Returns how many bytes were sent.
     pub(crate) fn went(&self) -> u64
         ensures { result ≡ self.now.went }
     {
         self.went
     }
 
-    /// The status of the reply that went.
+    /// Returns the status of the reply that was sent.
     pub(crate) fn status(&self) -> &[u8]
         ensures { result.now ≡ status_in self.now.front }
     {
         self.front.status()
     }
 
-    /// The milliseconds from its beginning to the last byte that moved.
+    /// Returns the milliseconds from its beginning to the last byte that moved.
     pub(crate) fn time(&self) -> u64 {
         self.last.saturating_sub(self.begun)
     }
 }
 
-/// So many bytes came on the connection, where there is one.
+/// Counts bytes that were received on the connection, if there is one.
 pub(crate) fn count_come<C: Clock>(traffic: &mut Option<Traffic>, clock: &C, count: usize)
     ensures { traffic.new ≡ option_map (came_more count) traffic.old }
 {
@@ -148,7 +148,7 @@ pub(crate) fn count_come<C: Clock>(traffic: &mut Option<Traffic>, clock: &C, cou
     }
 }
 
-/// These bytes went on the connection, where there is one.
+/// Counts these bytes as sent on the connection, if there is one.
 pub(crate) fn count_gone<C: Clock>(traffic: &mut Option<Traffic>, clock: &C, bytes: &[u8])
     ensures { traffic.new ≡ option_map (went_more bytes.now) traffic.old }
 {
@@ -157,7 +157,7 @@ pub(crate) fn count_gone<C: Clock>(traffic: &mut Option<Traffic>, clock: &C, byt
     }
 }
 
-/// The milliseconds that a clock shows, and 0 where it can't be read.
+/// Returns the milliseconds that a clock shows, or 0 if it can't be read.
 pub(crate) fn millis<C: Clock>(clock: &C) -> u64 {
     let shown = clock.monotonic().unwrap_or(Duration::ZERO);
     shown.as_millis().min(u64::MAX as u128) as u64

@@ -1,4 +1,4 @@
-//! What is kept of a fact beside its name.
+//! Holds a fact without its name.
 ghost use Rattle.std.specs.Prelude.{◌≡◌, IfOk};
 ghost use Rattle.fsl_wiki.specs.Kept.{entry_of, group_in, date_in, spot_of, target_of, race_in, row_in, is_page, attached_in, page_in};
 
@@ -11,7 +11,7 @@ use fsl_table::Within;
 use fsl_text::{Memory, Text};
 use std::alloc::Global;
 
-/// Of a version of a page.
+/// A version of a page, without its name.
 #[derive(Drop)]
 pub struct PageEntry {
     pub date: Moment,
@@ -19,7 +19,7 @@ pub struct PageEntry {
     pub user: Text,
 }
 
-/// Of a version of a technote.
+/// A version of a technote, without its name.
 #[derive(Clone, Copy)]
 pub struct NoteEntry {
     pub date: Moment,
@@ -27,7 +27,7 @@ pub struct NoteEntry {
     pub id: Name,
 }
 
-/// Of an attachment.
+/// An attachment, without its name.
 #[derive(Drop)]
 pub struct FileEntry {
     pub date: Moment,
@@ -36,7 +36,7 @@ pub struct FileEntry {
     pub sourced: bool,
 }
 
-/// Of each kind.
+/// A fact of any kind, without its name.
 #[derive(Drop)]
 pub enum Entry {
     Page(PageEntry),
@@ -44,8 +44,8 @@ pub enum Entry {
     Attached(FileEntry),
 }
 
-/// The row of a name: whether it is there as a page, as the current technote of its id, as the current attachment of its target and
-/// file.
+/// The row of a name. It says whether the name is there as a page, as the current technote of its id, as the current attachment
+/// of its target and file.
 #[derive(Clone, Copy)]
 pub struct Row {
     pub page: bool,
@@ -54,7 +54,7 @@ pub struct Row {
 }
 
 impl Entry {
-    /// Of a fact, which is moved.
+    /// Makes the entry of a fact, which is moved.
     pub fn of(fact: Fact) -> Entry
         ensures { result ≡ entry_of fact }
     {
@@ -99,7 +99,7 @@ impl Entry {
         }
     }
 
-    /// Its key among the versions of what it is a version of.
+    /// Returns its key among the versions of its group. `Memory` is the only error.
     pub fn spot(&self, alloc: Global, name: Name) -> Result<Within<Group, Late>, Memory>
         ensures { IfOk result (λ spot. spot ≡ spot_of name self.now) }
     {
@@ -109,7 +109,7 @@ impl Entry {
         })
     }
 
-    /// Its key among the attachments of its target, where it is one.
+    /// Returns its key among the attachments of its target. It is `None` where this is no attachment. `Memory` is the only error.
     pub fn target(&self, alloc: Global, name: Name) -> Result<Option<Within<Text, Late>>, Memory>
         ensures { IfOk result (λ target. target ≡ target_of name self.now) }
     {
@@ -122,7 +122,7 @@ impl Entry {
         }
     }
 
-    /// Before the versions among which one is current. None for a page.
+    /// Returns the key before the versions among which one is current. It is `None` for a page. `Memory` is the only error.
     pub fn race(&self, alloc: Global) -> Result<Option<Within<Group, Late>>, Memory>
         ensures { IfOk result (λ race. race ≡ race_in self.now) }
     {
@@ -135,14 +135,14 @@ impl Entry {
         }
     }
 
-    /// Whether it is of a page.
+    /// Tells whether it is a version of a page.
     pub fn is_page(&self) -> bool
         ensures { result ≡ is_page self.now }
     {
         matches!(self, Entry::Page(_))
     }
 
-    /// The row, where it tells whether it is the current one.
+    /// Returns the row. `leads` says whether this is the current one.
     pub fn row(&self, leads: bool) -> Row
         ensures { result ≡ row_in self.now leads }
     {
@@ -165,7 +165,7 @@ impl Entry {
         }
     }
 
-    /// The version of a page, with a copy of its texts.
+    /// Returns the version of a page, with a copy of its texts. It is `None` for another kind. `Memory` is the only error.
     pub fn page(&self, alloc: Global, name: Name) -> Result<Option<Page>, Memory>
         ensures { IfOk result (λ page. page ≡ page_in name self.now) }
     {
@@ -180,7 +180,7 @@ impl Entry {
         }
     }
 
-    /// The attachment, with a copy of its texts.
+    /// Returns the attachment, with a copy of its texts. It is `None` for another kind. `Memory` is the only error.
     pub fn attached(&self, alloc: Global, name: Name) -> Result<Option<Attached>, Memory>
         ensures { IfOk result (λ attached. attached ≡ attached_in name self.now) }
     {

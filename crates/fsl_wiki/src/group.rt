@@ -1,4 +1,4 @@
-//! What facts are versions of: a page, a technote, or an attachment of a file.
+//! Groups facts by their page, their technote, or their attached file.
 ghost use Rattle.std.specs.Prelude.{◌≡◌, IfOk};
 ghost use Rattle.fsl_wiki.specs.Exact.{exact_group};
 ghost use Rattle.fsl_wiki.specs.Groups.{page_group, note_group, file_group};
@@ -8,7 +8,7 @@ use fsl_table::Key;
 use fsl_text::{Memory, Text};
 use std::alloc::Global;
 
-/// A title, an id, or a target and a file.
+/// The title of a page, the id of a technote, or the target and the file of an attachment.
 #[derive(Drop, PartialEq, Eq, PartialOrd, Ord)]
 pub struct Group {
     pub id: Option<Name>,
@@ -21,7 +21,7 @@ impl Key for Group {
 }
 
 impl Group {
-    /// The versions of the page of a title.
+    /// Makes the group of the page of a title. `Memory` is the only error.
     pub fn page(alloc: Global, title: &[u8]) -> Result<Group, Memory>
         ensures { IfOk result (λ group. group ≡ page_group title.now) }
     {
@@ -32,7 +32,7 @@ impl Group {
         })
     }
 
-    /// The versions of the technote of an id. Takes no memory.
+    /// Makes the group of the technote of an id. Takes no memory.
     pub fn note(id: Name) -> Group
         ensures { result ≡ note_group id }
     {
@@ -43,7 +43,7 @@ impl Group {
         }
     }
 
-    /// The attachments of a file to a target.
+    /// Makes the group of the attachments of a file to a target. `Memory` is the only error.
     pub fn file(alloc: Global, target: &[u8], file: &[u8]) -> Result<Group, Memory>
         ensures { IfOk result (λ group. group ≡ file_group target.now file.now) }
     {

@@ -1,4 +1,4 @@
-//! Where a fact stands among others, the latest one first.
+//! Orders facts, the latest one first.
 ghost use Rattle.std.specs.Prelude.{◌≡◌, refl};
 ghost use Rattle.std.specs.Cmp.{partial_order_from_total, partial_equiv_from_equiv, eq_by_cmp_equiv};
 ghost use Rattle.std.specs.Ordering.{eq_by_cmp, as_partial_cmp};
@@ -28,14 +28,14 @@ impl Model for Late {
 }
 
 impl Late {
-    /// The place of a date and a name.
+    /// Makes the place of a date and a name.
     pub fn new(date: Moment, name: Name) -> Late
         ensures { result ≡ (date, name) }
     {
         Late { date, name }
     }
 
-    /// Its name.
+    /// Returns the name.
     pub fn name(&self) -> Name
         ensures { result ≡ self.now.1 }
     {

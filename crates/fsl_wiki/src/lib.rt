@@ -1,6 +1,6 @@
-//! Wiki pages, technotes and attachments. `Pages` is the table of them, and its answers are those of the definitions over the facts
-//! that it holds. In whatever order these came it is the same: `fsl_order::by_name_in_any_order`. A fact more, and another in the
-//! place of one, are calls of their own, which tell the names whose rows differ and can be taken back.
+//! Keeps wiki pages, technotes and attachments. `Pages` is the table of them. It answers as the definitions do over the facts
+//! that it holds. It is the same in whatever order these came: that is the law `fsl_order::by_name_in_any_order`. One call adds a
+//! fact, and another one replaces a fact. Each returns the names whose rows differ, and can be undone.
 #![tactic(auto)]
 
 ghost use Rattle.std.specs.Prelude.{◌≡◌, IfOk};
@@ -26,16 +26,16 @@ use std::alloc::Global;
 pub struct Page {
     /// The name of its artifact.
     pub name: Name,
-    /// When it was made.
+    /// The date of its artifact.
     pub date: Moment,
     /// The title of the page.
     pub title: Text,
-    /// Who made it.
+    /// The user of its artifact.
     pub user: Text,
 }
 
 impl Page {
-    /// A version with the same content. `Memory` is the only error.
+    /// Returns a version with the same content. `Memory` is the only error.
     pub fn copied(&self, alloc: Global) -> Result<Page, Memory>
         ensures { IfOk result (λ page. page ≡ self.now) }
     {
@@ -53,31 +53,31 @@ impl Page {
 pub struct Note {
     /// The name of its artifact.
     pub name: Name,
-    /// When it was made.
+    /// The date of its artifact.
     pub date: Moment,
-    /// The time that it is about.
+    /// The time of its event.
     pub time: Moment,
     /// The id of the technote.
     pub id: Name,
 }
 
-/// An attachment of a file; without a content, it deletes the file's attachment.
+/// An attachment of a file. Without a content, it deletes the file's attachment.
 #[derive(Drop)]
 pub struct Attached {
     /// The name of its artifact.
     pub name: Name,
-    /// When it was made.
+    /// The date of its artifact.
     pub date: Moment,
-    /// What the file is attached to: the title of a page, or the id of a ticket or a technote in 40 digits.
+    /// The target of the attachment: the title of a page, or the id of a ticket or a technote in 40 digits.
     pub target: Text,
     /// The name of the file.
     pub file: Text,
-    /// Whether it has a content.
+    /// Says whether it has a content.
     pub sourced: bool,
 }
 
 impl Attached {
-    /// An attachment with the same content. `Memory` is the only error.
+    /// Returns an attachment with the same content. `Memory` is the only error.
     pub fn copied(&self, alloc: Global) -> Result<Attached, Memory>
         ensures { IfOk result (λ attached. attached ≡ self.now) }
     {
@@ -91,7 +91,7 @@ impl Attached {
     }
 }
 
-/// One artifact of these.
+/// An artifact of one of these kinds.
 #[derive(Drop)]
 pub enum Fact {
     /// A version of a page.
@@ -103,7 +103,7 @@ pub enum Fact {
 }
 
 impl Fact {
-    /// The name of the artifact.
+    /// Returns the name of the artifact.
     pub fn name(&self) -> Name
         ensures { result ≡ fact_name self.now }
     {
@@ -114,7 +114,7 @@ impl Fact {
         }
     }
 
-    /// A fact with the same content. `Memory` is the only error.
+    /// Returns a fact with the same content. `Memory` is the only error.
     pub fn copied(&self, alloc: Global) -> Result<Fact, Memory>
         ensures { IfOk result (λ fact. fact ≡ self.now) }
     {
@@ -126,7 +126,7 @@ impl Fact {
     }
 }
 
-/// One technote more makes no other one current.
+/// A new technote makes no other one current. This is a law and no code.
 pub fn no_other_current()
     ensures { NoOtherCurrent }
 {}

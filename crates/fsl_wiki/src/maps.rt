@@ -1,4 +1,4 @@
-//! The maps in which the facts are held.
+//! Keeps the facts in maps.
 ghost use Rattle.std.specs.Prelude.{◌≡◌, ◌+◌, []};
 ghost use Rattle.fsl_wiki.specs.Kept.{AreAsGood, ends_of, rows_before, rows_of, starts_of, steps_back};
 
@@ -15,13 +15,13 @@ use std::sync::ledger::Ledger;
 #[derive(Drop)]
 pub struct Maps {
     pub facts: Tracked<Name, Entry>,
-    /// What each fact is a version of, its date and its name.
+    /// Has the group, the date and the name of each fact.
     pub spots: Tracked<Within<Group, Late>, ()>,
-    /// The target, the date and the name of each attachment.
+    /// Has the target, the date and the name of each attachment.
     pub targets: Tracked<Within<Text, Late>, ()>,
 }
 
-/// The ways back of a change.
+/// The way back from a change, for each map.
 #[derive(Drop)]
 pub struct Ways {
     pub facts: Way<Name, Entry>,
@@ -30,7 +30,7 @@ pub struct Ways {
 }
 
 impl Maps {
-    /// The maps without facts. Takes no memory.
+    /// Returns maps without facts. Takes no memory.
     pub fn new(alloc: Global) -> Maps
         ensures facts { result.facts.held.entries ≡ [] }
         ensures spots { result.spots.held.entries ≡ [] }
@@ -54,7 +54,7 @@ impl Maps {
         self.targets.begin();
     }
 
-    /// Goes back to where the change began. It takes no memory.
+    /// Undoes the change that was begun. It takes no memory.
     pub fn turn_back<L: Ledger>(&mut self, steps: &mut Steps<L>)
         ensures good { AreAsGood (rows_before self.old) (rows_of self.new) }
         ensures cost { steps.new ≡ steps.old + steps_back self.old }
@@ -64,7 +64,7 @@ impl Maps {
         self.targets.turn_back(steps);
     }
 
-    /// Hands the ways back out.
+    /// Returns the way back of each map. The rows stay as they are.
     pub fn ways(&mut self, alloc: Global) -> Ways
         ensures ends { ends_of result ≡ rows_of self.old }
         ensures starts { starts_of result ≡ rows_before self.old }
@@ -77,7 +77,7 @@ impl Maps {
         }
     }
 
-    /// Goes these ways back from what is as good as their ends. It takes no memory.
+    /// Undoes the change whose ways back are given. The rows must be as good as those where these ways end. It takes no memory.
     pub fn undo<L: Ledger>(&mut self, ways: Ways, steps: &mut Steps<L>)
         requires { AreAsGood (ends_of ways) (rows_of self.old) }
         ensures { AreAsGood (starts_of ways) (rows_of self.new) }

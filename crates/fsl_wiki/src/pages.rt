@@ -1,4 +1,4 @@
-//! The table of pages, technotes and attachments.
+//! Keeps the table of pages, technotes and attachments.
 ghost use Rattle.std.specs.Prelude.{◌≡◌, ◌+◌, ◌<◌, ◌≤◌, [], ◌∷◌, true, false, None, map, IfSome, IfOk, OnOk, OnErr};
 ghost use Rattle.fsl_order.specs.TableState.{IsAsBefore};
 ghost use Rattle.fsl_order.specs.Names.{bytes_cmp, has};
@@ -21,7 +21,7 @@ use std::alloc::Global;
 use std::marker::{Brand, Model};
 use std::sync::ledger::{Blank, Ledger};
 
-/// The pages, technotes and attachments. Contracts see it as the facts by name, and the room that its maps have to spare.
+/// A table of pages, technotes and attachments. Contracts see it as the facts by name, and the room that its maps have to spare.
 #[derive(Drop)]
 pub struct Pages {
     maps: Maps,
@@ -39,7 +39,7 @@ impl Model for Pages {
     ghost invariant = { λ p. IsKept (rows_of p.maps) };
 }
 
-/// What takes a change back, and the names whose rows it changed. Contracts see it as both, with the table before and after.
+/// The way back from a change, and the names whose rows it changed. Contracts see it as both, with the table before and after.
 #[derive(Drop)]
 pub struct Undo {
     ways: Ways,
@@ -59,8 +59,8 @@ impl Model for Undo {
 }
 
 impl Undo {
-    /// The names whose rows the change changed, ascending. The row of a name is whether it is there as a page, as the current
-    /// technote of its id, and as the current attachment of its target and file.
+    /// Returns the names whose rows the change changed, ascending. The row of a name says whether it is there as a page, as the
+    /// current technote of its id, and as the current attachment of its target and file.
     pub fn changed(&self) -> &List<Name>
         ensures { result.now ≡ self.now.changed }
     {
@@ -108,7 +108,7 @@ fn fill<L: Ledger>(
 }
 
 impl Pages {
-    /// The table without facts. Takes no memory.
+    /// Returns a table without facts. Takes no memory.
     pub fn new(alloc: Global) -> Pages
         ensures { result.facts ≡ [] }
     {
@@ -117,8 +117,8 @@ impl Pages {
         }
     }
 
-    /// The table of some facts, of which no two have one name. It is the same in whatever order they stand. It takes time by n log n
-    /// of the facts. `Memory` is the only error.
+    /// Makes the table of some facts. No two of them have one name. The table is the same in whatever order they come. It takes
+    /// time by n log n of the facts. `Memory` is the only error.
     pub fn build(alloc: Global, facts: &[Fact]) -> Result<Pages, Memory>
         requires { AreDistinct (map fact_name facts.now) }
         ensures facts { IfOk result (λ t. t.facts ≡ by_name fact_name facts.now) }
@@ -148,8 +148,8 @@ impl Pages {
         }
     }
 
-    /// Adds a fact whose name isn't there, which is moved. `Memory` is the only error, and the table then holds what it held. Of a
-    /// page it takes at most 4 touches.
+    /// Adds a fact, which is moved. No other one of its name is in the table. `Memory` is the only error. The table then holds
+    /// the same as before. For a page it takes at most 4 touches.
     pub fn add<L: Ledger>(
         &mut self,
         alloc: Global,
@@ -167,8 +167,8 @@ impl Pages {
         self.put(alloc, fact, true, steps)
     }
 
-    /// Puts a fact in the place of that of its name, which is there. It is moved, and may be of another kind, title, id, target or
-    /// file. `Memory` is the only error, and the table then holds what it held.
+    /// Replaces the fact of the same name. The table has one. The new fact is moved, and may be of another kind, title, id,
+    /// target or file. `Memory` is the only error. The table then holds the same as before.
     pub fn change<L: Ledger>(
         &mut self,
         alloc: Global,
@@ -216,7 +216,7 @@ impl Pages {
         }
     }
 
-    /// Takes the last change back that wasn't taken back. It takes no memory.
+    /// Undoes the last change that wasn't undone yet. It takes no memory.
     pub fn undo(&mut self, undo: Undo)
         requires { IsAsBefore undo.after self.old }
         ensures { IsAsBefore undo.before self.new }
@@ -236,8 +236,9 @@ impl Pages {
         self.maps.undo(ways, &mut steps);
     }
 
-    /// The versions of the page of a title by date, and at one date by name; none where no page has the title. `Memory` is the only
-    /// error.
+    /// Returns the versions of the page of a title by date, and at one date by name. The list is empty where no page has the
+    /// title. `Memory` is the only error.
+    /// FORMATS: Derived tables
     pub fn history(&self, alloc: Global, title: &[u8]) -> Result<List<Page>, Memory>
         ensures { IfOk result (λ pages. pages ≡ table.history self.now.facts title.now) }
     {
@@ -261,8 +262,9 @@ impl Pages {
         pages_from(alloc, &self.maps.facts, versions, &mut steps)
     }
 
-    /// The name of the current technote of an id, which is the one with the greatest date, and at one date the greatest name. None
-    /// where no technote has the id. Takes no memory.
+    /// Returns the name of the current technote of an id. That is the one with the greatest date, and at one date the greatest
+    /// name. It is `None` where no technote has the id. Takes no memory.
+    /// FORMATS: Derived tables
     pub fn note(&self, id: Name) -> Option<Name>
         ensures { result ≡ table.note self.now.facts id }
     {
@@ -288,9 +290,10 @@ impl Pages {
         }
     }
 
-    /// The current attachments of a target, by the name of the file: of each file the one with the greatest date, and at one date the
-    /// greatest name. One that deletes the file's attachment is given too. None where nothing was attached to the target. It takes
-    /// time by n log n of all attachments of the target. `Memory` is the only error.
+    /// Returns the current attachments of a target, by the name of the file. Of each file it is the one with the greatest date,
+    /// and at one date the greatest name. One that deletes the file's attachment is given too. The list is empty where nothing
+    /// was attached to the target. It takes time by n log n of all attachments of the target. `Memory` is the only error.
+    /// FORMATS: Derived tables
     pub fn attached(&self, alloc: Global, target: &[u8]) -> Result<List<Attached>, Memory>
         ensures { IfOk result (λ list. list ≡ table.attached self.now.facts target.now) }
     {

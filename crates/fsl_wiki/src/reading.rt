@@ -1,4 +1,4 @@
-//! The facts at the keys of a page or of a target, one after another.
+//! Reads the facts at the keys of a page or of a target, one after another.
 ghost use Rattle.std.specs.Prelude.{◌≡◌, ◌++◌, ℕ, List, Some, IfOk, OnOk, cond, reverse};
 ghost use Rattle.std.specs.BTreeMap.{is_at};
 ghost use Rattle.std.specs.List.{filter_map};

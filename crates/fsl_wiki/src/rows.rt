@@ -1,4 +1,4 @@
-//! The rows of pages, technotes and attachments: a fact put into the maps and taken out, and which rows that changes.
+//! Puts a fact into the maps, takes it out, and finds the rows that change by it.
 ghost use Rattle.std.specs.Prelude.{◌≡◌, ◌+◌, ◌≤◌, ◌||◌, ◌&&◌, [], ◌∷◌, not, true, ℕ, List, None, OnOk, IfOk};
 ghost use Rattle.std.specs.Str.{bytes_eq};
 ghost use Rattle.std.specs.List.Sorted.{IsStrictlySortedBy};

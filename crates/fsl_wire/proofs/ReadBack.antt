@@ -1,17 +1,17 @@
 -- What is written reads back.
-use Rattle.std.proofs.Common.{◌≡◌, ℕ, ◌+◌, ◌*◌, ◌-◌, ◌/◌, ◌%◌, ◌^◌, ◌<◌, ◌≤◌, Bool, true, false, cond, List, [], ◌∷◌, ◌++◌, length, map, option_map, Some, None, refl, sym, ap, subst, ◌∙◌, append_assoc, arith}
-use Rattle.std.specs.Prelude.{◌==◌, ◌&&◌, ◌||◌, not, nat_lt, decimal, flat_map}
+use Rattle.std.proofs.Common.{◌≡◌, ℕ, ◌+◌, ◌^◌, ◌<◌, Bool, true, false, cond, List, [], ◌∷◌, ◌++◌, length, map, option_map, Some, None, refl, sym, ap, subst, ◌∙◌, append_assoc, arith}
+use Rattle.std.specs.Prelude.{◌==◌, ◌&&◌, ◌||◌, not, decimal, flat_map}
 use Rattle.std.specs.List.{list_all, join_with_byte, slice_split, filter, onto_first, AllByRecursion}
-use Rattle.std.proofs.lemmas.Fmt.{decimal_by_steps}
 use Rattle.std.proofs.lemmas.List.Folds.{list_all-append, list_any-append}
-use Rattle.std.proofs.lemmas.List.Sums.{fold-append}
 use Rattle.std.proofs.lemmas.Bool.{and_from, not-true}
 use Rattle.fsl_order.proofs.Booleans.{first_holds, second_holds}
 use Rattle.fsl_text.specs.Bytes.{is_empty, is_newline}
 use Rattle.fsl_text.specs.Lines.{has_newline}
 use Rattle.fsl_text.specs.Escapes.{escape, escaped_byte, unescape}
 use Rattle.fsl_text.specs.Tokens.{is_blank, tokens_of}
-use Rattle.fsl_text.specs.Decimals.{IsDecimal, decimal_value, is_decimal_digit}
+use Rattle.fsl_text.specs.Decimals.{IsDecimal, is_decimal_digit}
+use Rattle.fsl_text.proofs.Bytewise.{weaker}
+use Rattle.fsl_text.proofs.DecimalTexts.{decimal_is, fits}
 use Rattle.fsl_text.proofs.Unescaping.{unescape-escape}
 use Rattle.fsl_name.specs.Name.{IsName, name_text, name_in, is_name_digit, are_digits}
 use Rattle.fsl_name.proofs.ReadAgain.{name_again}
@@ -76,28 +76,6 @@ no_newline (t ∷ u ∷ ts) h =
 
 -- ---- numbers
 
-digit_is : (d : ℕ) → d < 10 → is_decimal_digit (48 + d) ≡ true
-digit_is d h = grind arith
-
-one_digit : (n : ℕ) → n < 10 → IsDecimal ((48 + n) ∷ []) n
-one_digit n h = (rw (digit_is n h) refl, omega arith)
-
-filled_behind : (ds : List ℕ) (d : ℕ) → is_empty (ds ++ d ∷ []) ≡ false
-filled_behind [] d = refl
-filled_behind (x ∷ ds) d = refl
-
-more_digits : (n : ℕ) (ds : List ℕ) → 10 ≤ n → IsDecimal ds (n / 10) → IsDecimal (ds ++ ((48 + n % 10) ∷ [])) n
-more_digits n ds h k =
-    let digits = second_holds (not (is_empty ds)) _ k.0 in
-    let value : decimal_value (ds ++ ((48 + n % 10) ∷ [])) ≡ 10 * decimal_value ds + (48 + n % 10 - 48) = fold-append (λ (m : ℕ) (c : ℕ). 10 * m + (c - 48)) 0 ds ((48 + n % 10) ∷ []) in
-    (rw (filled_behind ds (48 + n % 10), list_all-append is_decimal_digit ds ((48 + n % 10) ∷ []), digits, digit_is (n % 10) (omega arith)) refl, omega (arith, value, k.1))
-
-decimal_is : (n : ℕ) → n < 2 ^ 64 → IsDecimal (decimal n) n
-decimal_is n h = decimal_by_steps (λ n ds. IsDecimal ds n) one_digit more_digits n h
-
-fits : (n : ℕ) → n < 2 ^ 64 → nat_lt n (2 ^ 64) ≡ true
-fits n h = grind (arith, h)
-
 number_of : (text : List ℕ) (n : ℕ) → IsDecimal text n → n < 2 ^ 64 → number_in text ≡ Some n
 number_of text n h lt =
     let some : is_empty text ≡ false = not-true (is_empty text) (first_holds (not (is_empty text)) (list_all is_decimal_digit text) h.0) in
@@ -108,10 +86,6 @@ number_again : (n : ℕ) → n < 2 ^ 64 → number_in (decimal n) ≡ Some n
 number_again n h = number_of (decimal n) n (decimal_is n h) h
 
 -- ---- tokens of a card
-
-weaker : (p r : ℕ → Bool) → ((b : ℕ) → p b ≡ true → r b ≡ true) → (text : List ℕ) → list_all p text ≡ true → list_all r text ≡ true
-weaker p r f [] h = refl
-weaker p r f (b ∷ text) h = and_from (r b) (list_all r text) (f b (first_holds (p b) (list_all p text) h)) (weaker p r f text (second_holds (p b) (list_all p text) h))
 
 digit_solid : (b : ℕ) → is_decimal_digit b ≡ true → solid b ≡ true
 digit_solid b h = grind (arith, h)

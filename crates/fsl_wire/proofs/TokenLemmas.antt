@@ -11,15 +11,13 @@ use Rattle.std.proofs.lemmas.List.Sums.{fails_before_first, passes_at_first, pre
 use Rattle.std.proofs.Math.ListN.{drop_of_length-le}
 use Rattle.fsl_text.specs.Bytes.{is_empty}
 use Rattle.fsl_text.specs.Tokens.{is_blank, tokens_of}
+use Rattle.fsl_text.proofs.Bytewise.{none_past}
 
 abbrev pub is_solid : ℕ → Bool
 is_solid b = not (is_blank b)
 
 abbrev has_bytes : List ℕ → Bool
 has_bytes part = not (is_empty part)
-
-none_past : (i n : ℕ) → cond (nat_lt i n) (Some i) None ≡ None → n ≤ i
-none_past i n h = grind (arith)
 
 some_at : (i n m : ℕ) → cond (nat_lt i n) (Some i) None ≡ Some m → m ≡ i
 some_at i n m h = grind (arith)

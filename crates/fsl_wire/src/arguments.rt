@@ -1,10 +1,10 @@
-//! The arguments of a line: up to three tokens, or that there are more.
+//! Finds the arguments of a line: up to three tokens, or that there are more.
 ghost use Rattle.fsl_text.specs.Tokens.{tokens_of};
 ghost use Rattle.fsl_wire.specs.Meanings.{AreArguments};
 
 use super::tokens::first_token;
 
-/// The arguments of a line, none of which is copied. No card has more than three.
+/// The arguments of a line, without a copy. No card has more than three.
 #[derive(Clone, Copy)]
 pub enum Arguments<'a> {
     None,
@@ -14,7 +14,7 @@ pub enum Arguments<'a> {
     Many,
 }
 
-/// The arguments that the rest of a line has, of which four at most are looked for.
+/// Finds the arguments in the rest of a line. It looks for four at most.
 pub fn arguments_of(rest: &[u8]) -> Arguments<'_>
     ensures { AreArguments result (tokens_of rest.now) }
 {

@@ -1,11 +1,11 @@
-//! Values behind a pointer, so that a seldom card doesn't make every card larger.
+//! Puts values behind a pointer, so that a rare card doesn't make every card larger.
 ghost use Rattle.std.specs.Prelude.{◌≡◌, IfOk};
 
 use fsl_text::Memory;
 use std::alloc::Global;
 use std::marker::Model;
 
-/// A value behind a pointer, which contracts see as the value.
+/// A value behind a pointer. Contracts see it as the value.
 #[derive(Drop)]
 pub struct Boxed<T> {
     value: Box<T>,
@@ -18,7 +18,7 @@ impl<T> Model for Boxed<T> {
 }
 
 impl<T: Drop> Boxed<T> {
-    /// The value behind a pointer. `Memory` is the only error.
+    /// Puts a value behind a pointer. `Memory` is the only error.
     pub fn of(alloc: Global, value: T) -> Result<Boxed<T>, Memory>
         ensures { IfOk result (λ boxed. boxed ≡ value) }
     {
@@ -28,7 +28,7 @@ impl<T: Drop> Boxed<T> {
         }
     }
 
-    /// Puts another value in its place. Takes no memory.
+    /// Replaces the value. Takes no memory.
     pub fn set(&mut self, value: T)
         ensures { self.new ≡ value }
     {
@@ -37,7 +37,7 @@ impl<T: Drop> Boxed<T> {
 }
 
 impl<T> Boxed<T> {
-    /// The value.
+    /// Returns the value.
     pub fn get(&self) -> &T
         ensures { result.now ≡ self.now }
     {

@@ -1,4 +1,4 @@
-//! The cards of lines, with their texts unescaped and copied.
+//! Makes the cards of lines, with their texts unescaped and copied.
 ghost use Rattle.std.specs.Prelude.{◌≡◌, [], ◌∷◌, ◌++◌, ℕ, List as Items, length, IfOk, OnOk, option_map, option_to_list};
 ghost use Rattle.fsl_text.specs.Escapes.{unescape};
 ghost use Rattle.fsl_name.specs.Name.{name_of};
@@ -14,24 +14,24 @@ use fsl_name::Name;
 use fsl_text::{Memory, Text, unescape};
 use std::alloc::Global;
 
-/// What stands in a login until its tail is made.
+/// The placeholder of a login's tail until the tail is made.
 const NO_TAIL: [u8; 20] = [0; 20];
 
-/// An escaped text, unescaped, behind a pointer.
+/// Unescapes a text, and puts it behind a pointer.
 fn boxed_unescaped(alloc: Global, text: &[u8]) -> Result<Boxed<Text>, Memory>
     ensures { IfOk result (λ boxed. boxed ≡ unescape text.now) }
 {
     Boxed::of(alloc, unescape(alloc, text)?)
 }
 
-/// A copy of a text behind a pointer.
+/// Copies a text behind a pointer.
 fn boxed_copy(alloc: Global, text: &[u8]) -> Result<Boxed<Text>, Memory>
     ensures { IfOk result (λ boxed. boxed ≡ text.now) }
 {
     Boxed::of(alloc, Text::of(alloc, text)?)
 }
 
-/// A login with its line. No byte stands for its tail yet.
+/// Makes a login with its line. Its tail has no bytes yet.
 fn login(
     alloc: Global,
     user: &[u8],
@@ -69,7 +69,7 @@ fn pull(alloc: Global, server: &[u8], project: &[u8]) -> Result<WireCard, Memory
     })
 }
 
-/// The card of a line that has one, by its number and its content. A login has no tail yet.
+/// Makes the card of a line that has one, by its number and its content. A login has no tail yet.
 fn card_of(
     alloc: Global,
     meaning: &Meaning<'_>,
@@ -106,7 +106,7 @@ fn card_of(
     }
 }
 
-/// Puts an item at the end. The room grows by an eighth at a time: to double it would take as much again as the items do.
+/// Adds an item at the end. The room grows by an eighth at a time: to double it would take as much again as the items do.
 fn put<T: Drop>(list: &mut Vec<T>, item: T) -> Result<(), Memory>
     ensures { OnOk result (list.new.items ≡ list.old.items ++ item ∷ []) }
 {
@@ -119,7 +119,7 @@ fn put<T: Drop>(list: &mut Vec<T>, item: T) -> Result<(), Memory>
     }
 }
 
-/// Puts a card at the end, and the bytes behind its line at the end of theirs where it is a login.
+/// Adds a card at the end, and for a login the bytes behind its line at the end of theirs.
 fn add_made<'a>(
     cards: &mut Vec<WireCard>,
     behinds: &mut Vec<&'a [u8]>,
@@ -131,12 +131,13 @@ fn add_made<'a>(
     ensures each { OnOk result (length behinds.new.items ≡ logins_of cards.new.items) }
 {
     let login = is_login(&card);
-    // The card goes first, so that none is held where there is no memory for the bytes.
+    // The card goes first, so that none is held if there is no memory for the bytes.
     put(cards, card)?;
     if login { put(behinds, behind) } else { Ok(()) }
 }
 
-/// Puts the card of a line at the end, if it has one, and the bytes behind the line's newline at the end of theirs, if it is a login.
+/// Adds the card of a line at the end, if it has one. For a login it adds the bytes behind the line's newline at the end of
+/// theirs. `Memory` is the only error.
 pub fn add_card<'a>(
     alloc: Global,
     cards: &mut Vec<WireCard>,

@@ -8,15 +8,15 @@ use fsl_name::Name;
 use fsl_text::List;
 use std::marker::Model;
 
-/// A message that was read, whose logins wait for their tails. Contracts see the message that it will be, and how many of its
-/// first cards are settled: a settled login has its tail. To settle a login costs one hash of all bytes behind its line.
+/// A message that was read, whose logins wait for their tails. Contracts see the complete message, and the number of its first
+/// cards that are settled. A settled login has its tail. To settle a login costs one hash of all bytes behind its line.
 #[derive(Drop)]
 pub struct Draft<'a> {
     cards: Vec<WireCard>,
     // The bytes behind the line of each login, in order.
     behind: Vec<&'a [u8]>,
     settled: usize,
-    // How many logins stand among the settled cards.
+    // The number of logins among the settled cards.
     logins: usize,
 }
 
@@ -31,14 +31,14 @@ impl<'a> Model for Draft<'a> {
     ghost invariant = { λ d. (d.settled ≤ length d.cards.items) × (d.logins ≤ d.settled) };
 }
 
-/// Whether a card is a login.
+/// Returns whether a card is a login.
 pub(crate) fn is_login(card: &WireCard) -> bool
     ensures { result ≡ is_login card.now }
 {
     matches!(card, WireCard::Login { .. })
 }
 
-/// Gives a card the tail that it has, if it is a login, and tells whether it is one.
+/// Gives a login its tail, and returns whether the card is a login.
 fn settle_card(card: &mut WireCard, behind: &[u8]) -> bool
     ensures card { card.new ≡ with_tail behind.now card.old }
     ensures login { result ≡ is_login card.old }
@@ -52,7 +52,7 @@ fn settle_card(card: &mut WireCard, behind: &[u8]) -> bool
     }
 }
 
-/// The bytes behind the login that comes after so many; none where no login does.
+/// Returns the bytes behind the login that comes after so many, or none if no login does.
 fn behind_next<'a>(behind: &[&'a [u8]], logins: usize) -> &'a [u8]
     ensures { result.now ≡ first_bytes (drop logins behind.now) }
 {
@@ -63,7 +63,7 @@ fn behind_next<'a>(behind: &[&'a [u8]], logins: usize) -> &'a [u8]
 }
 
 impl<'a> Draft<'a> {
-    /// The draft of cards and of the bytes behind the line of each login. Nothing is settled.
+    /// Makes the draft of cards and of the bytes behind the line of each login. Nothing is settled.
     pub(crate) fn of(cards: Vec<WireCard>, behind: Vec<&'a [u8]>) -> Draft<'a>
         ensures message { result.message ≡ with_tails cards.items behind.entry.items }
         ensures none { result.settled ≡ 0 }
@@ -76,7 +76,7 @@ impl<'a> Draft<'a> {
         }
     }
 
-    /// How many cards the message has. No more are settled.
+    /// Returns the number of cards of the message. No more are settled.
     pub fn len(&self) -> usize
         ensures count { result ≡ length self.now.message }
         ensures within { self.now.settled ≤ length self.now.message }
@@ -84,7 +84,7 @@ impl<'a> Draft<'a> {
         self.cards.len()
     }
 
-    /// Settles the card at a place, counted from 0, unless it is settled. Those before it must be.
+    /// Settles the card at a place, counted from 0, unless it is settled. The cards before it must be settled.
     pub fn settle(&mut self, place: usize)
         requires next { place ≤ self.old.settled }
         requires within { place < length self.old.message }
@@ -99,7 +99,7 @@ impl<'a> Draft<'a> {
         }
     }
 
-    /// The settled card at a place, counted from 0.
+    /// Returns the settled card at a place, counted from 0.
     pub fn card(&self, place: usize) -> &WireCard
         requires { place < self.now.settled }
         ensures { (d : Card) → result.now ≡ slice_index_or self.now.message place d }
@@ -107,7 +107,7 @@ impl<'a> Draft<'a> {
         &self.cards[place]
     }
 
-    /// The message. Settles what isn't settled yet, and takes no memory.
+    /// Returns the message. It settles the cards that aren't settled yet, and takes no memory.
     pub fn into_message(mut self) -> Message
         ensures { result ≡ self.entry.message }
     {

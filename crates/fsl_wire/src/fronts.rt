@@ -1,14 +1,14 @@
-//! What some bytes of a message begin with: its next line, with the content behind it.
+//! Reads the next line of a message, with the content behind it.
 ghost use Rattle.std.specs.Prelude.{◌≡◌, None, Some, position};
 ghost use Rattle.fsl_text.specs.Bytes.{is_newline};
 ghost use Rattle.fsl_wire.specs.Fronts.{IsFrontOf};
 
 use super::meaning::{Meaning, Wrong, read_line};
 
-/// What bytes begin with.
+/// The line at the front of some bytes.
 #[derive(Clone, Copy)]
 pub enum Front<'a> {
-    /// A line that reads. The content stands from one place to another, and a line without content ends at both.
+    /// A line that reads. The content goes from one place to another, and a line without content ends at both.
     Line {
         meaning: Meaning<'a>,
         from: usize,
@@ -30,7 +30,7 @@ fn newline(bytes: &[u8]) -> Option<usize>
     bytes.iter().position(|byte| *byte == b'\n')
 }
 
-/// What bytes without a newline are. The line of a file has no content there.
+/// Reads bytes without a newline as a last line. The line of a file has no content there.
 fn last_line(bytes: &[u8]) -> Front<'_>
     requires { position is_newline bytes.now ≡ None }
     ensures { IsFrontOf bytes.now result }
@@ -44,7 +44,7 @@ fn last_line(bytes: &[u8]) -> Front<'_>
     }
 }
 
-/// What bytes begin with whose first newline stands at a place.
+/// Reads the line before the first newline, which is at a place.
 fn line_before(bytes: &[u8], end: usize) -> Front<'_>
     requires { position is_newline bytes.now ≡ Some end }
     ensures { IsFrontOf bytes.now result }
@@ -72,7 +72,7 @@ fn line_before(bytes: &[u8], end: usize) -> Front<'_>
     }
 }
 
-/// What the bytes begin with.
+/// Reads the line at the front of the bytes.
 pub fn front_of(bytes: &[u8]) -> Front<'_>
     ensures { IsFrontOf bytes.now result }
 {

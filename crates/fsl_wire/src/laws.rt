@@ -1,13 +1,14 @@
-//! Laws of messages, as contracts of functions without code.
+//! Laws of messages.
 ghost use Rattle.fsl_wire.specs.Messages.{ReadsOneWay};
 ghost use Rattle.fsl_wire.specs.Writing.{IsReadBack};
 
-/// A law and no code: bytes are one message, each card on a line of its own, or have one first fault, and not both.
+/// Says that bytes are one message, each card on a line of its own, or have one first fault, and not both. This is a law and runs
+/// no code.
 pub fn reads_one_way()
     ensures { ReadsOneWay }
 {}
 
-/// A law and no code: what is written reads back.
+/// Says that a written message reads back. This is a law and runs no code.
 pub fn reads_back()
     ensures { IsReadBack }
 {}

@@ -1,9 +1,8 @@
-//! Messages of a sync: lines, some of which are cards, and the contents of files between them.
+//! Reads and writes messages of a sync: lines, some of which are cards, and the contents of files between them.
 //!
-//! `read` reads the cards of a message, or tells the first line that doesn't read and why. `write` writes a message
-//! that reads back, and `line_of` tells on which line a card stands. Each reads its bytes once from front to back. A `Draft`
-//! is a message that was read without the tails of its logins, which are made one by one as they are asked for, and
-//! `read_bare` reads for those who look at no login.
+//! `read` reads the cards of a message, or names the first line that doesn't read, and why. `write` writes a message that reads
+//! back. `line_of` finds the line of a card. Each reads its bytes once from front to back. A `Draft` is a message without the
+//! tails of its logins, and makes them one by one when they are asked for. `read_bare` reads for callers that look at no login.
 #![tactic(auto)]
 
 ghost use Rattle.std.specs.Prelude.{◌≡◌};
@@ -38,9 +37,8 @@ pub use writing::{
 /// One card of a message.
 #[derive(Drop)]
 pub enum WireCard {
-    /// `login USER NONCE SIGNATURE`: the user is unescaped. The tail is the SHA-1 of all bytes behind the newline of
-    /// the card's line, and the line is counted from 1. All but the line stand behind pointers, since every card is as large as
-    /// the largest.
+    /// `login USER NONCE SIGNATURE`: the user is unescaped. The tail is the SHA-1 of all bytes behind the newline of the card's
+    /// line. The line is counted from 1. All but the line is behind pointers, since every card is as large as the largest.
     Login {
         user: Boxed<Text>,
         nonce: Boxed<Text>,
@@ -53,7 +51,7 @@ pub enum WireCard {
         server: Text,
         project: Text,
     },
-    /// `pull SERVER PROJECT`, likewise.
+    /// `pull SERVER PROJECT`: the codes of a server and of a project, as they are written.
     Pull {
         server: Text,
         project: Text,
@@ -73,7 +71,7 @@ pub enum WireCard {
     },
     /// `private`: the next file is private.
     Private,
-    /// `igot NAME`, with `0` or `1` behind it: the sender has the artifact, which is private where the flag is `1`.
+    /// `igot NAME`, with `0` or `1` behind it: the sender has the artifact, and with the flag `1` it is private.
     Igot {
         name: Name,
         private: bool,
@@ -94,20 +92,20 @@ pub enum WireCard {
     SendPrivate,
 }
 
-/// Why a message doesn't read. The line is the first that doesn't read, counted from 1; contents aren't counted.
+/// Says why a message doesn't read. The line is the first that doesn't read, counted from 1. Contents aren't counted.
 #[derive(Clone, Copy, Debug, PartialEq, Eq)]
 pub enum WireFault {
-    /// Another operator.
+    /// The operator is unknown.
     Unknown { line: u64 },
-    /// A wrong number or form of arguments.
+    /// The arguments have a wrong number or form.
     Args { line: u64 },
-    /// A file card of three arguments.
+    /// A file card has three arguments.
     Delta { line: u64 },
-    /// A size that is no decimal number of 64 bits.
+    /// A size is no decimal number of 64 bits.
     Size { line: u64 },
-    /// Fewer bytes than the size says, or no newline behind the file's line.
+    /// The content is shorter than its size, or the file's line has no newline behind it.
     Short { line: u64 },
-    /// There was no memory for the cards.
+    /// The cards don't fit in memory.
     Memory,
 }
 
@@ -127,21 +125,21 @@ impl Model for Message {
 }
 
 impl Message {
-    /// The message of these cards, whatever they are. Takes no memory.
+    /// Makes the message of these cards, whatever they are. Takes no memory.
     pub fn of(cards: List<WireCard>) -> Message
         ensures { result ≡ cards }
     {
         Message { cards }
     }
 
-    /// The cards, in order.
+    /// Returns the cards, in order.
     pub fn cards(&self) -> &[WireCard]
         ensures { result.now ≡ self.now }
     {
         self.cards.items()
     }
 
-    /// Gives the cards, in order, without a copy.
+    /// Returns the cards, in order, without a copy.
     pub fn into_cards(self) -> List<WireCard>
         ensures { result ≡ self }
     {
@@ -149,7 +147,7 @@ impl Message {
     }
 }
 
-/// What a user may do: pull, push, clone, and send and get private artifacts.
+/// The rights of a user: pull, push, clone, and send and get private artifacts.
 #[derive(Clone, Copy, Debug, PartialEq, Eq)]
 pub struct Caps {
     pub pull: bool,

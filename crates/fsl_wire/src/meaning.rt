@@ -1,4 +1,4 @@
-//! What a line of a message is.
+//! Reads a line of a message.
 ghost use Rattle.std.specs.Prelude.{◌≡◌, ◌==◌, slice_index};
 ghost use Rattle.fsl_wire.specs.Lines.{line_meant};
 ghost use Rattle.fsl_wire.specs.Meanings.{line_of, wrong_fault};
@@ -9,7 +9,7 @@ use super::tokens::first_token;
 use crate::WireFault;
 use fsl_name::Name;
 
-/// Why a line doesn't read.
+/// Says why a line doesn't read.
 #[derive(Clone, Copy)]
 pub enum Wrong {
     Unknown,
@@ -20,7 +20,7 @@ pub enum Wrong {
 }
 
 impl Wrong {
-    /// The fault of this line.
+    /// Makes the fault of this line.
     pub fn at(self, line: u64) -> WireFault
         ensures { result ≡ wrong_fault self line }
     {
@@ -34,7 +34,7 @@ impl Wrong {
     }
 }
 
-/// What a line is, by its tokens, none of which is copied. Texts are as they are written.
+/// The meaning of a line, by its tokens, without a copy. Texts are as they are written.
 #[derive(Clone, Copy)]
 pub enum Meaning<'a> {
     /// A line without meaning.
@@ -87,7 +87,8 @@ fn is_comment(operator: &[u8]) -> bool
     operator.first() == Some(&b'#')
 }
 
-/// What a line is, without its newline.
+/// Reads a line, without its newline.
+/// FORMATS: Messages of a sync
 pub fn read_line(line: &[u8]) -> Meaning<'_>
     ensures { line_of result ≡ line_meant line.now }
 {

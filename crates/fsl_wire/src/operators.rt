@@ -1,4 +1,4 @@
-//! What a line is by its operator and its arguments: a function for each operator.
+//! Reads a line by its operator and its arguments, with a function for each operator.
 ghost use Rattle.std.specs.Prelude.{◌≡◌};
 ghost use Rattle.fsl_name.specs.Name.{name_in};
 ghost use Rattle.fsl_wire.specs.Lines as line;
@@ -12,7 +12,7 @@ use super::tokens::is_word;
 use fsl_name::Name;
 use fsl_text::decimal;
 
-/// The number of 64 bits that a token is in decimal.
+/// Reads a token as a decimal number of 64 bits.
 fn number_in(token: &[u8]) -> Option<u64>
     ensures { result ≡ number_in token.now }
 {
@@ -22,7 +22,7 @@ fn number_in(token: &[u8]) -> Option<u64>
     }
 }
 
-/// The name that a token is, as its 40 digits.
+/// Reads a token as a name of 40 digits.
 fn name_in(token: &[u8]) -> Option<Name>
     ensures { result ≡ name_in token.now }
 {
@@ -32,7 +32,7 @@ fn name_in(token: &[u8]) -> Option<Name>
     }
 }
 
-/// Whether the flag of an igot card says that the artifact is private.
+/// Reads the flag of an igot card, which says whether the artifact is private.
 fn flag_in(token: &[u8]) -> Option<bool>
     ensures { result ≡ flag_in token.now }
 {
@@ -45,7 +45,7 @@ fn flag_in(token: &[u8]) -> Option<bool>
     }
 }
 
-/// `login USER NONCE SIGNATURE`.
+/// Reads `login USER NONCE SIGNATURE`.
 fn login_line(args: Arguments<'_>) -> Meaning<'_>
     ensures { line_of result ≡ line.login_line (arguments args.entry) }
 {
@@ -59,7 +59,7 @@ fn login_line(args: Arguments<'_>) -> Meaning<'_>
     }
 }
 
-/// `push SERVER PROJECT`: any two tokens.
+/// Reads `push SERVER PROJECT`: any two tokens.
 fn push_line(args: Arguments<'_>) -> Meaning<'_>
     ensures { line_of result ≡ line.codes_line card.Push (arguments args.entry) }
 {
@@ -69,7 +69,7 @@ fn push_line(args: Arguments<'_>) -> Meaning<'_>
     }
 }
 
-/// `pull SERVER PROJECT`: any two tokens.
+/// Reads `pull SERVER PROJECT`: any two tokens.
 fn pull_line(args: Arguments<'_>) -> Meaning<'_>
     ensures { line_of result ≡ line.codes_line card.Pull (arguments args.entry) }
 {
@@ -79,7 +79,7 @@ fn pull_line(args: Arguments<'_>) -> Meaning<'_>
     }
 }
 
-/// `clone`, or `clone VERSION SEQUENCE`.
+/// Reads `clone`, or `clone VERSION SEQUENCE`.
 fn clone_line(args: Arguments<'_>) -> Meaning<'_>
     ensures { line_of result ≡ line.clone_line (arguments args.entry) }
 {
@@ -95,7 +95,7 @@ fn clone_line(args: Arguments<'_>) -> Meaning<'_>
     }
 }
 
-/// `clone_seqno NUMBER`.
+/// Reads `clone_seqno NUMBER`.
 fn seqno_line(args: Arguments<'_>) -> Meaning<'_>
     ensures { line_of result ≡ line.seqno_line (arguments args.entry) }
 {
@@ -108,7 +108,7 @@ fn seqno_line(args: Arguments<'_>) -> Meaning<'_>
     }
 }
 
-/// The line of a file by its two arguments.
+/// Reads the line of a file by its two arguments.
 fn sized_line(name: Name, size: &[u8]) -> Meaning<'_>
     ensures { line_of result ≡ line.sized_line name (number_in size.now) }
 {
@@ -118,7 +118,7 @@ fn sized_line(name: Name, size: &[u8]) -> Meaning<'_>
     }
 }
 
-/// `file NAME SIZE`, or with three arguments, of which the first alone is looked at.
+/// Reads `file NAME SIZE`. Of three arguments it looks only at the first.
 fn file_line(args: Arguments<'_>) -> Meaning<'_>
     ensures { line_of result ≡ line.file_line (arguments args.entry) }
 {
@@ -135,7 +135,7 @@ fn file_line(args: Arguments<'_>) -> Meaning<'_>
     }
 }
 
-/// `private`.
+/// Reads `private`.
 fn private_line(args: Arguments<'_>) -> Meaning<'_>
     ensures { line_of result ≡ line.private_line (arguments args.entry) }
 {
@@ -145,7 +145,7 @@ fn private_line(args: Arguments<'_>) -> Meaning<'_>
     }
 }
 
-/// `igot NAME`, `igot NAME 0` or `igot NAME 1`.
+/// Reads `igot NAME`, `igot NAME 0` or `igot NAME 1`.
 fn igot_line(args: Arguments<'_>) -> Meaning<'_>
     ensures { line_of result ≡ line.igot_line (arguments args.entry) }
 {
@@ -165,7 +165,7 @@ fn igot_line(args: Arguments<'_>) -> Meaning<'_>
     }
 }
 
-/// `gimme NAME`.
+/// Reads `gimme NAME`.
 fn gimme_line(args: Arguments<'_>) -> Meaning<'_>
     ensures { line_of result ≡ line.gimme_line (arguments args.entry) }
 {
@@ -178,7 +178,7 @@ fn gimme_line(args: Arguments<'_>) -> Meaning<'_>
     }
 }
 
-/// `error TEXT`.
+/// Reads `error TEXT`.
 fn error_line(args: Arguments<'_>) -> Meaning<'_>
     ensures { line_of result ≡ line.text_line card.Error (arguments args.entry) }
 {
@@ -188,7 +188,7 @@ fn error_line(args: Arguments<'_>) -> Meaning<'_>
     }
 }
 
-/// `message TEXT`.
+/// Reads `message TEXT`.
 fn message_line(args: Arguments<'_>) -> Meaning<'_>
     ensures { line_of result ≡ line.text_line card.Message (arguments args.entry) }
 {
@@ -198,7 +198,7 @@ fn message_line(args: Arguments<'_>) -> Meaning<'_>
     }
 }
 
-/// `pragma` with any tokens, of which `send-private` alone has a meaning.
+/// Reads `pragma` with any tokens. Only `send-private` has a meaning.
 fn pragma_line(args: Arguments<'_>) -> Meaning<'_>
     ensures { line_of result ≡ line.pragma_line (arguments args.entry) }
 {
@@ -214,7 +214,7 @@ fn pragma_line(args: Arguments<'_>) -> Meaning<'_>
     }
 }
 
-/// The line of one of the operators of names, files and texts, or of none.
+/// Reads the line of one of the operators of names, files and texts, or of none.
 fn item_line<'a>(operator: &[u8], args: Arguments<'a>) -> Meaning<'a>
     ensures { line_of result ≡ item_line operator.now (arguments args.entry) }
 {
@@ -239,7 +239,7 @@ fn item_line<'a>(operator: &[u8], args: Arguments<'a>) -> Meaning<'a>
     }
 }
 
-/// The line of an operator.
+/// Reads the line of an operator.
 pub fn operator_line<'a>(operator: &[u8], args: Arguments<'a>) -> Meaning<'a>
     ensures { line_of result ≡ line.operator_line operator.now (arguments args.entry) }
 {

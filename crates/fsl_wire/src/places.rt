@@ -1,4 +1,4 @@
-//! The lines on which cards stand.
+//! Finds the lines of cards.
 ghost use Rattle.std.specs.Prelude.{◌≡◌, ◌<◌, List as Items, length};
 ghost use Rattle.fsl_wire.specs.declared.WireCard.{WireCard as Card};
 ghost use Rattle.fsl_wire.specs.Messages.{IsMessage, IsLineOf};
@@ -8,15 +8,15 @@ ghost use Rattle.fsl_wire.specs.Counts.{has_card};
 use super::fronts::{Front, front_of};
 use super::meaning::Meaning;
 
-/// Whether a line that reads has a card.
+/// Returns whether a line that reads has a card.
 fn has_card(meaning: &Meaning<'_>) -> bool
     ensures { result ≡ has_card (line_said meaning.now) }
 {
     !matches!(*meaning, Meaning::Blank | Meaning::Bad(_))
 }
 
-/// The line, counted from 1, on which the card at a place of a message stands, places counted from 0. Contents of files
-/// aren't counted as lines. The bytes must read as a message with more cards than that place. Takes no memory.
+/// Finds the line of the card at a place of a message. Lines are counted from 1, and places from 0. Contents of files aren't
+/// counted as lines. The bytes must read as a message with more cards than that place. Takes no memory.
 pub fn line_of(bytes: &[u8], card: u64) -> u64
     requires { (cards : Items Card) × IsMessage bytes.now cards × (card < length cards) }
     ensures { IsLineOf bytes.now card result }

@@ -1,4 +1,4 @@
-//! A message read as its cards.
+//! Reads a message as its cards.
 ghost use Rattle.std.specs.Prelude.{◌≡◌, [], IfOk, IfErr, OnOk};
 ghost use Rattle.fsl_wire.specs.declared.WireFault.TheVariants as wire_fault;
 ghost use Rattle.fsl_wire.specs.Messages.{IsMessage, IsReadFault};
@@ -59,9 +59,9 @@ fn read_cards<'a>(
 }
 
 impl<'a> Draft<'a> {
-    /// Reads the cards of a message, as [`read`], without the tails of its logins: it hashes nothing.
+    /// Reads the cards of a message, as [`read`], without the tails of its logins. It hashes nothing.
     ///
-    /// Errors: The fault of the first line that doesn't read, or `Memory`.
+    /// Errors: the fault of the first line that doesn't read, or `Memory`.
     pub fn read(alloc: Global, bytes: &'a [u8]) -> Result<Draft<'a>, WireFault>
         ensures message { IfOk result (λ draft. IsMessage bytes.now draft.message) }
         ensures none { IfOk result (λ draft. draft.settled ≡ 0) }
@@ -76,13 +76,15 @@ impl<'a> Draft<'a> {
 
 /// Reads the cards of a message.
 ///
-/// A message is lines that end with a newline or with the message. Spaces, tabs and carriage returns at both ends of a
-/// line are dropped, and stand between its tokens: an operator and its arguments. A line without tokens and one that
-/// begins with `#` have no meaning, nor has `cookie` or another pragma than `send-private`. The content of a file, as
-/// many bytes as its line says, follows the newline of that line. Each login costs a hash of all bytes behind its line.
-/// A card takes 56 bytes and its texts, and the list of them has an eighth of room to spare.
+/// A message is lines that end with a newline or with the message. Spaces, tabs and carriage returns at both ends of a line are
+/// dropped, and separate its tokens: an operator and its arguments. A line without tokens and one that begins with `#` have no
+/// meaning. `cookie` and other pragmas than `send-private` have none either. The content of a file follows the newline of its
+/// line, with as many bytes as the line says. Each login costs a hash of all bytes behind its line. A card takes 56 bytes and its
+/// texts, and the list of them has an eighth of room to spare.
 ///
-/// Errors: The fault of the first line that doesn't read, or `Memory`. A login takes some 300 bytes, each other card its 56 and its texts.
+/// Errors: the fault of the first line that doesn't read, or `Memory`. A login takes some 300 bytes, each other card its 56 and
+/// its texts.
+/// FORMATS: Messages of a sync
 pub fn read(alloc: Global, bytes: &[u8]) -> Result<Message, WireFault>
     ensures message { IfOk result (IsMessage bytes.now) }
     ensures fault { IfErr result (IsReadFault bytes.now) }
@@ -90,10 +92,10 @@ pub fn read(alloc: Global, bytes: &[u8]) -> Result<Message, WireFault>
     Ok(Draft::read(alloc, bytes)?.into_message())
 }
 
-/// Reads the cards of a message, as [`read`], for those who look at no login: each has the tail of no bytes, and nothing
+/// Reads the cards of a message, as [`read`], for callers that look at no login. Each login has the tail of no bytes, and nothing
 /// behind its line is hashed, so that many logins cost no more than other cards.
 ///
-/// Errors: The fault of the first line that doesn't read, or `Memory`.
+/// Errors: the fault of the first line that doesn't read, or `Memory`.
 pub fn read_bare(alloc: Global, bytes: &[u8]) -> Result<Message, WireFault>
     ensures message { IfOk result (IsBareMessage bytes.now) }
     ensures fault { IfErr result (IsReadFault bytes.now) }

@@ -1,31 +1,31 @@
-//! The tokens of a line, one after another.
+//! Finds the tokens of a line, one after another.
 ghost use Rattle.std.specs.Prelude.{◌≡◌, [], ◌∷◌, IfNone, IfSome, not, position, ◌≤◌, length};
 ghost use Rattle.std.specs.List.{position_or_len};
 ghost use Rattle.std.specs.Str.{bytes_eq};
 ghost use Rattle.fsl_text.specs.Tokens.{is_blank, tokens_of};
 
-/// Whether a byte stands between tokens: a space, a tab or a carriage return.
+/// Returns whether a byte separates tokens: a space, a tab or a carriage return.
 fn is_blank(byte: u8) -> bool
     ensures { result ≡ is_blank byte }
 {
     byte == b' ' || byte == b'\t' || byte == b'\r'
 }
 
-/// Where the first byte stands that is no blank.
+/// Finds the first byte that is no blank.
 fn token_start(line: &[u8]) -> Option<usize>
     ensures { result ≡ position (λ b. not (is_blank b)) line.now }
 {
     line.iter().position(|byte| !is_blank(*byte))
 }
 
-/// Where the first blank stands.
+/// Finds the first blank.
 fn first_blank(line: &[u8]) -> Option<usize>
     ensures { result ≡ position is_blank line.now }
 {
     line.iter().position(|byte| is_blank(*byte))
 }
 
-/// Where the first blank stands, or the end of the line.
+/// Finds the first blank, or the end of the line.
 fn token_end(line: &[u8]) -> usize
     ensures place { result ≡ position_or_len is_blank line.now }
     ensures within { result ≤ length line.now }
@@ -36,8 +36,8 @@ fn token_end(line: &[u8]) -> usize
     }
 }
 
-/// The first token of a line and what stands behind it, or `None` where the line has no token. The blanks between
-/// tokens are space, tab and carriage return. Nothing is copied.
+/// Splits off the first token of a line. Returns it and the bytes behind it, or `None` if the line has no token. The blanks
+/// between tokens are space, tab and carriage return. Nothing is copied.
 pub fn first_token(line: &[u8]) -> Option<(&[u8], &[u8])>
     ensures none { IfNone result (tokens_of line.now ≡ []) }
     ensures some { IfSome result (λ s. tokens_of line.now ≡ s.0.now ∷ tokens_of s.1.now) }
@@ -51,7 +51,7 @@ pub fn first_token(line: &[u8]) -> Option<(&[u8], &[u8])>
     Some((&rest[..end], &rest[end..]))
 }
 
-/// Whether a token is a word.
+/// Returns whether a token is a word.
 pub fn is_word(token: &[u8], word: &[u8]) -> bool
     ensures { result ≡ bytes_eq token.now word.now }
 {

@@ -1,4 +1,4 @@
-//! Messages as they are written.
+//! Writes messages.
 ghost use Rattle.std.specs.Prelude.{◌≡◌, ◌∷◌, ◌++◌, [], length, map, take, IfOk, OnErr, OnOk, IsTrue};
 ghost use Rattle.std.specs.List.{join_with_byte, list_all};
 ghost use Rattle.fsl_text.specs.Escapes.{escape};
@@ -13,7 +13,7 @@ use fsl_text::{Memory, Text, escape_into};
 use itoa::Buffer;
 use std::alloc::Global;
 
-/// Cuts a text back to a length where something was written in part alone.
+/// Cuts a text back to a length if a part alone was written.
 fn whole(into: &mut Text, length: usize, written: Result<(), Memory>) -> Result<(), Memory>
     ensures same { result ≡ written }
     ensures ok { OnOk written (into.new ≡ into.old) }
@@ -25,7 +25,7 @@ fn whole(into: &mut Text, length: usize, written: Result<(), Memory>) -> Result<
     written
 }
 
-/// Puts tokens at the end of a text, with a space before each but the first, all of them or some.
+/// Writes tokens at the end of a text, with a space before each but the first, all of them or some.
 fn add_tokens(into: &mut Text, tokens: &[&[u8]]) -> Result<(), Memory>
     ensures ok { OnOk result (into.new ≡ into.old ++ join_with_byte 32 (map (λ t. t.now) tokens.now)) }
     ensures err { OnErr result (take (length into.old) into.new ≡ into.old) }
@@ -39,7 +39,7 @@ fn add_tokens(into: &mut Text, tokens: &[&[u8]]) -> Result<(), Memory>
     Ok(())
 }
 
-/// Puts a line of tokens at the end of a text, all of it or some.
+/// Writes a line of tokens at the end of a text, all of it or some.
 fn add_line(into: &mut Text, tokens: &[&[u8]]) -> Result<(), Memory>
     ensures ok { OnOk result (into.new ≡ into.old ++ line (map (λ t. t.now) tokens.now)) }
     ensures err { OnErr result (take (length into.old) into.new ≡ into.old) }
@@ -48,8 +48,8 @@ fn add_line(into: &mut Text, tokens: &[&[u8]]) -> Result<(), Memory>
     into.append(b"\n")
 }
 
-/// Puts a line of a message at the end of a text: the tokens with one space between them, and a newline. `Memory` is
-/// the only error, and then the text stays as it was.
+/// Writes a line of a message at the end of a text: the tokens with one space between them, and a newline. `Memory` is the only
+/// error, and then the text stays as it was.
 pub fn append_line(into: &mut Text, tokens: &[&[u8]]) -> Result<(), Memory>
     ensures ok { OnOk result (into.new ≡ into.old ++ line (map (λ t. t.now) tokens.now)) }
     ensures err { OnErr result (into.new ≡ into.old) }
@@ -59,7 +59,7 @@ pub fn append_line(into: &mut Text, tokens: &[&[u8]]) -> Result<(), Memory>
     whole(into, length, written)
 }
 
-/// Puts the line of an operator and one text at the end of a text, escaped, all of it or some.
+/// Writes the line of an operator and one escaped text at the end of a text, all of it or some.
 fn add_text_line(into: &mut Text, operator: &[u8], text: &[u8]) -> Result<(), Memory>
     ensures ok { OnOk result (into.new ≡ into.old ++ line (operator.now ∷ escape text.now ∷ [])) }
     ensures err { OnErr result (take (length into.old) into.new ≡ into.old) }
@@ -70,7 +70,7 @@ fn add_text_line(into: &mut Text, operator: &[u8], text: &[u8]) -> Result<(), Me
     into.append(b"\n")
 }
 
-/// Puts the line of an operator and one text at the end of a text, escaped.
+/// Writes the line of an operator and one escaped text at the end of a text.
 fn append_text_line(into: &mut Text, operator: &[u8], text: &[u8]) -> Result<(), Memory>
     ensures ok { OnOk result (into.new ≡ into.old ++ line (operator.now ∷ escape text.now ∷ [])) }
     ensures err { OnErr result (into.new ≡ into.old) }
@@ -80,7 +80,7 @@ fn append_text_line(into: &mut Text, operator: &[u8], text: &[u8]) -> Result<(),
     whole(into, length, written)
 }
 
-/// The digits of a name. A caller learns that it has 20 bytes.
+/// Returns the digits of a name. This call proves to its caller that it has 20 bytes.
 fn digits_of(name: &Name) -> [u8; 40]
     ensures text { result ≡ name_text name.now }
     ensures named { IsName name.now }
@@ -89,7 +89,7 @@ fn digits_of(name: &Name) -> [u8; 40]
     name.text()
 }
 
-/// Puts the line of a `clone` card at the end of a text: its version and its sequence, where it has them.
+/// Writes a `clone` card at the end of a text: its version and its sequence, if it has them.
 fn append_clone(into: &mut Text, from: Option<(u64, u64)>) -> Result<(), Memory>
     ensures ok { OnOk result (into.new ≡ into.old ++ card_bytes (card_is.Clone from)) }
     ensures err { OnErr result (into.new ≡ into.old) }
@@ -105,7 +105,7 @@ fn append_clone(into: &mut Text, from: Option<(u64, u64)>) -> Result<(), Memory>
     append_line(into, &[b"clone", version, sequence])
 }
 
-/// Puts a `clone_seqno` card at the end of a text, as the other writers of cards do.
+/// Writes a `clone_seqno` card at the end of a text. `Memory` is the only error, and then the text stays as it was.
 pub fn append_seqno(into: &mut Text, next: u64) -> Result<(), Memory>
     ensures ok { OnOk result (into.new ≡ into.old ++ card_bytes (card_is.CloneSeqno next)) }
     ensures err { OnErr result (into.new ≡ into.old) }
@@ -114,7 +114,7 @@ pub fn append_seqno(into: &mut Text, next: u64) -> Result<(), Memory>
     append_line(into, &[b"clone_seqno", buffer.format(next).as_bytes()])
 }
 
-/// Puts a `file` card at the end of a text, all of it or some.
+/// Writes a `file` card at the end of a text, all of it or some.
 fn add_file(into: &mut Text, name: &Name, bytes: &[u8]) -> Result<(), Memory>
     ensures ok { OnOk result (into.new ≡ into.old ++ card_bytes (card_is.File name.now bytes.now)) }
     ensures err { OnErr result (take (length into.old) into.new ≡ into.old) }
@@ -133,8 +133,8 @@ fn add_file(into: &mut Text, name: &Name, bytes: &[u8]) -> Result<(), Memory>
     into.append(b"\n")
 }
 
-/// Puts a `file` card at the end of a text: its line, the content and a newline. `Memory` is the only error, and then
-/// the text stays as it was.
+/// Writes a `file` card at the end of a text: its line, the content and a newline. `Memory` is the only error, and then the text
+/// stays as it was.
 pub fn append_file(into: &mut Text, name: &Name, bytes: &[u8]) -> Result<(), Memory>
     ensures ok { OnOk result (into.new ≡ into.old ++ card_bytes (card_is.File name.now bytes.now)) }
     ensures err { OnErr result (into.new ≡ into.old) }
@@ -145,8 +145,8 @@ pub fn append_file(into: &mut Text, name: &Name, bytes: &[u8]) -> Result<(), Mem
     whole(into, length, written)
 }
 
-/// Puts an `igot` card at the end of a text, with the flag `1` where the artifact is private, as the other writers of
-/// cards do.
+/// Writes an `igot` card at the end of a text, with the flag `1` if the artifact is private. `Memory` is the only error, and then
+/// the text stays as it was.
 pub fn append_igot(into: &mut Text, name: &Name, private: bool) -> Result<(), Memory>
     ensures ok { OnOk result (into.new ≡ into.old ++ card_bytes (card_is.Igot name.now private)) }
     ensures err { OnErr result (into.new ≡ into.old) }
@@ -159,7 +159,7 @@ pub fn append_igot(into: &mut Text, name: &Name, private: bool) -> Result<(), Me
     }
 }
 
-/// Puts a `gimme` card at the end of a text, as the other writers of cards do.
+/// Writes a `gimme` card at the end of a text. `Memory` is the only error, and then the text stays as it was.
 pub fn append_gimme(into: &mut Text, name: &Name) -> Result<(), Memory>
     ensures ok { OnOk result (into.new ≡ into.old ++ card_bytes (card_is.Gimme name.now)) }
     ensures err { OnErr result (into.new ≡ into.old) }
@@ -168,7 +168,8 @@ pub fn append_gimme(into: &mut Text, name: &Name) -> Result<(), Memory>
     append_line(into, &[b"gimme", &digits_of(name)])
 }
 
-/// Puts an `error` card at the end of a text, whose own text is escaped, as the other writers of cards do.
+/// Writes an `error` card at the end of a text, with its own text escaped. `Memory` is the only error, and then the text stays as
+/// it was.
 pub fn append_error(into: &mut Text, text: &[u8]) -> Result<(), Memory>
     ensures ok { OnOk result (into.new ≡ into.old ++ card_bytes (card_is.Error text.now)) }
     ensures err { OnErr result (into.new ≡ into.old) }
@@ -176,7 +177,7 @@ pub fn append_error(into: &mut Text, text: &[u8]) -> Result<(), Memory>
     append_text_line(into, b"error", text)
 }
 
-/// Puts the line of an operator alone at the end of a text.
+/// Writes the line of an operator alone at the end of a text.
 fn append_operator(into: &mut Text, operator: &[u8]) -> Result<(), Memory>
     ensures ok { OnOk result (into.new ≡ into.old ++ line (operator.now ∷ [])) }
     ensures err { OnErr result (into.new ≡ into.old) }
@@ -184,7 +185,7 @@ fn append_operator(into: &mut Text, operator: &[u8]) -> Result<(), Memory>
     append_line(into, &[operator])
 }
 
-/// Puts the line of an operator and two tokens at the end of a text.
+/// Writes the line of an operator and two tokens at the end of a text.
 fn append_pair(into: &mut Text, operator: &[u8], first: &[u8], second: &[u8]) -> Result<(), Memory>
     ensures ok { OnOk result (into.new ≡ into.old ++ line (operator.now ∷ first.now ∷ second.now ∷ [])) }
     ensures err { OnErr result (into.new ≡ into.old) }
@@ -192,7 +193,7 @@ fn append_pair(into: &mut Text, operator: &[u8], first: &[u8], second: &[u8]) ->
     append_line(into, &[operator, first, second])
 }
 
-/// Puts a `pragma send-private` card at the end of a text.
+/// Writes a `pragma send-private` card at the end of a text.
 fn append_send_private(into: &mut Text) -> Result<(), Memory>
     ensures ok { OnOk result (into.new ≡ into.old ++ card_bytes card_is.SendPrivate) }
     ensures err { OnErr result (into.new ≡ into.old) }
@@ -200,7 +201,7 @@ fn append_send_private(into: &mut Text) -> Result<(), Memory>
     append_line(into, &[b"pragma", b"send-private"])
 }
 
-/// Puts a card that can be written, so no login, at the end of a text.
+/// Writes a card that can be written, so no login, at the end of a text.
 fn append_card(into: &mut Text, card: &WireCard) -> Result<(), Memory>
     requires { IsTrue (is_writable card.now) }
     ensures ok { OnOk result (into.new ≡ into.old ++ card_bytes card.now) }
@@ -230,6 +231,7 @@ fn append_card(into: &mut Text, card: &WireCard) -> Result<(), Memory>
 ///
 /// The message has no `Login` card, no empty text of an `Error` or a `Message` card, and each code of a `Push` or a
 /// `Pull` card is one token. `read` reads it back. `Memory` is the only error.
+/// FORMATS: Messages of a sync
 pub fn write(alloc: Global, message: &Message) -> Result<Text, Memory>
     requires { IsTrue (list_all is_writable message.now) }
     ensures text { IfOk result (λ text. text ≡ message_bytes message.now) }

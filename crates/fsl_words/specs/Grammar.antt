@@ -9,7 +9,7 @@ use Rattle.fsl_text.specs.Paths.{path_ok}
 use Rattle.fsl_name.specs.Name.{name_in, is_name_digit}
 use Rattle.fsl_record.specs.Records.{is_field}
 use Rattle.fsl_words.specs.declared.Question.{Question}
-use Rattle.fsl_words.specs.declared.Question.TheVariants.{Cat, Receipt, Timeline, Leaves, Tags, Tip, Files, Wiki, Ticket, Thread, Phantoms}
+use Rattle.fsl_words.specs.declared.Question.TheVariants.{Cat, Receipt, Timeline, Leaves, Tags, Tip, Files, Wiki, Ticket, Thread, Phantoms, Info, Branches, Pages, Tickets, Threads}
 use Rattle.fsl_words.specs.declared.Command.{Command}
 use Rattle.fsl_words.specs.declared.Command.TheVariants.{Init, Ingest, Put, Shun, Unshun, Ask, Serve, Gen, Pull, Push, Clone, PullLocal, Checkin, Export, Verify, Scrub, Unversioned as OfUnversioned}
 use Rattle.fsl_words.specs.declared.Unversioned.TheVariants as uv
@@ -118,15 +118,28 @@ abbrev pub uv_init_command : List (List ℕ) → Option Command
 uv_init_command (project ∷ server ∷ []) = option_and_then (λ p. option_map (λ s. OfUnversioned (uv.Init p s)) (name_in server)) (name_in project)
 uv_init_command words = None
 
+-- tickets [FIELD ...]
+abbrev pub tickets_command : List (List ℕ) → Option Command
+tickets_command words = option_map (λ fields. Ask (Tickets fields)) (fields_in words)
+
+-- a report command without words
+abbrev pub bare_question : List ℕ → Option Question
+bare_question command =
+    if bytes_eq command (codes "leaves") then Some Leaves
+    else if bytes_eq command (codes "phantoms") then Some Phantoms
+    else if bytes_eq command (codes "info") then Some Info
+    else if bytes_eq command (codes "branches") then Some Branches
+    else if bytes_eq command (codes "pages") then Some Pages
+    else if bytes_eq command (codes "threads") then Some Threads
+    else None
+
 -- a command without words
 abbrev pub bare_command : List ℕ → Option Command
 bare_command command =
     if bytes_eq command (codes "ingest") then Some Ingest
     else if bytes_eq command (codes "put") then Some Put
-    else if bytes_eq command (codes "leaves") then Some (Ask Leaves)
-    else if bytes_eq command (codes "phantoms") then Some (Ask Phantoms)
     else if bytes_eq command (codes "uv-list") then Some (OfUnversioned uv.List)
-    else None
+    else option_map Ask (bare_question command)
 
 -- a report command with one word
 abbrev pub question_in : List ℕ → List ℕ → Option Question
@@ -138,8 +151,8 @@ question_in command word =
     else if bytes_eq command (codes "tip") then Some (Tip word)
     else if bytes_eq command (codes "files") then option_map Files (prefix_in word)
     else if bytes_eq command (codes "wiki") then Some (Wiki word)
-    else if bytes_eq command (codes "ticket") then option_map Ticket (name_in word)
-    else if bytes_eq command (codes "thread") then option_map Thread (name_in word)
+    else if bytes_eq command (codes "ticket") then option_map Ticket (prefix_in word)
+    else if bytes_eq command (codes "thread") then option_map Thread (prefix_in word)
     else None
 
 -- a command of unversioned files or a report command, with one word
@@ -168,7 +181,7 @@ plain_command command [] = bare_command command
 plain_command command (word ∷ []) = worded_command command word
 plain_command command words = None
 
--- `init`, `serve`, `gen`, `pull`, `push`, `clone`, `checkin`, `uv-init`, or another command
+-- `init`, `serve`, `gen`, `pull`, `push`, `clone`, `checkin`, `uv-init`, `tickets`, or another command
 abbrev pub command_in : List ℕ → List (List ℕ) → Option Command
 command_in command words =
     if bytes_eq command (codes "init") then init_command words
@@ -179,6 +192,7 @@ command_in command words =
     else if bytes_eq command (codes "clone") then clone_command words
     else if bytes_eq command (codes "checkin") then checkin_command words
     else if bytes_eq command (codes "uv-init") then uv_init_command words
+    else if bytes_eq command (codes "tickets") then tickets_command words
     else plain_command command words
 
 -- a repository and a command

@@ -1,6 +1,6 @@
-//! Commands with their words.
+//! Reads a command and the words behind it.
 ghost use Rattle.std.specs.Prelude.{◌≡◌, map, string_bytes};
-ghost use Rattle.fsl_words.specs.Grammar.{init_command, serve_command, gen_of, gen_command, login_in, served_in, pull_command, push_command, clone_command, parent_in, checkin_command, uv_init_command, bare_command, question_in, other_command, worded_command, plain_command, command_in};
+ghost use Rattle.fsl_words.specs.Grammar.{init_command, serve_command, gen_of, gen_command, login_in, served_in, pull_command, push_command, clone_command, parent_in, checkin_command, uv_init_command, tickets_command, bare_question, bare_command, question_in, other_command, worded_command, plain_command, command_in};
 ghost use Rattle.fsl_words.specs.Answers.{IsAnswer};
 
 use crate::fields::fields;
@@ -86,7 +86,7 @@ fn login(alloc: Global, words: &[String]) -> Result<Option<(Text, Text)>, WordsF
     }
 }
 
-/// The address of a server and the login, which stand behind `pull` and `push`.
+/// The address of a server and the login, behind `pull` and `push`.
 fn served(alloc: Global, words: &[String]) -> Result<(Text, Option<(Text, Text)>), WordsFault>
     ensures { IsAnswer (served_in (map string_bytes words.now)) result }
 {
@@ -166,6 +166,29 @@ fn uv_init_command(words: &[String]) -> Result<Command, WordsFault>
     }))
 }
 
+/// `tickets` with its words: fields, or none.
+fn tickets_command(alloc: Global, words: &[String]) -> Result<Command, WordsFault>
+    ensures { IsAnswer (tickets_command (map string_bytes words.now)) result }
+{
+    let fields = fields(alloc, words)?;
+    Ok(Command::Ask(Question::Tickets { fields }))
+}
+
+/// A report command without words.
+fn bare_question(command: &str) -> Result<Question, WordsFault>
+    ensures { IsAnswer (bare_question command.now) result }
+{
+    match command {
+        "leaves" => Ok(Question::Leaves),
+        "phantoms" => Ok(Question::Phantoms),
+        "info" => Ok(Question::Info),
+        "branches" => Ok(Question::Branches),
+        "pages" => Ok(Question::Pages),
+        "threads" => Ok(Question::Threads),
+        _ => Err(WordsFault::Usage),
+    }
+}
+
 /// A command without words.
 fn bare_command(command: &str) -> Result<Command, WordsFault>
     ensures { IsAnswer (bare_command command.now) result }
@@ -173,10 +196,8 @@ fn bare_command(command: &str) -> Result<Command, WordsFault>
     match command {
         "ingest" => Ok(Command::Ingest),
         "put" => Ok(Command::Put),
-        "leaves" => Ok(Command::Ask(Question::Leaves)),
-        "phantoms" => Ok(Command::Ask(Question::Phantoms)),
         "uv-list" => Ok(Command::Unversioned(Unversioned::List)),
-        _ => Err(WordsFault::Usage),
+        _ => Ok(Command::Ask(bare_question(command)?)),
     }
 }
 
@@ -206,8 +227,12 @@ fn question(alloc: Global, command: &str, word: &[u8]) -> Result<Question, Words
         "wiki" => Question::Wiki {
             title: Text::of(alloc, word)?,
         },
-        "ticket" => Question::Ticket { id: name(word)? },
-        "thread" => Question::Thread { name: name(word)? },
+        "ticket" => Question::Ticket {
+            prefix: prefix(alloc, word)?,
+        },
+        "thread" => Question::Thread {
+            prefix: prefix(alloc, word)?,
+        },
         _ => return Err(WordsFault::Usage),
     })
 }
@@ -267,7 +292,9 @@ fn plain_command(alloc: Global, command: &str, words: &[String]) -> Result<Comma
     }
 }
 
-/// A command by its first word and the words behind it.
+/// Reads a command from its name and the words behind it.
+///
+/// Errors: `Usage` exactly where they are outside the grammar of commands; `Memory` where the program is out of memory.
 pub fn command(alloc: Global, command: &str, words: &[String]) -> Result<Command, WordsFault>
     ensures { IsAnswer (command_in command.now (map string_bytes words.now)) result }
 {
@@ -280,6 +307,7 @@ pub fn command(alloc: Global, command: &str, words: &[String]) -> Result<Command
         "clone" => clone_command(alloc, words),
         "checkin" => checkin_command(alloc, words),
         "uv-init" => uv_init_command(words),
+        "tickets" => tickets_command(alloc, words),
         _ => plain_command(alloc, command, words),
     }
 }

@@ -1,4 +1,4 @@
-//! Want of memory, as a fault of the reader of words.
+//! Turns `Memory` into a fault of the reader of words.
 ghost use Rattle.std.specs.Prelude.{◌≡◌};
 ghost use Rattle.fsl_words.specs.declared.WordsFault.TheVariants as words_fault;
 

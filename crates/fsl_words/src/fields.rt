@@ -1,4 +1,4 @@
-//! The configured ticket fields among the words.
+//! Reads the ticket fields among the words.
 ghost use Rattle.std.specs.Prelude.{◌≡◌, IfOk, map, string_bytes};
 ghost use Rattle.std.specs.List.{list_all};
 ghost use Rattle.fsl_record.specs.Records.{is_field};
@@ -48,7 +48,9 @@ fn all_differ(alloc: Global, texts: &[Text]) -> Result<bool, Memory>
     Ok(true)
 }
 
-/// The configured fields that words are: each in its form, all different, at most 256.
+/// Reads words as ticket fields: each has its form, all differ, and there are at most 256.
+///
+/// Errors: `Usage` where they aren't so; `Memory` where the program is out of memory.
 pub fn fields(alloc: Global, words: &[String]) -> Result<List<Text>, WordsFault>
     ensures { IsAnswer (fields_in (map string_bytes words.now)) result }
 {

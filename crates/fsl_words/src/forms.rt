@@ -1,4 +1,4 @@
-//! The forms of single words.
+//! Reads single words by their forms.
 ghost use Rattle.std.specs.Prelude.{◌≡◌};
 ghost use Rattle.std.specs.List.{list_all};
 ghost use Rattle.fsl_name.specs.Name.{is_name_digit, name_in};
@@ -10,7 +10,7 @@ use fsl_name::Name;
 use fsl_text::{MOST_OF_PATH, Text, decimal, path_ok};
 use std::alloc::Global;
 
-/// Whether a word has a byte, and doesn't begin with `-` unless it is `-` alone.
+/// Tells whether a word has a byte, and begins with `-` only where it is `-` alone.
 pub fn is_word(word: &[u8]) -> bool
     ensures { result ≡ is_word word.now }
 {
@@ -39,7 +39,9 @@ fn is_prefix(word: &[u8]) -> bool
     (4..=40).contains(&word.len()) && are_digits(word)
 }
 
-/// The digits of a name that a word is.
+/// Reads a word as 4 to 40 digits of a name or an id, in lower case.
+///
+/// Errors: `Usage` where it isn't that; `Memory` where the program is out of memory.
 pub fn prefix(alloc: Global, word: &[u8]) -> Result<Text, WordsFault>
     ensures { IsAnswer (prefix_in word.now) result }
 {
@@ -56,7 +58,10 @@ fn is_path(word: &[u8]) -> bool
     path_ok(word) && word.len() <= MOST_OF_PATH
 }
 
-/// The path of an unversioned file that a word is.
+/// Reads a word as the path of an unversioned file: at most 512 bytes, with no part between slashes that is empty, `.` or
+/// `..`.
+///
+/// Errors: `Usage` where it isn't that; `Memory` where the program is out of memory.
 pub fn path(alloc: Global, word: &[u8]) -> Result<Text, WordsFault>
     ensures { IsAnswer (path_in word.now) result }
 {
@@ -66,7 +71,7 @@ pub fn path(alloc: Global, word: &[u8]) -> Result<Text, WordsFault>
     Ok(Text::of(alloc, word)?)
 }
 
-/// The name that a word is.
+/// Reads a word as a name of 40 digits. Errors: `Usage` where it isn't that.
 pub fn name(word: &[u8]) -> Result<Name, WordsFault>
     ensures { IsAnswer (name_in word.now) result }
 {
@@ -76,7 +81,7 @@ pub fn name(word: &[u8]) -> Result<Name, WordsFault>
     }
 }
 
-/// The number that a word is: from 1 to the greatest one, in decimal.
+/// Reads a word as a decimal number from 1 to `most`. Errors: `Usage` where it isn't that.
 pub fn number(word: &[u8], most: u64) -> Result<u64, WordsFault>
     ensures { IsAnswer (number_in most word.now) result }
 {

@@ -1,5 +1,5 @@
-//! The words on the command line: which words are a repository and a command, and which ones are outside the grammar.
-//! `read` answers the command exactly where the words are inside.
+//! Reads the words on the command line: a repository, a command and its words. `read` gives the command exactly where the
+//! words are inside the grammar.
 #![tactic(auto)]
 
 mod commands;
@@ -14,7 +14,7 @@ use fsl_text::{List, Text};
 pub use reading::read;
 use thiserror::Error;
 
-/// What a report command asks. A prefix is 4 to 40 digits of a name, in lower case.
+/// The question of a report command. A prefix is 4 to 40 digits of a name or an id, in lower case.
 #[derive(Drop)]
 pub enum Question {
     /// `cat PREFIX`: the content of the artifact.
@@ -33,16 +33,26 @@ pub enum Question {
     Files { prefix: Text },
     /// `wiki TITLE`: the versions of a page.
     Wiki { title: Text },
-    /// `ticket ID`: the fields of a ticket.
-    Ticket { id: Name },
-    /// `thread NAME`: the posts of a thread.
-    Thread { name: Name },
+    /// `ticket PREFIX`: the fields of the ticket whose id begins with the prefix.
+    Ticket { prefix: Text },
+    /// `thread PREFIX`: the posts of the thread whose name begins with the prefix.
+    Thread { prefix: Text },
     /// `phantoms`: the names that held artifacts refer to and that are neither held nor shunned.
     Phantoms,
+    /// `info`: the codes and the configured ticket fields of the repository, and how much it holds.
+    Info,
+    /// `branches`: the branches that check-ins have, each with its newest one.
+    Branches,
+    /// `pages`: the titles of wiki pages, each with the current version.
+    Pages,
+    /// `tickets [FIELD ...]`: the ids of tickets, each with the values of some fields, which are as those of `init`.
+    Tickets { fields: List<Text> },
+    /// `threads`: the threads of the forum.
+    Threads,
 }
 
-/// A command of unversioned files, which stand in a file of their own. A path is one whose parts between slashes aren't empty,
-/// `.` or `..`, of at most 512 bytes.
+/// A command on a file of unversioned files. A path has at most 512 bytes, and no part between its slashes is empty, `.`
+/// or `..`.
 #[derive(Drop)]
 pub enum Unversioned {
     /// `uv-init PROJECT SERVER`: a new file for unversioned files, with these two codes.
@@ -142,20 +152,20 @@ pub enum Command {
     Unversioned(Unversioned),
 }
 
-/// A repository's path and a command.
+/// The path of a repository, and a command.
 #[derive(Drop)]
 pub struct Words {
     pub repository: Text,
     pub command: Command,
 }
 
-/// Why words are no command.
+/// The reasons why words are no command.
 #[derive(Clone, Copy, PartialEq, Eq, Debug, Drop, Error)]
 pub enum WordsFault {
     /// They are outside the grammar.
     #[error("the words are no command")]
     Usage,
-    /// There was no memory.
+    /// The program is out of memory.
     #[error("out of memory")]
     Memory,
 }

@@ -1,4 +1,4 @@
-//! The words by place, as `clap` reads them: a repository, a command, and the command's words.
+//! Sorts the words by place, as `clap` reads them: a repository, a command, and the command's words.
 ghost use Rattle.std.specs.Prelude.{◌≡◌, ◌≤◌, ◌<◌, ◌-◌, ◌∷◌, [], true, map, drop, length, string_bytes, Err, IfOk, IsOkAnd, codes, option_map, unwrap_or};
 ghost use Rattle.std.specs.List.{list_all};
 ghost use Rattle.clap.specs.Simple.{app_of};
@@ -97,9 +97,9 @@ fn found<'a>(matches: &ArgMatches<'a>, words: &'a [String]) -> Result<Places<'a>
     })
 }
 
-/// Plain words by place.
+/// Sorts plain words by place.
 ///
-/// Errors: `Usage` where they are fewer than two; `Memory` for want of memory.
+/// Errors: `Usage` where they are fewer than two; `Memory` where the program is out of memory.
 pub fn by_place<'a>(alloc: Global, words: &'a [String]) -> Result<Places<'a>, WordsFault>
     requires { list_all is_word (map string_bytes words.now) ≡ true }
     ensures ok { IfOk result (λ places. map string_bytes words.now ≡ places.repository.now ∷ places.command.now ∷ map string_bytes places.words.now) }

@@ -11,7 +11,7 @@ use crate::{Words, WordsFault};
 use fsl_text::Text;
 use std::alloc::Global;
 
-/// Whether each word may stand on the command line.
+/// Whether each word may be on the command line.
 fn are_words(words: &[String]) -> bool
     ensures { result ≡ list_all is_word (map string_bytes words.now) }
 {
@@ -24,9 +24,12 @@ fn are_words(words: &[String]) -> bool
 }
 
 /// Reads the words behind the program's name: a repository's path, a command, and the command's words. No word is empty,
-/// and none begins with `-`, save `-` alone.
+/// and none but `-` alone begins with `-`.
 ///
-/// Errors: `Usage` exactly where the words are outside the grammar of commands; `Memory` for want of memory.
+/// Errors: `Usage` exactly where the words are outside the grammar of commands; `Memory` where the program is out of
+/// memory.
+///
+/// FORMATS: Words
 pub fn read(alloc: Global, words: &[String]) -> Result<Words, WordsFault>
     ensures ok { IfOk result (λ read. words_in (map string_bytes words.now) ≡ Some read) }
     ensures usage { result ≡ Err words_fault.Usage → words_in (map string_bytes words.now) ≡ None }

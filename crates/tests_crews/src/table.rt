@@ -9,6 +9,7 @@ use fsl_outside::{MemorySink, MemorySource};
 use std::alloc::{AllocError, Global};
 use std::sync::Wait;
 use std::thread::Threads;
+use tests_kit::owned;
 
 /// A new repository's file, with the project of forty digits `1` and the server of forty digits `2`.
 const NEW_FILE: &[u8] =
@@ -34,15 +35,6 @@ const WHOLE: Seen = Seen {
     pulled: Taken::Whole,
     printed: Printed::StoredOne,
 };
-
-/// Words as the program has them.
-fn owned(alloc: Global, words: &[&str]) -> Result<Vec<String>, AllocError> {
-    let mut owned = Vec::new(alloc);
-    for word in words {
-        owned.push(word.to_string(alloc)?)?;
-    }
-    Ok(owned)
-}
 
 /// Serves a new repository by two crews.
 fn serve_new<R: Threads + Wait + Sync>(

@@ -4,6 +4,7 @@ use fsl_disk::MemoryDisk;
 use fsl_name::Name;
 use fsl_repo::Repo;
 use std::alloc::Global;
+use tests_kit::loaded;
 
 /// The version of the file that a repository begins with.
 #[derive(Clone, Copy)]
@@ -91,12 +92,9 @@ fn kind_of_open(version: Version, repo: Repo<MemoryDisk>) -> Kind {
 
 /// What a disk stands for when it is opened.
 fn kind_of(alloc: Global, version: Version, disk: MemoryDisk) -> Kind {
-    match Repo::load(alloc, disk) {
-        Ok(repo) => kind_of_open(version, repo),
-        Err((disk, _)) => {
-            drop(disk);
-            Kind::Other
-        }
+    match loaded(alloc, disk) {
+        Some(repo) => kind_of_open(version, repo),
+        None => Kind::Other,
     }
 }
 

@@ -8,3 +8,5 @@ mod circles;
 mod crashing;
 #[cfg(test)]
 mod stops;
+#[cfg(test)]
+mod wanting;

@@ -1,36 +1,14 @@
 //! A commit that stops after so many calls of its disk, a crash, an opening that stops after so many, another crash, and a whole opening.
-ghost use Rattle.std.specs.Prelude.{◌≡◌, ◌<◌};
-
 use crate::crashing::{Kind, Version, file_of, kind_after};
 use fsl_disk::{FuseDisk, MemoryDisk};
 use fsl_journal::LoadFault;
 use fsl_name::Name;
-use fsl_repo::{Arrival, ArriveFault, Repo};
-use fsl_text::Steps;
+use fsl_repo::Repo;
 use std::alloc::Global;
-use std::marker::Brand;
-use std::sync::ledger::{Blank, Ledger};
 use std::test::Fail;
+use tests_kit::arrives;
 
 type Fused = FuseDisk<MemoryDisk>;
-
-fn arrive_counted<L: Ledger>(
-    repo: &mut Repo<Fused>,
-    bytes: &[u8],
-    blank: Blank,
-) -> Result<Arrival, ArriveFault>
-    requires name { blank.name ≡ L.name }
-    requires parts { blank.parts ≡ L.parts }
-    requires counts { 0 < L.parts }
-{
-    let mut steps: Steps<L> = Steps::new(blank);
-    repo.arrive(Name::of(bytes), bytes, false, &mut steps)
-}
-
-/// Whether a text arrives under its own name.
-fn arrives(repo: &mut Repo<Fused>, bytes: &[u8]) -> bool {
-    arrive_counted::<Brand>(repo, bytes, Blank::new(1)).is_ok()
-}
 
 /// Whether `abc` and the empty text arrive, and this one is shunned.
 fn takes_three(repo: &mut Repo<Fused>) -> bool {

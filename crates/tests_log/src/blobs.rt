@@ -14,11 +14,11 @@ use std::alloc::Global;
 use std::test::Fail;
 
 // A file with a Config without fields, 68 bytes.
-const CONFIG_ALONE: &[u8] =
+pub(crate) const CONFIG_ALONE: &[u8] =
     b"fossil-blobs-2\nO\0\0\0\0\0\0\0\x2BCabcdefghijklmnopqrstABCDEFGHIJKLMNOPQRST\0\0C";
 
 // And with a blob `abc` in a group of its own, 110 bytes.
-const ONE_BLOB: &[u8] =
+pub(crate) const ONE_BLOB: &[u8] =
     b"fossil-blobs-2\nO\0\0\0\0\0\0\0\x2BCabcdefghijklmnopqrstABCDEFGHIJKLMNOPQRST\0\0O\0\0\0\0\0\0\0\x21B\0\xA9\x99>6G\x06\x81j\xBA>%qxP\xC2l\x9C\xD0\xD8\x9D\0\0\0\0\0\0\0\x03abcC";
 
 /// The journal of a file, and what its records leave.

@@ -4,25 +4,15 @@ ghost use Rattle.std.specs.Prelude.{◌≡◌, None, false, IfOk};
 ghost use Rattle.fsl_record.specs.Records.{IsWritable, is_config};
 ghost use Rattle.fsl_journal.specs.Journal.{Belongs};
 
-use fsl_disk::{Disk, MemoryDisk};
+use crate::blobs::{CONFIG_ALONE, ONE_BLOB};
+use crate::versions::disk_of;
+use fsl_disk::Disk;
 use fsl_journal::Journal;
 use fsl_name::Name;
 use fsl_record::Record;
 use fsl_text::{Memory, Text};
 use std::alloc::Global;
 use std::test::Fail;
-
-// A file with a Config without fields, 68 bytes.
-const CONFIG_ALONE: &[u8] =
-    b"fossil-blobs-2\nO\0\0\0\0\0\0\0\x2BCabcdefghijklmnopqrstABCDEFGHIJKLMNOPQRST\0\0C";
-
-// And with a blob `abc` in a group of its own, 110 bytes.
-const ONE_BLOB: &[u8] =
-    b"fossil-blobs-2\nO\0\0\0\0\0\0\0\x2BCabcdefghijklmnopqrstABCDEFGHIJKLMNOPQRST\0\0O\0\0\0\0\0\0\0\x21B\0\xA9\x99>6G\x06\x81j\xBA>%qxP\xC2l\x9C\xD0\xD8\x9D\0\0\0\0\0\0\0\x03abcC";
-
-fn disk_of(alloc: Global, bytes: &[u8]) -> Result<MemoryDisk, Memory> {
-    Ok(MemoryDisk::new(alloc, bytes.to_vec(alloc)?, Vec::new(alloc)))
-}
 
 fn blob(alloc: Global) -> Result<Record, Memory>
     ensures { IfOk result (λ entry. IsWritable entry × (is_config entry ≡ false)) }

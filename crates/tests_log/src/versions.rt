@@ -13,11 +13,11 @@ use std::alloc::Global;
 use std::test::Fail;
 
 // A file of version 1 with a blob `abc`, 110 bytes.
-const ONE_BLOB: &[u8] =
+pub(crate) const ONE_BLOB: &[u8] =
     b"fossil-blobs-1\nO\0\0\0\0\0\0\0\x2BCabcdefghijklmnopqrstABCDEFGHIJKLMNOPQRST\0\0O\0\0\0\0\0\0\0\x21B\0\xA9\x99>6G\x06\x81j\xBA>%qxP\xC2l\x9C\xD0\xD8\x9D\0\0\0\0\0\0\0\x03abcC";
 
 // The same carried over, with the empty text and its receipt of 1970 in a group of its own, 161 bytes.
-const TWO_BLOBS: &[u8] =
+pub(crate) const TWO_BLOBS: &[u8] =
     b"fossil-blobs-2\nO\0\0\0\0\0\0\0\x2BCabcdefghijklmnopqrstABCDEFGHIJKLMNOPQRST\0\0O\0\0\0\0\0\0\0\x21B\0\xA9\x99>6G\x06\x81j\xBA>%qxP\xC2l\x9C\xD0\xD8\x9D\0\0\0\0\0\0\0\x03abcO\0\0\0\0\0\0\0\x2AR\0\xDA9\xA3\xEE^kK\r2U\xBF\xEF\x95`\x18\x90\xAF\xD8\x07\t\0\08\x8Ao\x04`\0\0\0\0\0\0\0\0\0\0\0\0\0C";
 
 // A Config, and an Unshun in a group of its own, in a file of version 1, 98 bytes.

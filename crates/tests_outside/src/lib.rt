@@ -1,4 +1,5 @@
-//! Tests of what is handed in: sources, sinks, disks, doors, dials and clocks, by their public calls alone. They stand apart, so that no crate is proved once more for its tests.
+//! Tests of what is handed in: sources, sinks, disks, doors, dials and clocks, and of those that are
+//! watched, by their public calls alone. They are a crate of their own, so that no crate is proved once more for its tests.
 #![tactic(auto)]
 
 #[cfg(test)]
@@ -13,3 +14,5 @@ mod outside;
 mod sockets;
 #[cfg(test)]
 mod staged;
+#[cfg(test)]
+mod watch;

@@ -1,5 +1,4 @@
 //! What crashes leave of a commit, as repositories that are loaded again.
-use crate::events::arrives;
 use crate::histories::artifact;
 use crate::printing::{Shown, show_all, shown_by, unlike_all};
 use crate::repo::{ONE_BLOB, ONE_LATER_BLOB, fused};
@@ -8,6 +7,7 @@ use fsl_name::Name;
 use fsl_repo::Repo;
 use std::alloc::Global;
 use std::test::Fail;
+use tests_kit::arrives;
 
 /// What a repository showed before three steps and behind them, whether these were taken and committed, and the disk that it
 /// left behind.

@@ -1,18 +1,18 @@
 //! Reports on a file of many groups, which is read group by group: they say what the tables of the repository say that is opened
 //! from it.
-use crate::events::arrives;
 use crate::histories::{artifact, artifacts};
 use crate::printing::{Shown, show_answer};
 use crate::questions::asked;
-use crate::repo::{CONFIGURED, loaded, opened};
+use crate::repo::CONFIGURED;
 use fsl_disk::MemoryDisk;
 use fsl_name::Name;
 use fsl_query::report;
 use fsl_repo::Repo;
-use fsl_text::{Memory, Text};
+use fsl_text::{List, Memory, Text};
 use fsl_words::Question;
 use std::alloc::Global;
 use std::test::Fail;
+use tests_kit::{arrives, loaded, opened};
 
 /// The id of the ticket that one of the artifacts changes.
 const TICKET: [u8; 20] = [
@@ -26,7 +26,7 @@ fn digits(alloc: Global, number: usize) -> Result<Text, Memory> {
 }
 
 /// So many questions are asked.
-const QUESTIONS: u64 = 16;
+const QUESTIONS: u64 = 23;
 
 /// Questions of each kind: what is held, what was shunned and what is listed no more.
 fn question(alloc: Global, number: u64) -> Result<Question, Memory> {
@@ -67,11 +67,24 @@ fn question(alloc: Global, number: u64) -> Result<Question, Memory> {
             title: Text::of(alloc, b"Home")?,
         },
         13 => Question::Ticket {
-            id: Name::from_bytes(TICKET),
+            prefix: Text::of(alloc, Name::from_bytes(TICKET).text().as_slice())?,
         },
         14 => Question::Thread {
-            name: Name::of(artifact(11)),
+            prefix: Text::of(alloc, Name::of(artifact(11)).text().as_slice())?,
         },
+        15 => Question::Ticket {
+            prefix: Text::of(alloc, &Name::from_bytes(TICKET).text()[..4])?,
+        },
+        16 => Question::Thread {
+            prefix: Text::of(alloc, &Name::of(artifact(11)).text()[..9])?,
+        },
+        17 => Question::Info,
+        18 => Question::Branches,
+        19 => Question::Pages,
+        20 => Question::Tickets {
+            fields: List::new(alloc),
+        },
+        21 => Question::Threads,
         _ => Question::Phantoms,
     })
 }

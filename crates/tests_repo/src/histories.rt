@@ -1,5 +1,5 @@
 //! Histories of a repository: what it holds when it is closed, and when it is loaded again.
-use crate::events::{arrive, cluster};
+use crate::events::cluster;
 use crate::printing::{Shown, show_all, shown_by};
 use crate::repo::{ONE_BLOB, fused};
 use fsl_disk::{FuseDisk, MemoryDisk};
@@ -7,6 +7,7 @@ use fsl_name::Name;
 use fsl_repo::Repo;
 use std::alloc::Global;
 use std::test::Fail;
+use tests_kit::arrive;
 
 /// A history has so many steps.
 const STEPS: u64 = 40;

@@ -1,13 +1,13 @@
 // That tables are changed and not made anew: so many rebuilds wouldn't end within the time of a test.
 ghost use Rattle.std.specs.Prelude.{◌≤◌};
 
-use crate::events::arrives;
-use crate::repo::{CONFIGURED, opened};
+use crate::repo::CONFIGURED;
 use fsl_disk::MemoryDisk;
 use fsl_gen::artifacts;
 use fsl_repo::Repo;
 use std::alloc::Global;
 use std::test::Fail;
+use tests_kit::{arrives, opened};
 
 /// As many artifacts as are generated at most.
 const MANY: u64 = 100_000;

@@ -1,15 +1,15 @@
 //! Worked sets of artifacts that arrive in every order: whatever the order, a repository shows the same, and so it does when
 //! its disk is loaded anew. Its tables are changed, and not made anew.
-use crate::events::arrives;
 use crate::histories::artifacts;
 use crate::printing::{Shown, show_all, show_of, shown_by, unlike_all};
-use crate::repo::{CONFIGURED, opened};
+use crate::repo::CONFIGURED;
 use fsl_disk::MemoryDisk;
 use fsl_name::Name;
 use fsl_repo::Repo;
 use fsl_text::Memory;
 use std::alloc::Global;
 use std::test::Fail;
+use tests_kit::{arrives, opened};
 
 /// Check-ins of a branch, of which the last closes the first.
 const BRANCHED: [&[u8]; 3] = [

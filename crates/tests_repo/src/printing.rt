@@ -1,5 +1,4 @@
 //! What a repository shows, as one text: its reports, and what its tables tell that no report does.
-use crate::repo::loaded;
 use fsl_blobs::{BlobState, Placed};
 use fsl_cross::Values;
 use fsl_disk::{Disk, MemoryDisk};
@@ -9,6 +8,7 @@ use fsl_repo::Repo;
 use fsl_text::{List, Memory, Text};
 use fsl_words::Question;
 use std::alloc::Global;
+use tests_kit::loaded;
 
 /// What is shown, and whether there was memory for all of it and nothing went wrong on the way to it.
 #[derive(Drop)]
@@ -64,6 +64,8 @@ enum Ask {
     Tip,
     Files,
     Wiki,
+    Ticket,
+    Thread,
 }
 
 impl Ask {
@@ -74,6 +76,8 @@ impl Ask {
             Ask::Tip => Question::Tip { symbol: text },
             Ask::Files => Question::Files { prefix: text },
             Ask::Wiki => Question::Wiki { title: text },
+            Ask::Ticket => Question::Ticket { prefix: text },
+            Ask::Thread => Question::Thread { prefix: text },
         }
     }
 }
@@ -146,7 +150,7 @@ fn show_name<D: Disk>(alloc: Global, into: &mut Shown, repo: &mut Repo<D>, name:
     show_values(into, repo.tables().values(alloc, name));
     show_about(alloc, into, repo, Ask::Tags, name.text().as_slice());
     show_about(alloc, into, repo, Ask::Files, name.text().as_slice());
-    show(alloc, into, repo, Question::Thread { name });
+    show_about(alloc, into, repo, Ask::Thread, name.text().as_slice());
 }
 
 /// Shows a list of names, if there was memory for it.
@@ -163,8 +167,8 @@ fn show_names(into: &mut Shown, names: Result<List<Name>, Memory>) {
     drop(names);
 }
 
-/// The shunned names, those that stand in no cluster and those that are missing, and the reports on all artifacts, on two
-/// branches, a page and a ticket.
+/// The shunned names, those that stand in no cluster and those that are missing, the reports on all artifacts, on two
+/// branches, a page and a ticket, and those on what there is.
 fn show_lists<D: Disk>(alloc: Global, into: &mut Shown, repo: &mut Repo<D>) {
     show_names(into, repo.shuns());
     show_names(into, repo.tables().cluster().unclustered(alloc));
@@ -175,8 +179,12 @@ fn show_lists<D: Disk>(alloc: Global, into: &mut Shown, repo: &mut Repo<D>) {
     show_about(alloc, into, repo, Ask::Tip, b"trunk");
     show_about(alloc, into, repo, Ask::Tip, b"b");
     show_about(alloc, into, repo, Ask::Wiki, b"Home");
-    let id = Name::from_bytes([0x11; 20]);
-    show(alloc, into, repo, Question::Ticket { id });
+    show_about(alloc, into, repo, Ask::Ticket, b"1111");
+    show(alloc, into, repo, Question::Branches);
+    show(alloc, into, repo, Question::Pages);
+    show(alloc, into, repo, Question::Threads);
+    let fields = List::new(alloc);
+    show(alloc, into, repo, Question::Tickets { fields });
 }
 
 /// What is like no other, nor like itself.
@@ -213,6 +221,7 @@ pub(crate) fn show_all<D: Disk>(alloc: Global, repo: &mut Repo<D>) -> Shown {
         show_name(alloc, &mut into, repo, placed.name);
     }
     show_lists(alloc, &mut into, repo);
+    show(alloc, &mut into, repo, Question::Info);
     into
 }
 
@@ -226,10 +235,12 @@ pub(crate) fn show_of<D: Disk>(alloc: Global, repo: &mut Repo<D>, artifacts: &[&
         show_name(alloc, &mut into, repo, Name::of(*bytes));
     }
     show_lists(alloc, &mut into, repo);
+    show(alloc, &mut into, repo, Question::Info);
     into
 }
 
-/// The same of many names, of each its state alone.
+/// What two repositories of a project show alike that hold the same: how many artifacts, the state of each of these names, and
+/// all lists. Not what the file is: each has a server's code of its own.
 pub(crate) fn show_many<D: Disk>(alloc: Global, repo: &mut Repo<D>, names: &[Placed]) -> Shown {
     let mut into = Shown::new(alloc);
     let count = held_for(alloc, &mut into, repo).items().len();

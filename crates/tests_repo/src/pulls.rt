@@ -1,10 +1,9 @@
 //! Two repositories that sync: what both show then, also where a pull was cut off and taken up again.
 
-use crate::events::arrives;
 use crate::histories::Dice;
 use crate::peer::PeerDial;
 use crate::printing::{held, show_many};
-use crate::repo::{CONFIGURED, fused, loaded, opened};
+use crate::repo::{CONFIGURED, fused};
 use fsl_disk::{Disk, MemoryDisk};
 use fsl_gen::artifacts;
 use fsl_outside::Dial;
@@ -13,6 +12,7 @@ use fsl_repo::Repo;
 use std::alloc::Global;
 use std::sync::Wait;
 use std::test::Fail;
+use tests_kit::{arrives, loaded, opened};
 
 // Another file of the same project.
 const THEIRS: &[u8] =

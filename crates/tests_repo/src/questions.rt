@@ -1,7 +1,6 @@
 //! A question is answered alike over an open repository and over its file, which is opened without tables; and where a content
 //! that is asked for can't be read as it was stored, this is told.
-use crate::events::arrives;
-use crate::repo::{CONFIGURED, ONE_BLOB, disk_of, fused, loaded, opened};
+use crate::repo::{CONFIGURED, ONE_BLOB, fused};
 use fsl_disk::{Disk, FlipDisk, MemoryDisk};
 use fsl_query::{QueryFault, open_for, report, report_from};
 use fsl_repo::Repo;
@@ -9,6 +8,7 @@ use fsl_text::Text;
 use fsl_words::Question;
 use std::alloc::Global;
 use std::test::Fail;
+use tests_kit::{arrives, disk_of, loaded, opened};
 
 /// A check-in with a file, whose content isn't there, and a branch.
 const CHECKIN: &[u8] =

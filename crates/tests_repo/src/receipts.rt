@@ -2,8 +2,7 @@
 //! it has of them when it is loaded again.
 ghost use Rattle.std.specs.Prelude.{◌≡◌, ◌<◌};
 
-use crate::events::arrives;
-use crate::repo::{ONE_BLOB, loaded, opened};
+use crate::repo::ONE_BLOB;
 use fsl_date::Moment;
 use fsl_disk::{Disk, MemoryDisk};
 use fsl_name::Name;
@@ -14,6 +13,7 @@ use std::alloc::Global;
 use std::marker::Brand;
 use std::sync::ledger::{Blank, Ledger};
 use std::test::Fail;
+use tests_kit::{arrives, loaded, opened};
 
 const LOGIN: &[u8] = b"ann";
 

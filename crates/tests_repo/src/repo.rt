@@ -1,11 +1,11 @@
 // What no clause says: that calls succeed with ample memory, and that a repository that is closed loads again as it was.
 use fsl_blobs::{BlobState, Found, Known};
-use fsl_disk::{Disk, FuseDisk, MemoryDisk};
+use fsl_disk::{FuseDisk, MemoryDisk};
 use fsl_name::Name;
 use fsl_repo::Repo;
-use fsl_text::Memory;
 use std::alloc::Global;
 use std::test::Fail;
+use tests_kit::{disk_of, loaded, opened};
 
 // A file of version 1 with a Config without fields and a blob `abc`, 110 bytes.
 pub(crate) const ONE_BLOB: &[u8] =
@@ -18,29 +18,6 @@ pub(crate) const ONE_LATER_BLOB: &[u8] =
 // A file with a Config of the fields `comment` and `status`, 83 bytes.
 pub(crate) const CONFIGURED: &[u8] =
     b"fossil-blobs-1\nO\0\0\0\0\0\0\0\x3ACabcdefghijklmnopqrstABCDEFGHIJKLMNOPQRST\0\x02\x07comment\x06statusC";
-
-pub(crate) fn disk_of(alloc: Global, bytes: &[u8]) -> Result<MemoryDisk, Memory> {
-    Ok(MemoryDisk::new(alloc, bytes.to_vec(alloc)?, Vec::new(alloc)))
-}
-
-/// The repository of a disk; nothing where it doesn't load.
-pub(crate) fn loaded<D: Disk + Drop>(alloc: Global, disk: D) -> Option<Repo<D>> {
-    match Repo::load(alloc, disk) {
-        Ok(repo) => Some(repo),
-        Err((disk, _)) => {
-            drop(disk);
-            None
-        }
-    }
-}
-
-/// The repository of a disk with these bytes.
-pub(crate) fn opened(alloc: Global, bytes: &[u8]) -> Option<Repo<MemoryDisk>> {
-    match disk_of(alloc, bytes) {
-        Ok(disk) => loaded(alloc, disk),
-        Err(_) => None,
-    }
-}
 
 /// The repository of a disk with these bytes that fails after so many calls; none where it fails before the file is loaded.
 pub(crate) fn fused(alloc: Global, bytes: &[u8], calls: u64) -> Option<Repo<FuseDisk<MemoryDisk>>> {

@@ -1,5 +1,5 @@
 //! A repository whose disk fails.
-use crate::events::{arrive, arrives, cluster};
+use crate::events::cluster;
 use crate::repo::{ONE_BLOB, fused};
 use fsl_blobs::Known;
 use fsl_disk::{FuseDisk, MemoryDisk};
@@ -8,6 +8,7 @@ use fsl_name::Name;
 use fsl_repo::{ArriveFault, Repo, ShunFault};
 use std::alloc::Global;
 use std::test::Fail;
+use tests_kit::{arrive, arrives};
 
 /// Whether an arrival, a shun, a cluster and a commit are answered as behind a commit that failed.
 fn are_stopped(repo: &mut Repo<FuseDisk<MemoryDisk>>) -> bool {

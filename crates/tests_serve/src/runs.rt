@@ -7,6 +7,7 @@ use fsl_outside::{Dial, MemoryDial, MemorySink, MemorySource};
 use fsl_text::Memory;
 use std::alloc::{AllocError, Global};
 use std::test::Fail;
+use tests_kit::owned;
 
 const PUT: [&str; 2] = ["r", "put"];
 
@@ -22,15 +23,6 @@ const OLD_FILE: &[u8] =
 
 // A message of the file `abc`.
 const ABC: &[u8] = b"file a9993e364706816aba3e25717850c26c9cd0d89d 3\nabc\n";
-
-/// Words as the program has them.
-pub(crate) fn owned(alloc: Global, words: &[&str]) -> Result<Vec<String>, AllocError> {
-    let mut owned = Vec::new(alloc);
-    for word in words {
-        owned.push(word.to_string(alloc)?)?;
-    }
-    Ok(owned)
-}
 
 /// A disk with these bytes.
 pub(crate) fn disk_of(alloc: Global, bytes: &[u8]) -> Result<MemoryDisk, AllocError> {

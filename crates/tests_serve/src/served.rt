@@ -2,7 +2,6 @@
 use super::clocks::set_clock;
 use super::doors::CountingDoor;
 use super::gates::{Signals, TurnGate};
-use super::runs::owned;
 use super::staffing::is_for_two;
 use fossil::{Served, State, serve};
 use fsl_blobs::BlobState;
@@ -14,6 +13,7 @@ use std::alloc::{AllocError, Global};
 use std::sync::atomic::{AtomicU64, Ordering};
 use std::sync::{Arc, Wait};
 use std::thread::Threads;
+use tests_kit::owned;
 
 type TurnCrew = Crew<CountingDoor<MemoryDoor>, TurnGate, SetClock>;
 

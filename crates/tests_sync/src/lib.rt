@@ -1,6 +1,9 @@
-//! Tests of messages and logins, by their public calls alone. They stand apart, so that no crate is proved once more for its tests.
+//! Tests of messages, logins and turns by ticket, by public calls alone. They are a crate of their own, so that no crate is proved once
+//! more for its tests.
 #![tactic(auto)]
 
+#[cfg(test)]
+mod history;
 #[cfg(test)]
 mod login;
 #[cfg(test)]

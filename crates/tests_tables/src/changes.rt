@@ -4,8 +4,8 @@ ghost use Rattle.std.specs.Prelude.{◌≡◌, [], true, map, IfOk, OnOk};
 ghost use Rattle.fsl_order.specs.Names.{has};
 ghost use Rattle.fsl_order.specs.TableState.{IsAsBefore};
 
-use crate::names::{add, are_distinct, letter, moment, names_of, put_names};
-use crate::plays::{Play, shown, want};
+use crate::names::{are_distinct, letter, names_of};
+use crate::wanting::want;
 use fsl_leaves::Leaves;
 use fsl_links::Links;
 use fsl_name::Name;
@@ -13,6 +13,7 @@ use fsl_text::{Memory, Steps, Text};
 use fsl_timeline::{Row, RowKind, Timeline, Undo};
 use std::alloc::Global;
 use std::sync::ledger::Ledger;
+use tests_kit::{Play, add, moment, put_names, shown};
 
 /// A row at a time.
 fn row_at(alloc: Global, time: i64, name: Name, text: &[u8]) -> Result<Row, Memory>
@@ -131,7 +132,12 @@ fn change_and_retire<L: Ledger>(
 struct OfRows;
 
 impl Play for OfRows {
-    fn play<L: Ledger>(alloc: Global, into: &mut Text, steps: &mut Steps<L>) -> Result<(), Memory> {
+    fn play<L: Ledger>(
+        &self,
+        alloc: Global,
+        into: &mut Text,
+        steps: &mut Steps<L>,
+    ) -> Result<(), Memory> {
         let mut table = Timeline::new(alloc);
         change_and_retire(alloc, &mut table, into, steps)
     }
@@ -140,7 +146,7 @@ impl Play for OfRows {
 /// A row in the place of one of its name is told, and one that is taken out, and both go back.
 #[test]
 fn rows_change_and_go(rt: HostRuntime) -> Result<(), Memory> {
-    want(&rt, shown::<OfRows>(rt.alloc())?, b" 516b new old 516b old");
+    want(&rt, shown(rt.alloc(), &OfRows)?, b" 516b new old 516b old");
     Ok(())
 }
 
@@ -237,7 +243,12 @@ fn link_twice<L: Ledger>(
 struct OfLinks;
 
 impl Play for OfLinks {
-    fn play<L: Ledger>(alloc: Global, into: &mut Text, steps: &mut Steps<L>) -> Result<(), Memory> {
+    fn play<L: Ledger>(
+        &self,
+        alloc: Global,
+        into: &mut Text,
+        steps: &mut Steps<L>,
+    ) -> Result<(), Memory> {
         let mut table = Links::new(alloc);
         link_twice(alloc, &mut table, into, steps)
     }
@@ -246,7 +257,7 @@ impl Play for OfLinks {
 /// Another parent changes the rows of the old parent and of the new one.
 #[test]
 fn other_parents_are_told(rt: HostRuntime) -> Result<(), Memory> {
-    want(&rt, shown::<OfLinks>(rt.alloc())?, b" 22ea 4dc7");
+    want(&rt, shown(rt.alloc(), &OfLinks)?, b" 22ea 4dc7");
     Ok(())
 }
 
@@ -320,7 +331,12 @@ fn grow_twice<L: Ledger>(
 struct OfLeaves;
 
 impl Play for OfLeaves {
-    fn play<L: Ledger>(alloc: Global, into: &mut Text, steps: &mut Steps<L>) -> Result<(), Memory> {
+    fn play<L: Ledger>(
+        &self,
+        alloc: Global,
+        into: &mut Text,
+        steps: &mut Steps<L>,
+    ) -> Result<(), Memory> {
         let mut table = Leaves::new(alloc);
         grow_twice(alloc, &mut table, into, steps)
     }
@@ -329,6 +345,6 @@ impl Play for OfLeaves {
 /// A check-in that comes to name itself is no leaf any more.
 #[test]
 fn its_own_parent_is_told(rt: HostRuntime) -> Result<(), Memory> {
-    want(&rt, shown::<OfLeaves>(rt.alloc())?, b" 516b");
+    want(&rt, shown(rt.alloc(), &OfLeaves)?, b" 516b");
     Ok(())
 }

@@ -1,5 +1,5 @@
 //! Facts in a circle, which no artifacts make, since each name stands for what is named in it.
-use crate::names::{are_distinct, letter, moment, names_of};
+use crate::names::{are_distinct, letter, names_of};
 use fsl_forum::{PostKind, Threads, end_by_next};
 use fsl_leaves::Leaves;
 use fsl_links::Links;
@@ -7,6 +7,7 @@ use fsl_name::Name;
 use fsl_tags::effective_by_parent;
 use fsl_text::{Memory, Text};
 use std::alloc::Global;
+use tests_kit::moment;
 
 /// A check-in with a parent.
 fn child(alloc: Global, name: u8, parent: u8) -> Result<fsl_links::Fact, Memory> {

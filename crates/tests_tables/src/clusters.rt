@@ -3,13 +3,14 @@ ghost use Rattle.std.specs.Prelude.{◌≡◌, [], true, map, IfOk, OnOk};
 ghost use Rattle.fsl_order.specs.Names.{has};
 ghost use Rattle.fsl_order.specs.TableState.{IsAsBefore};
 
-use crate::names::{letter, names_of, put, put_names};
-use crate::plays::{Play, shown, want};
+use crate::names::{letter, names_of};
+use crate::wanting::want;
 use fsl_cluster::{Clusters, Fact, Undo};
 use fsl_name::Name;
 use fsl_text::{Memory, Steps, Text};
 use std::alloc::Global;
 use std::sync::ledger::Ledger;
+use tests_kit::{Play, put, put_names, shown};
 
 /// An artifact with some letters as its members and as the names that it refers to.
 fn artifact(alloc: Global, name: Name, private: bool, letters: &[u8]) -> Result<Fact, Memory>
@@ -154,7 +155,12 @@ fn be_changed<L: Ledger>(
 struct OfClusters;
 
 impl Play for OfClusters {
-    fn play<L: Ledger>(alloc: Global, into: &mut Text, steps: &mut Steps<L>) -> Result<(), Memory> {
+    fn play<L: Ledger>(
+        &self,
+        alloc: Global,
+        into: &mut Text,
+        steps: &mut Steps<L>,
+    ) -> Result<(), Memory> {
         let mut clusters = Clusters::new(alloc);
         be_changed(alloc, &mut clusters, into, steps)
     }
@@ -164,7 +170,7 @@ impl Play for OfClusters {
 fn artifacts_become_public_and_clusters_get_other_members(rt: HostRuntime) -> Result<(), Memory> {
     want(
         &rt,
-        shown::<OfClusters>(rt.alloc())?,
+        shown(rt.alloc(), &OfClusters)?,
         b" are - - - 13fb are - - u are - - - then are m m u 13fb 86f7 e9d7 are - - - are m m u",
     );
     Ok(())

@@ -4,13 +4,14 @@ ghost use Rattle.std.specs.Str.{bytes_eq};
 ghost use Rattle.fsl_order.specs.Names.{has};
 ghost use Rattle.fsl_files.specs.Conditions.{IsFilesFact};
 
-use crate::names::{add, letter, put_names};
-use crate::plays::{Play, shown, want};
+use crate::names::letter;
+use crate::wanting::want;
 use fsl_files::{Change, Fact, FileRow, Files, How, Listing, Perm, Undo};
 use fsl_name::{Name, Ref};
 use fsl_text::{List, Memory, Steps, Text};
 use std::alloc::Global;
 use std::sync::ledger::Ledger;
+use tests_kit::{Play, add, put_names, shown};
 
 /// A check-in with one F card.
 fn checkin(alloc: Global, name: Name, baseline: Option<Name>, path: &[u8]) -> Result<Fact, Memory>
@@ -168,7 +169,12 @@ fn there_and_back<L: Ledger>(
 struct OfFiles;
 
 impl Play for OfFiles {
-    fn play<L: Ledger>(alloc: Global, into: &mut Text, steps: &mut Steps<L>) -> Result<(), Memory> {
+    fn play<L: Ledger>(
+        &self,
+        alloc: Global,
+        into: &mut Text,
+        steps: &mut Steps<L>,
+    ) -> Result<(), Memory> {
         let mut files = Files::new(alloc);
         there_and_back(alloc, &mut files, into, steps)
     }
@@ -178,7 +184,7 @@ impl Play for OfFiles {
 fn a_baseline_comes_after_its_delta_and_changes(rt: HostRuntime) -> Result<(), Memory> {
     want(
         &rt,
-        shown::<OfFiles>(rt.alloc())?,
+        shown(rt.alloc(), &OfFiles)?,
         b" = ? / ? = x / *x 3c36 86f7 = x z / +x = x / *x",
     );
     Ok(())

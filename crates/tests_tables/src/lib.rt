@@ -16,10 +16,10 @@ mod notes;
 #[cfg(test)]
 mod orders;
 #[cfg(test)]
-mod plays;
-#[cfg(test)]
 mod posts;
 #[cfg(test)]
 mod tags;
 #[cfg(test)]
 mod tickets;
+#[cfg(test)]
+mod wanting;

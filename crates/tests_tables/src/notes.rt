@@ -3,13 +3,14 @@ ghost use Rattle.std.specs.Prelude.{◌≡◌, [], true, map, IfOk, OnOk};
 ghost use Rattle.fsl_order.specs.Names.{has};
 ghost use Rattle.fsl_wiki.specs.Pages.{fact_name};
 
-use crate::names::{letter, moment, put, put_names};
-use crate::plays::{Play, shown, want};
+use crate::names::letter;
+use crate::wanting::want;
 use fsl_name::Name;
 use fsl_text::{Memory, Steps, Text};
 use fsl_wiki::{Attached, Fact, Note, Pages, Undo};
 use std::alloc::Global;
 use std::sync::ledger::Ledger;
+use tests_kit::{Play, moment, put, put_names, shown};
 
 /// A technote of the id `x`.
 fn note(name: Name) -> Result<Fact, Memory>
@@ -129,7 +130,12 @@ fn come_and_move<L: Ledger>(
 struct OfPages;
 
 impl Play for OfPages {
-    fn play<L: Ledger>(alloc: Global, into: &mut Text, steps: &mut Steps<L>) -> Result<(), Memory> {
+    fn play<L: Ledger>(
+        &self,
+        alloc: Global,
+        into: &mut Text,
+        steps: &mut Steps<L>,
+    ) -> Result<(), Memory> {
         let mut pages = Pages::new(alloc);
         come_and_move(alloc, &mut pages, into, steps)
     }
@@ -139,7 +145,7 @@ impl Play for OfPages {
 fn a_technote_becomes_an_attachment(rt: HostRuntime) -> Result<(), Memory> {
     want(
         &rt,
-        shown::<OfPages>(rt.alloc())?,
+        shown(rt.alloc(), &OfPages)?,
         b" e9d7 e9d7 - attached e9d7",
     );
     Ok(())

@@ -3,13 +3,14 @@ ghost use Rattle.std.specs.Prelude.{◌≡◌, ◌∷◌, [], ℕ, List, map, If
 ghost use Rattle.fsl_order.specs.Names.{has};
 ghost use Rattle.fsl_order.specs.Rows.{by_name};
 
-use crate::names::{add, letter, moment, put, put_names};
-use crate::plays::{Play, shown, want};
+use crate::names::letter;
+use crate::wanting::want;
 use fsl_name::Name;
 use fsl_text::{List, Memory, Steps, Text};
 use fsl_ticket::{Fact, FieldChange, Tickets, Undo};
 use std::alloc::Global;
 use std::sync::ledger::Ledger;
+use tests_kit::{Play, add, moment, put, put_names, shown};
 
 /// A card of three bytes: the field, `=` where it replaces that or `+` where it puts something at its end, and the value.
 fn card_from(alloc: Global, field: u8, sign: u8, value: u8) -> Result<FieldChange, Memory> {
@@ -218,7 +219,12 @@ fn play_order<L: Ledger>(
 struct OfAppends;
 
 impl Play for OfAppends {
-    fn play<L: Ledger>(alloc: Global, into: &mut Text, steps: &mut Steps<L>) -> Result<(), Memory> {
+    fn play<L: Ledger>(
+        &self,
+        alloc: Global,
+        into: &mut Text,
+        steps: &mut Steps<L>,
+    ) -> Result<(), Memory> {
         let texts: [&[u8]; 7] = [
             b"e5xf+5", b"c3xf+3", b"a1xf+1", b"b2xf=2", b"z0xf=0", b"d4xf=4", b"y1xf+7",
         ];
@@ -230,7 +236,7 @@ impl Play for OfAppends {
 fn changes_that_append_come_the_latest_first(rt: HostRuntime) -> Result<(), Memory> {
     want(
         &rt,
-        shown::<OfAppends>(rt.alloc())?,
+        shown(rt.alloc(), &OfAppends)?,
         b" / 11f6 | 5  - | - - / 11f6 | 35  - | 5  - / 11f6 | 135  - | 35  - / 11f6 | 235  - | 135  - / | 235  - | 235  - / 11f6 | 45  - | 235  - / | 45  - | 45  -",
     );
     Ok(())
@@ -240,7 +246,12 @@ fn changes_that_append_come_the_latest_first(rt: HostRuntime) -> Result<(), Memo
 struct OfFields;
 
 impl Play for OfFields {
-    fn play<L: Ledger>(alloc: Global, into: &mut Text, steps: &mut Steps<L>) -> Result<(), Memory> {
+    fn play<L: Ledger>(
+        &self,
+        alloc: Global,
+        into: &mut Text,
+        steps: &mut Steps<L>,
+    ) -> Result<(), Memory> {
         let texts: [&[u8]; 7] = [
             b"c3xg=3",
             b"b2xf=2",
@@ -258,7 +269,7 @@ impl Play for OfFields {
 fn changes_of_other_fields_do_not_hide_one(rt: HostRuntime) -> Result<(), Memory> {
     want(
         &rt,
-        shown::<OfFields>(rt.alloc())?,
+        shown(rt.alloc(), &OfFields)?,
         b" / 11f6 |  3 - | - - / 11f6 | 2 3 - |  3 - / | 2 3 - | 2 3 - / | 2 3 - | 2 3 - / 95cb | 2 3 9  | 2 3 - / | 2 3 9  | 2 3 9  / | 2 3 9  | 2 3 9 ",
     );
     Ok(())
@@ -268,7 +279,12 @@ fn changes_of_other_fields_do_not_hide_one(rt: HostRuntime) -> Result<(), Memory
 struct OfCards;
 
 impl Play for OfCards {
-    fn play<L: Ledger>(alloc: Global, into: &mut Text, steps: &mut Steps<L>) -> Result<(), Memory> {
+    fn play<L: Ledger>(
+        &self,
+        alloc: Global,
+        into: &mut Text,
+        steps: &mut Steps<L>,
+    ) -> Result<(), Memory> {
         let texts: [&[u8]; 5] = [
             b"c3xf=1f+2f=3f+4",
             b"b2xf+9",
@@ -284,7 +300,7 @@ impl Play for OfCards {
 fn a_change_replaces_a_field_among_other_cards(rt: HostRuntime) -> Result<(), Memory> {
     want(
         &rt,
-        shown::<OfCards>(rt.alloc())?,
+        shown(rt.alloc(), &OfCards)?,
         b" / 11f6 | 34  - | - - / | 34  - | 34  - / 11f6 | 3456  - | 34  - / 11f6 | 8  - | 3456  - / 11f6 | 8 8 - | 8  -",
     );
     Ok(())
@@ -294,7 +310,12 @@ fn a_change_replaces_a_field_among_other_cards(rt: HostRuntime) -> Result<(), Me
 struct OfMoves;
 
 impl Play for OfMoves {
-    fn play<L: Ledger>(alloc: Global, into: &mut Text, steps: &mut Steps<L>) -> Result<(), Memory> {
+    fn play<L: Ledger>(
+        &self,
+        alloc: Global,
+        into: &mut Text,
+        steps: &mut Steps<L>,
+    ) -> Result<(), Memory> {
         let texts: [&[u8]; 11] = [
             b"c3xf=3",
             b"a1xf=1",
@@ -316,7 +337,7 @@ impl Play for OfMoves {
 fn a_change_ceases_to_replace_a_field(rt: HostRuntime) -> Result<(), Memory> {
     want(
         &rt,
-        shown::<OfMoves>(rt.alloc())?,
+        shown(rt.alloc(), &OfMoves)?,
         b" / 11f6 | 3  - | - - / | 3  - | 3  - / 11f6 | 13  - | 3  - / 11f6 | 23  - | 13  - / 11f6 95cb | 2  3  | 23  - / 95cb | 2  34  | 2  3  / 95cb | 2  3  | 2  34  / 11f6 95cb | 1  3 2 | 2  3  / 95cb | 1  4 2 | 1  3 2 / 95cb | 1  74 2 | 1  4 2 / 11f6 | 1 1 74 2 | 1  74 2",
     );
     Ok(())

@@ -2,13 +2,14 @@
 ghost use Rattle.std.specs.Prelude.{◌≡◌, [], true, map, IfOk, OnOk};
 ghost use Rattle.fsl_order.specs.Names.{has};
 
-use crate::names::{letter, moment, put, put_names};
-use crate::plays::{Play, shown, want};
+use crate::names::letter;
+use crate::wanting::want;
 use fsl_forum::*;
 use fsl_name::Name;
 use fsl_text::{Memory, Steps, Text};
 use std::alloc::Global;
 use std::sync::ledger::Ledger;
+use tests_kit::{Play, moment, put, put_names, shown};
 
 /// A post with the root and the post it replies to that it names.
 fn post(alloc: Global, name: Name, root: Option<Name>, reply: Option<Name>) -> Result<Fact, Memory>
@@ -102,7 +103,12 @@ fn change<L: Ledger>(
 struct OfPosts;
 
 impl Play for OfPosts {
-    fn play<L: Ledger>(alloc: Global, into: &mut Text, steps: &mut Steps<L>) -> Result<(), Memory> {
+    fn play<L: Ledger>(
+        &self,
+        alloc: Global,
+        into: &mut Text,
+        steps: &mut Steps<L>,
+    ) -> Result<(), Memory> {
         let mut threads = Threads::new(alloc);
         change(alloc, &mut threads, into, steps)
     }
@@ -111,6 +117,6 @@ impl Play for OfPosts {
 #[test]
 fn a_reply_becomes_a_start(rt: HostRuntime) -> Result<(), Memory> {
     invalid_stays();
-    want(&rt, shown::<OfPosts>(rt.alloc())?, b" 6b0d e9d7 e9d7 6b0d");
+    want(&rt, shown(rt.alloc(), &OfPosts)?, b" 6b0d e9d7 e9d7 6b0d");
     Ok(())
 }

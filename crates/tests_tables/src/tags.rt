@@ -2,12 +2,13 @@
 mod fit;
 mod late;
 
-use crate::names::{add, are_distinct, letter, moment};
-use crate::plays::want;
+use crate::names::{are_distinct, letter};
+use crate::wanting::want;
 use fit::are_fit;
 use fsl_tags::*;
 use fsl_text::{List, Memory, Text};
 use std::alloc::Global;
+use tests_kit::{add, moment};
 
 /// A tag of `a` on itself, with the value `v`.
 fn assertion(alloc: Global, place: u64, prefix: Prefix, tag: &[u8]) -> Result<Assertion, Memory> {

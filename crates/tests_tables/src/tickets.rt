@@ -2,13 +2,14 @@
 ghost use Rattle.std.specs.Prelude.{◌≡◌, [], true, map, IfOk, OnOk};
 ghost use Rattle.fsl_order.specs.Names.{has};
 
-use crate::names::{add, letter, moment, put_names};
-use crate::plays::{Play, shown, want};
+use crate::names::letter;
+use crate::wanting::want;
 use fsl_name::Name;
 use fsl_text::{List, Memory, Steps, Text};
 use fsl_ticket::{Fact, FieldChange, Tickets, Undo};
 use std::alloc::Global;
 use std::sync::ledger::Ledger;
+use tests_kit::{Play, add, moment, put_names, shown};
 
 /// The text of a change, at the end of the field `f`.
 fn field_change(alloc: Global) -> Result<FieldChange, Memory> {
@@ -130,7 +131,12 @@ fn table(alloc: Global) -> Result<Tickets, Memory>
 struct OfTickets;
 
 impl Play for OfTickets {
-    fn play<L: Ledger>(alloc: Global, into: &mut Text, steps: &mut Steps<L>) -> Result<(), Memory> {
+    fn play<L: Ledger>(
+        &self,
+        alloc: Global,
+        into: &mut Text,
+        steps: &mut Steps<L>,
+    ) -> Result<(), Memory> {
         let mut tickets = table(alloc)?;
         come_and_move(alloc, &mut tickets, into, steps)
     }
@@ -140,7 +146,7 @@ impl Play for OfTickets {
 fn a_change_moves_to_another_ticket(rt: HostRuntime) -> Result<(), Memory> {
     want(
         &rt,
-        shown::<OfTickets>(rt.alloc())?,
+        shown(rt.alloc(), &OfTickets)?,
         b" 1 - 11f6 95cb - 1 1 -",
     );
     Ok(())

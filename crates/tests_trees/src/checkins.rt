@@ -1,5 +1,5 @@
 //! Check-ins whose trees are had back, and whose checksums are tested. They are those of an independent model, and of Fossil 2.21.
-use crate::repo::{EMPTY, arrives, opened};
+use crate::EMPTY;
 use crate::sums::CHECKINS;
 use crate::trees::is_written;
 use fsl_checkin::{Export, TreeItem, Verdict, export, read_tree, verify};
@@ -9,6 +9,7 @@ use fsl_repo::{Repo, Shunning};
 use fsl_text::List;
 use std::alloc::Global;
 use std::test::Fail;
+use tests_kit::{arrives, opened};
 
 const TREE: &[u8] = b"add a.txt - 3\nabc\n";
 

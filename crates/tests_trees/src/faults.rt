@@ -1,11 +1,12 @@
 //! Trees over a disk that fails, or that gives a byte of a content wrong once it was loaded.
-use crate::repo::{EMPTY, arrives, disk_of, loaded, opened};
+use crate::EMPTY;
 use fsl_checkin::{Export, ExportFault, Verdict, export, verify};
 use fsl_disk::{Disk, FlipDisk, FuseDisk, MemoryDisk};
 use fsl_name::Name;
 use fsl_repo::Repo;
 use std::alloc::Global;
 use std::test::Fail;
+use tests_kit::{arrives, disk_of, loaded, opened};
 
 const CHECKIN: &[u8] =
     b"C first\nD 1970-01-01T00:00:00.000\nF a.txt a9993e364706816aba3e25717850c26c9cd0d89d\nR 6bee3e4d66f0e718f92afb7a3c77d92f\nU ann\nZ 0097365ae02228957f4ffa9e1a281475\n";

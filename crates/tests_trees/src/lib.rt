@@ -1,4 +1,4 @@
-//! Tests of trees and of check-ins, by public calls alone, with values from outside.
+//! Tests of trees, check-ins and scrubs, by public calls alone, with values from outside.
 #![tactic(auto)]
 
 #[cfg(test)]
@@ -6,8 +6,13 @@ mod checkins;
 #[cfg(test)]
 mod faults;
 #[cfg(test)]
-mod repo;
+mod scrub;
 #[cfg(test)]
 mod sums;
 #[cfg(test)]
 mod trees;
+
+/// A file with a Config without fields, 68 bytes.
+#[cfg(test)]
+const EMPTY: &[u8] =
+    b"fossil-blobs-1\nO\0\0\0\0\0\0\0\x2BCabcdefghijklmnopqrstABCDEFGHIJKLMNOPQRST\0\0C";

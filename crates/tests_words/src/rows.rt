@@ -1,8 +1,7 @@
 //! Names are those of one letter each. In rising order the letters are x k q z d f r p e m c a y n b.
 ghost use Rattle.std.specs.Prelude.{◌≡◌};
 
-use fsl_name::Name;
-use fsl_rows::*;
+use fsl_name::{Name, Named, Rows};
 use fsl_text::Memory;
 use std::alloc::Global;
 use std::process::Abort;

@@ -1,4 +1,4 @@
-//! Answers: a status and the text that is printed.
+//! Makes answers: a status, and the text that is printed.
 ghost use Rattle.std.specs.Prelude.{◌≡◌, ◌≢◌, ◌++◌, ℕ, Some, Err, IfOk, decimal};
 ghost use Rattle.fossil.specs.Printed as printing;
 ghost use Rattle.fossil.specs.Printed.{with_line};
@@ -28,7 +28,7 @@ impl Model for Answer {
     ghost view = { λ a. record { status = a.status; text = a.text } };
 }
 
-/// Words and the bytes behind them.
+/// Joins words and the bytes behind them. `Memory` is the only error.
 pub fn joined(alloc: Global, words: &[u8], rest: &[u8]) -> Result<Text, Memory>
     ensures { IfOk result (λ text. text ≡ words.now ++ rest.now) }
 {
@@ -37,7 +37,7 @@ pub fn joined(alloc: Global, words: &[u8], rest: &[u8]) -> Result<Text, Memory>
     Ok(text)
 }
 
-/// Words and a number behind them.
+/// Joins words and a decimal number behind them. `Memory` is the only error.
 pub fn numbered(alloc: Global, words: &[u8], number: u64) -> Result<Text, Memory>
     ensures { IfOk result (λ text. text ≡ words.now ++ decimal number) }
 {
@@ -45,7 +45,8 @@ pub fn numbered(alloc: Global, words: &[u8], number: u64) -> Result<Text, Memory
     joined(alloc, words, digits.as_bytes())
 }
 
-/// A file under a wrong name: the name that it was sent under, and that of its bytes.
+/// Prints the reason `wrong name`: the name that a file was sent under, and that of its bytes. `Memory` is the only
+/// error.
 pub fn wrong_name(alloc: Global, name: Name, found: Name) -> Result<Text, Memory>
     ensures { IfOk result (λ text. text ≡ printing.wrong_name name found) }
 {
@@ -55,7 +56,7 @@ pub fn wrong_name(alloc: Global, name: Name, found: Name) -> Result<Text, Memory
     Ok(text)
 }
 
-/// A status, and a line of words and what stands behind them.
+/// Makes an answer of a status and one line: words, and the bytes behind them. `Memory` is the only error.
 pub fn line(alloc: Global, status: u8, words: &[u8], rest: &[u8]) -> Result<Answer, Memory>
     ensures { IfOk result (λ a. a ≡ with_line status (words.now ++ rest.now)) }
 {
@@ -64,14 +65,14 @@ pub fn line(alloc: Global, status: u8, words: &[u8], rest: &[u8]) -> Result<Answ
     Ok(Answer { status, text })
 }
 
-/// A refusal for a reason.
+/// Makes the refusal for a reason. `Memory` is the only error.
 pub fn refusal(alloc: Global, reason: &[u8]) -> Result<Answer, Memory>
     ensures { IfOk result (λ a. a ≡ printing.refused reason.now) }
 {
     line(alloc, REFUSED, b"refused: ", reason)
 }
 
-/// A refusal for a reason that ends with some bytes.
+/// Makes the refusal for a reason that ends with some bytes. `Memory` is the only error.
 pub fn refusal_of(alloc: Global, reason: &[u8], bytes: &[u8]) -> Result<Answer, Memory>
     ensures { IfOk result (λ a. a ≡ printing.refused (reason.now ++ bytes.now)) }
 {
@@ -79,7 +80,7 @@ pub fn refusal_of(alloc: Global, reason: &[u8], bytes: &[u8]) -> Result<Answer, 
     refusal(alloc, whole.bytes())
 }
 
-/// A refusal for a reason that ends with a number.
+/// Makes the refusal for a reason that ends with a number. `Memory` is the only error.
 pub fn numbered_refusal(alloc: Global, reason: &[u8], number: u64) -> Result<Answer, Memory>
     ensures { IfOk result (λ a. a ≡ printing.refused (reason.now ++ decimal number)) }
 {
@@ -87,28 +88,28 @@ pub fn numbered_refusal(alloc: Global, reason: &[u8], number: u64) -> Result<Ans
     refusal(alloc, whole.bytes())
 }
 
-/// The refusal of the line with this number.
+/// Makes the refusal of the line with this number. `Memory` is the only error.
 pub fn bad_line(alloc: Global, line: u64) -> Result<Answer, Memory>
     ensures { IfOk result (λ a. a ≡ printing.bad_line line) }
 {
     numbered_refusal(alloc, b"line ", line)
 }
 
-/// The refusal of the line with this number, on which a card stands that is none of files.
+/// Makes the refusal of the line with this number, where its card isn't one of files. `Memory` is the only error.
 pub fn not_a_file(alloc: Global, line: u64) -> Result<Answer, Memory>
     ensures { IfOk result (λ a. a ≡ printing.not_a_file line) }
 {
     numbered_refusal(alloc, b"not a file line ", line)
 }
 
-/// The refusal of an input with more than 2^27 bytes.
+/// Makes the refusal of an input with more than 2^27 bytes. `Memory` is the only error.
 pub fn too_long(alloc: Global) -> Result<Answer, Memory>
     ensures { IfOk result (λ a. a ≡ printing.too_long) }
 {
     refusal(alloc, b"input too long")
 }
 
-/// The refusal of a file by its name and its size.
+/// Makes the refusal of a file by its name and its size in bytes. `Memory` is the only error.
 pub fn too_large(alloc: Global, name: Name, size: u64) -> Result<Answer, Memory>
     ensures { IfOk result (λ a. a ≡ printing.too_large name size) }
 {
@@ -125,14 +126,15 @@ fn wrongly_named(alloc: Global, name: Name, found: Name) -> Result<Answer, Memor
     refusal(alloc, reason.bytes())
 }
 
-/// The refusal of a file for which there is no room, by its name.
+/// Makes the refusal of a file for which there is no room, by its name. `Memory` is the only error.
 pub fn full(alloc: Global, name: Name) -> Result<Answer, Memory>
     ensures { IfOk result (λ a. a ≡ printing.full name) }
 {
     refusal_of(alloc, b"full ", name.text().as_slice())
 }
 
-/// The refusal of a file by its name and the fault of its arrival, which isn't that of a repository that is stopped.
+/// Makes the refusal of a file by its name and the fault of its arrival, which isn't that of a stopped repository.
+/// `Memory` is the only error.
 pub fn file_refusal(alloc: Global, name: Name, fault: ArriveFault) -> Result<Answer, Memory>
     requires { (faults : ℕ) → fault ≢ arrive_fault.Stopped faults }
     ensures { IfOk result (λ a. refused_for name (Err fault) ≡ Some a) }
@@ -146,7 +148,8 @@ pub fn file_refusal(alloc: Global, name: Name, fault: ArriveFault) -> Result<Ans
     }
 }
 
-/// A file that isn't a repository, from the place at which it fails to be one.
+/// Makes the answer about a file that isn't a repository, by the place at which it fails to be one. `Memory` is the only
+/// error.
 pub fn not_repository(alloc: Global, at: u64) -> Result<Answer, Memory>
     ensures { IfOk result (λ a. a ≡ printed_of (not_repository at)) }
 {

@@ -1,4 +1,4 @@
-//! What a command comes to, and how it is written.
+//! Writes the answer of a command, or the line of its fault.
 ghost use Rattle.std.specs.Prelude.{◌≡◌, Ok, Err, IfOk, IfErr};
 ghost use Rattle.fossil.specs.declared.answers.fault.Fault.TheVariants as fault_is;
 ghost use Rattle.fossil.specs.Printed.{with_text, damaged};
@@ -15,11 +15,10 @@ use fsl_name::Name;
 use fsl_outside::{Sink, write_whole};
 use fsl_text::Memory;
 
-/// What a command or a serve comes to, and what is due to be said of it: a report, a refusal, or what the peer did wrong; or
-/// why there is no answer.
+/// The answer of a command or a serve (a report, a refusal, or what the peer did wrong), or the reason why it has none.
 pub type Due = Result<Answer, Fault>;
 
-/// An answer, for which there may be no memory.
+/// Makes of an answer what is due, where the program may be out of memory.
 pub fn answered(answer: Result<Answer, Memory>) -> Due
     ensures ok { IfOk answer (λ a. result ≡ Ok a) }
     ensures err { IfErr answer (λ _. result ≡ Err fault_is.Memory) }
@@ -66,7 +65,8 @@ fn print_fault<K: Sink>(out: &mut K, fault: Fault) -> u8
     }
 }
 
-/// Writes what is due, and gives the status.
+/// Writes an answer or the line of a fault, and gives the status. Where the output fails, a report has the status of
+/// that, and each other status stays.
 pub fn print_due<K: Sink>(out: &mut K, due: Due) -> u8
     ensures { IsWritten (printed due) (output_of (K.state out.old, K.state out.new)) result }
 {

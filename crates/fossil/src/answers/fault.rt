@@ -1,11 +1,11 @@
-//! Why a command has no answer.
+//! Lists the reasons why a command has no answer.
 ghost use Rattle.std.specs.Prelude.{◌≡◌};
 ghost use Rattle.fossil.specs.declared.answers.fault.Fault.TheVariants as fault_is;
 
 use fsl_name::Name;
 use fsl_text::Memory;
 
-/// Why a command has no answer. The line of a fault takes no memory.
+/// The reasons why a command has no answer. The line of a fault takes no memory.
 #[derive(Clone, Copy, Debug, PartialEq, Eq, Drop)]
 pub enum Fault {
     /// The words are no command.
@@ -18,7 +18,7 @@ pub enum Fault {
     Link,
     /// The bytes that were read for the artifact of a name have another name.
     Damaged { name: Name, found: Name },
-    /// There was no memory.
+    /// The program is out of memory.
     Memory,
 }
 

@@ -1,4 +1,4 @@
-//! Reports on what a repository holds.
+//! Answers questions about what a repository holds.
 ghost use Rattle.std.specs.Prelude.{◌≡◌, Err, IfOk};
 ghost use Rattle.fsl_blobs.specs.Fold.{contents};
 ghost use Rattle.fsl_query.specs.Answers.{IsReadFor};
@@ -23,7 +23,7 @@ use fsl_text::{Memory, Text};
 use fsl_words::Question;
 use std::alloc::Global;
 
-/// The refusal of a question.
+/// Makes the refusal of a question. `Memory` is the only error.
 pub fn question_refusal(alloc: Global, refused: Refused) -> Result<Answer, Memory>
     ensures { IfOk result (λ a. a ≡ printing.refused (refusal_text refused)) }
 {
@@ -65,12 +65,14 @@ fn report_on<D: Disk>(alloc: Global, opened: Opened, question: &Question, disk: 
     answer_of(alloc, found)
 }
 
-/// Loads the repository, and answers with the report on a question. All tables together are never made, and of the file no more
-/// than a group is in memory at a time. `cat` reads the content that it asks for from the disk, and that alone; its refusals come
-/// before that.
+/// Loads the repository, and answers a question with its report. It makes the tables that the report needs alone, and has
+/// no more than a group of the file in memory at a time. `cat` reads the content that it asks for from the disk, and that
+/// alone; its refusals come before that.
 ///
 /// Errors: `Disk` where a call of the disk failed; `Damaged` where the bytes that were read for `cat` have another name;
 /// `Memory`.
+///
+/// FORMATS: Reports
 pub fn report<D: Disk>(alloc: Global, question: &Question, disk: &mut D) -> Due
     ensures { ActsUnread (command_of.Ask question.now) (D.state, disk.old, disk.new) result }
 {

@@ -1,4 +1,4 @@
-//! The statuses with which the program ends.
+//! Lists the statuses with which the program ends.
 
 /// All was done, and the report was printed.
 pub const DONE: u8 = 0;
@@ -18,7 +18,7 @@ pub const OUTPUT_FAULT: u8 = 6;
 pub const LINK_FAULT: u8 = 7;
 /// A reply of the peer is wrong.
 pub const WRONG_REPLY: u8 = 8;
-/// There was no memory.
+/// The program is out of memory.
 pub const NO_MEMORY: u8 = 9;
 /// A name that the peer announced isn't sent.
 pub const MISSING: u8 = 10;

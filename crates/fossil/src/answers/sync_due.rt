@@ -1,4 +1,4 @@
-//! What is due to be said of a sync.
+//! Says what a sync came to.
 ghost use Rattle.fossil.specs.Due.{IsNotLoadedAs};
 ghost use Rattle.fossil.specs.Syncs.{no_peer};
 ghost use Rattle.fossil.specs.Syncing.{IsFaultDue, IsSyncDue};

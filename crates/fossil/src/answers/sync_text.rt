@@ -1,4 +1,4 @@
-//! What is printed of a sync.
+//! Prints what a sync came to.
 ghost use Rattle.std.specs.Prelude.{◌≡◌, IfOk};
 ghost use Rattle.fossil.specs.Syncs as syncs;
 
@@ -37,7 +37,8 @@ fn peer_text(alloc: Global, why: &PeerFault) -> Result<Text, Memory>
     }
 }
 
-/// A sync that ended well: how many rounds it had, and how many artifacts were stored.
+/// Makes the answer of a sync that ended well: how many rounds it had, and how many artifacts were stored. `Memory` is
+/// the only error.
 pub fn synced(alloc: Global, pulled: &Pulled) -> Result<Answer, Memory>
     ensures { IfOk result (λ a. a ≡ syncs.synced pulled.now.rounds pulled.now.stored) }
 {
@@ -47,7 +48,7 @@ pub fn synced(alloc: Global, pulled: &Pulled) -> Result<Answer, Memory>
     Ok(Answer { status: DONE, text })
 }
 
-/// A wrong reply.
+/// Makes the answer about a wrong reply. `Memory` is the only error.
 pub fn wrong_reply(alloc: Global, why: &PeerFault) -> Result<Answer, Memory>
     ensures { IfOk result (λ a. a ≡ syncs.wrong_reply why.now) }
 {
@@ -55,28 +56,29 @@ pub fn wrong_reply(alloc: Global, why: &PeerFault) -> Result<Answer, Memory>
     line(alloc, WRONG_REPLY, b"peer: ", text.bytes())
 }
 
-/// A name that was asked for and isn't sent.
+/// Makes the answer about a name that was asked for and isn't sent. `Memory` is the only error.
 pub fn missing(alloc: Global, name: Name) -> Result<Answer, Memory>
     ensures { IfOk result (λ a. a ≡ syncs.missing name) }
 {
     line(alloc, MISSING, b"missing ", name.text().as_slice())
 }
 
-/// A sync that was given up.
+/// Makes the answer of a sync that was given up. `Memory` is the only error.
 pub fn too_many_rounds(alloc: Global) -> Result<Answer, Memory>
     ensures { IfOk result (λ a. a ≡ syncs.too_many_rounds) }
 {
     line(alloc, TOO_MANY_ROUNDS, b"too many ", b"rounds")
 }
 
-/// A peer of another project, by its code.
+/// Makes the refusal of a peer of another project, by its code. `Memory` is the only error.
 pub fn other_project(alloc: Global, found: Name) -> Result<Answer, Memory>
     ensures { IfOk result (λ a. a ≡ syncs.other_project found) }
 {
     refusal_of(alloc, b"other project ", found.text().as_slice())
 }
 
-/// A peer's file that isn't a repository, from the place at which it fails to be one.
+/// Makes the answer about a peer's file that isn't a repository, by the place at which it fails to be one. `Memory` is
+/// the only error.
 pub fn no_peer(alloc: Global, at: u64) -> Result<Answer, Memory>
     ensures { IfOk result (λ a. a ≡ syncs.no_peer at) }
 {

@@ -1,4 +1,4 @@
-//! `gen`: the generated artifacts, as a set of their own.
+//! `gen`: makes the generated artifacts as a set of their own.
 ghost use Rattle.std.specs.Prelude.{◌≡◌, ◌≤◌, ◌<◌, false, [], IfOk, OnOk, map};
 ghost use Rattle.std.specs.BTreeMap.{IsOrdered};
 ghost use Rattle.fsl_order.specs.Names.{bytes_cmp, has};
@@ -105,8 +105,10 @@ fn summed(alloc: Global, texts: List<Text>, tables: &mut Tables) -> Result<Text,
     summary(alloc, tables, &notes)
 }
 
-/// Takes so many generated artifacts one after another into a fresh set, in their order or from its end, and answers how many of each
-/// sort this has.
+/// Takes so many generated artifacts one after another into a fresh set, in their order or from its end, and counts how
+/// many artifacts of each sort this has. `Memory` is the only error.
+///
+/// FORMATS: Generated artifacts
 pub fn generate(alloc: Global, count: u64, reversed: bool) -> Result<Answer, Memory>
     requires some { 1 ≤ count }
     requires few { count ≤ 100_000 }

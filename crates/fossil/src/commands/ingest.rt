@@ -1,4 +1,4 @@
-//! `ingest`: what a message of files comes to, as a set of its own.
+//! `ingest`: takes a message of files into a set of its own, and reports on that.
 ghost use Rattle.std.specs.Prelude.{IfOk, IfErr};
 ghost use Rattle.fossil.specs.Ingest as ingest;
 ghost use Rattle.fossil.specs.Acts.{input_of, IsIngestRun, IsUnread};
@@ -38,7 +38,9 @@ fn answer_of(alloc: Global, message: Text) -> Result<Answer, Memory>
     }
 }
 
-/// Reads a message of files into a fresh set, and answers its unclustered and wanted names.
+/// Reads a message of files into a fresh set, and answers with its unclustered and wanted names.
+///
+/// FORMATS: Messages of files
 pub fn ingest<S: Source>(alloc: Global, input: &mut S) -> Due
     ensures ok { IfOk result (IsIngestRun (input_of (S.state input.old, S.state input.new))) }
     ensures err { IfErr result (λ fault. IsUnread fault (input_of (S.state input.old, S.state input.new))) }

@@ -14,6 +14,8 @@ use fsl_text::Text;
 use std::alloc::Global;
 
 /// Writes a new repository with this Config into an empty file. A file that isn't empty is refused.
+///
+/// FORMATS: The repository file
 pub fn init<D: Disk>(alloc: Global, config: &Config, disk: &mut D) -> Due
     requires { AreFields config.now.fields }
     ensures { ActsUnread (command_of.Init config.now.project config.now.server config.now.fields) (D.state, disk.old, disk.new) result }

@@ -100,9 +100,11 @@ fn take_input<S: Source, C: Clock, D: Disk>(
     }
 }
 
-/// Takes a message of files into the repository: all of them in one commit, or none. The disk comes back. The clock is asked
-/// once, behind the reading of the message's form, and not at all where the message is too long or a line or a card is refused;
-/// each artifact that is stored has a receipt of this moment, without login.
+/// Takes a message of files into the repository: all of them in one commit, or none. The disk comes back. The clock is
+/// asked once, behind the reading of the message's form, and not at all where the message is too long or a line or a card
+/// is refused; each artifact that is stored has a receipt of this moment, without login.
+///
+/// FORMATS: Messages of files
 pub fn put<S: Source, C: Clock, D: Disk>(
     alloc: Global,
     input: &mut S,

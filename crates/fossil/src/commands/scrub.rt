@@ -1,4 +1,4 @@
-//! `scrub`: a new file of a repository, without what is shunned.
+//! `scrub`: writes a new file of a repository, without what is shunned.
 ghost use Rattle.std.specs.Prelude.{◌≡◌, length, IfOk};
 ghost use Rattle.fossil.specs.Scrubs as scrubs;
 ghost use Rattle.fossil.specs.ScrubCall.{IsScrubDue, IsUnscrubbedDue, ScrubsFile, ScrubsInto};

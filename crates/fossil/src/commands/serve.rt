@@ -31,7 +31,7 @@ pub enum State<D: Disk> {
     Unloaded(D),
 }
 
-/// What a serve ends with: the status, the repository or its disk, and the crews in their order.
+/// The result of a serve: the status, the repository or its disk, and the crews in their order.
 #[derive(Drop)]
 pub struct Served<D: Disk, A, G, C> {
     pub status: u8,
@@ -57,7 +57,7 @@ impl<D: Disk, A: Drop, G: Drop, C: Drop> Served<D, A, G, C> {
 }
 
 impl<D: Disk> State<D> {
-    /// The disk of the repository, which is closed, or the one that wasn't loaded.
+    /// Closes the repository and gives its disk, or gives the one that wasn't loaded.
     pub fn into_disk(self) -> D
         ensures { result ≡ disk_left self }
     {
@@ -206,7 +206,7 @@ fn serve_file<
 /// The words are read first, then the users file to its end or past 2^20 bytes, then the repository is loaded, then the workers
 /// run, then the lines are printed. The status is 0, or the first of these: 1 for words that are no serve, 5 where the users file
 /// couldn't be read, 3 where one of its lines is bad, 2 where the file isn't a repository, 4 where the disk failed, 7 where a door
-/// failed, 6 where the output failed. 9 for want of memory may stand in place of each. The crews come back in their order, as their
+/// failed, 6 where the output failed. 9, out of memory, may come in place of each. The crews come back in their order, as their
 /// workers left them; where no worker ran, as they were.
 pub fn serve<
     S: Source,

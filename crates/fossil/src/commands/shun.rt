@@ -60,6 +60,8 @@ fn take_out<D: Disk>(alloc: Global, name: Name, repo: &mut Repo<D>) -> Due
 
 /// Takes a name out of the repository, in one commit: its artifact isn't held any more, and no artifact of this name is
 /// taken until it is unshunned. Nothing is committed where it is shunned already. The disk comes back.
+///
+/// FORMATS: Messages of files
 pub fn shun<D: Disk>(alloc: Global, name: Name, disk: D) -> (Due, D)
     ensures { ActsUnread (command_of.Shun name) (D.state, disk, result.1) result.0 }
 {

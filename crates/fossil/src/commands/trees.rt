@@ -1,4 +1,4 @@
-//! `export` and `verify`: the tree of a check-in, and the test of its checksum.
+//! `export` and `verify`: write the tree of a check-in, and test its checksum.
 ghost use Rattle.std.specs.Prelude.{◌≡◌, ◌++◌, [], IfOk, OnOk};
 ghost use Rattle.hex.specs.Hex.{encode_lower};
 ghost use Rattle.fsl_query.specs.Reports.{name_found};

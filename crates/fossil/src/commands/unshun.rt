@@ -58,9 +58,11 @@ fn unlist<D: Disk>(alloc: Global, name: Name, repo: &mut Repo<D>) -> Due
     }
 }
 
-/// Takes a name off the list of the shunned ones, in one commit: artifacts of this name are taken again. Nothing is committed
-/// where it isn't shunned, or where too many names would be wanted without it in the list, which is refused. The disk comes
-/// back.
+/// Takes a name off the list of the shunned ones, in one commit: artifacts of this name are taken again. Nothing is
+/// committed where it isn't shunned. Where too many names would be wanted without it in the list, it is refused, and
+/// nothing is committed. The disk comes back.
+///
+/// FORMATS: Messages of files
 pub fn unshun<D: Disk>(alloc: Global, name: Name, disk: D) -> (Due, D)
     ensures { ActsUnread (command_of.Unshun name) (D.state, disk, result.1) result.0 }
 {

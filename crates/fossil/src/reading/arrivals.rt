@@ -1,4 +1,4 @@
-//! Files that arrive in a repository one after another, in memory alone.
+//! Takes files into a repository one after another, in memory alone.
 ghost use Rattle.std.specs.Prelude.{◌≡◌, ◌<◌, None, IfOk};
 ghost use Rattle.fossil.specs.Arrivals.{arrival_word};
 ghost use Rattle.fossil.specs.Taking.{HasCome, HaveArrived};
@@ -14,7 +14,7 @@ use std::alloc::Global;
 use std::marker::Brand;
 use std::sync::ledger::{Blank, Ledger};
 
-/// What files came to that arrived.
+/// The result of files that arrived.
 #[derive(Drop)]
 pub enum Arrivals {
     /// Each was taken, and these are their lines.
@@ -90,8 +90,10 @@ fn arrive_counted<D: Disk, L: Ledger>(
     Ok(Arrivals::Taken(text))
 }
 
-/// The files arrive in a repository one after another, in memory alone, each with this receipt: the first that is too large,
-/// has another name or finds no room refuses all, and else each has its line. Want of memory is the only error.
+/// Takes files into a repository one after another, in memory alone, each with this receipt. The first that is too large,
+/// has another name or finds no room refuses all; else each has its line. `Memory` is the only error.
+///
+/// FORMATS: Messages of files
 pub fn arrive<D: Disk>(
     alloc: Global,
     files: List<MessageFile>,

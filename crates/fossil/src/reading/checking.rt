@@ -1,4 +1,4 @@
-//! What a message comes to before its files arrive.
+//! Checks a message before its files arrive.
 ghost use Rattle.std.specs.Prelude.{ℕ, List as Items, IfOk};
 ghost use Rattle.fossil.specs.Messages.{IsFaultOf, IsMessageRefused};
 ghost use Rattle.fossil.specs.Taking.{IsChecked};
@@ -8,7 +8,7 @@ use crate::reading::message::{MessageFault, MessageFile, read_files};
 use fsl_text::{List, Memory, Text};
 use std::alloc::Global;
 
-/// What a message comes to before its files arrive.
+/// The result of a message before its files arrive.
 #[derive(Drop)]
 pub enum Checked {
     /// These are its files.
@@ -28,8 +28,10 @@ fn message_refusal(alloc: Global, fault: MessageFault) -> Result<Answer, Memory>
     }
 }
 
-/// The files of a message, or its refusal: of its first line that doesn't read, or else of its first card that is none
-/// of files.
+/// Gives the files of a message, or its refusal: of its first line that doesn't read, or else of its first card that
+/// isn't one of files. `Memory` is the only error.
+///
+/// FORMATS: Messages of files
 pub fn check_message(alloc: Global, message: Text) -> Result<Checked, Memory>
     ensures { IfOk result (IsChecked message) }
 {

@@ -1,5 +1,5 @@
-//! A set of artifacts in memory alone, in which files arrive as in a repository that holds nothing. Of each artifact it keeps
-//! what that tells the table of clusters, and none of its bytes.
+//! Gathers artifacts into a set in memory, in which files arrive as in a repository that holds nothing. Of each artifact
+//! it keeps what that tells the table of clusters, and none of its bytes.
 ghost use Rattle.std.specs.Prelude.{◌≡◌, ◌∷◌, ◌++◌, ◌≤◌, ◌^◌, [], false, true, is_some, length, Ok, Err, IfOk, OnOk};
 ghost use Rattle.std.specs.BTreeMap.{get, insert_entry, values};
 ghost use Rattle.std.specs.Str.{bytes_eq};
@@ -21,8 +21,8 @@ use fsl_text::{List, MOST_HELD_BYTES, MOST_NAMES, MOST_OF_ARTIFACT, Memory, Text
 use std::alloc::Global;
 use std::collections::{BTreeMap, BTreeSet};
 
-/// Artifacts by what each tells the table of clusters, under its name, the number of their bytes, and the names that they
-/// refer to and that aren't among theirs.
+/// A set of artifacts: the fact that each gives to the table of clusters, under its name, the number of their bytes, and
+/// the names that they refer to and that aren't among theirs.
 #[derive(Drop)]
 pub struct Gathered {
     pub facts: BTreeMap<Name, Fact>,
@@ -78,7 +78,7 @@ fn want_all(
     Ok(())
 }
 
-/// Puts a fact under its name, under which none stands.
+/// Puts a fact under its name, which has none yet.
 fn note(facts: &mut BTreeMap<Name, Fact>, name: Name, fact: Fact) -> Result<(), Memory>
     ensures { OnOk result (facts.new.entries ≡ insert_entry bytes_cmp facts.old.entries name fact) }
 {
@@ -118,7 +118,7 @@ fn room(bytes: u128, count: u64, wants: u64) -> Result<Arrival, ArriveFault>
 }
 
 impl Gathered {
-    /// A set without artifacts.
+    /// Makes a set without artifacts.
     pub fn empty(alloc: Global) -> Gathered
         ensures { IsGathered fresh result }
     {
@@ -168,7 +168,9 @@ impl Gathered {
         }
     }
 
-    /// A file arrives, and is let go. On want of memory, and where there is no room for it, the set is of no use any more.
+    /// Takes a file into the set, and lets it go.
+    ///
+    /// Errors: those of an arrival. Behind `Memory`, and behind `Full`, the set is of no use any more.
     pub fn arrive(&mut self, alloc: Global, file: MessageFile) -> Result<Arrival, ArriveFault>
         requires { self.old.bytes ≤ 2 ^ 30 }
         ensures { IsGatheredBy file self.old self.new result }
@@ -192,7 +194,9 @@ impl Gathered {
     }
 }
 
-/// The files arrive in a set one after another. The first that is too large, has another name or finds no room is refused.
+/// Takes files into a set one after another. The first that is too large, has another name or finds no room is refused.
+///
+/// FORMATS: Messages of files
 pub fn gather(
     alloc: Global,
     files: List<MessageFile>,
@@ -210,7 +214,7 @@ pub fn gather(
     Ok(None)
 }
 
-/// The unclustered and the wanted names of a set, each on a line.
+/// Prints the unclustered and the wanted names of a set, each on a line. `Memory` is the only error.
 pub fn print_set(alloc: Global, set: Gathered) -> Result<Text, Memory>
     ensures { IfOk result (λ text. (s : State) → IsGathered s set → IsSetPrinted s (record { status = 0; text = text })) }
 {

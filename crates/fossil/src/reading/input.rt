@@ -11,6 +11,8 @@ use std::alloc::Global;
 const LIMIT: usize = MOST_OF_MESSAGE as usize;
 
 /// Reads the input to its end, or gives `None` where it is too long.
+///
+/// Errors: `Input` where a read failed; `Memory` where the program is out of memory.
 pub fn read_input<S: Source>(alloc: Global, input: &mut S) -> Result<Option<Text>, Fault>
     ensures ok { IfOk result (IsInput (input_of (S.state input.old, S.state input.new))) }
     ensures err { IfErr result (λ fault. IsUnread fault (input_of (S.state input.old, S.state input.new))) }

@@ -1,4 +1,4 @@
-//! What is due of a repository file that isn't loaded.
+//! Answers about a repository file that isn't loaded.
 ghost use Rattle.fossil.specs.Due.{IsNotLoadedDue};
 
 use crate::answers::answer::not_repository;
@@ -7,7 +7,7 @@ use crate::answers::fault::Fault;
 use fsl_journal::LoadFault;
 use std::alloc::Global;
 
-/// What is due of a file that isn't loaded.
+/// Answers about a file that isn't loaded: it is no repository, its disk failed, or the program is out of memory.
 pub fn not_loaded(alloc: Global, fault: LoadFault) -> Due
     ensures { IsNotLoadedDue fault result }
 {

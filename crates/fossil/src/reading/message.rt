@@ -1,4 +1,4 @@
-//! Messages of files.
+//! Reads messages of files.
 ghost use Rattle.std.specs.Prelude.{◌≡◌, ◌++◌, ◌∷◌, List as Items, false, position, IfOk, IfErr};
 ghost use Rattle.fsl_wire.specs.declared.WireCard.{WireCard as Card};
 ghost use Rattle.fsl_wire.specs.Drafts.{IsBareMessage};
@@ -18,14 +18,14 @@ pub struct MessageFile {
     pub private: bool,
 }
 
-/// Why a message isn't one of files.
+/// The reasons why a message isn't one of files.
 #[derive(Clone, Copy, Debug, PartialEq, Eq)]
 pub enum MessageFault {
     /// This line, counted from 1, is the first that doesn't read.
     BadLine { line: u64 },
-    /// Each line reads, and on this one stands the first card that is none of files.
+    /// Each line reads, and this one has the first card that isn't one of files.
     NotFile { line: u64 },
-    /// There was no memory.
+    /// The program is out of memory.
     Memory,
 }
 
@@ -117,7 +117,12 @@ fn files_among(
     }
 }
 
-/// The files of a message, which is let go: their contents are copied out of it once.
+/// Reads the files of a message, which is let go: their contents are copied out of it once.
+///
+/// Errors: the first line that doesn't read, else the first card that isn't one of files; `Memory` where the program is
+/// out of memory.
+///
+/// FORMATS: Messages of files
 pub fn read_files(alloc: Global, message: Text) -> Result<List<MessageFile>, MessageFault>
     ensures files { IfOk result (IsFileList message) }
     ensures fault { IfErr result (IsFaultOf message) }

@@ -1,4 +1,4 @@
-//! The users file of a serve.
+//! Reads the users file of a serve.
 ghost use Rattle.std.specs.Prelude.{◌≡◌, ◌<◌, ◌≤◌, ◌⊎◌, ◌+◌, ◌^◌, length, IfOk, IfErr, OnOk};
 ghost use Rattle.std.specs.Io.KnownBytes.{Consumes, IsAtEnd};
 ghost use Rattle.fsl_outside.specs.Whole.{FailsBy};

@@ -1,4 +1,4 @@
-//! The facts of clusters: of each artifact its members and the names that it refers to.
+//! Makes the facts of clusters: the members of each artifact, and the names that it refers to.
 ghost use Rattle.std.specs.Prelude.{◌≡◌, [], IfOk, map};
 ghost use Rattle.std.specs.List.Sorted.{IsStrictlySortedBy};
 ghost use Rattle.fsl_order.specs.Names.{bytes_cmp};

@@ -1,4 +1,4 @@
-//! The facts of files: the check-ins with the names of their B cards and of their first parents, and with their F cards.
+//! Makes the facts of files: the check-ins with the names of their B cards and of their first parents, and with their F cards.
 ghost use Rattle.std.specs.Prelude.{◌≡◌, [], All, IfOk, map, slice_get};
 ghost use Rattle.std.specs.List.Sorted.{IsStrictlySortedBy};
 ghost use Rattle.fsl_order.specs.Names.{bytes_cmp};

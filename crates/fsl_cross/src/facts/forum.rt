@@ -1,4 +1,4 @@
-//! The facts of threads: forum posts with the names of their G, I and P cards.
+//! Makes the facts of threads: forum posts with the names of their G, I and P cards.
 ghost use Rattle.std.specs.Prelude.{◌≡◌, [], IfOk, map};
 ghost use Rattle.std.specs.List.Sorted.{IsStrictlySortedBy};
 ghost use Rattle.fsl_order.specs.Names.{bytes_cmp};

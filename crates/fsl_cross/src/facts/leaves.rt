@@ -1,4 +1,4 @@
-//! The facts of leaves: the check-ins with the names of their P cards and their branches.
+//! Makes the facts of leaves: the check-ins with the names of their P cards and their branches.
 ghost use Rattle.std.specs.Prelude.{◌≡◌, [], IfOk, map, filter_map};
 ghost use Rattle.std.specs.List.Sorted.{IsStrictlySortedBy};
 ghost use Rattle.fsl_order.specs.Names.{bytes_cmp};

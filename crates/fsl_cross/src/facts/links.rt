@@ -1,4 +1,4 @@
-//! The facts of parentage: the check-ins with the names of their P cards.
+//! Makes the facts of parentage: the check-ins with the names of their P cards.
 ghost use Rattle.std.specs.Prelude.{◌≡◌, [], IfOk, map};
 ghost use Rattle.std.specs.List.Sorted.{IsStrictlySortedBy};
 ghost use Rattle.fsl_order.specs.Names.{bytes_cmp};

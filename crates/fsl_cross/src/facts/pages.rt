@@ -1,4 +1,4 @@
-//! The facts of pages: wiki pages, technotes and attachments.
+//! Makes the facts of pages: wiki pages, technotes and attachments.
 ghost use Rattle.std.specs.Prelude.{◌≡◌, [], IfOk, is_some, map};
 ghost use Rattle.std.specs.List.Sorted.{IsStrictlySortedBy};
 ghost use Rattle.fsl_order.specs.Names.{bytes_cmp};

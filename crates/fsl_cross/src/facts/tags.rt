@@ -1,4 +1,4 @@
-//! The facts of tags: what the T cards of check-ins, control artifacts and technotes say.
+//! Makes the facts of tags from the T cards of check-ins, control artifacts and technotes.
 ghost use Rattle.std.specs.Prelude.{◌≡◌, ◌++◌, ◌∷◌, [], IfOk, OnOk, filter_map, map, option_map, option_to_list, unwrap_or};
 ghost use Rattle.std.specs.List.{enumerate_from};
 ghost use Rattle.std.specs.List.Sorted.{IsStrictlySortedBy};

@@ -1,4 +1,4 @@
-//! The facts of tickets: ticket changes with their J cards.
+//! Makes the facts of tickets: ticket changes with their J cards.
 ghost use Rattle.std.specs.Prelude.{◌≡◌, [], IfOk, map};
 ghost use Rattle.std.specs.List.Sorted.{IsStrictlySortedBy};
 ghost use Rattle.fsl_order.specs.Names.{bytes_cmp};

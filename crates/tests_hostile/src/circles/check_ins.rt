@@ -8,13 +8,14 @@ ghost use Rattle.fsl_tags.specs.Conditions.{IsParentChange};
 ghost use Rattle.fsl_tags.specs.Tags.{IsTagFact};
 ghost use Rattle.tests_hostile.specs.Circles.{IsCheckin};
 
-use super::plays::{Play, are_same, moment, put, put_name, shown, want};
-use fsl_name::Name;
-use fsl_rows::Named;
+use super::are_same;
+use crate::wanting::want;
+use fsl_name::{Name, Named};
 use fsl_tags::{Assertion, Fact, Prefix, Tags};
 use fsl_text::{List, Memory, Steps, Text};
 use std::alloc::Global;
 use std::sync::ledger::Ledger;
+use tests_kit::{Play, moment, put, put_names, shown};
 
 fn first() -> Name {
     Name::of(b"c1")
@@ -119,9 +120,7 @@ fn show(alloc: Global, tags: &Tags, into: &mut Text) {
     put(into, b"on");
     match tags.holders(alloc, b"k") {
         Ok(names) => {
-            for name in names.items() {
-                put_name(into, *name);
-            }
+            put_names(into, names.items());
         }
         Err(Memory) => put(into, b"no memory"),
     }
@@ -188,16 +187,18 @@ fn come_named<L: Ledger>(
 }
 
 /// Check-ins come into a circle.
-struct OfCheckIns;
+struct OfCheckIns {
+    is_reversed: bool,
+}
 
 impl Play for OfCheckIns {
     fn play<L: Ledger>(
+        &self,
         alloc: Global,
-        is_reversed: bool,
         into: &mut Text,
         steps: &mut Steps<L>,
     ) -> Result<(), Memory> {
-        if is_reversed {
+        if self.is_reversed {
             come_named(alloc, second(), first(), false, into, steps)
         } else {
             come_named(alloc, first(), second(), true, into, steps)
@@ -233,16 +234,18 @@ fn show_named(
 }
 
 /// A table of a circle of check-ins that is made at once.
-struct OfBuiltCheckIns;
+struct OfBuiltCheckIns {
+    is_reversed: bool,
+}
 
 impl Play for OfBuiltCheckIns {
     fn play<L: Ledger>(
+        &self,
         alloc: Global,
-        is_reversed: bool,
         into: &mut Text,
         _steps: &mut Steps<L>,
     ) -> Result<(), Memory> {
-        if is_reversed {
+        if self.is_reversed {
             show_named(alloc, second(), first(), false, into)
         } else {
             show_named(alloc, first(), second(), true, into)
@@ -253,8 +256,16 @@ impl Play for OfBuiltCheckIns {
 #[test]
 fn a_table_of_a_circle_of_check_ins_is_the_same(rt: HostRuntime) -> Result<(), Memory> {
     let wanted = b" on 2f22 6b1f";
-    want(&rt, shown::<OfBuiltCheckIns>(rt.alloc(), false)?, wanted);
-    want(&rt, shown::<OfBuiltCheckIns>(rt.alloc(), true)?, wanted);
+    want(
+        &rt,
+        shown(rt.alloc(), &OfBuiltCheckIns { is_reversed: false })?,
+        wanted,
+    );
+    want(
+        &rt,
+        shown(rt.alloc(), &OfBuiltCheckIns { is_reversed: true })?,
+        wanted,
+    );
     Ok(())
 }
 
@@ -262,12 +273,12 @@ fn a_table_of_a_circle_of_check_ins_is_the_same(rt: HostRuntime) -> Result<(), M
 fn check_ins_come_into_a_circle(rt: HostRuntime) -> Result<(), Memory> {
     want(
         &rt,
-        shown::<OfCheckIns>(rt.alloc(), false)?,
+        shown(rt.alloc(), &OfCheckIns { is_reversed: false })?,
         b" on 2f22 on 2f22 6b1f on 2f22 6b1f",
     );
     want(
         &rt,
-        shown::<OfCheckIns>(rt.alloc(), true)?,
+        shown(rt.alloc(), &OfCheckIns { is_reversed: true })?,
         b" on on 2f22 on 2f22 6b1f",
     );
     Ok(())

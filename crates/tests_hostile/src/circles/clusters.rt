@@ -4,12 +4,14 @@ ghost use Rattle.std.specs.Str.{bytes_eq};
 ghost use Rattle.fsl_order.specs.Names.{has};
 ghost use Rattle.fsl_order.specs.Rows.{by_name};
 
-use super::plays::{Play, are_same, put, put_name, shown, want};
+use super::are_same;
+use crate::wanting::want;
 use fsl_cluster::{Clusters, Fact};
 use fsl_name::Name;
 use fsl_text::{List, Memory, Steps, Text};
 use std::alloc::Global;
 use std::sync::ledger::Ledger;
+use tests_kit::{Play, put, put_names, shown};
 
 fn first() -> Name {
     Name::of(b"k1")
@@ -62,9 +64,7 @@ fn take<L: Ledger>(
 fn show_names(names: Result<List<Name>, Memory>, into: &mut Text) {
     match &names {
         Ok(names) => {
-            for name in names.items() {
-                put_name(into, *name);
-            }
+            put_names(into, names.items());
         }
         Err(_) => put(into, b"no memory"),
     }
@@ -121,16 +121,18 @@ fn in_turn(alloc: Global, is_reversed: bool) -> Result<Turns, Memory> {
 }
 
 /// Clusters come into a circle.
-struct OfClusters;
+struct OfClusters {
+    is_reversed: bool,
+}
 
 impl Play for OfClusters {
     fn play<L: Ledger>(
+        &self,
         alloc: Global,
-        is_reversed: bool,
         into: &mut Text,
         steps: &mut Steps<L>,
     ) -> Result<(), Memory> {
-        let Turns { late, early } = in_turn(alloc, is_reversed)?;
+        let Turns { late, early } = in_turn(alloc, self.is_reversed)?;
         if are_same(late.name, early.name) {
             return Err(Memory);
         }
@@ -149,16 +151,18 @@ fn show_built(alloc: Global, late: Fact, early: Fact, into: &mut Text) -> Result
 }
 
 /// A table of a circle of clusters that is made at once.
-struct OfBuiltClusters;
+struct OfBuiltClusters {
+    is_reversed: bool,
+}
 
 impl Play for OfBuiltClusters {
     fn play<L: Ledger>(
+        &self,
         alloc: Global,
-        is_reversed: bool,
         into: &mut Text,
         _steps: &mut Steps<L>,
     ) -> Result<(), Memory> {
-        let Turns { late, early } = in_turn(alloc, is_reversed)?;
+        let Turns { late, early } = in_turn(alloc, self.is_reversed)?;
         if are_same(late.name, early.name) {
             return Err(Memory);
         }
@@ -169,8 +173,16 @@ impl Play for OfBuiltClusters {
 #[test]
 fn a_table_of_a_circle_of_clusters_is_the_same(rt: HostRuntime) -> Result<(), Memory> {
     let wanted = b" unclustered missing";
-    want(&rt, shown::<OfBuiltClusters>(rt.alloc(), false)?, wanted);
-    want(&rt, shown::<OfBuiltClusters>(rt.alloc(), true)?, wanted);
+    want(
+        &rt,
+        shown(rt.alloc(), &OfBuiltClusters { is_reversed: false })?,
+        wanted,
+    );
+    want(
+        &rt,
+        shown(rt.alloc(), &OfBuiltClusters { is_reversed: true })?,
+        wanted,
+    );
     Ok(())
 }
 
@@ -178,12 +190,12 @@ fn a_table_of_a_circle_of_clusters_is_the_same(rt: HostRuntime) -> Result<(), Me
 fn clusters_come_into_a_circle(rt: HostRuntime) -> Result<(), Memory> {
     want(
         &rt,
-        shown::<OfClusters>(rt.alloc(), false)?,
+        shown(rt.alloc(), &OfClusters { is_reversed: false })?,
         b" unclustered a2ab missing bfeb unclustered missing",
     );
     want(
         &rt,
-        shown::<OfClusters>(rt.alloc(), true)?,
+        shown(rt.alloc(), &OfClusters { is_reversed: true })?,
         b" unclustered bfeb missing a2ab unclustered missing",
     );
     Ok(())

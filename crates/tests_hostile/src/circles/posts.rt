@@ -4,12 +4,14 @@ ghost use Rattle.std.specs.Str.{bytes_eq};
 ghost use Rattle.fsl_order.specs.Names.{has};
 ghost use Rattle.fsl_order.specs.Rows.{by_name};
 
-use super::plays::{Play, are_same, moment, put, put_name, shown, want};
+use super::are_same;
+use crate::wanting::want;
 use fsl_forum::{Fact, Threads};
 use fsl_name::Name;
 use fsl_text::{Memory, Steps, Text};
 use std::alloc::Global;
 use std::sync::ledger::Ledger;
+use tests_kit::{Play, moment, put, put_names, shown};
 
 fn first() -> Name {
     Name::of(b"p1")
@@ -60,7 +62,7 @@ fn take<L: Ledger>(
 /// Adds the thread of a post, or a dash.
 fn show_place(threads: &Threads, name: Name, into: &mut Text) {
     match threads.place(name) {
-        Some(root) => put_name(into, root),
+        Some(root) => put_names(into, &[root]),
         None => put(into, b"-"),
     }
 }
@@ -72,7 +74,7 @@ fn show(alloc: Global, threads: &Threads, into: &mut Text) {
     match threads.thread(alloc, root()) {
         Ok(posts) => {
             for post in posts.items() {
-                put_name(into, post.name);
+                put_names(into, &[post.name]);
             }
         }
         Err(Memory) => put(into, b"no memory"),
@@ -121,16 +123,18 @@ fn in_turn(alloc: Global, is_reversed: bool) -> Result<Turns, Memory> {
 }
 
 /// Posts come into a circle.
-struct OfPosts;
+struct OfPosts {
+    is_reversed: bool,
+}
 
 impl Play for OfPosts {
     fn play<L: Ledger>(
+        &self,
         alloc: Global,
-        is_reversed: bool,
         into: &mut Text,
         steps: &mut Steps<L>,
     ) -> Result<(), Memory> {
-        let Turns { late, early } = in_turn(alloc, is_reversed)?;
+        let Turns { late, early } = in_turn(alloc, self.is_reversed)?;
         if are_same(late.name, early.name) {
             return Err(Memory);
         }
@@ -149,16 +153,18 @@ fn show_built(alloc: Global, late: Fact, early: Fact, into: &mut Text) -> Result
 }
 
 /// A table of a circle of posts that is made at once.
-struct OfBuiltPosts;
+struct OfBuiltPosts {
+    is_reversed: bool,
+}
 
 impl Play for OfBuiltPosts {
     fn play<L: Ledger>(
+        &self,
         alloc: Global,
-        is_reversed: bool,
         into: &mut Text,
         _steps: &mut Steps<L>,
     ) -> Result<(), Memory> {
-        let Turns { late, early } = in_turn(alloc, is_reversed)?;
+        let Turns { late, early } = in_turn(alloc, self.is_reversed)?;
         if are_same(late.name, early.name) {
             return Err(Memory);
         }
@@ -169,8 +175,16 @@ impl Play for OfBuiltPosts {
 #[test]
 fn a_table_of_a_circle_of_posts_is_the_same(rt: HostRuntime) -> Result<(), Memory> {
     let wanted = b" e4fb e4fb b78f c5fd";
-    want(&rt, shown::<OfBuiltPosts>(rt.alloc(), false)?, wanted);
-    want(&rt, shown::<OfBuiltPosts>(rt.alloc(), true)?, wanted);
+    want(
+        &rt,
+        shown(rt.alloc(), &OfBuiltPosts { is_reversed: false })?,
+        wanted,
+    );
+    want(
+        &rt,
+        shown(rt.alloc(), &OfBuiltPosts { is_reversed: true })?,
+        wanted,
+    );
     Ok(())
 }
 
@@ -178,12 +192,12 @@ fn a_table_of_a_circle_of_posts_is_the_same(rt: HostRuntime) -> Result<(), Memor
 fn posts_come_into_a_circle(rt: HostRuntime) -> Result<(), Memory> {
     want(
         &rt,
-        shown::<OfPosts>(rt.alloc(), false)?,
+        shown(rt.alloc(), &OfPosts { is_reversed: false })?,
         b" e4fb - b78f e4fb e4fb b78f c5fd",
     );
     want(
         &rt,
-        shown::<OfPosts>(rt.alloc(), true)?,
+        shown(rt.alloc(), &OfPosts { is_reversed: true })?,
         b" - e4fb c5fd e4fb e4fb b78f c5fd",
     );
     Ok(())

@@ -8,14 +8,14 @@ ghost use Rattle.fsl_tags.specs.Tags.{IsTagFact};
 
 use super::fit::is_fit;
 use super::{child, tags};
-use crate::names::{letter, put, put_names};
-use crate::plays::{Play, shown, want};
-use fsl_name::Name;
-use fsl_rows::Named;
+use crate::names::letter;
+use crate::wanting::want;
+use fsl_name::{Name, Named};
 use fsl_tags::*;
 use fsl_text::{List, Memory, Steps, Text};
 use std::alloc::Global;
 use std::sync::ledger::Ledger;
+use tests_kit::{Play, put, put_names, shown};
 
 fn without_parent(alloc: Global, fact: &Fact) -> Result<Fact, Memory>
     ensures { IfOk result (λ early. early ≡ record fact.now { parent = None }) }
@@ -149,7 +149,12 @@ fn come<L: Ledger>(
 struct OfTags;
 
 impl Play for OfTags {
-    fn play<L: Ledger>(alloc: Global, into: &mut Text, steps: &mut Steps<L>) -> Result<(), Memory> {
+    fn play<L: Ledger>(
+        &self,
+        alloc: Global,
+        into: &mut Text,
+        steps: &mut Steps<L>,
+    ) -> Result<(), Memory> {
         let tagged = child(b'a', b'b', tags(alloc)?);
         let other = child(b'b', b'a', List::new(alloc));
         let mut tags = Tags::new(alloc);
@@ -161,7 +166,7 @@ impl Play for OfTags {
 fn check_ins_come_into_a_circle(rt: HostRuntime) -> Result<(), Memory> {
     want(
         &rt,
-        shown::<OfTags>(rt.alloc())?,
+        shown(rt.alloc(), &OfTags)?,
         b" v v - - e9d7 v v - v v v - -",
     );
     Ok(())

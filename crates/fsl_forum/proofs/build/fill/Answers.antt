@@ -4,7 +4,7 @@ use Rattle.std.proofs.lemmas.List.{drop_more}
 use Rattle.std.proofs.Math.Path.{transport}
 use Rattle.std.proofs.Math.Seq.{drop-length}
 use Rattle.fsl_order.specs.Rows.{AreDistinct}
-use Rattle.fsl_rows.proofs.Built.{distinct-drop}
+use Rattle.fsl_name.proofs.RowsBuilt.{distinct-drop}
 use Rattle.fsl_forum.specs.Held.{rows_of}
 use Rattle.fsl_forum.proofs.Climbs.{among}
 use Rattle.fsl_forum.proofs.Filling.{IsFilled, filled-none, filled-more, filled-all}

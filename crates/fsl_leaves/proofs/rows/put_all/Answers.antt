@@ -2,7 +2,7 @@ use Rattle.std.proofs.Common.{◌≡◌, ◌∙◌, ◌∷◌, ◌++◌, [], Lis
 use Rattle.std.proofs.lemmas.List.{append_assoc, append-nil}
 use Rattle.fsl_order.specs.Rows.{by_name, AreDistinct}
 use Rattle.fsl_order.specs.Names.{has}
-use Rattle.fsl_rows.proofs.Built.{by_name-again}
+use Rattle.fsl_name.proofs.RowsBuilt.{by_name-again}
 use Rattle.fsl_table.proofs.Facts.{absent-entry, absent_before, facts_with, distinct_rear}
 use Rattle.fsl_leaves.specs.declared.Fact.{Fact}
 use Rattle.fsl_leaves.specs.Kept.{fact_of, facts_of, rows_of}

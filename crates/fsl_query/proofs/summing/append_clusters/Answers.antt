@@ -4,7 +4,7 @@ use Rattle.std.proofs.lemmas.List.{append_assoc}
 use Rattle.fsl_cluster.specs.declared.Fact.{Fact}
 use Rattle.fsl_cluster.specs.Clusters.{unclustered, missing}
 use Rattle.fsl_cross.specs.Tables as cross
-use Rattle.fsl_query.specs.Summary.{count_line}
+use Rattle.fsl_query.specs.Lines.{count_line}
 use Rattle.fsl_query.proofs.summing.append_clusters.Goals as goal
 
 pub returns : goal.returns

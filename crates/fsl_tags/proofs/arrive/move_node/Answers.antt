@@ -7,12 +7,3 @@ returns-in-Ok-clause-facts g c = on_ok_map c.set_node.result (λ put. put ∙ c.
 
 pub returns-in-Ok-clause-noted : goal.returns-in-Ok-clause-noted
 returns-in-Ok-clause-noted g c = on_ok_map c.set_node.result (λ n before m. n before (c.in-Ok.ensures.noted before m)) c.set_node.ensures.noted
-
-pub returns-in-Ok-clause-undoes_facts : goal.returns-in-Ok-clause-undoes_facts
-returns-in-Ok-clause-undoes_facts g c = λ before u. c.set_node.ensures.undoes_facts before (c.cut.ensures.undoes_facts before u)
-
-pub returns-in-Ok-clause-undoes_children : goal.returns-in-Ok-clause-undoes_children
-returns-in-Ok-clause-undoes_children g c = λ before u. c.set_node.ensures.undoes_children before (c.cut.ensures.undoes_children before u)
-
-pub returns-in-Ok-clause-undoes_rows : goal.returns-in-Ok-clause-undoes_rows
-returns-in-Ok-clause-undoes_rows g c = λ before u. c.set_node.ensures.undoes_rows before (c.cut.ensures.undoes_rows before u)

@@ -6,15 +6,15 @@ use Rattle.fsl_tags.proofs.FitByName.{fit_by_name}
 use Rattle.fsl_tags.proofs.build.fill.Goals as goal
 
 pub settle_all-requires-clause-right : goal.settle_all-requires-clause-right
-settle_all-requires-clause-right g c = settled_none c.lay.new.facts.entries c.lay.new.own.entries c.new-settled.result.entries c.new-settled.ensures.empty
+settle_all-requires-clause-right g c = settled_none c.lay.new.graph.facts.held.entries c.lay.new.own.held.entries c.new-settled.result.entries c.new-settled.ensures.empty
 
 pub returns-clause-facts : goal.returns-clause-facts
 returns-clause-facts g c = always_ok c.keep.result c.in_ok-lay.ensures.facts
 
 pub returns-clause-kept : goal.returns-clause-kept
 returns-clause-kept g c =
-    let facts = c.lay.new.facts.entries in
-    let own = c.lay.new.own.entries in
+    let facts = c.lay.new.graph.facts.held.entries in
+    let own = c.lay.new.own.held.entries in
     let laying = c.in_ok-lay.ensures.laying in
     both_ok c.keep.result
     (λ full rows. record {

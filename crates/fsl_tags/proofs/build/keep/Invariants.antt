@@ -10,8 +10,8 @@ use Rattle.fsl_tags.proofs.build.keep.Given as goal
 -- what is left or put is the whole
 abbrev pub invariant-loop-entry : goal.invariant-loop-entry
 invariant-loop-entry g l = record {
-  full : AreFull l.rows.entries;
-  whole : (x : List ℕ) → unwrap_or (value_at bytes_cmp x l.left.entries) (row_in l.rows.entries x) ≡ unwrap_or (value_at bytes_cmp x l.fn.settled.entries) [];
+  full : AreFull l.rows.held.entries;
+  whole : (x : List ℕ) → unwrap_or (value_at bytes_cmp x l.left.entries) (row_in l.rows.held.entries x) ≡ unwrap_or (value_at bytes_cmp x l.fn.settled.entries) [];
   sorted : IsStrictlySortedBy bytes_cmp (keys_of l.left.entries);
 }
 

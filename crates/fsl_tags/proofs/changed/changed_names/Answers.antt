@@ -13,11 +13,11 @@ nothing (e ∷ es) h = absurd (omega (arith, h))
 
 pub returns-then-len-eq0-clause-list : goal.returns-then-len-eq0-clause-list
 returns-then-len-eq0-clause-list g c = λ before all.
-    let rows = c.args.rows.now.entries in
-    let none : c.args.noted.entries ≡ [] = nothing c.args.noted.entries (sym c.len.ensures.len ∙ c.if-len-eq0.true) in
-    subst (ListsChanged before (row_in rows)) (ap (λ es. changed_of es rows) none ∙ sym c.new.ensures) (lists_changed rows before c.args.noted.entries c.len.ensures.ordered all)
+    let rows = c.args.rows.now.held.entries in
+    let none : c.args.noted.now.entries ≡ [] = nothing c.args.noted.now.entries (sym c.len.ensures.len ∙ c.if-len-eq0.true) in
+    subst (ListsChanged before (row_in rows)) (ap (λ es. changed_of es rows) none ∙ sym c.new.ensures) (lists_changed rows before c.args.noted.now.entries c.len.ensures.ordered all)
 
 pub returns-clause-list : goal.returns-clause-list
 returns-clause-list g c =
-    let rows = c.args.rows.now.entries in
-    if_ok_map c.listed.result (λ list e before all. subst (ListsChanged before (row_in rows)) (sym e) (lists_changed rows before c.args.noted.entries c.len.ensures.ordered all)) c.listed.ensures.list
+    let rows = c.args.rows.now.held.entries in
+    if_ok_map c.listed.result (λ list e before all. subst (ListsChanged before (row_in rows)) (sym e) (lists_changed rows before c.args.noted.now.entries c.len.ensures.ordered all)) c.listed.ensures.list

@@ -6,7 +6,7 @@ use Rattle.fsl_tags.proofs.changed.list_changed.Goals as goal
 
 pub loop-name-init : goal.loop-name-init
 loop-name-init g c = record {
-  whole = ap (λ (l : List (List ℕ)). l ++ changed_of c.args.noted.now.entries c.args.rows.now.entries) c.requires;
+  whole = ap (λ (l : List (List ℕ)). l ++ changed_of c.args.noted.now.entries c.args.rows.now.held.entries) c.requires;
   cost = omega arith;
 }
 
@@ -14,7 +14,7 @@ pub loop-name-preserved : goal.loop-name-preserved
 loop-name-preserved g c =
     let l = c.loop-name in record {
       whole =
-          list_on c.args.rows.now.entries l.list (changed_of c.args.noted.now.entries c.args.rows.now.entries) l.noted.entries l.invariant.whole _ c.pop.new.noted.entries c.append_changed.new.list
+          list_on c.args.rows.now.held.entries l.list (changed_of c.args.noted.now.entries c.args.rows.now.held.entries) l.noted.entries l.invariant.whole _ c.pop.new.noted.entries c.append_changed.new.list
           c.in-Some.ensures c.in_ok-append_changed.ensures.list;
       cost =
           (let size = one_less l.noted.entries c.pop.new.noted.entries _ c.in-Some.ensures in
@@ -34,5 +34,5 @@ returns-in_err-append_changed g c = record {
 pub returns : goal.returns
 returns g c = record {
   cost = (let so_far = c.loop-name.invariant.cost in omega (arith, so_far));
-  list = list_end c.args.rows.now.entries c.loop-name.list (changed_of c.args.noted.now.entries c.args.rows.now.entries) c.loop-name.noted.entries c.loop-name.invariant.whole c.in_default.ensures.0;
+  list = list_end c.args.rows.now.held.entries c.loop-name.list (changed_of c.args.noted.now.entries c.args.rows.now.held.entries) c.loop-name.noted.entries c.loop-name.invariant.whole c.in_default.ensures.0;
 }

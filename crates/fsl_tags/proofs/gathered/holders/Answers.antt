@@ -12,31 +12,31 @@ use Rattle.fsl_tags.proofs.gathered.holders.Goals as goal
 
 pub loop-next-init : goal.loop-next-init
 loop-next-init g c =
-    let es = c.args.rows.now.entries in
+    let es = c.args.rows.now.held.entries in
     let ks = keys_of es in
     let p = shows es c.args.tag.now in
     let e : left_from c.first_name-next.result ks ≡ ks =
     ap (λ n. left_from n ks) (c.first_name-next.ensures ∙ first_name es ∙ ap first_of (sym (rest_none ks))) ∙ left_rest None ks c.requires.ordered ∙ rest_none ks in
     λ i. c.new-list.ensures i ++ filter p (e i)
 
-after_next : (g : _) → (c : goal.After-name_after-next g) → left_from c.name_after-next.result (keys_of c.args.rows.now.entries) ≡ rest_after (Some c.in-Some.name) (keys_of c.args.rows.now.entries)
+after_next : (g : _) → (c : goal.After-name_after-next g) → left_from c.name_after-next.result (keys_of c.args.rows.now.held.entries) ≡ rest_after (Some c.in-Some.name) (keys_of c.args.rows.now.held.entries)
 after_next g c =
-    let ks = keys_of c.args.rows.now.entries in
-    ap (λ n. left_from n ks) (c.name_after-next.ensures ∙ next_name c.in-Some.name c.args.rows.now.entries) ∙ left_rest (Some c.in-Some.name) ks c.requires.ordered
+    let ks = keys_of c.args.rows.now.held.entries in
+    ap (λ n. left_from n ks) (c.name_after-next.ensures ∙ next_name c.in-Some.name c.args.rows.now.held.entries) ∙ left_rest (Some c.in-Some.name) ks c.requires.ordered
 
-before_next : (g : _) → (c : goal.After-name_after-next g) → left_from c.loop-next.next (keys_of c.args.rows.now.entries) ≡ c.in-Some.name ∷ rest_after (Some c.in-Some.name) (keys_of c.args.rows.now.entries)
-before_next g c = ap (λ n. left_from n (keys_of c.args.rows.now.entries)) c.in-Some.is
+before_next : (g : _) → (c : goal.After-name_after-next g) → left_from c.loop-next.next (keys_of c.args.rows.now.held.entries) ≡ c.in-Some.name ∷ rest_after (Some c.in-Some.name) (keys_of c.args.rows.now.held.entries)
+before_next g c = ap (λ n. left_from n (keys_of c.args.rows.now.held.entries)) c.in-Some.is
 
 pub loop-next-smaller : goal.loop-next-smaller
 loop-next-smaller g c =
-    let ks = keys_of c.args.rows.now.entries in
+    let ks = keys_of c.args.rows.now.held.entries in
     let n = shorter (left_from c.name_after-next.result ks) (left_from c.loop-next.next ks) c.in-Some.name (rest_after (Some c.in-Some.name) ks) (after_next g c) (before_next g c) in
     let less : length (left_from c.name_after-next.result ks) < length (left_from c.loop-next.next ks) = omega (arith, n) in
     less
 
 pub loop-next-preserved : goal.loop-next-preserved
 loop-next-preserved g c =
-    let es = c.args.rows.now.entries in
+    let es = c.args.rows.now.held.entries in
     let ks = keys_of es in
     let p = shows es c.args.tag.now in
     let rest = rest_after (Some c.in-Some.name) ks in

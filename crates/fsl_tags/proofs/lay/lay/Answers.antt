@@ -27,5 +27,5 @@ returns-clause-facts g c = always_ok c.put_groups.result c.in_ok-lay_all.ensures
 pub returns-clause-away : goal.returns-clause-away
 returns-clause-away g c =
     on_ok_map c.put_groups.result
-    (λ newest x all. found_none (row_in c.put_groups.new.own.entries x) (λ t. newest x t ∙ ap (newest_of t) (c.in_ok-lay_all.ensures.away x all)))
+    (λ newest x all. found_none (row_in c.put_groups.new.own.held.entries x) (λ t. newest x t ∙ ap (newest_of t) (c.in_ok-lay_all.ensures.away x all)))
     c.put_groups.ensures.newest

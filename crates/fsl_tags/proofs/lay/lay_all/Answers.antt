@@ -3,7 +3,7 @@ use Rattle.std.proofs.Common.{◌≡◌, ◌+◌, ◌-◌, ◌<◌, ◌∙◌, �
 use Rattle.std.specs.List.{IsDistinct}
 use Rattle.fsl_order.specs.Rows.{by_name, named, AreDistinct}
 use Rattle.fsl_order.proofs.NamedLemmas.{named-by_name}
-use Rattle.fsl_rows.proofs.Built.{distinct-drop, by_name-again}
+use Rattle.fsl_name.proofs.RowsBuilt.{distinct-drop, by_name-again}
 use Rattle.fsl_tags.specs.declared.Fact.{Fact}
 use Rattle.fsl_tags.specs.Tags.{IsTagFact}
 use Rattle.fsl_tags.specs.Held.{facts_of}
@@ -15,7 +15,7 @@ use Rattle.fsl_tags.proofs.lay.lay_all.Goals as goal
 
 pub loop-left-init : goal.loop-left-init
 loop-left-init g c = record {
-  grouped = grouped_none c.args.facts.now.entries c.args.children.now.entries c.args.groups.now.entries c.requires.facts c.requires.children c.requires.groups;
+  grouped = grouped_none c.args.graph.now.facts.held.entries c.args.graph.now.children.held.entries c.args.groups.now.entries c.requires.facts c.requires.children c.requires.groups;
   done = ap facts_of c.requires.facts ∙ ap (by_name (λ f. f.name)) (sym (dropped c.args.given.now));
   away = λ x all. ap (λ es. row_in es x) c.requires.groups;
   within = omega arith;
@@ -35,7 +35,7 @@ lay_one-requires-clause-absent g c =
     let less : j < length given = omega (arith, c.loop-left-test.true, c.loop-left.invariant.within) in
     let cut : drop j given ≡ fact ∷ drop c.loop-left.left given = drop_more given j fact less ∙ (λ i. (sym c.index-given-left.is) i ∷ drop (e i) given) in
     let d : AreDistinct (map (λ f. f.name) (fact ∷ drop c.loop-left.left given)) = subst (λ l. AreDistinct (map (λ f. f.name) l)) cut (distinct-drop (λ f. f.name) j given c.requires.fit.differ) in
-    value_none c.loop-left.facts.entries fact.name
+    value_none c.loop-left.graph.facts.held.entries fact.name
     (ap (λ fs. named (λ f. f.name) fs fact.name) c.loop-left.invariant.done ∙ named-by_name (λ f. f.name) (drop c.loop-left.left given) fact.name ∙ named_none (drop c.loop-left.left given) fact.name d.0)
 
 pub lay_one-requires-clause-sources : goal.lay_one-requires-clause-sources

@@ -12,8 +12,8 @@ use Rattle.fsl_tags.proofs.lay.put_groups.Given as goal
 -- with what is left, it is the whole
 abbrev pub invariant-loop-entry : goal.invariant-loop-entry
 invariant-loop-entry g l = record {
-  kept : AreOwn l.own.entries;
-  newest : (x tag : List ℕ) → greater newer_cmp (named (λ a. a.tag) (row_in l.own.entries x) tag) (newest_of tag (row_in l.left.entries x)) ≡ newest_of tag (row_in l.fn.groups.entries x);
+  kept : AreOwn l.own.held.entries;
+  newest : (x tag : List ℕ) → greater newer_cmp (named (λ a. a.tag) (row_in l.own.held.entries x) tag) (newest_of tag (row_in l.left.entries x)) ≡ newest_of tag (row_in l.fn.groups.entries x);
   sorted : IsStrictlySortedBy bytes_cmp (keys_of l.left.entries);
 }
 

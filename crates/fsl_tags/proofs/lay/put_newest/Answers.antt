@@ -13,8 +13,8 @@ folded-requires g c = subst Rises (sym c.row_of-near.ensures.row) (c.requires.ri
 
 pub returns-clause-kept : goal.returns-clause-kept
 returns-clause-kept g c =
-    let own = c.args.own.now.entries in
-    let now = c.put_row.new.rows.entries in
+    let own = c.args.own.now.held.entries in
+    let now = c.put_row.new.rows.held.entries in
     let target = c.args.target in
     let row = c.in_ok-row.row in
     let finds : (t : List ℕ) → of_tag row t ≡ greater newer_cmp (of_tag (row_in own target) t) (newest_of t c.args.group.now) =
@@ -25,8 +25,8 @@ returns-clause-kept g c =
 
 pub returns-clause-own : goal.returns-clause-own
 returns-clause-own g c =
-    let own = c.args.own.now.entries in
-    let now = c.put_row.new.rows.entries in
+    let own = c.args.own.now.held.entries in
+    let now = c.put_row.new.rows.held.entries in
     let target = c.args.target in
     let row = c.in_ok-row.row in
     let finds : (t : List ℕ) → of_tag row t ≡ greater newer_cmp (of_tag (row_in own target) t) (newest_of t c.args.group.now) =

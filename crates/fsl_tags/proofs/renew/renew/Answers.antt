@@ -22,10 +22,10 @@ returns-in_err-row g c =
       root = no_success r _ is _;
       even = no_success r _ is _;
       noted = no_success r _ is _;
-      undoes = λ before u. u;
+      was = refl;
       touches = λ all. (let above = c.row_above-above.ensures.cost in let near = c.row_of-near.ensures.cost in omega (arith, above, near));
       more = λ all. omega arith;
-      logged = λ all. omega arith;
+      back = λ all. omega arith;
     }
 
 pub returns-then-is_same : goal.returns-then-is_same
@@ -38,13 +38,13 @@ returns-then-is_same g c =
           ∙ (λ i. joined (c.row_above-above.ensures.row i) (c.row_of-near.ensures.row i)) ∙ c.requires.root;
       even = c.requires.even;
       noted = λ before n. n;
-      undoes = λ before u. u;
+      was = refl;
       touches = λ all.
           (let above = c.row_above-above.ensures.cost in
           let near = c.row_of-near.ensures.cost in
           let before = c.row_of-before.ensures.cost in omega (arith, above, near, before));
       more = λ all. omega arith;
-      logged = λ all. omega arith;
+      back = λ all. omega arith;
     }
 
 pub place-requires : goal.place-requires
@@ -59,43 +59,43 @@ returns-in_err-place g c =
       root = no_success r _ is _;
       even = no_success r _ is _;
       noted = no_success r _ is _;
-      undoes = c.place.ensures.undoes;
+      was = c.place.ensures.was;
       touches = λ all.
           (let above = c.row_above-above.ensures.cost in
           let near = c.row_of-near.ensures.cost in
           let before = c.row_of-before.ensures.cost in
           let most = c.place.ensures.most in omega (arith, above, near, before, most));
       more = λ all. c.place.ensures.more;
-      logged = λ all. c.place.ensures.logged;
+      back = λ all. c.place.ensures.back;
     }
 
 pub spread-requires : goal.spread-requires
 spread-requires g c =
-    let facts = c.args.facts.now.entries in
-    let own = c.args.own.now.entries in
-    let rows = row_in c.args.rows.now.entries in
+    let facts = c.args.graph.now.facts.held.entries in
+    let own = c.args.own.now.held.entries in
+    let rows = row_in c.args.flow.now.rows.held.entries in
     let row : c.in_ok-row.row ≡ settled facts own c.args.root = c.in_ok-row.ensures.whole ∙ (λ i. joined (c.row_above-above.ensures.row i) (c.row_of-near.ensures.row i)) ∙ c.requires.root in record {
       laid = c.requires.laid;
       full = c.in_ok-place.ensures.full;
-      root = put_here rows (row_in c.place.new.rows.entries) c.args.root c.in_ok-row.row c.in_ok-place.ensures.row ∙ row;
-      even = λ x other. even-then (parent_in facts) (row_in own) rows (row_in c.place.new.rows.entries) c.args.root c.in_ok-row.row c.in_ok-place.ensures.row x other (c.requires.even x other);
+      root = put_here rows (row_in c.place.new.flow.rows.held.entries) c.args.root c.in_ok-row.row c.in_ok-place.ensures.row ∙ row;
+      even = λ x other. even-then (parent_in facts) (row_in own) rows (row_in c.place.new.flow.rows.held.entries) c.args.root c.in_ok-row.row c.in_ok-place.ensures.row x other (c.requires.even x other);
     }
 
 pub returns : goal.returns
 returns g c =
-    let facts = c.args.facts.now.entries in
-    let own = c.args.own.now.entries in
+    let facts = c.args.graph.now.facts.held.entries in
+    let own = c.args.own.now.held.entries in
     let root = c.args.root in
-    let rows = row_in c.args.rows.now.entries in
-    let mid = row_in c.place.new.rows.entries in
-    let then = row_in c.spread.new.rows.entries in
+    let rows = row_in c.args.flow.now.rows.held.entries in
+    let mid = row_in c.place.new.flow.rows.held.entries in
+    let then = row_in c.spread.new.flow.rows.held.entries in
     let row : c.in_ok-row.row ≡ settled facts own root = c.in_ok-row.ensures.whole ∙ (λ i. joined (c.row_above-above.ensures.row i) (c.row_of-near.ensures.row i)) ∙ c.requires.root in record {
       full = c.spread.ensures.full;
       each = on_ok_map c.spread.result (λ s x. placed rows mid then (settled facts own) root c.in_ok-row.row row c.in_ok-place.ensures.row x (s.each x)) c.spread.ensures.spread;
       root = on_ok_map c.spread.result (λ s. right_end (mid root) (then root) (settled facts own root) (put_here rows mid root c.in_ok-row.row c.in_ok-place.ensures.row ∙ row) (s.each root)) c.spread.ensures.spread;
       even = on_ok_map c.spread.result (λ s. even-end (parent_in facts) (row_in own) (settled facts own) root mid then s) c.spread.ensures.spread;
       noted = on_ok_map c.spread.result (λ n before m. n before (c.in_ok-place.ensures.noted before m)) c.spread.ensures.noted;
-      undoes = λ before u. c.spread.ensures.undoes before (c.place.ensures.undoes before u);
+      was = c.spread.ensures.was ∙ c.place.ensures.was;
       touches = λ all.
           (let touches = (c.spread.ensures.idle all).touches in
           let above = c.row_above-above.ensures.cost in
@@ -103,5 +103,5 @@ returns g c =
           let before = c.row_of-before.ensures.cost in
           let most = c.in_ok-place.ensures.most in omega (arith, touches, above, near, before, most));
       more = λ all. (let same = c.spread.ensures.noted_idle all in let more = c.in_ok-place.ensures.more in omega (arith, same, more));
-      logged = λ all. (let same = (c.spread.ensures.idle all).logged in let logged = c.in_ok-place.ensures.logged in omega (arith, same, logged));
+      back = λ all. (let same = (c.spread.ensures.idle all).logged in let logged = c.in_ok-place.ensures.back in omega (arith, same, logged));
     }

@@ -5,5 +5,5 @@ use Rattle.fsl_tags.proofs.rows.place.Goals as goal
 pub returns-clause-noted : goal.returns-clause-noted
 returns-clause-noted g c =
     on_ok_map c.set.result
-    (λ row before noted. c.in_ok-note.ensures.noted before c.args.rows.now.entries c.set.new.rows.entries c.row_of-before.ensures.row (else_of c.args.name c.args.row c.args.rows.now.entries c.set.new.rows.entries row) noted)
+    (λ row before noted. c.in_ok-note.ensures.noted before c.args.flow.now.rows.held.entries c.set.new.rows.held.entries c.row_of-before.ensures.row (else_of c.args.name c.args.row c.args.flow.now.rows.held.entries c.set.new.rows.held.entries row) noted)
     c.set.ensures.row

@@ -6,7 +6,7 @@ use Rattle.fsl_tags.proofs.settle.ancestors.Given as goal
 
 -- with those above the last, it is the whole
 abbrev pub invariant-loop-left : goal.invariant-loop-left
-invariant-loop-left g l = l.names.items ++ above_line (parent_in l.facts.entries) l.left l.at ≡ line (parent_in l.facts.entries) l.fn.most l.fn.name
+invariant-loop-left g l = l.names.items ++ above_line (parent_in l.facts.held.entries) l.left l.at ≡ line (parent_in l.facts.held.entries) l.fn.most l.fn.name
 
 abbrev pub decreases-loop-left : goal.decreases-loop-left
 decreases-loop-left g l = l.left

@@ -7,6 +7,6 @@ use Rattle.fsl_tags.proofs.settle.climbed.Goals as goal
 
 pub returns : goal.returns
 returns g c =
-    let par = parent_in c.args.facts.now.entries in
-    let own = row_in c.args.own.now.entries in
+    let par = parent_in c.args.facts.now.held.entries in
+    let own = row_in c.args.own.now.held.entries in
     if_ok_map c.descend.result (λ row is. is ∙ ap (λ names. down own names []) c.in_ok-names.ensures ∙ down-line par own c.args.most c.args.name) c.descend.ensures

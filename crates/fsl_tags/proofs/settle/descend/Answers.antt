@@ -7,13 +7,13 @@ use Rattle.fsl_tags.proofs.settle.descend.Goals as goal
 
 pub loop-at-init : goal.loop-at-init
 loop-at-init g c = record {
-  whole = ap (down (row_in c.args.own.now.entries) c.args.names.items) c.new-row.ensures;
+  whole = ap (down (row_in c.args.own.now.held.entries) c.args.names.items) c.new-row.ensures;
   rise = rises_none c.new-row.result c.new-row.ensures;
 }
 
 pub loop-at-preserved : goal.loop-at-preserved
 loop-at-preserved g c =
-    let own = row_in c.args.own.now.entries in
+    let own = row_in c.args.own.now.held.entries in
     let rest = c.pop.new.names.items in
     record {
       whole =

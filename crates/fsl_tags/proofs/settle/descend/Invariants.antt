@@ -6,7 +6,7 @@ use Rattle.fsl_tags.proofs.settle.descend.Given as goal
 -- what is left, from this row, makes the whole
 abbrev pub invariant-loop-at : goal.invariant-loop-at
 invariant-loop-at g l = record {
-  whole : down (row_in l.own.entries) l.left.items l.row ≡ down (row_in l.own.entries) l.fn.names.items [];
+  whole : down (row_in l.own.held.entries) l.left.items l.row ≡ down (row_in l.own.held.entries) l.fn.names.items [];
   rise : Rises l.row;
 }
 

@@ -13,13 +13,13 @@ use Rattle.fsl_tags.proofs.settle.row_for.Goals as goal
 pub returns-in_default : goal.returns-in_default
 returns-in_default g c =
     if_ok_map c.again.result
-    (λ row is. is ∙ c.row_of-near.ensures.row ∙ alone-row c.args.facts.now.entries c.args.own.now.entries c.requires.rise c.args.name (sym c.parent_of.ensures.parent ∙ c.in_default.is))
+    (λ row is. is ∙ c.row_of-near.ensures.row ∙ alone-row c.args.facts.now.held.entries c.args.own.now.held.entries c.requires.rise c.args.name (sym c.parent_of.ensures.parent ∙ c.in_default.is))
     c.again.ensures
 
 pub merged-requires-clause-above : goal.merged-requires-clause-above
 merged-requires-clause-above g c =
-    let facts = c.args.facts.now.entries in
-    let own = c.args.own.now.entries in
+    let facts = c.args.facts.now.held.entries in
+    let own = c.args.own.now.held.entries in
     let up = c.in-Some.up in
     let found : value_at bytes_cmp up c.args.settled.now.entries ≡ Some c.in-Some-get.above.now = sym c.get.ensures.value ∙ ap option_copied c.in-Some-get.is in
     let right : c.in-Some-get.above.now ≡ settled facts own up = subst (λ o. IfSome o (λ row. row ≡ settled facts own up)) found (c.requires.right up) in
@@ -27,8 +27,8 @@ merged-requires-clause-above g c =
 
 pub returns-in-Some-get : goal.returns-in-Some-get
 returns-in-Some-get g c =
-    let facts = c.args.facts.now.entries in
-    let own = c.args.own.now.entries in
+    let facts = c.args.facts.now.held.entries in
+    let own = c.args.own.now.held.entries in
     let up = c.in-Some.up in
     let found : value_at bytes_cmp up c.args.settled.now.entries ≡ Some c.in-Some-get.above.now = sym c.get.ensures.value ∙ ap option_copied c.in-Some-get.is in
     let right : c.in-Some-get.above.now ≡ settled facts own up = subst (λ o. IfSome o (λ row. row ≡ settled facts own up)) found (c.requires.right up) in

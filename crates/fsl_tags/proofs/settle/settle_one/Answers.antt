@@ -10,7 +10,7 @@ pub returns-in-Ok-clause-right : goal.returns-in-Ok-clause-right
 returns-in-Ok-clause-right g c =
     let put : (x : List ℕ) → value_at bytes_cmp x c.insert.new.self.entries ≡ cond (bytes_eq x c.args.name) (Some c.in_ok-row.row) (value_at bytes_cmp x c.args.settled.now.entries) =
     λ x. ap (value_at bytes_cmp x) c.in-Ok.ensures.entries ∙ value-with c.args.name c.in_ok-row.row c.args.settled.now.entries x in
-    settled_more c.args.facts.now.entries c.args.own.now.entries c.args.settled.now.entries c.insert.new.self.entries c.args.name c.in_ok-row.row put c.in_ok-row.ensures c.requires.right
+    settled_more c.args.facts.now.held.entries c.args.own.now.held.entries c.args.settled.now.entries c.insert.new.self.entries c.args.name c.in_ok-row.row put c.in_ok-row.ensures c.requires.right
 
 pub returns-in-Ok-clause-there : goal.returns-in-Ok-clause-there
 returns-in-Ok-clause-there g c =

@@ -1,4 +1,4 @@
-use Rattle.std.proofs.Common.{refl, sym, subst}
+use Rattle.std.proofs.Common.{◌∙◌, refl, sym, subst}
 use Rattle.fsl_table.proofs.Outcomes.{on_ok_map, always_ok}
 use Rattle.fsl_tags.specs.Laid.{Rises}
 use Rattle.fsl_tags.proofs.Ends.{no_success}
@@ -19,19 +19,19 @@ returns-in_err-row g c =
       row = no_success r _ is _;
       waiting = no_success r _ is _;
       noted = no_success r _ is _;
-      undoes = λ before u. u;
+      was = refl;
     }
 
 pub returns-then-is_same : goal.returns-then-is_same
 returns-then-is_same g c =
-    let rows = c.args.rows.now.entries in
+    let rows = c.args.flow.now.rows.held.entries in
     let name = c.args.name in
     let items = row_is c.in_ok-row.row c.in_ok-row.row c.row_of-near.result.now c.args.above.now _ refl c.in_ok-row.ensures.whole c.row_of-near.ensures.row in record {
       full = c.requires.full;
       row = stays name rows c.row_of-before.result.now c.in_ok-row.row _ c.is_same.result c.row_of-before.ensures.row items c.is_same.ensures c.if-is_same.true;
-      waiting = waits_not name c.args.waiting.now.items c.row_of-before.result.now c.in_ok-row.row _ _ c.is_same.result c.row_of-before.ensures.row items c.is_same.ensures c.if-is_same.true;
+      waiting = waits_not name c.args.flow.now.waiting.items c.row_of-before.result.now c.in_ok-row.row _ _ c.is_same.result c.row_of-before.ensures.row items c.is_same.ensures c.if-is_same.true;
       noted = λ before n. n;
-      undoes = λ before u. u;
+      was = refl;
     }
 
 pub returns-in_err-push : goal.returns-in_err-push
@@ -42,7 +42,7 @@ returns-in_err-push g c =
       row = no_success r _ is _;
       waiting = no_success r _ is _;
       noted = no_success r _ is _;
-      undoes = λ before u. u;
+      was = refl;
     }
 
 pub place-requires : goal.place-requires
@@ -51,13 +51,13 @@ place-requires g c = c.requires.full
 pub returns : goal.returns
 returns g c =
     let name = c.args.name in
-    let rows = c.args.rows.now.entries in
+    let rows = c.args.flow.now.rows.held.entries in
     let items = row_is c.in_ok-row.row c.in_ok-row.row c.row_of-near.result.now c.args.above.now _ refl c.in_ok-row.ensures.whole c.row_of-near.ensures.row in record {
       full = c.place.ensures.full;
-      row = on_ok_map c.place.result (put_is name rows c.place.new.rows.entries c.in_ok-row.row _ items) c.place.ensures.row;
+      row = on_ok_map c.place.result (put_is name rows c.place.new.flow.rows.held.entries c.in_ok-row.row _ items) c.place.ensures.row;
       waiting =
           always_ok c.place.result
-          (waits name c.args.waiting.now.items c.push.new.self.items c.row_of-before.result.now c.in_ok-row.row _ _ c.is_same.result c.in_ok-push.ensures.items c.row_of-before.ensures.row items c.is_same.ensures c.if-is_same.false);
+          (c.place.ensures.waiting ∙ waits name c.args.flow.now.waiting.items c.push.new.self.items c.row_of-before.result.now c.in_ok-row.row _ _ c.is_same.result c.in_ok-push.ensures.items c.row_of-before.ensures.row items c.is_same.ensures c.if-is_same.false);
       noted = c.place.ensures.noted;
-      undoes = c.place.ensures.undoes;
+      was = c.place.ensures.was;
     }

@@ -5,7 +5,7 @@ use Rattle.fsl_tags.proofs.Settled.{spread-begins, spread-again, spread-chain, l
 use Rattle.std.specs.Str.{bytes_eq}
 use Rattle.std.specs.List.{AllByRecursion}
 use Rattle.fsl_table.specs.Pairs.{seconds}
-use Rattle.fsl_tags.specs.Quick.{IsQuick}
+use Rattle.fsl_tags.specs.InMaps.{IsBrief}
 use Rattle.fsl_tags.proofs.spread.spread.Goals as goal
 
 never : (ys : List (List ℕ)) (y : List ℕ) → ys ++ y ∷ [] ≡ [] → ⊥
@@ -18,90 +18,87 @@ last_one (x ∷ ys) y r e = let rest : ys ++ y ∷ [] ≡ [] = cc in absurd (nev
 
 pub loop-at-init : goal.loop-at-init
 loop-at-init g c =
-    let facts = c.args.facts.now.entries in
-    let own = c.args.own.now.entries in
+    let facts = c.args.graph.now.facts.held.entries in
+    let own = c.args.own.now.held.entries in
     record {
       full = c.requires.full;
-      spread = spread-begins (parent_in facts) (row_in own) (settled facts own) c.args.root c.push.new.self.items (row_in c.args.rows.now.entries)
-          (c.in_ok-push.ensures.items ∙ ap (λ l. l ++ c.args.root ∷ []) c.new-waiting.ensures.items) c.requires.root c.requires.even;
+      spread = spread-begins (parent_in facts) (row_in own) (settled facts own) c.args.root c.push.new.self.items (row_in c.args.flow.now.rows.held.entries)
+          (c.in_ok-push.ensures.items ∙ ap (λ l. l ++ c.args.root ∷ []) c.clear.ensures.items) c.requires.root c.requires.even;
       noted = λ before n. n;
-      undoes = λ before u. u;
+      was = refl;
       noted_idle = λ all. refl;
-      idle = λ all. inl (c.in_ok-push.ensures.items ∙ ap (λ l. l ++ c.args.root ∷ []) c.new-waiting.ensures.items, record { touches = omega arith; logged = refl });
+      idle = λ all. inl (c.in_ok-push.ensures.items ∙ ap (λ l. l ++ c.args.root ∷ []) c.clear.ensures.items, record { touches = omega arith; logged = refl });
     }
 
 pub spread_one-requires-clause-spread : goal.spread_one-requires-clause-spread
 spread_one-requires-clause-spread g c =
-    let facts = c.args.facts.now.entries in
-    let own = c.args.own.now.entries in
-    subst (λ w. IsSpread (parent_in facts) (row_in own) (settled facts own) c.args.root w (row_in c.loop-at.rows.entries) (row_in c.loop-at.rows.entries)) c.in-Some.ensures
-    (spread-again (parent_in facts) (row_in own) (settled facts own) c.args.root c.loop-at.waiting.items (row_in c.args.rows.now.entries) (row_in c.loop-at.rows.entries) c.loop-at.invariant.spread)
+    let facts = c.args.graph.now.facts.held.entries in
+    let own = c.args.own.now.held.entries in
+    subst (λ w. IsSpread (parent_in facts) (row_in own) (settled facts own) c.args.root w (row_in c.loop-at.flow.rows.held.entries) (row_in c.loop-at.flow.rows.held.entries)) c.in-Some.ensures
+    (spread-again (parent_in facts) (row_in own) (settled facts own) c.args.root c.loop-at.flow.waiting.items (row_in c.args.flow.now.rows.held.entries) (row_in c.loop-at.flow.rows.held.entries) c.loop-at.invariant.spread)
 
 pub loop-at-preserved : goal.loop-at-preserved
 loop-at-preserved g c =
-    let facts = c.args.facts.now.entries in
-    let own = c.args.own.now.entries in
+    let facts = c.args.graph.now.facts.held.entries in
+    let own = c.args.own.now.held.entries in
     record {
       full = c.in_ok-spread_one.ensures.full;
-      spread = spread-chain (parent_in facts) (row_in own) (settled facts own) c.args.root c.spread_one.new.waiting.items c.loop-at.waiting.items (row_in c.args.rows.now.entries) (row_in c.loop-at.rows.entries) (row_in c.spread_one.new.rows.entries)
+      spread = spread-chain (parent_in facts) (row_in own) (settled facts own) c.args.root c.spread_one.new.flow.waiting.items c.loop-at.flow.waiting.items (row_in c.args.flow.now.rows.held.entries) (row_in c.loop-at.flow.rows.held.entries) (row_in c.spread_one.new.flow.rows.held.entries)
           c.loop-at.invariant.spread c.in_ok-spread_one.ensures.spread;
       noted = λ before n. c.in_ok-spread_one.ensures.noted before (c.loop-at.invariant.noted before n);
-      undoes = λ before u. c.spread_one.ensures.undoes before (c.loop-at.invariant.undoes before u);
+      was = c.spread_one.ensures.was ∙ c.loop-at.invariant.was;
       noted_idle = λ all.
-          ⊎_elim {C = length c.spread_one.new.noted.entries ≡ length c.args.noted.now.entries}
-          (λ (one : (c.loop-at.waiting.items ≡ c.args.root ∷ []) × IsQuick 0 c.args.steps.now c.loop-at.steps (length c.args.log.now) (length c.loop-at.log)).
+          ⊎_elim {C = length c.spread_one.new.flow.noted.entries ≡ length c.args.flow.now.noted.entries}
+          (λ (one : (c.loop-at.flow.waiting.items ≡ c.args.root ∷ []) × IsBrief 0 c.args.steps.now c.loop-at.steps c.args.flow.now c.loop-at.flow).
           let l = last_one c.pop.new.names.items c.in-Some.at c.args.root (sym c.in-Some.ensures ∙ one.0) in
-          c.spread_one.ensures.noted_idle (subst (λ y. AllByRecursion (λ x. bytes_eq x c.args.root ≡ true) (seconds y c.args.children.now.entries)) (sym l.1) all) ∙ c.loop-at.invariant.noted_idle all)
-          (λ (none : (c.loop-at.waiting.items ≡ []) × IsQuick (2 + length (seconds c.args.root c.args.children.now.entries)) c.args.steps.now c.loop-at.steps (length c.args.log.now) (length c.loop-at.log)).
+          c.spread_one.ensures.noted_idle (subst (λ y. AllByRecursion (λ x. bytes_eq x c.args.root ≡ true) (seconds y c.args.graph.now.children.held.entries)) (sym l.1) all) ∙ c.loop-at.invariant.noted_idle all)
+          (λ (none : (c.loop-at.flow.waiting.items ≡ []) × IsBrief (2 + length (seconds c.args.root c.args.graph.now.children.held.entries)) c.args.steps.now c.loop-at.steps c.args.flow.now c.loop-at.flow).
           absurd (never c.pop.new.names.items c.in-Some.at (sym c.in-Some.ensures ∙ none.0)))
           (c.loop-at.invariant.idle all);
       idle = λ all.
-          ⊎_elim {C = ((c.spread_one.new.waiting.items ≡ c.args.root ∷ []) × IsQuick 0 c.args.steps.now c.spread_one.new.steps (length c.args.log.now) (length c.spread_one.new.log)) ⊎ ((c.spread_one.new.waiting.items ≡ []) × IsQuick (2 + length (seconds c.args.root c.args.children.now.entries)) c.args.steps.now c.spread_one.new.steps (length c.args.log.now) (length c.spread_one.new.log))}
-          (λ (one : (c.loop-at.waiting.items ≡ c.args.root ∷ []) × IsQuick 0 c.args.steps.now c.loop-at.steps (length c.args.log.now) (length c.loop-at.log)).
+          ⊎_elim {C = ((c.spread_one.new.flow.waiting.items ≡ c.args.root ∷ []) × IsBrief 0 c.args.steps.now c.spread_one.new.steps c.args.flow.now c.spread_one.new.flow) ⊎ ((c.spread_one.new.flow.waiting.items ≡ []) × IsBrief (2 + length (seconds c.args.root c.args.graph.now.children.held.entries)) c.args.steps.now c.spread_one.new.steps c.args.flow.now c.spread_one.new.flow)}
+          (λ (one : (c.loop-at.flow.waiting.items ≡ c.args.root ∷ []) × IsBrief 0 c.args.steps.now c.loop-at.steps c.args.flow.now c.loop-at.flow).
           let l = last_one c.pop.new.names.items c.in-Some.at c.args.root (sym c.in-Some.ensures ∙ one.0) in
-          let same : AllByRecursion (λ x. bytes_eq x c.args.root ≡ true) (seconds c.in-Some.at c.args.children.now.entries) = subst (λ y. AllByRecursion (λ x. bytes_eq x c.args.root ≡ true) (seconds y c.args.children.now.entries)) (sym l.1) all in
+          let same : AllByRecursion (λ x. bytes_eq x c.args.root ≡ true) (seconds c.in-Some.at c.args.graph.now.children.held.entries) = subst (λ y. AllByRecursion (λ x. bytes_eq x c.args.root ≡ true) (seconds y c.args.graph.now.children.held.entries)) (sym l.1) all in
           let q = c.spread_one.ensures.idle same in
-          let n : length (seconds c.in-Some.at c.args.children.now.entries) ≡ length (seconds c.args.root c.args.children.now.entries) = ap (λ y. length (seconds y c.args.children.now.entries)) l.1 in
+          let n : length (seconds c.in-Some.at c.args.graph.now.children.held.entries) ≡ length (seconds c.args.root c.args.graph.now.children.held.entries) = ap (λ y. length (seconds y c.args.graph.now.children.held.entries)) l.1 in
           inr (c.in_ok-spread_one.ensures.done same ∙ l.0, record { touches = omega (arith, q.touches, one.1.touches, n); logged = q.logged ∙ one.1.logged }))
-          (λ (none : (c.loop-at.waiting.items ≡ []) × IsQuick (2 + length (seconds c.args.root c.args.children.now.entries)) c.args.steps.now c.loop-at.steps (length c.args.log.now) (length c.loop-at.log)).
+          (λ (none : (c.loop-at.flow.waiting.items ≡ []) × IsBrief (2 + length (seconds c.args.root c.args.graph.now.children.held.entries)) c.args.steps.now c.loop-at.steps c.args.flow.now c.loop-at.flow).
           absurd (never c.pop.new.names.items c.in-Some.at (sym c.in-Some.ensures ∙ none.0)))
           (c.loop-at.invariant.idle all);
     }
 
 pub loop-at-smaller : goal.loop-at-smaller
 loop-at-smaller g c =
-    let l = length-last c.loop-at.waiting.items c.pop.new.names.items c.in-Some.at c.in-Some.ensures in
+    let l = length-last c.loop-at.flow.waiting.items c.pop.new.names.items c.in-Some.at c.in-Some.ensures in
     omega (arith, l, c.in_ok-spread_one.ensures.less)
-
-pub returns-in_err-spread_one-clause-undoes : goal.returns-in_err-spread_one-clause-undoes
-returns-in_err-spread_one-clause-undoes g c = λ before u. c.spread_one.ensures.undoes before (c.loop-at.invariant.undoes before u)
 
 pub returns-in_err-spread_one-clause-idle : goal.returns-in_err-spread_one-clause-idle
 returns-in_err-spread_one-clause-idle g c = λ all.
-    ⊎_elim {C = IsQuick (2 + length (seconds c.args.root c.args.children.now.entries)) c.args.steps.now c.spread_one.new.steps (length c.args.log.now) (length c.spread_one.new.log)}
-    (λ (one : (c.loop-at.waiting.items ≡ c.args.root ∷ []) × IsQuick 0 c.args.steps.now c.loop-at.steps (length c.args.log.now) (length c.loop-at.log)).
+    ⊎_elim {C = IsBrief (2 + length (seconds c.args.root c.args.graph.now.children.held.entries)) c.args.steps.now c.spread_one.new.steps c.args.flow.now c.spread_one.new.flow}
+    (λ (one : (c.loop-at.flow.waiting.items ≡ c.args.root ∷ []) × IsBrief 0 c.args.steps.now c.loop-at.steps c.args.flow.now c.loop-at.flow).
     let l = last_one c.pop.new.names.items c.in-Some.at c.args.root (sym c.in-Some.ensures ∙ one.0) in
-    let same : AllByRecursion (λ x. bytes_eq x c.args.root ≡ true) (seconds c.in-Some.at c.args.children.now.entries) = subst (λ y. AllByRecursion (λ x. bytes_eq x c.args.root ≡ true) (seconds y c.args.children.now.entries)) (sym l.1) all in
+    let same : AllByRecursion (λ x. bytes_eq x c.args.root ≡ true) (seconds c.in-Some.at c.args.graph.now.children.held.entries) = subst (λ y. AllByRecursion (λ x. bytes_eq x c.args.root ≡ true) (seconds y c.args.graph.now.children.held.entries)) (sym l.1) all in
     let q = c.spread_one.ensures.idle same in
-    let n : length (seconds c.in-Some.at c.args.children.now.entries) ≡ length (seconds c.args.root c.args.children.now.entries) = ap (λ y. length (seconds y c.args.children.now.entries)) l.1 in
+    let n : length (seconds c.in-Some.at c.args.graph.now.children.held.entries) ≡ length (seconds c.args.root c.args.graph.now.children.held.entries) = ap (λ y. length (seconds y c.args.graph.now.children.held.entries)) l.1 in
     record { touches = omega (arith, q.touches, one.1.touches, n); logged = q.logged ∙ one.1.logged })
-    (λ (none : (c.loop-at.waiting.items ≡ []) × IsQuick (2 + length (seconds c.args.root c.args.children.now.entries)) c.args.steps.now c.loop-at.steps (length c.args.log.now) (length c.loop-at.log)).
+    (λ (none : (c.loop-at.flow.waiting.items ≡ []) × IsBrief (2 + length (seconds c.args.root c.args.graph.now.children.held.entries)) c.args.steps.now c.loop-at.steps c.args.flow.now c.loop-at.flow).
     absurd (never c.pop.new.names.items c.in-Some.at (sym c.in-Some.ensures ∙ none.0)))
     (c.loop-at.invariant.idle all)
 
 pub returns-clause-idle : goal.returns-clause-idle
 returns-clause-idle g c = λ all.
-    ⊎_elim {C = IsQuick (2 + length (seconds c.args.root c.args.children.now.entries)) c.args.steps.now c.loop-at.steps (length c.args.log.now) (length c.loop-at.log)}
-    (λ (one : (c.loop-at.waiting.items ≡ c.args.root ∷ []) × IsQuick 0 c.args.steps.now c.loop-at.steps (length c.args.log.now) (length c.loop-at.log)). absurd (never [] c.args.root (sym one.0 ∙ c.in_default.ensures.0)))
-    (λ (none : (c.loop-at.waiting.items ≡ []) × IsQuick (2 + length (seconds c.args.root c.args.children.now.entries)) c.args.steps.now c.loop-at.steps (length c.args.log.now) (length c.loop-at.log)). none.1)
+    ⊎_elim {C = IsBrief (2 + length (seconds c.args.root c.args.graph.now.children.held.entries)) c.args.steps.now c.loop-at.steps c.args.flow.now c.loop-at.flow}
+    (λ (one : (c.loop-at.flow.waiting.items ≡ c.args.root ∷ []) × IsBrief 0 c.args.steps.now c.loop-at.steps c.args.flow.now c.loop-at.flow). absurd (never [] c.args.root (sym one.0 ∙ c.in_default.ensures.0)))
+    (λ (none : (c.loop-at.flow.waiting.items ≡ []) × IsBrief (2 + length (seconds c.args.root c.args.graph.now.children.held.entries)) c.args.steps.now c.loop-at.steps c.args.flow.now c.loop-at.flow). none.1)
     (c.loop-at.invariant.idle all)
 
 pub returns-in_err-spread_one-clause-noted_idle : goal.returns-in_err-spread_one-clause-noted_idle
 returns-in_err-spread_one-clause-noted_idle g c = λ all.
-    ⊎_elim {C = length c.spread_one.new.noted.entries ≡ length c.args.noted.now.entries}
-    (λ (one : (c.loop-at.waiting.items ≡ c.args.root ∷ []) × IsQuick 0 c.args.steps.now c.loop-at.steps (length c.args.log.now) (length c.loop-at.log)).
+    ⊎_elim {C = length c.spread_one.new.flow.noted.entries ≡ length c.args.flow.now.noted.entries}
+    (λ (one : (c.loop-at.flow.waiting.items ≡ c.args.root ∷ []) × IsBrief 0 c.args.steps.now c.loop-at.steps c.args.flow.now c.loop-at.flow).
     let l = last_one c.pop.new.names.items c.in-Some.at c.args.root (sym c.in-Some.ensures ∙ one.0) in
-    c.spread_one.ensures.noted_idle (subst (λ y. AllByRecursion (λ x. bytes_eq x c.args.root ≡ true) (seconds y c.args.children.now.entries)) (sym l.1) all) ∙ c.loop-at.invariant.noted_idle all)
-    (λ (none : (c.loop-at.waiting.items ≡ []) × IsQuick (2 + length (seconds c.args.root c.args.children.now.entries)) c.args.steps.now c.loop-at.steps (length c.args.log.now) (length c.loop-at.log)).
+    c.spread_one.ensures.noted_idle (subst (λ y. AllByRecursion (λ x. bytes_eq x c.args.root ≡ true) (seconds y c.args.graph.now.children.held.entries)) (sym l.1) all) ∙ c.loop-at.invariant.noted_idle all)
+    (λ (none : (c.loop-at.flow.waiting.items ≡ []) × IsBrief (2 + length (seconds c.args.root c.args.graph.now.children.held.entries)) c.args.steps.now c.loop-at.steps c.args.flow.now c.loop-at.flow).
     absurd (never c.pop.new.names.items c.in-Some.at (sym c.in-Some.ensures ∙ none.0)))
     (c.loop-at.invariant.idle all)

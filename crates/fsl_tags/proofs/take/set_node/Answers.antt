@@ -16,14 +16,14 @@ returns-in_err-unlink g c =
       right = no_success r _ is _;
       facts = no_success r _ is _;
       noted = no_success r _ is _;
-      undoes_facts = λ before u. u;
-      undoes_children = c.unlink.ensures.undoes;
-      undoes_rows = λ before u. u;
+      facts_was = refl;
+      children_was = c.unlink.ensures.was;
+      rows_was = refl;
       more = λ lone free. omega arith;
       touches = λ lone free.
           (let old = c.parent_of-old.ensures.cost in
           let none = c.unlink.ensures.none (c.parent_of-old.ensures.parent ∙ lone) in omega (arith, old, none));
-      logged = λ lone free. (let none = c.unlink.ensures.none_logged (c.parent_of-old.ensures.parent ∙ lone) in omega (arith, none));
+      back = λ lone free. (let none = c.unlink.ensures.none_back (c.parent_of-old.ensures.parent ∙ lone) in omega (arith, none));
     }
 
 pub link-requires : goal.link-requires
@@ -36,17 +36,17 @@ returns-in_err-link g c =
       right = no_success r _ is _;
       facts = no_success r _ is _;
       noted = no_success r _ is _;
-      undoes_facts = λ before u. u;
-      undoes_children = λ before u. c.link.ensures.undoes before (c.unlink.ensures.undoes before u);
-      undoes_rows = λ before u. u;
+      facts_was = refl;
+      children_was = c.link.ensures.was ∙ c.unlink.ensures.was;
+      rows_was = refl;
       more = λ lone free. omega arith;
       touches = λ lone free.
           (let old = c.parent_of-old.ensures.cost in
           let none = c.in_ok-unlink.ensures.none (c.parent_of-old.ensures.parent ∙ lone) in
           let most = c.link.ensures.most in omega (arith, old, none, most));
-      logged = λ lone free.
-          (let none = c.in_ok-unlink.ensures.none_logged (c.parent_of-old.ensures.parent ∙ lone) in
-          let logged = c.link.ensures.logged in omega (arith, none, logged));
+      back = λ lone free.
+          (let none = c.in_ok-unlink.ensures.none_back (c.parent_of-old.ensures.parent ∙ lone) in
+          let link = c.link.ensures.back in omega (arith, none, link));
     }
 
 pub put-requires : goal.put-requires
@@ -59,32 +59,32 @@ returns-in_err-put g c =
       right = no_success r _ is _;
       facts = no_success r _ is _;
       noted = no_success r _ is _;
-      undoes_facts = c.put.ensures.undoes;
-      undoes_children = λ before u. c.link.ensures.undoes before (c.unlink.ensures.undoes before u);
-      undoes_rows = λ before u. u;
+      facts_was = c.put.ensures.was;
+      children_was = c.link.ensures.was ∙ c.unlink.ensures.was;
+      rows_was = refl;
       more = λ lone free. omega arith;
       touches = λ lone free.
           (let old = c.parent_of-old.ensures.cost in
           let none = c.in_ok-unlink.ensures.none (c.parent_of-old.ensures.parent ∙ lone) in
           let most = c.in_ok-link.ensures.most in
           let cost = c.put.ensures.cost in omega (arith, old, none, most, cost));
-      logged = λ lone free.
-          (let none = c.in_ok-unlink.ensures.none_logged (c.parent_of-old.ensures.parent ∙ lone) in
-          let link = c.in_ok-link.ensures.logged in
-          let put = c.put.ensures.logged in omega (arith, none, link, put));
+      back = λ lone free.
+          (let none = c.in_ok-unlink.ensures.none_back (c.parent_of-old.ensures.parent ∙ lone) in
+          let link = c.in_ok-link.ensures.back in
+          let put = c.put.ensures.back in omega (arith, none, link, put));
     }
 
 pub renew-requires : goal.renew-requires
 renew-requires g c =
-    let facts = c.args.facts.now.entries in
-    let then = c.put.new.table.entries in
-    let children = c.args.children.now.entries in
-    let own = c.args.own.now.entries in
-    let rows = c.args.rows.now.entries in
+    let facts = c.args.graph.now.facts.held.entries in
+    let then = c.put.new.self.held.entries in
+    let children = c.args.graph.now.children.held.entries in
+    let own = c.args.own.now.held.entries in
+    let rows = c.args.flow.now.rows.held.entries in
     let was = c.requires.right in
     let put = c.in_ok-put.ensures.ok in record {
       laid =
-          put_laid c.args.name c.args.node facts then children own rows was put c.unlink.new.pairs.entries c.link.new.pairs.entries c.parent_of-old.result c.args.up c.parent_of-old.ensures.parent c.requires.parent
+          put_laid c.args.name c.args.node facts then children own rows was put c.unlink.new.self.held.entries c.link.new.self.held.entries c.parent_of-old.result c.args.node.parent c.parent_of-old.ensures.parent refl
           c.in_ok-link.ensures.ordered c.in_ok-unlink.ensures.pairs c.in_ok-link.ensures.pairs;
       full = was.full;
       above = up-rises facts own rows was.laid.rise was.right c.parent_of-above.result;
@@ -94,23 +94,23 @@ renew-requires g c =
 
 pub returns : goal.returns
 returns g c =
-    let facts = c.args.facts.now.entries in
-    let then = c.put.new.table.entries in
-    let children = c.args.children.now.entries in
-    let links = c.link.new.pairs.entries in
-    let own = c.args.own.now.entries in
-    let rows = c.args.rows.now.entries in
+    let facts = c.args.graph.now.facts.held.entries in
+    let then = c.put.new.self.held.entries in
+    let children = c.args.graph.now.children.held.entries in
+    let links = c.link.new.self.held.entries in
+    let own = c.args.own.now.held.entries in
+    let rows = c.args.flow.now.rows.held.entries in
     let was = c.requires.right in
     let put = c.in_ok-put.ensures.ok in
     let laid : AreLaid then links own =
-    put_laid c.args.name c.args.node facts then children own rows was put c.unlink.new.pairs.entries links c.parent_of-old.result c.args.up c.parent_of-old.ensures.parent c.requires.parent
+    put_laid c.args.name c.args.node facts then children own rows was put c.unlink.new.self.held.entries links c.parent_of-old.result c.args.node.parent c.parent_of-old.ensures.parent refl
     c.in_ok-link.ensures.ordered c.in_ok-unlink.ensures.pairs c.in_ok-link.ensures.pairs in record {
-      right = four_ok c.renew.result (put_right c.args.name c.args.node facts then children own rows was put links c.renew.new.rows.entries laid) c.renew.ensures.full c.renew.ensures.each c.renew.ensures.root c.renew.ensures.even;
+      right = four_ok c.renew.result (put_right c.args.name c.args.node facts then children own rows was put links c.renew.new.flow.rows.held.entries laid) c.renew.ensures.full c.renew.ensures.each c.renew.ensures.root c.renew.ensures.even;
       facts = always_ok c.renew.result put;
       noted = c.renew.ensures.noted;
-      undoes_facts = c.put.ensures.undoes;
-      undoes_children = λ before u. c.link.ensures.undoes before (c.unlink.ensures.undoes before u);
-      undoes_rows = c.renew.ensures.undoes;
+      facts_was = c.put.ensures.was;
+      children_was = c.link.ensures.was ∙ c.unlink.ensures.was;
+      rows_was = c.renew.ensures.was;
       more = λ lone free. c.renew.ensures.more (put_lone c.args.name c.args.node facts then children own rows was put links laid free);
       touches = λ lone free.
           (let one = put_one c.args.name c.args.node facts then children own rows was put links laid free in
@@ -120,9 +120,9 @@ returns g c =
           let link = c.in_ok-link.ensures.most in
           let cost = c.in_ok-put.ensures.cost in
           let above = c.parent_of-above.ensures.cost in omega (arith, one, touches, old, none, link, cost, above));
-      logged = λ lone free.
-          (let renewed = c.renew.ensures.logged (put_lone c.args.name c.args.node facts then children own rows was put links laid free) in
-          let none = c.in_ok-unlink.ensures.none_logged (c.parent_of-old.ensures.parent ∙ lone) in
-          let link = c.in_ok-link.ensures.logged in
-          let logged = c.in_ok-put.ensures.logged in omega (arith, renewed, none, link, logged));
+      back = λ lone free.
+          (let renewed = c.renew.ensures.back (put_lone c.args.name c.args.node facts then children own rows was put links laid free) in
+          let none = c.in_ok-unlink.ensures.none_back (c.parent_of-old.ensures.parent ∙ lone) in
+          let link = c.in_ok-link.ensures.back in
+          let put_back = c.in_ok-put.ensures.back in omega (arith, renewed, none, link, put_back));
     }

@@ -3,7 +3,7 @@ use Rattle.std.proofs.lemmas.List.{append_assoc, append-nil}
 use Rattle.fsl_order.specs.Rows.{by_name, AreDistinct}
 use Rattle.fsl_order.specs.Names.{bytes_cmp, has}
 use Rattle.fsl_table.specs.Contents.{value_at}
-use Rattle.fsl_rows.proofs.Built.{by_name-again}
+use Rattle.fsl_name.proofs.RowsBuilt.{by_name-again}
 use Rattle.fsl_table.proofs.Facts.{absent-entry, absent_before, facts_with, distinct_rear}
 use Rattle.fsl_timeline.specs.declared.Row.{Row}
 use Rattle.fsl_timeline.specs.Kept.{entry_of, row_of, rows_in, rows_of, with_row}

@@ -3,7 +3,7 @@ use Rattle.std.proofs.Math.Seq.{drop-length}
 use Rattle.std.proofs.Common.{◌≡◌, ◌+◌, ◌-◌, ◌<◌, ◌∙◌, ◌∷◌, map, drop, length, sym, ap, subst, arith}
 use Rattle.fsl_order.specs.Names.{bytes_cmp, has}
 use Rattle.fsl_order.specs.Rows.{by_name, AreDistinct}
-use Rattle.fsl_rows.proofs.Built.{distinct-drop, by_name-again}
+use Rattle.fsl_name.proofs.RowsBuilt.{distinct-drop, by_name-again}
 use Rattle.fsl_table.specs.Contents.{value_at, with_entry}
 use Rattle.fsl_table.proofs.Facts.{absent-entry, absent_before, facts_with}
 use Rattle.fsl_wiki.specs.Pages.{fact_name}

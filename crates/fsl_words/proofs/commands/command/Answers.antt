@@ -3,7 +3,7 @@ use Rattle.std.specs.Prelude.{string_bytes, codes}
 use Rattle.std.specs.Str.{bytes_eq}
 use Rattle.std.specs.Cmp.Lexicographic.{bytes_decides}
 use Rattle.fsl_words.specs.declared.Command.{Command}
-use Rattle.fsl_words.specs.Grammar.{init_command, serve_command, gen_command, pull_command, push_command, clone_command, checkin_command, uv_init_command, plain_command}
+use Rattle.fsl_words.specs.Grammar.{init_command, serve_command, gen_command, pull_command, push_command, clone_command, checkin_command, uv_init_command, tickets_command, plain_command}
 use Rattle.fsl_words.specs.Answers.{IsAnswer}
 use Rattle.fsl_words.proofs.commands.command.Goals as goal
 
@@ -14,7 +14,8 @@ pub returns-in_default : goal.returns-in_default
 returns-in_default c =
     let command = c.args.command.now in
     let words = map string_bytes c.args.words.now in
-    let at_uv_init : Bool → Option Command = λ b. cond b (uv_init_command words) (plain_command command words) in
+    let at_tickets : Bool → Option Command = λ b. cond b (tickets_command words) (plain_command command words) in
+    let at_uv_init : Bool → Option Command = λ b. cond b (uv_init_command words) (at_tickets (bytes_eq command (codes "tickets"))) in
     let at_checkin : Bool → Option Command = λ b. cond b (checkin_command words) (at_uv_init (bytes_eq command (codes "uv-init"))) in
     let at_clone : Bool → Option Command = λ b. cond b (clone_command words) (at_checkin (bytes_eq command (codes "checkin"))) in
     let at_push : Bool → Option Command = λ b. cond b (push_command words) (at_clone (bytes_eq command (codes "clone"))) in
@@ -30,5 +31,6 @@ returns-in_default c =
     ∙ ap at_push (unlike command (codes "push") c.in_default.not-push)
     ∙ ap at_clone (unlike command (codes "clone") c.in_default.not-clone)
     ∙ ap at_checkin (unlike command (codes "checkin") c.in_default.not-checkin)
-    ∙ ap at_uv_init (unlike command (codes "uv-init") c.in_default.not-text)))
+    ∙ ap at_uv_init (unlike command (codes "uv-init") c.in_default.not-text)
+    ∙ ap at_tickets (unlike command (codes "tickets") c.in_default.not-tickets)))
     c.plain_command.ensures

@@ -1,6 +1,6 @@
 use Rattle.std.proofs.Common.{◌∙◌, ap}
 use Rattle.fsl_order.specs.Rows.{named}
-use Rattle.fsl_rows.proofs.Keeping.{lookup-kept}
+use Rattle.fsl_name.proofs.RowsKeeping.{lookup-kept}
 use Rattle.fsl_cross.proofs.Moved.{item_name}
 use Rattle.fsl_cross.proofs.items.Items.get.Goals as goal
 

@@ -1,7 +1,7 @@
 use Rattle.std.proofs.Common.{map, subst}
 use Rattle.std.specs.List.Sorted.{IsStrictlySortedBy}
 use Rattle.fsl_order.specs.Names.{bytes_cmp}
-use Rattle.fsl_rows.proofs.Keeping.{names-kept}
+use Rattle.fsl_name.proofs.RowsKeeping.{names-kept}
 use Rattle.fsl_cross.proofs.Moved.{item_name}
 use Rattle.fsl_cross.proofs.items.Items.iter.Goals as goal
 

@@ -1,5 +1,5 @@
 use Rattle.fsl_cross.proofs.Moved.{item_name}
-use Rattle.fsl_rows.proofs.Built.{put_next}
+use Rattle.fsl_name.proofs.RowsBuilt.{put_next}
 use Rattle.std.proofs.Common.{◌∷◌}
 use Rattle.fsl_cross.proofs.items.Items.placed.Goals as goal
 

@@ -4,8 +4,8 @@ use Rattle.std.specs.List.Sorted.{IsStrictlySortedBy}
 use Rattle.std.specs.Map.{keys_of, values_of}
 use Rattle.fsl_order.specs.Names.{bytes_cmp}
 use Rattle.fsl_order.specs.Rows.{by_name}
-use Rattle.fsl_rows.specs.Kept.{IsKept}
-use Rattle.fsl_rows.proofs.Keeping.{kept-insert, values-insert, names-kept}
+use Rattle.fsl_name.specs.RowsKept.{IsKept}
+use Rattle.fsl_name.proofs.RowsKeeping.{kept-insert, values-insert, names-kept}
 use Rattle.fsl_cross.proofs.Moved.{item_name}
 use Rattle.fsl_cross.proofs.items.Items.put.Goals as goal
 

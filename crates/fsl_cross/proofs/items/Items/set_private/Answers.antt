@@ -1,6 +1,6 @@
 use Rattle.std.proofs.Common.{◌∙◌, ap, sym, subst, map}
 use Rattle.std.specs.Map.{values_of}
-use Rattle.fsl_rows.specs.Kept.{IsKept}
+use Rattle.fsl_name.specs.RowsKept.{IsKept}
 use Rattle.fsl_cross.specs.Marks.{private_at}
 use Rattle.fsl_cross.proofs.Marking.{kept-marked, values-marked}
 use Rattle.fsl_cross.proofs.Moved.{item_name}

@@ -1,6 +1,6 @@
 use Rattle.std.proofs.Common.{◌∙◌, ap, sym, subst}
 use Rattle.std.specs.Map.{values_of}
-use Rattle.fsl_rows.specs.Kept.{IsKept}
+use Rattle.fsl_name.specs.RowsKept.{IsKept}
 use Rattle.fsl_cross.specs.Tables.{without}
 use Rattle.fsl_cross.proofs.Marking.{kept-remove, values-remove}
 use Rattle.fsl_cross.proofs.Moved.{item_name}

@@ -2,7 +2,7 @@ use Rattle.std.proofs.Common.{ap, subst, sym}
 use Rattle.fsl_journal.specs.Log.{IsBetween}
 use Rattle.fsl_repo.specs.Opening.{records_in, starts_in}
 use Rattle.fsl_repo.proofs.Gathers.{gathered_none}
-use Rattle.fsl_repo.proofs.Openings.{kept_of, memory_failed, open_failed}
+use Rattle.fsl_repo.proofs.Openings.{is_opened, kept_of, memory_failed, open_failed}
 use Rattle.fsl_repo.proofs.repo.Repo.load.Goals as goal
 
 pub load_into-requires : goal.load_into-requires
@@ -17,6 +17,13 @@ invariant_of-result g c =
     let gathered = c.load_into.new.taker.blobs in
     kept_of c.in-Ok.journal (starts_in gathered) (records_in gathered) c.in-Ok-derived.blobs c.in-Ok-derived.tables c.count-loaded.result (g.D.Disk.state c.load_into.new.disk)
     c.in-Ok.ensures.loaded c.in-Ok.ensures.places.0 c.in-Ok.ensures.belongs c.in-Ok-derived.ensures c.count-loaded.ensures
+
+pub returns-in-Ok-derived-clause-opened : goal.returns-in-Ok-derived-clause-opened
+returns-in-Ok-derived-clause-opened g c =
+    let is = c.in-Ok.ensures in
+    let gathered = c.load_into.new.taker.blobs in
+    is_opened g.D.Disk.state (g.D.Disk.state c.args.disk) c.load_into.new.disk c.in-Ok.journal (records_in gathered) (starts_in gathered) c.in-Ok-derived.blobs c.in-Ok-derived.tables c.count-loaded.result
+    is.loaded c.in-Ok-derived.ensures c.count-loaded.ensures is.stands is.cut is.count c.load_into.ensures.keeps
 
 pub returns-in-Ok-derived-clause-between : goal.returns-in-Ok-derived-clause-between
 returns-in-Ok-derived-clause-between g c modelled low high images =

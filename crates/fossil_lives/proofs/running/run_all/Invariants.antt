@@ -1,9 +1,0 @@
-use Rattle.fossil_lives.specs.Runs.{states_of}
-use Rattle.fossil_lives.proofs.Chains.{HaveRun}
-use Rattle.fossil_lives.proofs.running.run_all.Given as goal
-
--- the sessions that were passed were run
-abbrev pub invariant-loop-session : goal.invariant-loop-session
-invariant-loop-session g l =
-    HaveRun (states_of g.S.Source.state g.K.Sink.state g.P.Disk.state g.N.Link.state g.C.Clock.told g.D.Disk.state) l.fn.disk l.fn.sessions.items l.session-iterator.rest.items
-    l.pasts.items l.disk

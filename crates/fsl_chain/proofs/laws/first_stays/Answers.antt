@@ -1,5 +1,0 @@
-use Rattle.fsl_chain.proofs.Tries.{first_stays as it_stays}
-use Rattle.fsl_chain.proofs.laws.first_stays.Goals as goal
-
-pub returns : goal.returns
-returns g c = it_stays (λ w. g.W.Work.puts w)

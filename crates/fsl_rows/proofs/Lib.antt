@@ -1,4 +1,0 @@
-pub mod Keeping
-pub mod Built
-pub mod Rising
-pub mod Fronts

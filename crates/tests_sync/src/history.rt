@@ -1,0 +1,4 @@
+//! Turns by ticket.
+mod four_users;
+mod toy;
+mod two_users;
